@@ -1,0 +1,120 @@
+-- Between the equations of specs/Answer and what Places says: each answer is determined by the bytes that are left, and says where they begin.
+use Prim.Native.Nat.{ℕ, _+_, _-_, _≤_}
+use mathlib.Core.Path.{_≡_, refl, ap, sym, _∙_}
+use mathlib.Core.List.{List}
+use native.Mathlib.Omega.{arith}
+use lib.ListN.{length, drop, length-drop}
+use lib.Seq.{drop-drop}
+use Rattle.refusal.specs.declared.Refusal.{Refusal}
+use Rattle.cbor.specs.Item.{Item}
+use Rattle.cbor.specs.Decode.{Outcome, refused, got, heading, Heading, members, decode}
+use Rattle.cbor.specs.Answer.{headAnswer, skipAnswer}
+use Rattle.cbor.specs.declared.head.Head.{Head}
+use Rattle.cbor.specs.declared.head.HeadRead.{HeadRead}
+use Rattle.cbor.specs.declared.head.HeadRead.the-variants as hv
+use Rattle.cbor.specs.declared.item.Skip.{Skip}
+use Rattle.cbor.specs.declared.item.Skip.the-variants as sv
+use Rattle.cbor.proofs.Places.{plainly, HeadAt, stop, rest, Passed}
+use Rattle.cbor.proofs.Tails.{Tail, heading-tail, decode-tail, members-tail}
+
+-- where s is passed as far as p, p is what is left over
+left-over : (s t : List ℕ) (p : ℕ) → p ≤ length s → drop p s ≡ t → p ≡ length s - length t
+left-over s t p i e = omega (arith, ap length e, length-drop p s)
+
+-- ---- to the equations
+pub skip-answer : {A : Type 0} (s : List ℕ) (o : Outcome A) (r : Skip) → Passed s o r → r ≡ skipAnswer (length s) o
+skip-answer s (refused k) (sv.Refused j) q = let e : stop j ≡ stop k = q .says in cc
+skip-answer s (refused k) (sv.Next p) q = let e : rest (drop p s) ≡ stop k = q .says in cc
+skip-answer s (got a t) (sv.Refused j) q = let e : stop j ≡ rest t = q .says in cc
+skip-answer s (got a t) (sv.Next p) q =
+    let e : rest (drop p s) ≡ rest t = q .says in
+    let f : drop p s ≡ t = cc in
+    ap sv.Next (left-over s t p (q .inside) f)
+
+pub head-answer : (s : List ℕ) (at : ℕ) (r : HeadRead) → HeadAt s at r → r ≡ headAnswer (length s) (heading (drop at s))
+head-answer s at (hv.Refused k) q = rw (← q .says)
+head-answer s at (hv.Got h) q =
+    rw (← q .says)
+    (ap (λ (p : ℕ). hv.Got (record { major = h .major; info = h .info; argument = h .argument; next = p }))
+    (left-over s (drop (h .next) s) (h .next) (q .inside) refl))
+
+-- ---- from the equations
+-- what is left of drop at s, k bytes further, begins at the length less what is left
+pub place : (s t : List ℕ) (at k : ℕ) → at ≤ length s → k ≤ length (drop at s) → t ≡ drop k (drop at s)
+    → (t ≡ drop (length s - length t) s) × (length s - length t ≤ length s)
+place s t at k l h e =
+    let f : t ≡ drop (at + k) s = e ∙ drop-drop k at s in
+    let g : length s - length t ≡ at + k = omega (arith, ap length f, length-drop (at + k) s, length-drop at s) in
+    (rw g f, omega arith)
+
+-- no byte is taken past the end
+pub within : (s : List ℕ) (at k : ℕ) → 1 ≤ k → k ≤ length (drop at s) → at ≤ length s
+within s at k l h = omega (arith, length-drop at s)
+
+pub head-says : (s : List ℕ) (at : ℕ) (r : HeadRead) → r ≡ headAnswer (length s) (heading (drop at s)) → HeadAt s at r
+head-says s at r e = rw e (go (heading (drop at s)) (heading-tail (drop at s)) refl)
+  where
+    go : (o : Outcome Heading) → Tail (drop at s) 1 o → o ≡ heading (drop at s) → HeadAt s at (headAnswer (length s) o)
+    go (refused k) t e = record { says = e; inside = tt }
+    go (got h t) (k, a, b, c) e =
+        let q = place s t at k (within s at k a b) b c in
+        record { says = ap (got h) (sym (q .0)) ∙ e; inside = q .1 }
+
+passed : {A : Type 0} (s : List ℕ) (at j : ℕ) (o : Outcome A) (r : Skip) → at ≤ length s → Tail (drop at s) j o
+    → r ≡ skipAnswer (length s) o → Passed s o r
+passed s at j (refused k) r l t e = rw e (record { says = refl; inside = tt })
+passed s at j (got a u) r l t e =
+    let q = place s u at (t .0) l (t .2) (t .3) in
+    rw e (record { says = ap rest (sym (q .0)); inside = q .1 })
+
+pub passed-item : (s : List ℕ) (at d : ℕ) (r : Skip) → r ≡ skipAnswer (length s) (decode d (drop at s)) → Passed s (decode d (drop at s)) r
+passed-item s at d r e = go (decode d (drop at s)) (decode-tail d (drop at s)) e
+  where
+    go : (o : Outcome Item) → Tail (drop at s) 1 o → r ≡ skipAnswer (length s) o → Passed s o r
+    go (refused k) t e = rw e (record { says = refl; inside = tt })
+    go (got i u) t e = passed s at 1 (got i u) r (within s at (t .0) (t .1) (t .2)) t e
+
+pub passed-members : (s : List ℕ) (at d n : ℕ) (r : Skip) → at ≤ length s
+    → r ≡ skipAnswer (length s) (members (decode d) n (drop at s)) → Passed s (members (decode d) n (drop at s)) r
+passed-members s at d n r l e =
+    passed s at n (members (decode d) n (drop at s)) r l (members-tail (decode d) (decode-tail d) n (drop at s)) e
+
+-- ---- which outcome there was
+pub passed-got : {A : Type 0} (s : List ℕ) (o : Outcome A) (p : ℕ) → Passed s o (sv.Next p) → (a : A) × (o ≡ got a (drop p s))
+passed-got s (refused k) p q =
+    let e : rest (drop p s) ≡ stop k = q .says in
+    absurd (let z : _≡_ {A = ℕ} 0 1 = cc in omega arith)
+passed-got s (got a t) p q =
+    let e : rest (drop p s) ≡ rest t = q .says in
+    let f : t ≡ drop p s = cc in
+    (a, ap (got a) f)
+
+pub passed-refused : {A : Type 0} (s : List ℕ) (o : Outcome A) (k : Refusal) → Passed s o (sv.Refused k) → o ≡ refused k
+passed-refused s (refused j) k q = let e : stop k ≡ stop j = q .says in cc
+passed-refused s (got a t) k q = let e : stop k ≡ rest t = q .says in cc
+
+-- ---- in the arm of a head that was refused, or got
+module _ (s : List ℕ) (at : ℕ) (r : HeadRead) (e : r ≡ headAnswer (length s) (heading (drop at s))) where
+  pub head-refused : (k : Refusal) → r ≡ hv.Refused k → heading (drop at s) ≡ refused k
+  head-refused k g = let h : HeadAt s at (hv.Refused k) = rw g at (head-says s at r e) in sym (h .says)
+
+  module _ (h : Head) (g : r ≡ hv.Got h) where
+    pub head-at : HeadAt s at (hv.Got h)
+    head-at = rw g at (head-says s at r e)
+
+    pub head-got : heading (drop at s) ≡ got (plainly h) (drop (h .next) s)
+    head-got = sym (head-at .says)
+
+    pub head-inside : h .next ≤ length s
+    head-inside = head-at .inside
+
+    pub head-place : length s - length (drop (h .next) s) ≡ h .next
+    head-place = sym (left-over s (drop (h .next) s) (h .next) head-inside refl)
+
+-- ---- in the arm of an item that was refused, or passed over
+module _ (s : List ℕ) (at d : ℕ) (r : Skip) (e : r ≡ skipAnswer (length s) (decode d (drop at s))) where
+  pub skip-refused : (k : Refusal) → r ≡ sv.Refused k → decode d (drop at s) ≡ refused k
+  skip-refused k g = passed-refused s (decode d (drop at s)) k (rw g at (passed-item s at d r e))
+
+  pub skip-next : (p : ℕ) → r ≡ sv.Next p → (i : Item) × (decode d (drop at s) ≡ got i (drop p s))
+  skip-next p g = passed-got s (decode d (drop at s)) p (rw g at (passed-item s at d r e))

@@ -1,0 +1,12 @@
+mod Numbers
+pub mod Places
+pub mod Heads
+pub mod Outcomes
+pub mod Tails
+pub mod Answers
+pub mod Items
+pub mod Views
+pub mod Payloads
+pub mod RoundTrip
+pub mod Writing
+mod Shortest

@@ -1,0 +1,176 @@
+-- What `open_map` answers, and what its answers say of the payload's outermost item.
+use Prim.Native.Nat.{ℕ, zero, suc, _-_, _≤_}
+use mathlib.Core.Path.{_≡_, refl, ap, sym, _∙_}
+use mathlib.Core.Bool.{Bool, true, false, cond}
+use mathlib.Core.List.{List, [], _∷_}
+use mathlib.Core.Logic.{_⊎_, inl, inr, ⊎-elim}
+use native.Mathlib.Omega.{arith}
+use borrow.Author.Tests.{eq-eqb, ne-eqb, eqb-true, eqb-false}
+use lib.Dec.{eqb}
+use lib.ListN.{length, drop}
+use Rattle.refusal.specs.declared.Refusal.{Refusal}
+use Rattle.refusal.specs.declared.Verdict.{Verdict}
+use Rattle.refusal.specs.declared.Verdict.the-variants as vv
+use Rattle.cbor.specs.Item.{Item, Pairs, map}
+use Rattle.cbor.specs.Decode.{Outcome, refused, got, andThen, next, heading, Heading, members, pairs, majorOf, content, decodeBy, decode, payload, ended}
+use Rattle.cbor.specs.Answer.{headAnswer, scanAnswer, mapAnswer, openAnswer}
+use Rattle.cbor.specs.View.{ifMap}
+use Rattle.cbor.specs.declared.head.Head.{Head}
+use Rattle.cbor.specs.declared.head.HeadRead.{HeadRead}
+use Rattle.cbor.specs.declared.head.HeadRead.the-variants as hv
+use Rattle.cbor.specs.declared.item.Opened.{Opened}
+use Rattle.cbor.specs.declared.item.Opened.the-variants as ov
+use Rattle.cbor.proofs.Answers.{head-refused, head-got, head-place, place}
+use Rattle.cbor.proofs.Outcomes.{never, then-got, same-value, same-rest}
+use Rattle.cbor.proofs.Tails.{Tail, heading-tail}
+use Rattle.cbor.proofs.Views.{special-all}
+
+-- ---- the returns of `open_map`
+scan-no : (k : Refusal) (o : Outcome Item) → vv.Refused k ≡ scanAnswer o → o ≡ refused k
+scan-no k (refused j) e = cc
+scan-no k (got i t) e = cc
+
+scan-yes : (o : Outcome Item) → vv.Accepted ≡ scanAnswer o → (i : Item) × (t : List ℕ) × (o ≡ got i t)
+scan-yes (refused k) e = absurd (let z : _≡_ {A = ℕ} 0 1 = cc in omega arith)
+scan-yes (got i t) e = (i, t, refl)
+
+module _ (s : List ℕ) (v : Verdict) (e : v ≡ scanAnswer (payload s)) where
+  pub open-refused : (k : Refusal) → v ≡ vv.Refused k → ov.Refused k ≡ openAnswer (length s) (payload s) (heading s)
+  open-refused k g = rw (scan-no k (payload s) (sym g ∙ e))
+
+  module _ (g : v ≡ vv.Accepted) (r : HeadRead) (f : r ≡ headAnswer (length s) (heading (drop 0 s))) where
+    pub open-unheaded : (k : Refusal) → r ≡ hv.Refused k → ov.Refused k ≡ openAnswer (length s) (payload s) (heading s)
+    open-unheaded k o =
+        let (i, t, w) = scan-yes (payload s) (sym g ∙ e) in
+        rw (w, head-refused s 0 r f k o)
+
+    module _ (h : Head) (o : r ≡ hv.Got h) where
+      opened : openAnswer (length s) (payload s) (heading s) ≡ cond (eqb (h .major) 5) (ov.Map (h .argument) (h .next)) ov.NoMap
+      opened =
+          let (i, t, w) = scan-yes (payload s) (sym g ∙ e) in
+          rw (w, head-got s 0 r f h o, head-place s 0 r f h o)
+
+      pub open-map : h .major ≡ 5 → ov.Map (h .argument) (h .next) ≡ openAnswer (length s) (payload s) (heading s)
+      open-map m = sym (opened ∙ rw (eq-eqb (h .major) 5 m))
+
+      pub open-other : ¬ (h .major ≡ 5) → ov.NoMap ≡ openAnswer (length s) (payload s) (heading s)
+      open-other m = sym (opened ∙ rw (ne-eqb (h .major) 5 m))
+
+-- ---- what an answer says
+pub record IsMap (s : List ℕ) (n p : ℕ) : Type 0 where
+  pub pairs-are : Pairs
+  pub left : List ℕ
+  pub inside : p ≤ length s
+  pub read : payload s ≡ got (map pairs-are) []
+  pub each : pairs (decode 7) n (drop p s) ≡ got pairs-are left
+
+pub record IsOther (s : List ℕ) : Type 1 where
+  pub item : Item
+  pub read : payload s ≡ got item []
+  pub other : {R : Type 0} (f : Pairs → R) (x : R) → ifMap f x item ≡ x
+
+-- nothing follows an item that was got, and a payload's head is its outermost item's
+ended-same : (i j : Item) (t u : List ℕ) → ended i t ≡ got j u → (i ≡ j) × (u ≡ [])
+ended-same i j [] u e = (same-value e, sym (same-rest e))
+ended-same i j (b ∷ t) u e = absurd (never e)
+
+module _ (s : List ℕ) (i : Item) (t : List ℕ) (e : payload s ≡ got i t) where
+  from-decode : (u : List ℕ) × (decode 8 s ≡ got i u) × (t ≡ [])
+  unfolding payload
+  from-decode =
+      let (j, u, f, g) = then-got (decode 8 s) ended i t e in
+      let (a, b) = ended-same j i u t g in
+      (u, f ∙ ap (λ (x : Item). got x u) a, b)
+
+  pub whole-payload : payload s ≡ got i []
+  whole-payload = e ∙ ap (got i) (from-decode .2)
+
+  headed : (h : Heading) × (u : List ℕ) × (heading s ≡ got h u) × (w : List ℕ)
+      × (content (decode 7) (majorOf (h .major)) (h .info) (h .argument) u ≡ got i w)
+  unfolding decodeBy
+  headed =
+      let (w, f, z) = from-decode in
+      let (h, u, a, b) = then-got (heading s) _ i w f in
+      (h, u, a, w, b)
+
+module _ (x a : ℕ) (l : List ℕ) (i : Item) (t : List ℕ) where
+  the-map : (m : ℕ) → m ≡ 5 → content (decode 7) (majorOf m) x a l ≡ got i t
+      → (ps : Pairs) × (u : List ℕ) × (i ≡ map ps) × (pairs (decode 7) a l ≡ got ps u)
+  unfolding majorOf
+  the-map m n e =
+      let b : andThen (pairs (decode 7) a l) (λ ps u. got (map ps) u) ≡ got i t = rw n at e in
+      let q = then-got (pairs (decode 7) a l) _ i t b in
+      (q .0, q .1, sym (same-value (q .3)), q .2)
+
+  no-map : {R : Type 0} (f : Pairs → R) (r : R) (m : ℕ) → ¬ (m ≡ 5) → content (decode 7) (majorOf m) x a l ≡ got i t → ifMap f r i ≡ r
+  unfolding majorOf
+  no-map f r zero n e = rw (← same-value e)
+  no-map f r (suc zero) n e = rw (← same-value e)
+  no-map f r (suc (suc zero)) n e = let q = then-got (next a l) _ i t e in rw (← same-value (q .3))
+  no-map f r (suc (suc (suc zero))) n e = let q = then-got (next a l) _ i t e in rw (← same-value (q .3))
+  no-map f r (suc (suc (suc (suc zero)))) n e = let q = then-got (members (decode 7) a l) _ i t e in rw (← same-value (q .3))
+  no-map f r (suc (suc (suc (suc (suc zero))))) n e = absurd (n refl)
+  no-map f r (suc (suc (suc (suc (suc (suc zero)))))) n e = let q = then-got (decode 7 l) _ i t e in rw (← same-value (q .3))
+  no-map f r (suc (suc (suc (suc (suc (suc (suc m))))))) n e =
+      rw (← same-value e) (special-all (ifMap f r) r (λ n. refl) (λ w n. refl) x a)
+
+-- what the test of the major type decided
+by-test : (b : Bool) (n p : ℕ) (r : Opened) → r ≡ cond b (ov.Map n p) ov.NoMap → ((b ≡ true) × (r ≡ ov.Map n p)) ⊎ ((b ≡ false) × (r ≡ ov.NoMap))
+by-test true n p r e = inl (refl, e)
+by-test false n p r e = inr (refl, e)
+
+same-map : {n m p q : ℕ} → ov.Map n p ≡ ov.Map m q → (n ≡ m) × (p ≡ q)
+same-map e = (cc, cc)
+
+module _ (s : List ℕ) (r : Opened) (e : r ≡ openAnswer (length s) (payload s) (heading s)) where
+  pub opened-refused : (k : Refusal) → r ≡ ov.Refused k → payload s ≡ refused k
+  opened-refused k g = go (payload s) refl (sym g ∙ e)
+    where
+      go : (o : Outcome Item) → payload s ≡ o → ov.Refused k ≡ openAnswer (length s) o (heading s) → o ≡ refused k
+      go (refused j) w f = cc
+      go (got i t) w f =
+          let (h, u, a, x, b) = headed s i t w in
+          let f′ : ov.Refused k ≡ mapAnswer (length s) h u = rw a at f in
+          absurd (⊎-elim (λ q. let z : _≡_ {A = ℕ} 0 1 = cc in omega arith) (λ q. let z : _≡_ {A = ℕ} 0 1 = cc in omega arith)
+          (by-test (eqb (h .major) 5) (h .argument) (length s - length u) (ov.Refused k) f′))
+
+  pub opened-map : (n p : ℕ) → r ≡ ov.Map n p → IsMap s n p
+  opened-map n p g = go (payload s) refl (sym g ∙ e)
+    where
+      go : (o : Outcome Item) → payload s ≡ o → ov.Map n p ≡ openAnswer (length s) o (heading s) → IsMap s n p
+      go (refused j) w f = absurd (let z : _≡_ {A = ℕ} 0 1 = cc in omega arith)
+      go (got i t) w f =
+          let (h, u, a, x, b) = headed s i t w in
+          let f′ : ov.Map n p ≡ mapAnswer (length s) h u = rw a at f in
+          ⊎-elim
+          (λ q.
+          let (n≡, p≡) = same-map (q .1) in
+          let (ps, v, c, d) = the-map (h .info) (h .argument) u i x (h .major) (eqb-true (h .major) 5 (q .0)) b in
+          let (k, y, z, l) : Tail s 1 (got h u) = rw a at (heading-tail s) in
+          let (at, in-side) = place s u 0 k (omega arith) z l in
+          record {
+            pairs-are = ps;
+            left = v;
+            inside = rw p≡ in-side;
+            read = whole-payload s i t w ∙ ap (λ (j : Item). got j []) c;
+            each = rw (n≡, p≡, ← at) d;
+          })
+          (λ q. absurd (let z : _≡_ {A = ℕ} 0 1 = cc in omega arith))
+          (by-test (eqb (h .major) 5) (h .argument) (length s - length u) (ov.Map n p) f′)
+
+  pub opened-other : r ≡ ov.NoMap → IsOther s
+  opened-other g = go (payload s) refl (sym g ∙ e)
+    where
+      go : (o : Outcome Item) → payload s ≡ o → ov.NoMap ≡ openAnswer (length s) o (heading s) → IsOther s
+      go (refused j) w f = absurd (let z : _≡_ {A = ℕ} 0 1 = cc in omega arith)
+      go (got i t) w f =
+          let (h, u, a, x, b) = headed s i t w in
+          let f′ : ov.NoMap ≡ mapAnswer (length s) h u = rw a at f in
+          ⊎-elim
+          (λ q. absurd (let z : _≡_ {A = ℕ} 0 1 = cc in omega arith))
+          (λ q. record {
+            item = i;
+            read = whole-payload s i t w;
+            other = λ f y. no-map (h .info) (h .argument) u i x f y (h .major) (eqb-false (h .major) 5 (q .0)) b;
+          })
+          (by-test (eqb (h .major) 5) (h .argument) (length s - length u) ov.NoMap f′)

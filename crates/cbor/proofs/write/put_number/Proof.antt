@@ -1,0 +1,49 @@
+-- The invariant: the bytes still to come, and what dst holds after them, are what is to stand there in the end.
+use Prim.Native.Nat.{_+_, _-_, _%_, _≤_}
+use mathlib.Core.Path.{_≡_, refl, sym, _∙_}
+use mathlib.Core.List.{_++_}
+use native.Mathlib.Omega.{arith}
+use lib.ListN.{length, drop, length-set}
+use Rattle.cbor.specs.Encode.{bytesOf}
+use Rattle.cbor.proofs.Writing.{number-step, number-none}
+use Rattle.cbor.proofs.write.put_number.Statement.{statement}
+use Rattle.cbor.proofs.write.put_number.Tie as tie
+
+abbrev Inv-loop : tie.InvT-loop
+Inv-loop dst₀ k v left₀ i₀ dst left i =
+    (i ≤ k) × (length dst ≡ length dst₀) × (bytesOf i left ++ drop i dst ≡ bytesOf k v ++ drop k dst₀)
+
+abbrev μ-loop : tie.MeasureT-loop
+μ-loop dst₀ k v left₀ i₀ dst left i = i
+
+loop-holds : tie.Need-loop-holds Inv-loop μ-loop
+loop-holds c = (omega arith, refl, refl)
+
+sub-i : tie.Need-sub-i Inv-loop μ-loop
+sub-i c = omega arith
+
+cast-dst : tie.Need-cast-dst Inv-loop μ-loop
+cast-dst c = omega arith
+
+slice-write-dst : tie.Need-slice-write-dst Inv-loop μ-loop
+slice-write-dst c = omega arith
+
+loop-less : tie.Need-loop-less Inv-loop μ-loop
+loop-less c = omega arith
+
+loop-again : tie.Need-loop-again Inv-loop μ-loop
+loop-again c =
+    let l = c .before .loop in (
+      omega arith,
+      length-set (l .dst) (l .i - 1) (l .left % 256) ∙ l .inv .1,
+      sym (number-step (l .dst) (l .i) (l .left) (c .loop-test .taken) (omega arith)) ∙ l .inv .2,
+    )
+
+same-length : tie.Need-same-length Inv-loop μ-loop
+same-length c = c .before .loop .inv .1
+
+returns : tie.Need-returns Inv-loop μ-loop
+returns c = let l = c .before .loop in number-none (l .dst) (l .i) (l .left) (omega arith) ∙ l .inv .2
+
+pub put-number-spec : {M : Type 1} → statement M
+put-number-spec = tie.close (tie.spec Inv-loop μ-loop loop-holds sub-i cast-dst slice-write-dst loop-less loop-again same-length returns)

@@ -1,0 +1,79 @@
+-- What the functions of this crate answer, each as a function of what Decode and Encode say of the bytes.
+-- n is the length of the slice: a place is where the bytes that are left begin, so it is n less their length.
+use Prim.Native.Nat.{ℕ, _-_}
+use mathlib.Core.Bool.{cond}
+use mathlib.Core.List.{List, _++_}
+use mathlib.Core.Path.{_≡_}
+use lib.ListN.{length, drop}
+use lib.Dec.{ltb, leb, eqb}
+use Rattle.refusal.specs.declared.Refusal.{Refusal}
+use Rattle.refusal.specs.declared.Refusal.the-variants.{Room, Range}
+use Rattle.refusal.specs.declared.Verdict.{Verdict}
+use Rattle.refusal.specs.declared.Verdict.the-variants as vv
+use Rattle.cbor.specs.Decode.{Outcome, refused, got, Heading}
+use Rattle.cbor.specs.Encode.{shortest}
+use Rattle.cbor.specs.Item.{Item}
+use Rattle.cbor.specs.declared.head.HeadRead.{HeadRead}
+use Rattle.cbor.specs.declared.head.HeadRead.the-variants as hv
+use Rattle.cbor.specs.declared.write.Written.{Written}
+use Rattle.cbor.specs.declared.write.Written.the-variants as wv
+use Rattle.cbor.specs.declared.item.Skip.{Skip}
+use Rattle.cbor.specs.declared.item.Skip.the-variants as sv
+use Rattle.cbor.specs.declared.item.Opened.{Opened}
+use Rattle.cbor.specs.declared.item.Opened.the-variants as ov
+
+-- ---- reading
+-- a head, and where the bytes go on after it
+abbrev pub headAnswer : ℕ → Outcome Heading → HeadRead
+headAnswer n (refused k) = hv.Refused k
+headAnswer n (got h t) =
+    hv.Got (record { major = h .major; info = h .info; argument = h .argument; next = n - length t })
+
+-- where the bytes go on after what was passed over
+abbrev pub skipAnswer : {A : Type 0} → ℕ → Outcome A → Skip
+skipAnswer n (refused k) = sv.Refused k
+skipAnswer n (got a t) = sv.Next (n - length t)
+
+-- the scan of a whole payload
+abbrev pub scanAnswer : {A : Type 0} → Outcome A → Verdict
+scanAnswer (refused k) = vv.Refused k
+scanAnswer (got a t) = vv.Accepted
+
+-- a scanned payload whose outermost item is a map: how many pairs, and where they begin
+abbrev pub mapAnswer : ℕ → Heading → List ℕ → Opened
+mapAnswer n h t = cond (eqb (h .major) 5) (ov.Map (h .argument) (n - length t)) ov.NoMap
+
+abbrev pub openAnswer : ℕ → Outcome Item → Outcome Heading → Opened
+openAnswer n (refused k) h = ov.Refused k
+openAnswer n (got i u) (refused k) = ov.Refused k
+openAnswer n (got i u) (got h t) = mapAnswer n h t
+
+-- ---- writing
+-- what is asked of a writer: a refusal whatever the room, or these bytes if they have room
+pub data Plan : Type 0 where
+  refuse : Refusal → Plan
+  emit : List ℕ → Plan
+
+-- the answer, d being what the destination holds: ROOM where it is too short, else the length
+abbrev pub answer : Plan → List ℕ → Written
+answer (refuse k) d = wv.Refused k
+answer (emit p) d = cond (leb (length p) (length d)) (wv.Length (length p)) (wv.Refused Room)
+
+-- the destination's contents afterwards: a refusal changes no byte, a success only the first bytes
+abbrev pub after : Plan → List ℕ → List ℕ
+after (refuse k) d = d
+after (emit p) d = cond (leb (length p) (length d)) (p ++ drop (length p) d) d
+
+-- a public writer: its answer r, and the destination d before and d′ afterwards
+pub record Did (plan : Plan) (d : List ℕ) (r : Written) (d′ : List ℕ) : Type 0 where
+  pub says : r ≡ answer plan d
+  pub holds : d′ ≡ after plan d
+
+-- a writer that has room: the bytes p, n of them, in front of what d held after them
+pub record Wrote (p d : List ℕ) (n : ℕ) (d′ : List ℕ) : Type 0 where
+  pub many : n ≡ length p
+  pub holds : d′ ≡ p ++ drop (length p) d
+
+-- a head: RANGE where there is no such major type, then ROOM
+abbrev pub headPlan : ℕ → ℕ → Plan
+headPlan major n = cond (ltb 7 major) (refuse Range) (emit (shortest major n))

@@ -1,0 +1,35 @@
+-- What this layer promises about its definitions, for the layers above.
+use Prim.Native.Nat.{ℕ, _^_, _<_, _≤_}
+use mathlib.Core.Path.{_≡_}
+use mathlib.Core.List.{List, [], _++_, List·Memᴰ}
+use lib.ListN.{length}
+use Rattle.cbor.specs.Item.{Item, Items, depth, Fit}
+use Rattle.cbor.specs.Decode.{got, Heading, heading, decode, members, payload}
+use Rattle.cbor.specs.Encode.{shortest, encode, infoOf}
+
+-- s is at least n bytes and then t
+pub record Suffix (n : ℕ) (t s : List ℕ) : Type 0 where
+  pub front : List ℕ
+  pub least : n ≤ length front
+  pub whole : s ≡ front ++ t
+
+-- every element is a byte
+abbrev pub Bytes : List ℕ → Type 0
+Bytes s = (b : ℕ) → List·Memᴰ b s → b < 256
+
+pub record ItemLaws : Type 0 where
+  -- what was encoded, with any bytes behind it, is decoded to the item and those bytes
+  pub round-trip :
+      (i : Item) (d : ℕ) (r : List ℕ) → depth i ≤ d → Fit i → decode d (encode i ++ r) ≡ got i r
+  pub payload-round-trip : (i : Item) → depth i ≤ 8 → Fit i → payload (encode i) ≡ got i []
+  -- what is left after an item is a proper suffix of the bytes, and n members take at least n bytes
+  pub item-suffix : (d : ℕ) (s : List ℕ) (i : Item) (t : List ℕ) → decode d s ≡ got i t → Suffix 1 t s
+  pub members-suffix :
+      (d n : ℕ) (s : List ℕ) (is : Items) (t : List ℕ) → members (decode d) n s ≡ got is t → Suffix n t s
+  -- the head that is written is read as its major type and argument, and no head that is read so is shorter
+  pub head-read :
+      (m n : ℕ) (r : List ℕ) → n < 2 ^ 64 →
+      heading (shortest m n ++ r) ≡ got (record { major = m; info = infoOf n; argument = n }) r
+  pub head-shortest :
+      (s : List ℕ) (h : Heading) (t : List ℕ) → Bytes s → heading s ≡ got h t →
+      Suffix (length (shortest (h .major) (h .argument))) t s

@@ -1,0 +1,6 @@
+pub mod Item
+pub mod Decode
+pub mod Encode
+pub mod Answer
+pub mod View
+pub mod Laws

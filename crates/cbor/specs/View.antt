@@ -1,0 +1,156 @@
+-- What the layer above asks of an item: of a map's label whether it is an integer, of a value whether it is a number, a byte string,
+-- an array of such, or something else. Said of the tree, and then of the bytes that a place's head begins.
+use Prim.Native.Nat.{ℕ, zero, suc, _-_}
+use mathlib.Core.Bool.{cond}
+use mathlib.Core.List.{List, [], _∷_}
+use lib.Dec.{leb}
+use lib.ListN.{length}
+use Rattle.cbor.specs.Item.{Item, Items, Pairs, unsigned, negative, bytes, text, array, map, tag, simple, float, none, more}
+use Rattle.cbor.specs.Decode.{Outcome, refused, got, Heading, Major, unsigneds, negatives, byteStrings, textStrings, arrays, maps, tags, others, majorOf, next, heading, decode}
+use Rattle.cbor.specs.declared.value.Label.{Label}
+use Rattle.cbor.specs.declared.value.Label.the-variants as lv
+use Rattle.cbor.specs.declared.value.Value.{Value}
+use Rattle.cbor.specs.declared.value.Value.the-variants as vv
+
+-- a member of an array
+pub data Plain : Type 0 where
+  number : ℕ → Plain
+  string : List ℕ → Plain
+  other : Plain
+
+-- a value
+pub data View : Type 0 where
+  plain : Plain → View
+  list : List Plain → View
+
+-- ---- of the tree
+abbrev pub plainOf : Item → Plain
+plainOf (unsigned n) = number n
+plainOf (negative n) = other
+plainOf (bytes s) = string s
+plainOf (text s) = other
+plainOf (array is) = other
+plainOf (map ps) = other
+plainOf (tag n i) = other
+plainOf (simple n) = other
+plainOf (float w n) = other
+
+abbrev pub plainsOf : Items → List Plain
+plainsOf none = []
+plainsOf (more i is) = plainOf i ∷ plainsOf is
+
+abbrev pub viewOf : Item → View
+viewOf (unsigned n) = plain (number n)
+viewOf (negative n) = plain other
+viewOf (bytes s) = plain (string s)
+viewOf (text s) = plain other
+viewOf (array is) = list (plainsOf is)
+viewOf (map ps) = plain other
+viewOf (tag n i) = plain other
+viewOf (simple n) = plain other
+viewOf (float w n) = plain other
+
+-- an integer is major type 0 or 1: a tagged bignum is none
+abbrev pub labelOf : Item → Label
+labelOf (unsigned n) = lv.Number n
+labelOf (negative n) = lv.Negative
+labelOf (bytes s) = lv.NoInteger
+labelOf (text s) = lv.NoInteger
+labelOf (array is) = lv.NoInteger
+labelOf (map ps) = lv.NoInteger
+labelOf (tag n i) = lv.NoInteger
+labelOf (simple n) = lv.NoInteger
+labelOf (float w n) = lv.NoInteger
+
+-- what is read of an outermost item that is a map, and what of any other
+abbrev pub ifMap : {R : Type 0} → (Pairs → R) → R → Item → R
+ifMap f x (unsigned n) = x
+ifMap f x (negative n) = x
+ifMap f x (bytes s) = x
+ifMap f x (text s) = x
+ifMap f x (array is) = x
+ifMap f x (map ps) = f ps
+ifMap f x (tag n i) = x
+ifMap f x (simple n) = x
+ifMap f x (float w n) = x
+
+-- ---- of bytes: the same where an item can be read there, and anything where it cannot
+abbrev pub stringOf : Outcome (List ℕ) → Plain
+stringOf (refused k) = other
+stringOf (got s t) = string s
+
+abbrev pub plainBy : Major → ℕ → List ℕ → Plain
+plainBy unsigneds n t = number n
+plainBy negatives n t = other
+plainBy byteStrings n t = stringOf (next n t)
+plainBy textStrings n t = other
+plainBy arrays n t = other
+plainBy maps n t = other
+plainBy tags n t = other
+plainBy others n t = other
+
+abbrev pub plainHead : Outcome Heading → Plain
+plainHead (refused k) = other
+plainHead (got h t) = plainBy (majorOf (h .major)) (h .argument) t
+
+unfoldable pub plainAt : List ℕ → Plain
+plainAt l = plainHead (heading l)
+
+abbrev pub andOn : Plain → Outcome Item → (List ℕ → List Plain) → List Plain
+andOn p (refused k) f = other ∷ []
+andOn p (got i t) f = p ∷ f t
+
+-- the next n members, each with d levels left
+unfoldable pub plainsAt : ℕ → ℕ → List ℕ → List Plain
+plainsAt d zero l = []
+plainsAt d (suc n) l = andOn (plainAt l) (decode d l) (λ t. plainsAt d n t)
+
+abbrev pub viewBy : ℕ → Major → ℕ → List ℕ → View
+viewBy d unsigneds n t = plain (number n)
+viewBy d negatives n t = plain other
+viewBy d byteStrings n t = plain (stringOf (next n t))
+viewBy d textStrings n t = plain other
+viewBy d arrays n t = list (plainsAt d n t)
+viewBy d maps n t = plain other
+viewBy d tags n t = plain other
+viewBy d others n t = plain other
+
+abbrev pub viewHead : ℕ → Outcome Heading → View
+viewHead d (refused k) = plain other
+viewHead d (got h t) = viewBy d (majorOf (h .major)) (h .argument) t
+
+-- a value whose members have d levels left
+unfoldable pub viewAt : ℕ → List ℕ → View
+viewAt d l = viewHead d (heading l)
+
+abbrev pub labelBy : Major → ℕ → Label
+labelBy unsigneds n = lv.Number n
+labelBy negatives n = lv.Negative
+labelBy byteStrings n = lv.NoInteger
+labelBy textStrings n = lv.NoInteger
+labelBy arrays n = lv.NoInteger
+labelBy maps n = lv.NoInteger
+labelBy tags n = lv.NoInteger
+labelBy others n = lv.NoInteger
+
+abbrev pub labelHead : Outcome Heading → Label
+labelHead (refused k) = lv.NoInteger
+labelHead (got h t) = labelBy (majorOf (h .major)) (h .argument)
+
+unfoldable pub labelAt : List ℕ → Label
+labelAt l = labelHead (heading l)
+
+-- ---- what `value_at` answers: the places in a slice of length n where a value's bytes or members begin, t being what follows its head
+abbrev pub valueBy : ℕ → Major → ℕ → List ℕ → Value
+valueBy n unsigneds a t = vv.Number a (n - length t)
+valueBy n negatives a t = vv.Other
+valueBy n byteStrings a t = cond (leb a (length t)) (vv.Bytes (n - length t) a) vv.Other
+valueBy n textStrings a t = vv.Other
+valueBy n arrays a t = vv.Array (n - length t) a
+valueBy n maps a t = vv.Other
+valueBy n tags a t = vv.Other
+valueBy n others a t = vv.Other
+
+abbrev pub valueAnswer : ℕ → Outcome Heading → Value
+valueAnswer n (refused k) = vv.Other
+valueAnswer n (got h t) = valueBy n (majorOf (h .major)) (h .argument) t

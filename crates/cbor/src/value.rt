@@ -1,0 +1,77 @@
+// What stands at a place, as far as the layer above asks.
+use crate::head::HeadRead;
+use crate::head::read_head;
+ghost use mathlib.Core.Path.{_≡_};
+ghost use lib.ListN.{length, drop};
+ghost use Rattle.cbor.specs.Decode.{heading};
+ghost use Rattle.cbor.specs.View.{labelAt, valueAnswer};
+
+// A map's label: an integer, or something else.
+pub enum Label {
+    NoInteger,
+    Negative,
+    Number(u64),
+}
+
+// A value: an unsigned number and where the bytes go on, a byte string, an array whose members begin at `start`, or something else.
+pub enum Value {
+    Number { number: u64, next: usize },
+    Bytes { start: usize, len: usize },
+    Array { start: usize, count: u64 },
+    Other,
+}
+
+// The label at a place.
+pub fn label_at(s: &[u8], at: usize) -> Label
+    ensures { λ r. ⌜ r ≡ labelAt (drop at (now (s .entry))) ⌝ }
+{
+    let h = read_head(s, at);
+    match h {
+        HeadRead::Refused(_) => Label::NoInteger,
+        HeadRead::Got(head) => {
+            let major = head.major;
+            match major {
+                0 => Label::Number(head.argument),
+                1 => Label::Negative,
+                _ => Label::NoInteger,
+            }
+        }
+    }
+}
+
+// The value at a place; a byte string that the slice does not hold whole is something else.
+pub fn value_at(s: &[u8], at: usize) -> Value
+    ensures { λ r. ⌜ r ≡ valueAnswer (length (now (s .entry))) (heading (drop at (now (s .entry)))) ⌝ }
+{
+    let h = read_head(s, at);
+    match h {
+        HeadRead::Refused(_) => Value::Other,
+        HeadRead::Got(head) => {
+            let major = head.major;
+            let argument = head.argument;
+            let next = head.next;
+            match major {
+                0 => Value::Number {
+                    number: argument,
+                    next: next,
+                },
+                2 => {
+                    let room = (s.len() - next) as u64;
+                    if argument <= room {
+                        Value::Bytes {
+                            start: next,
+                            len: argument as usize,
+                        }
+                    } else {
+                        Value::Other
+                    }
+                }
+                4 => Value::Array {
+                    start: next,
+                    count: argument,
+                },
+                _ => Value::Other,
+            }
+        }
+    }
+}

@@ -1,0 +1,61 @@
+// Scans the data item of each line of items.txt, `HEX N`, and prints what the item scan answers: 0, or the refusal's number.
+// expected.sh makes the expected output from the file's last column.
+use refusal::Verdict;
+use text::hex::Hex;
+use text::hex::Payload;
+use text::output::Output;
+
+// What the item scan of the payload answers, in document 01's numbers.
+fn scanned(payload: &[u8]) -> u8 {
+    let verdict = cbor::scan(payload);
+    match verdict {
+        Verdict::Accepted => 0,
+        Verdict::Refused(refusal) => refusal.number(),
+    }
+}
+
+// One line's answer; a comment has none. A line that is no HEX prints 255, which no scan answers.
+fn answer(line: &[u8], out: Output, buffer: &mut [u8; 4096]) -> Output {
+    if line.len() == 0 {
+        return out;
+    }
+    if line[0] == b'#' {
+        return out;
+    }
+    let end = bytes::scan::find(line, 0, line.len(), b' ');
+    let mut payload = [0u8; 512];
+    let hex = Hex::new().more(&line[0..end], &mut payload);
+    let mut number = 255;
+    if let Payload::Bytes(n) = hex.payload() {
+        if n < 512 {
+            number = scanned(&payload[0..n]);
+        }
+    }
+    out.number(number as u64, buffer).byte(b'\n', buffer)
+}
+
+// Every line of the text.
+fn answers(text: &[u8], buffer: &mut [u8; 4096]) {
+    let mut out = Output::new();
+    let mut at = 0;
+    while at < text.len() {
+        let end = bytes::scan::find(text, at, text.len(), b'\n');
+        out = answer(&text[at..end], out, buffer);
+        at = end + 1;
+    }
+    out.flush(buffer);
+}
+
+fn main() {
+    let name = b"items.txt";
+    let file = os::open_read(name);
+    if file < 0 {
+        os::fail(name);
+        return;
+    }
+    let mut text = io::large_buffer();
+    let mut buffer = io::buffer();
+    let n = io::read_full(file, &mut text);
+    libc::close(file);
+    answers(&text[..n], &mut buffer);
+}
