@@ -1,0 +1,78 @@
+-- `first_cover` meets its contract: from each place on the question has the answer that it has from the first.
+use Prim.Native.Nat.{_-_}
+use native.Mathlib.Omega.{arith}
+use mathlib.Core.Path.{_≡_, refl, sym, _∙_}
+use borrow.Author.Needs.{needs}
+use lib.ListN.{drop}
+use Rattle.keys.specs.KeySet.{keysOf, firstCover}
+use Rattle.keys.proofs.Places.{turn, stop}
+use Rattle.keys.proofs.key_set.KeySet.first_cover.Statement.{statement}
+use Rattle.keys.proofs.key_set.KeySet.first_cover.Tie as tie
+
+abbrev Inv-loop : tie.InvT-loop
+Inv-loop frame-type self n i₀ i = firstCover frame-type (keysOf self) ≡ firstCover frame-type (drop i (keysOf self))
+
+abbrev μ-loop : tie.MeasureT-loop
+μ-loop frame-type self n i₀ i = n - i
+
+len-requires : tie.Need-len-requires Inv-loop μ-loop
+len-requires c κs = search needs
+
+loop-holds : tie.Need-loop-holds Inv-loop μ-loop
+loop-holds c = refl
+
+mul-key : tie.Need-mul-key Inv-loop μ-loop
+mul-key c = search needs
+
+element-copy-out-key : tie.Need-element-copy-out-key Inv-loop μ-loop
+element-copy-out-key c = search needs
+
+covers-requires : tie.Need-covers-requires Inv-loop μ-loop
+covers-requires c κs = search needs
+
+returns : tie.Need-returns Inv-loop μ-loop
+returns c =
+    let args = c .before .before .before .before .before .before .args in
+    let loop = c .before .before .before .before .loop in
+    let yes = sym (c .before .covers .ensures) ∙ c .if1 .taken in
+    rw (loop .inv, turn (args .t1) (firstCover (args .frame-type)) (loop .i) (omega arith), yes)
+
+add-i : tie.Need-add-i Inv-loop μ-loop
+add-i c = search needs
+
+loop-less : tie.Need-loop-less Inv-loop μ-loop
+loop-less c = search needs
+
+loop-again : tie.Need-loop-again Inv-loop μ-loop
+loop-again c =
+    let args = c .before .before .before .before .before .before .args in
+    let loop = c .before .before .before .before .loop in
+    let no = sym (c .before .covers .ensures) ∙ c .if1 .left in
+    rw (loop .inv, turn (args .t1) (firstCover (args .frame-type)) (loop .i) (omega arith), no)
+
+no-key-requires : tie.Need-no-key-requires Inv-loop μ-loop
+no-key-requires c κs = search needs
+
+returns-2 : tie.Need-returns-2 Inv-loop μ-loop
+returns-2 c =
+    let args = c .before .before .before .before .args in
+    let loop = c .before .before .loop in
+    rw (loop .inv, stop (args .t1) (firstCover (args .frame-type)) (loop .i) (omega arith), c .no-key .ensures)
+
+pub first-cover-spec : {M : Type 1} → statement M
+first-cover-spec =
+    tie.close
+    (tie.spec
+    Inv-loop
+    μ-loop
+    len-requires
+    loop-holds
+    mul-key
+    element-copy-out-key
+    covers-requires
+    returns
+    add-i
+    loop-less
+    loop-again
+    no-key-requires
+    returns-2)

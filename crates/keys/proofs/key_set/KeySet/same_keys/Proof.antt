@@ -1,0 +1,95 @@
+-- `same_keys` meets its contract: from each place on the sets compare as they do from the first.
+use Prim.Native.Nat.{_-_}
+use native.Mathlib.Omega.{arith}
+use mathlib.Core.Path.{_≡_, refl, sym, _∙_}
+use borrow.Author.Needs.{needs}
+use borrow.Author.Tests.{not-true, not-false}
+use lib.ListN.{drop}
+use Rattle.keys.specs.Key.{sameKey}
+use Rattle.keys.specs.KeySet.{keysOf, sameKeys}
+use Rattle.keys.proofs.Lists.{differ}
+use Rattle.keys.proofs.Places.{same-keys-turn, same-stop}
+use Rattle.keys.proofs.key_set.KeySet.same_keys.Statement.{statement}
+use Rattle.keys.proofs.key_set.KeySet.same_keys.Tie as tie
+
+abbrev Inv-loop : tie.InvT-loop
+Inv-loop self other n i₀ i = sameKeys (keysOf self) (keysOf other) ≡ sameKeys (drop i (keysOf self)) (drop i (keysOf other))
+
+abbrev μ-loop : tie.MeasureT-loop
+μ-loop self other n i₀ i = n - i
+
+len-requires : tie.Need-len-requires Inv-loop μ-loop
+len-requires c κs = search needs
+
+len-requires-2 : tie.Need-len-requires-2 Inv-loop μ-loop
+len-requires-2 c κs = search needs
+
+returns : tie.Need-returns Inv-loop μ-loop
+returns c =
+    let args = c .before .before .before .args in
+    sym (differ sameKey (keysOf (args .t1)) (keysOf (args .t2)) (λ e. omega (arith, e)))
+
+loop-holds : tie.Need-loop-holds Inv-loop μ-loop
+loop-holds c = refl
+
+mul-mine : tie.Need-mul-mine Inv-loop μ-loop
+mul-mine c = search needs
+
+element-copy-out-mine : tie.Need-element-copy-out-mine Inv-loop μ-loop
+element-copy-out-mine c = search needs
+
+mul-theirs : tie.Need-mul-theirs Inv-loop μ-loop
+mul-theirs c = search needs
+
+element-copy-out-theirs : tie.Need-element-copy-out-theirs Inv-loop μ-loop
+element-copy-out-theirs c = search needs
+
+same-key-requires : tie.Need-same-key-requires Inv-loop μ-loop
+same-key-requires c κs = search needs
+
+returns-2 : tie.Need-returns-2 Inv-loop μ-loop
+returns-2 c =
+    let args = c .before .before .before .before .before .before .before .before .before .args in
+    let loop = c .before .before .before .before .before .loop in
+    let unequal = sym (c .before .same-key .ensures) ∙ not-true _ (c .if2 .taken) in
+    rw (loop .inv, same-keys-turn (args .t1) (args .t2) (loop .i) (omega arith) (omega arith), unequal)
+
+add-i : tie.Need-add-i Inv-loop μ-loop
+add-i c = search needs
+
+loop-less : tie.Need-loop-less Inv-loop μ-loop
+loop-less c = search needs
+
+loop-again : tie.Need-loop-again Inv-loop μ-loop
+loop-again c =
+    let args = c .before .before .before .before .before .before .before .before .before .args in
+    let loop = c .before .before .before .before .before .loop in
+    let equal = sym (c .before .same-key .ensures) ∙ not-false _ (c .if2 .left) in
+    rw (loop .inv, same-keys-turn (args .t1) (args .t2) (loop .i) (omega arith) (omega arith), equal)
+
+returns-3 : tie.Need-returns-3 Inv-loop μ-loop
+returns-3 c =
+    let args = c .before .before .before .before .before .args in
+    let loop = c .before .loop in
+    rw (loop .inv, same-stop sameKey (keysOf (args .t1)) (keysOf (args .t2)) (loop .i) (omega arith) (omega arith))
+
+pub same-keys-spec : {M : Type 1} → statement M
+same-keys-spec =
+    tie.close
+    (tie.spec
+    Inv-loop
+    μ-loop
+    len-requires
+    len-requires-2
+    returns
+    loop-holds
+    mul-mine
+    element-copy-out-mine
+    mul-theirs
+    element-copy-out-theirs
+    same-key-requires
+    returns-2
+    add-i
+    loop-less
+    loop-again
+    returns-3)

@@ -1,0 +1,81 @@
+-- `shares` meets its contract: from each place on the question has the answer that it has from the first.
+use Prim.Native.Nat.{_-_}
+use native.Mathlib.Omega.{arith}
+use mathlib.Core.Path.{_≡_, refl, sym, _∙_}
+use borrow.Author.Needs.{needs}
+use mathlib.Core.Bool.{Bool}
+use mathlib.Core.List.{List}
+use lib.ListN.{drop}
+use Rattle.keys.specs.KeySet.{keysOf, shares}
+use Rattle.keys.specs.declared.key.Key.{Key}
+use Rattle.keys.proofs.Places.{turn, stop}
+use Rattle.keys.proofs.key_set.KeySet.shares.Statement.{statement}
+use Rattle.keys.proofs.key_set.KeySet.shares.Tie as tie
+
+-- the question of the loop, which goes over the first set
+abbrev sharesWith : List Key → List Key → Bool
+sharesWith ys xs = shares xs ys
+
+abbrev Inv-loop : tie.InvT-loop
+Inv-loop other self n i₀ i = shares (keysOf self) (keysOf other) ≡ shares (drop i (keysOf self)) (keysOf other)
+
+abbrev μ-loop : tie.MeasureT-loop
+μ-loop other self n i₀ i = n - i
+
+len-requires : tie.Need-len-requires Inv-loop μ-loop
+len-requires c κs = search needs
+
+loop-holds : tie.Need-loop-holds Inv-loop μ-loop
+loop-holds c = refl
+
+mul-key : tie.Need-mul-key Inv-loop μ-loop
+mul-key c = search needs
+
+element-copy-out-key : tie.Need-element-copy-out-key Inv-loop μ-loop
+element-copy-out-key c = search needs
+
+has-requires : tie.Need-has-requires Inv-loop μ-loop
+has-requires c κs = search needs
+
+returns : tie.Need-returns Inv-loop μ-loop
+returns c =
+    let args = c .before .before .before .before .before .before .args in
+    let loop = c .before .before .before .before .loop in
+    let yes = sym (c .before .has .ensures) ∙ c .if1 .taken in
+    rw (loop .inv, turn (args .t1) (sharesWith (keysOf (args .other))) (loop .i) (omega arith), yes)
+
+add-i : tie.Need-add-i Inv-loop μ-loop
+add-i c = search needs
+
+loop-less : tie.Need-loop-less Inv-loop μ-loop
+loop-less c = search needs
+
+loop-again : tie.Need-loop-again Inv-loop μ-loop
+loop-again c =
+    let args = c .before .before .before .before .before .before .args in
+    let loop = c .before .before .before .before .loop in
+    let no = sym (c .before .has .ensures) ∙ c .if1 .left in
+    rw (loop .inv, turn (args .t1) (sharesWith (keysOf (args .other))) (loop .i) (omega arith), no)
+
+returns-2 : tie.Need-returns-2 Inv-loop μ-loop
+returns-2 c =
+    let args = c .before .before .before .args in
+    let loop = c .before .loop in
+    rw (loop .inv, stop (args .t1) (sharesWith (keysOf (args .other))) (loop .i) (omega arith))
+
+pub shares-spec : {M : Type 1} → statement M
+shares-spec =
+    tie.close
+    (tie.spec
+    Inv-loop
+    μ-loop
+    len-requires
+    loop-holds
+    mul-key
+    element-copy-out-key
+    has-requires
+    returns
+    add-i
+    loop-less
+    loop-again
+    returns-2)

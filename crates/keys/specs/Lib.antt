@@ -1,0 +1,5 @@
+pub mod Lists
+pub mod Usage
+pub mod Key
+pub mod KeySet
+pub mod KeyLaws
