@@ -1,0 +1,136 @@
+-- A short address is its bytes, and after them nothing or a lease.
+use Prim.Native.Nat.{ℕ, suc, _+_, _-_, _≤_, _<_}
+use mathlib.Core.Path.{_≡_, refl, _∙_}
+use mathlib.Core.Bool.{Bool, true, false}
+use mathlib.Core.List.{List, [], _∷_}
+use mathlib.Core.Logic.{⊎-elim}
+use native.Mathlib.Omega.{arith}
+use native.Mathlib.Numerals.{add-one}
+use lib.ListN.{length, take, drop, getD, length-drop}
+use lib.Seq.{drop-cons, length-take-le}
+use borrow.Author.Tests.{eq-eqb, ne-eqb}
+use types.Run.{OneOf}
+use denote.Enum.Declared.{tagOf}
+use Rattle.cbor.specs.Decode.{heading}
+use Rattle.cbor.specs.View.{Plain, number, string, other, valueAnswer}
+use Rattle.cbor.specs.declared.value.Value.{Value}
+use Rattle.cbor.specs.declared.value.Value.the-variants as vv
+use Rattle.cbor.proofs.value.Value as value
+use Rattle.cojp.specs.Address.{addressOf, addressParameter, noAddressParameter, addressBy, addressIn, addressConcluded, addressRead}
+use Rattle.cojp.specs.Bytes.{valueView, membersAt, Neither, MemberAt}
+use Rattle.cojp.specs.Reading.{Reading, read, broken}
+use Rattle.cojp.specs.declared.address.AddressParameter.{AddressParameter}
+use Rattle.cojp.specs.declared.members.Member.{Member}
+use Rattle.cojp.specs.declared.members.Member.the-variants as mv
+use Rattle.cojp.specs.declared.report.Report.the-variants.{Taken, Discarded}
+use Rattle.cojp.proofs.Arrays.{members-none, members-some, array-here, no-array}
+use Rattle.cojp.proofs.members.Member as member
+
+-- ---- its bytes
+module _ (s : List ℕ) (p a : ℕ) (i : p + a ≤ length s) (b : Bool) (n : ℕ) where
+  whole : length (take a (drop p s)) ≡ a
+  whole = length-take-le a (drop p s) (omega (arith, length-drop p s))
+
+  pub address-unfit : ¬ (a ≡ 2) → (x : AddressParameter) → x ≡ noAddressParameter Discarded
+      → read x ≡ addressConcluded (addressBy (take a (drop p s)) b n)
+  address-unfit h x e = rw (whole, ne-eqb a 2 h, e)
+
+  two : a ≡ 2 → take a (drop p s) ≡ getD s p 0 ∷ getD s (p + 1) 0 ∷ []
+  two e =
+      let h : p < length s = omega arith in
+      let k : suc p < length s = omega arith in
+      rw (e, add-one, drop-cons s p 0 h, drop-cons s (suc p) 0 k)
+
+  pub address-good : a ≡ 2
+      → read (addressParameter Taken (addressOf (getD s p 0 ∷ getD s (p + 1) 0 ∷ []) b n)) ≡ addressConcluded (addressBy (take a (drop p s)) b n)
+  address-good e = rw (whole, eq-eqb a 2 e, two e)
+
+-- ---- after its bytes b
+module _ (s b : List ℕ) (at n : ℕ) (r : Reading AddressParameter) where
+  pub lease-none : n ≡ 0 → r ≡ addressConcluded (addressBy b false 0)
+      → r ≡ addressConcluded (addressIn (string b ∷ membersAt n (drop at s)))
+  unfolding addressIn
+  lease-none h e = e ∙ rw (members-none n (drop at s) h)
+
+  module _ (v : Member) (w : MemberAt s at n v) where
+    module _ (x p : ℕ) (g : v ≡ mv.Number x p) where
+      number-here : membersAt n (drop at s) ≡ number x ∷ membersAt (n - 1) (drop p s)
+      number-here = let w′ : MemberAt s at n (mv.Number x p) = rw g at w in w′ .1
+
+      pub lease-one : n ≡ 1 → r ≡ addressConcluded (addressBy b true x)
+          → r ≡ addressConcluded (addressIn (string b ∷ membersAt n (drop at s)))
+      unfolding addressIn
+      lease-one h e = let z : n - 1 ≡ 0 = omega arith in e ∙ rw (number-here, members-none (n - 1) (drop p s) z)
+
+      pub lease-many : ¬ (n ≡ 0) → ¬ (n ≡ 1) → r ≡ addressConcluded broken
+          → r ≡ addressConcluded (addressIn (string b ∷ membersAt n (drop at s)))
+      unfolding addressIn
+      lease-many h k e = let (q, qs, f) = members-some (n - 1) (drop p s) (omega arith) in e ∙ rw (number-here, f)
+
+    pub lease-other : ¬ (n ≡ 0) → OneOf (1 ∷ 2 ∷ []) (tagOf member.the-type v) → r ≡ addressConcluded broken
+        → r ≡ addressConcluded (addressIn (string b ∷ membersAt n (drop at s)))
+    unfolding addressIn
+    lease-other h o e =
+        let (q, qs, f) = members-some n (drop at s) (omega arith) in
+        e ∙ rw f (last q qs (go v w o q qs f))
+      where
+        -- a byte string or something else
+        Wrong : Plain → Type 0
+        Wrong (number x) = ⊥
+        Wrong (string t) = Unit {0}
+        Wrong other = Unit {0}
+
+        wrong : (q : Plain) (qs : List Plain) → Neither (q ∷ qs) → Wrong q
+        wrong (number x) qs w = w
+        wrong (string t) qs w = tt
+        wrong other qs w = tt
+
+        strings : (t : List ℕ) (q : Plain) → string t ≡ q → Wrong q
+        strings t (number x) f = absurd (let z : _≡_ {A = ℕ} 0 1 = cc in omega arith)
+        strings t (string u) f = tt
+        strings t other f = tt
+
+        go : (v : Member) → MemberAt s at n v → OneOf (1 ∷ 2 ∷ []) (tagOf member.the-type v)
+            → (q : Plain) (qs : List Plain) → membersAt n (drop at s) ≡ q ∷ qs → Wrong q
+        go (mv.Number x p) w o q qs f = absurd (⊎-elim (λ e. omega arith) (λ e. omega arith) o)
+        go (mv.Bytes p a) (_, _, e) o q qs f = strings (take a (drop p s)) q (let g : string (take a (drop p s)) ≡ q = cc in g)
+        go mv.Neither w o q qs f = wrong q qs (rw f at w)
+
+        last : (q : Plain) (qs : List Plain) → Wrong q → addressConcluded broken ≡ addressConcluded (addressIn (string b ∷ q ∷ qs))
+        last (number x) qs w = absurd w
+        last (string t) qs w = refl
+        last other qs w = refl
+
+-- ---- its members
+module _ (s : List ℕ) (at n : ℕ) (v : Member) (w : MemberAt s at n v) (r : Reading AddressParameter) where
+  pub address-begun : (p a : ℕ) → v ≡ mv.Bytes p a
+      → r ≡ addressConcluded (addressIn (string (take a (drop p s)) ∷ membersAt (n - 1) (drop (p + a) s)))
+      → r ≡ addressConcluded (addressIn (membersAt n (drop at s)))
+  address-begun p a g e = let w′ : MemberAt s at n (mv.Bytes p a) = rw g at w in e ∙ rw (w′ .2)
+
+  pub address-headless : OneOf (0 ∷ 2 ∷ []) (tagOf member.the-type v) → r ≡ addressConcluded broken
+      → r ≡ addressConcluded (addressIn (membersAt n (drop at s)))
+  unfolding addressIn
+  address-headless o e = e ∙ go v w o
+    where
+      none : (ps : List Plain) → Neither ps → addressConcluded broken ≡ addressConcluded (addressIn ps)
+      none [] w = refl
+      none (number x ∷ ps) w = refl
+      none (string t ∷ ps) w = absurd w
+      none (other ∷ ps) w = refl
+
+      go : (v : Member) → MemberAt s at n v → OneOf (0 ∷ 2 ∷ []) (tagOf member.the-type v)
+          → addressConcluded broken ≡ addressConcluded (addressIn (membersAt n (drop at s)))
+      go (mv.Number x p) w o = rw (w .1)
+      go (mv.Bytes p a) w o = absurd (⊎-elim (λ e. omega arith) (λ e. omega arith) o)
+      go mv.Neither w o = none (membersAt n (drop at s)) w
+
+-- ---- the value
+module _ (s : List ℕ) (at : ℕ) (v : Value) (e : v ≡ valueAnswer (length s) (heading (drop at s))) (r : Reading AddressParameter) where
+  pub address-array : (p n : ℕ) → v ≡ vv.Array p n → r ≡ addressConcluded (addressIn (membersAt n (drop p s)))
+      → r ≡ addressRead (valueView (drop at s))
+  address-array p n g f = f ∙ rw (array-here s at v e p n g .1)
+
+  pub address-broken : OneOf (0 ∷ 1 ∷ 3 ∷ []) (tagOf value.the-type v) → r ≡ addressConcluded broken
+      → r ≡ addressRead (valueView (drop at s))
+  address-broken o f = f ∙ rw (no-array s at v e o .1)

@@ -1,0 +1,29 @@
+-- Both answers have one clause for a refusal, which gives the empty object.
+use Prim.Native.Nat.{ℕ}
+use mathlib.Core.Path.{_≡_, refl}
+use native.Mathlib.Omega.{arith}
+use Rattle.refusal.specs.declared.Refusal.{Refusal}
+use Rattle.refusal.specs.declared.Verdict.the-variants.{Refused}
+use Rattle.cojp.specs.Reading.{Reading, refused, read, onward}
+use Rattle.cojp.specs.Walk.{payloadRead}
+use Rattle.cojp.specs.Request.{emptyRequest, requestAnswer, requestForm, nothingGathered, settled}
+use Rattle.cojp.specs.Configuration.{emptyConfiguration, configurationAnswer, configurationForm}
+use Rattle.cojp.specs.Laws.{ReadersDemand1}
+use Rattle.cojp.specs.declared.configuration.Configuration.{Configuration}
+use Rattle.cojp.specs.declared.request.JoinRequest.{JoinRequest}
+
+request-empty : (o : Reading JoinRequest) (k : Refusal) → requestAnswer o .verdict ≡ Refused k → requestAnswer o .request ≡ emptyRequest
+request-empty (refused j) k e = refl
+request-empty (read q) k e = absurd (let z : _≡_ {A = ℕ} 0 1 = cc in omega arith)
+
+configuration-empty :
+    (o : Reading Configuration) (k : Refusal) → configurationAnswer o .verdict ≡ Refused k →
+    configurationAnswer o .configuration ≡ emptyConfiguration
+configuration-empty (refused j) k e = refl
+configuration-empty (read c) k e = absurd (let z : _≡_ {A = ℕ} 0 1 = cc in omega arith)
+
+pub readers-demand1 : ReadersDemand1
+readers-demand1 = record {
+  request = (λ s k e. request-empty (onward (payloadRead requestForm nothingGathered s) settled) k e);
+  configuration = (λ s k e. configuration-empty (payloadRead configurationForm emptyConfiguration s) k e);
+}

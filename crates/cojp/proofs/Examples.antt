@@ -1,0 +1,16 @@
+-- The marked examples are computed.
+use mathlib.Core.Path.{refl}
+use Rattle.cbor.specs.Decode.{payload, decodeBy, heading, argument, next, digits, members, pairs, majorOf}
+use Rattle.keys.specs.KeySet.{allowed}
+use Rattle.cojp.specs.Octets.{padded, octetsJudged}
+use Rattle.cojp.specs.Address.{addressIn}
+use Rattle.cojp.specs.KeySet.{groups}
+use Rattle.cojp.specs.Walk.{payloadRead}
+use Rattle.cojp.specs.Request.{roleJudged, requestStanding, requestTaking, owing}
+use Rattle.cojp.specs.Configuration.{configurationStanding, configurationTaking}
+use Rattle.cojp.specs.Examples.{MarkedExamples}
+
+pub marked : MarkedExamples
+unfolding payload decodeBy heading argument next digits members pairs majorOf allowed padded octetsJudged addressIn groups payloadRead roleJudged requestStanding requestTaking owing configurationStanding configurationTaking
+marked =
+    (refl, (refl, (refl, (refl, (refl, (refl, (refl, (refl, (refl, (refl, (refl, (refl, (refl, (refl, tt))))))))))))))

@@ -1,0 +1,43 @@
+-- A short address is an array.
+use mathlib.Core.Path.{refl, ap, _∙_}
+use Rattle.cojp.specs.Address.{addressAnswer}
+use Rattle.cojp.proofs.Addresses.{address-array, address-broken}
+use borrow.Author.Needs.{needs}
+use Rattle.cojp.proofs.address.read_address.Statement.{statement}
+use Rattle.cojp.proofs.address.read_address.Tie as tie
+
+value-at-requires : tie.Need-value-at-requires
+value-at-requires c κs = search needs
+
+enum-known-v : tie.Need-enum-known-v
+enum-known-v c = search needs
+
+address-members-requires : tie.Need-address-members-requires
+address-members-requires c κs = search needs
+
+broken-address-requires : tie.Need-broken-address-requires
+broken-address-requires c κs = search needs
+
+returns : tie.Need-returns
+returns c =
+    let a = c .before .before .before .before .before .before .args in
+    let v = c .before .before .before .before .value-at in
+    let g = c .before .before .v .given in
+    c .address-members .ensures ∙ ap addressAnswer (address-array (a .s .now) (a .at) (v .result) (v .ensures) _ (g .0 .0) (g .0 .1 .0) (g .1) refl)
+
+returns-2 : tie.Need-returns-2
+returns-2 c =
+    let a = c .before .before .before .before .args in
+    let v = c .before .before .value-at in
+    c .broken-address .ensures ∙ ap addressAnswer (address-broken (a .s .now) (a .at) (v .result) (v .ensures) _ (c .before .match .keys2) refl)
+
+pub read-address-spec : {M : Type 1} → statement M
+read-address-spec =
+    tie.close
+    (tie.spec
+    value-at-requires
+    enum-known-v
+    address-members-requires
+    broken-address-requires
+    returns
+    returns-2)

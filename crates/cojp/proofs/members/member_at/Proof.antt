@@ -1,0 +1,42 @@
+-- Each arm answers as the laws of Arrays say of the value.
+use Rattle.cojp.proofs.Arrays.{member-none, member-number, member-bytes, member-neither}
+use borrow.Author.Needs.{needs}
+use Rattle.cojp.proofs.members.member_at.Statement.{statement}
+use Rattle.cojp.proofs.members.member_at.Tie as tie
+
+returns : tie.Need-returns
+returns c =
+    let a = c .before .before .args in
+    member-none (a .s .now) (a .at) (a .left) (c .if1 .taken)
+
+value-at-requires : tie.Need-value-at-requires
+value-at-requires c κs = search needs
+
+enum-known-v : tie.Need-enum-known-v
+enum-known-v c = search needs
+
+enum-known-v-2 : tie.Need-enum-known-v-2
+enum-known-v-2 c = search needs
+
+returns-2 : tie.Need-returns-2
+returns-2 c =
+    let a = c .before .before .before .before .before .before .args in
+    let v = c .before .before .before .value-at in
+    member-number (a .s .now) (a .at) (a .left) (c .before .before .before .before .if1 .left) (v .result) (v .ensures) (c .before .v .given .0 .0) (c .before .v .given .0 .1 .0) (c .before .v .given .1)
+
+returns-3 : tie.Need-returns-3
+returns-3 c =
+    let a = c .before .before .before .before .before .before .args in
+    let v = c .before .before .before .value-at in
+    member-bytes (a .s .now) (a .at) (a .left) (c .before .before .before .before .if1 .left) (v .result) (v .ensures) (c .before .v2 .given .0 .0) (c .before .v2 .given .0 .1 .0) (c .before .v2 .given .1)
+
+returns-4 : tie.Need-returns-4
+returns-4 c =
+    let a = c .before .before .before .before .args in
+    let v = c .before .value-at in
+    member-neither (a .s .now) (a .at) (a .left) (c .before .before .if1 .left) (v .result) (v .ensures) (c .match .keys3)
+
+pub member-at-spec : {M : Type 1} → statement M
+member-at-spec =
+    tie.close
+    (tie.spec returns value-at-requires enum-known-v enum-known-v-2 returns-2 returns-3 returns-4)

@@ -1,0 +1,71 @@
+-- The length decides.
+use mathlib.Core.Path.{refl, ap, _∙_}
+use Rattle.cojp.specs.Octets.{octetsAnswer}
+use Rattle.cojp.proofs.Strings.{string-inside, octets-few, octets-many, octets-taken, octets-broken}
+use borrow.Author.Needs.{needs}
+use Rattle.cojp.proofs.octets.read_octets.Statement.{statement}
+use Rattle.cojp.proofs.octets.read_octets.Tie as tie
+
+value-at-requires : tie.Need-value-at-requires
+value-at-requires c κs = search needs
+
+enum-known-v : tie.Need-enum-known-v
+enum-known-v c = search needs
+
+discarded-requires : tie.Need-discarded-requires
+discarded-requires c κs = search needs
+
+returns : tie.Need-returns
+returns c =
+    let a = c .before .before .before .before .before .before .before .args in
+    let v = c .before .before .before .before .before .value-at in
+    let g = c .before .before .before .v .given in
+    c .discarded .ensures ∙ ap octetsAnswer (octets-few (a .s .now) (a .at) (a .least) (v .result) (v .ensures) (g .0 .0) (g .0 .1 .0) (g .1) _ refl (c .before .if1 .taken))
+
+discarded-requires-2 : tie.Need-discarded-requires-2
+discarded-requires-2 c κs = search needs
+
+returns-2 : tie.Need-returns-2
+returns-2 c =
+    let a = c .before .before .before .before .before .before .before .before .args in
+    let v = c .before .before .before .before .before .before .value-at in
+    let g = c .before .before .before .before .v .given in
+    c .discarded2 .ensures ∙ ap octetsAnswer (octets-many (a .s .now) (a .at) (a .least) (v .result) (v .ensures) (g .0 .0) (g .0 .1 .0) (g .1) _ refl (c .before .before .if1 .left) (c .before .if2 .taken))
+
+copied-requires : tie.Need-copied-requires
+copied-requires c κs =
+    let a = c .before .before .before .before .before .before .before .args in
+    let v = c .before .before .before .before .before .value-at in
+    let g = c .before .before .before .v .given in
+    (c .if2 .left, string-inside (a .s .now) (a .at) (a .least) (v .result) (v .ensures) (g .0 .0) (g .0 .1 .0) (g .1))
+
+no-octets-requires : tie.Need-no-octets-requires
+no-octets-requires c κs = search needs
+
+returns-3 : tie.Need-returns-3
+returns-3 c =
+    let a = c .before .before .before .before .before .before .before .before .args in
+    let v = c .before .before .before .before .before .before .value-at in
+    let g = c .before .before .before .before .v .given in
+    ap octetsAnswer (octets-taken (a .s .now) (a .at) (a .least) (v .result) (v .ensures) (g .0 .0) (g .0 .1 .0) (g .1) (c .copied .result) (c .before .before .if1 .left) (c .before .if2 .left) (c .copied .ensures))
+
+returns-4 : tie.Need-returns-4
+returns-4 c =
+    let a = c .before .before .before .before .args in
+    let v = c .before .before .value-at in
+    rw (c .no-octets .ensures) (ap octetsAnswer (octets-broken (a .s .now) (a .at) (a .least) (v .result) (v .ensures) (c .before .match .keys2)))
+
+pub read-octets-spec : {M : Type 1} → statement M
+read-octets-spec =
+    tie.close
+    (tie.spec
+    value-at-requires
+    enum-known-v
+    discarded-requires
+    returns
+    discarded-requires-2
+    returns-2
+    copied-requires
+    no-octets-requires
+    returns-3
+    returns-4)

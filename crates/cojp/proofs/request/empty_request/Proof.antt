@@ -1,0 +1,13 @@
+-- The parts are as their functions promise.
+use borrow.Author.Needs.{needs}
+use Rattle.cojp.proofs.request.empty_request.Statement.{statement}
+use Rattle.cojp.proofs.request.empty_request.Tie as tie
+
+no-octets-requires : tie.Need-no-octets-requires
+no-octets-requires c κs = search needs
+
+returns : tie.Need-returns
+returns c = rw (c .no-octets .ensures)
+
+pub empty-request-spec : {M : Type 1} → statement M
+empty-request-spec = tie.close (tie.spec no-octets-requires returns)

@@ -1,0 +1,62 @@
+-- Short addresses: an array of a byte string and optionally an unsigned lease in seconds.
+use Prim.Native.Nat.{ℕ}
+use mathlib.Core.Bool.{Bool, true, false, cond}
+use mathlib.Core.List.{List, [], _∷_}
+use lib.Dec.{eqb}
+use lib.ListN.{length, replicate}
+use Rattle.cbor.specs.View.{Plain, number, string, other, View, plain, list}
+use Rattle.refusal.specs.declared.Verdict.the-variants as verdict
+use Rattle.cojp.specs.declared.address.AddressRead.{AddressRead}
+use Rattle.cojp.specs.Reading.{Reading, refused, read, Judgement, broken, unfit, good, concluded}
+use Rattle.cojp.specs.declared.address.ShortAddress.{ShortAddress}
+use Rattle.cojp.specs.declared.address.AddressParameter.{AddressParameter}
+use Rattle.cojp.specs.declared.report.Report.{Report}
+use Rattle.cojp.specs.declared.report.Report.the-variants.{Absent, Taken, Discarded}
+
+-- any two bytes are an address
+abbrev pub isAddress : List ℕ → Bool
+isAddress s = eqb (length s) 2
+
+abbrev pub addressOf : List ℕ → Bool → ℕ → ShortAddress
+addressOf s leased lease = record { bytes = s; leased = leased; lease = lease }
+
+abbrev pub noAddress : ShortAddress
+noAddress = addressOf (replicate 2 0) false 0
+
+-- ---- the parameter
+abbrev pub addressParameter : Report → ShortAddress → AddressParameter
+addressParameter r a = record { report = r; value = a }
+
+abbrev pub noAddressParameter : Report → AddressParameter
+noAddressParameter r = addressParameter r noAddress
+
+-- ---- reading
+abbrev pub addressBy : List ℕ → Bool → ℕ → Judgement ShortAddress
+addressBy s leased lease = cond (isAddress s) (good (addressOf s leased lease)) unfit
+
+-- an absent lease means no end
+unfoldable pub addressIn : List Plain → Judgement ShortAddress
+addressIn [] = broken
+addressIn (number n ∷ r) = broken
+addressIn (other ∷ r) = broken
+addressIn (string s ∷ []) = addressBy s false 0
+addressIn (string s ∷ number n ∷ []) = addressBy s true n
+addressIn (string s ∷ number n ∷ p ∷ r) = broken
+addressIn (string s ∷ string t ∷ r) = broken
+addressIn (string s ∷ other ∷ r) = broken
+
+abbrev pub addressJudged : View → Judgement ShortAddress
+addressJudged (plain p) = broken
+addressJudged (list ps) = addressIn ps
+
+-- one that is no address is discarded
+abbrev pub addressConcluded : Judgement ShortAddress → Reading AddressParameter
+addressConcluded j = concluded (read (noAddressParameter Discarded)) (addressParameter Taken) j
+
+abbrev pub addressRead : View → Reading AddressParameter
+addressRead v = addressConcluded (addressJudged v)
+
+-- the answer: beside a refusal the parameter is absent
+abbrev pub addressAnswer : Reading AddressParameter → AddressRead
+addressAnswer (refused k) = record { verdict = verdict.Refused k; parameter = noAddressParameter Absent }
+addressAnswer (read p) = record { verdict = verdict.Accepted; parameter = p }

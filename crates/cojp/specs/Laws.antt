@@ -1,0 +1,63 @@
+-- What this layer promises of its definitions: demand 1, and the round trip.
+use Prim.Native.Nat.{ℕ, _≤_}
+use mathlib.Core.Path.{_≡_}
+use mathlib.Core.List.{List}
+use lib.ListN.{length}
+use Rattle.refusal.specs.declared.Refusal.{Refusal}
+use Rattle.refusal.specs.declared.Verdict.the-variants.{Accepted, Refused}
+use Rattle.cbor.specs.Answer.{Plan, emit, answer, after}
+use Rattle.cbor.specs.declared.write.Written.the-variants as written
+use Rattle.cojp.specs.Request.{emptyRequest, readRequest}
+use Rattle.cojp.specs.Configuration.{emptyConfiguration, readConfiguration}
+use Rattle.cojp.specs.Writing.{requestPlan, configurationPlan}
+use Rattle.cojp.specs.Same.{SameRequest, SameConfiguration}
+use Rattle.cojp.specs.declared.configuration.Configuration.{Configuration}
+use Rattle.cojp.specs.declared.configuration.ConfigurationRead.{ConfigurationRead}
+use Rattle.cojp.specs.declared.report.Report.{Report}
+use Rattle.cojp.specs.declared.report.Report.the-variants.{Discarded}
+use Rattle.cojp.specs.declared.request.JoinRequest.{JoinRequest}
+use Rattle.cojp.specs.declared.request.RequestRead.{RequestRead}
+
+-- ---- demand 1: a reader's refusal comes with the empty object, a writer's leaves the lent bytes as they were
+pub record ReadersDemand1 : Type 0 where
+  pub request : (s : List ℕ) (k : Refusal) → readRequest s .verdict ≡ Refused k → readRequest s .request ≡ emptyRequest
+  pub configuration :
+      (s : List ℕ) (k : Refusal) → readConfiguration s .verdict ≡ Refused k →
+      readConfiguration s .configuration ≡ emptyConfiguration
+
+abbrev pub Unchanged : Plan → Type 0
+Unchanged plan = (d : List ℕ) (k : Refusal) → answer plan d ≡ written.Refused k → after plan d ≡ d
+
+pub record WritersDemand1 : Type 0 where
+  pub request : (q : JoinRequest) → Unchanged (requestPlan q)
+  pub configuration : (c : Configuration) → Unchanged (configurationPlan c)
+
+-- ---- the round trip: what is written reads back as the same object, nothing discarded and none passed over
+abbrev pub Kept : Report → Type 0
+Kept r = r ≡ Discarded → ⊥
+
+pub record RequestBack (q : JoinRequest) (r : RequestRead) : Type 0 where
+  pub accepted : r .verdict ≡ Accepted
+  pub same : SameRequest (r .request) q
+  pub kept : Kept (r .request .network .report)
+  pub passed : r .request .passed ≡ 0
+
+abbrev pub RequestRoundTrip : JoinRequest → Type 0
+RequestRoundTrip q = (p : List ℕ) → requestPlan q ≡ emit p → RequestBack q (readRequest p)
+
+pub record ConfigurationBack (c : Configuration) (r : ConfigurationRead) : Type 0 where
+  pub accepted : r .verdict ≡ Accepted
+  pub same : SameConfiguration (r .configuration) c
+  pub keys-kept : Kept (r .configuration .keys .report)
+  pub address-kept : Kept (r .configuration .address .report)
+  pub jrc-kept : Kept (r .configuration .jrc .report)
+  pub network-kept : Kept (r .configuration .network .report)
+  pub prefix-kept : Kept (r .configuration .prefix .report)
+  pub passed : r .configuration .passed ≡ 0
+
+abbrev pub ConfigurationRoundTrip : Configuration → Type 0
+ConfigurationRoundTrip c = (p : List ℕ) → configurationPlan c ≡ emit p → ConfigurationBack c (readConfiguration p)
+
+-- the largest configuration is 232 bytes
+abbrev pub LargestConfiguration : Configuration → Type 0
+LargestConfiguration c = (p : List ℕ) → configurationPlan c ≡ emit p → length p ≤ 232

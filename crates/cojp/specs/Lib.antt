@@ -1,0 +1,12 @@
+pub mod Reading
+pub mod Octets
+pub mod Address
+pub mod KeySet
+pub mod Walk
+pub mod Request
+pub mod Configuration
+pub mod Writing
+pub mod Same
+pub mod Laws
+pub mod Examples
+pub mod Bytes

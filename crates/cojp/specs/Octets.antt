@@ -1,0 +1,52 @@
+-- Network identifiers and prefixes (0 to 16 bytes) and JRC addresses (16 bytes): byte strings.
+use Prim.Native.Nat.{ℕ, _-_}
+use mathlib.Core.Bool.{cond, _&&_}
+use mathlib.Core.List.{List, _++_}
+use lib.Dec.{leb}
+use lib.ListN.{length, take, replicate}
+use Rattle.cbor.specs.View.{number, string, other, View, plain, list}
+use Rattle.refusal.specs.declared.Verdict.the-variants as verdict
+use Rattle.cojp.specs.declared.octets.OctetsRead.{OctetsRead}
+use Rattle.cojp.specs.Reading.{Reading, refused, read, Judgement, broken, unfit, good, concluded}
+use Rattle.cojp.specs.declared.octets.Octets.{Octets}
+use Rattle.cojp.specs.declared.octets.OctetsParameter.{OctetsParameter}
+use Rattle.cojp.specs.declared.report.Report.{Report}
+use Rattle.cojp.specs.declared.report.Report.the-variants.{Absent, Taken, Discarded}
+
+-- the bytes, and zeros up to n of them
+unfoldable pub padded : ℕ → List ℕ → List ℕ
+padded n s = s ++ replicate (n - length s) 0
+
+abbrev pub octetsOf : List ℕ → Octets
+octetsOf s = record { len = length s; bytes = padded 16 s }
+
+abbrev pub noOctets : Octets
+noOctets = record { len = 0; bytes = replicate 16 0 }
+
+-- what they mean
+abbrev pub bytesIn : Octets → List ℕ
+bytesIn o = take (o .len) (o .bytes)
+
+-- ---- the parameter
+abbrev pub octetsParameter : Report → Octets → OctetsParameter
+octetsParameter r o = record { report = r; value = o }
+
+abbrev pub noOctetsParameter : Report → OctetsParameter
+noOctetsParameter r = octetsParameter r noOctets
+
+-- ---- reading
+-- a byte string of `least` to 16 bytes
+unfoldable pub octetsJudged : ℕ → View → Judgement Octets
+octetsJudged least (plain (string s)) = cond (leb least (length s) && leb (length s) 16) (good (octetsOf s)) unfit
+octetsJudged least (plain (number n)) = broken
+octetsJudged least (plain other) = broken
+octetsJudged least (list ps) = broken
+
+-- one of another length is discarded
+abbrev pub octetsRead : ℕ → View → Reading OctetsParameter
+octetsRead least v = concluded (read (noOctetsParameter Discarded)) (octetsParameter Taken) (octetsJudged least v)
+
+-- the answer: beside a refusal the parameter is absent
+abbrev pub octetsAnswer : Reading OctetsParameter → OctetsRead
+octetsAnswer (refused k) = record { verdict = verdict.Refused k; parameter = noOctetsParameter Absent }
+octetsAnswer (read p) = record { verdict = verdict.Accepted; parameter = p }

@@ -1,0 +1,44 @@
+-- What reading comes to, and how a known label's value is read: it is judged, and from the judgement follows what document 01 says.
+use Rattle.refusal.specs.declared.Refusal.{Refusal}
+use Rattle.refusal.specs.declared.Refusal.the-variants as refusal
+use Rattle.refusal.specs.declared.Verdict.{Verdict}
+use Rattle.refusal.specs.declared.Verdict.the-variants as verdict
+use Rattle.cojp.specs.declared.report.Report.{Report}
+use Rattle.cojp.specs.declared.report.Report.the-variants.{Absent, Taken, Discarded}
+
+-- a refusal, or what was read
+pub data Reading (A : Type 0) : Type 0 where
+  refused : Refusal → Reading A
+  read : A → Reading A
+
+abbrev pub onward : {A B : Type 0} → Reading A → (A → Reading B) → Reading B
+onward (refused k) f = refused k
+onward (read a) f = f a
+
+-- what was read, put in its place
+abbrev pub put : {A B : Type 0} → (A → B) → Reading A → Reading B
+put f (refused k) = refused k
+put f (read a) = read (f a)
+
+-- what an answer says: beside a refusal nothing is looked at
+abbrev pub said : {A : Type 0} → Verdict → A → Reading A
+said verdict.Accepted a = read a
+said (verdict.Refused k) a = refused k
+
+-- a known label's value: of another kind or pattern; of the pattern, but outside the limits of its content; or good
+pub data Judgement (A : Type 0) : Type 0 where
+  broken : Judgement A
+  unfit : Judgement A
+  good : A → Judgement A
+
+-- a broken pattern is TYPE; what is outside the limits depends on the parameter; a good value is taken
+abbrev pub concluded : {A P : Type 0} → Reading P → (A → P) → Judgement A → Reading P
+concluded outside take broken = refused refusal.«Type»
+concluded outside take unfit = outside
+concluded outside take (good a) = read (take a)
+
+-- one thing where a parameter is taken, another where it is absent or discarded
+abbrev pub ifTaken : {A : Type 0} → Report → A → A → A
+ifTaken Absent a b = b
+ifTaken Taken a b = a
+ifTaken Discarded a b = b

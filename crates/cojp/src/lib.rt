@@ -1,0 +1,48 @@
+// The objects of the Constrained Join Protocol (document 004, 9.3), join requests and configurations: what they are, what their payloads
+// mean, and how the value of each parameter is read.
+pub mod address;
+pub mod configuration;
+mod copy;
+pub mod key_set;
+mod members;
+pub mod octets;
+pub mod report;
+pub mod request;
+pub mod walk;
+
+pub use address::AddressParameter;
+pub use address::AddressRead;
+pub use address::ShortAddress;
+pub use address::no_address;
+pub use address::read_address;
+pub use configuration::Configuration;
+pub use configuration::ConfigurationRead;
+pub use configuration::empty_configuration;
+pub use key_set::KeysParameter;
+pub use key_set::KeysRead;
+pub use key_set::no_key_set;
+pub use key_set::read_keys;
+pub use octets::Octets;
+pub use octets::OctetsParameter;
+pub use octets::OctetsRead;
+pub use octets::no_octets;
+pub use octets::read_octets;
+pub use report::Report;
+pub use request::Gathered;
+pub use request::JoinRequest;
+pub use request::RequestRead;
+pub use request::empty_request;
+pub use request::is_owing;
+pub use walk::Standing;
+ghost use Rattle.cojp.specs.Examples.{MarkedExamples};
+ghost use Rattle.cojp.specs.Laws.{ReadersDemand1};
+
+// Document 01's marked examples hold of the definitions.
+pub fn marked_examples()
+    ensures { λ r. ⌜ MarkedExamples ⌝ }
+{}
+
+// Demand 1 for the readers: a refusal comes with the empty object.
+pub fn readers_demand1()
+    ensures { λ r. ⌜ ReadersDemand1 ⌝ }
+{}

@@ -1,0 +1,93 @@
+// Network identifiers, network prefixes and JRC addresses: byte strings of at most 16 bytes.
+use crate::copy::copied;
+use crate::report::Report;
+use cbor::Value;
+use cbor::value_at;
+use refusal::Refusal;
+use refusal::Verdict;
+ghost use mathlib.Core.Path.{_≡_};
+ghost use lib.ListN.{drop};
+ghost use Rattle.cojp.specs.Bytes.{valueView};
+ghost use Rattle.cojp.specs.Octets.{noOctetsParameter, octetsRead, octetsAnswer};
+ghost use Rattle.cojp.specs.Reading.{read};
+
+// The first `len` bytes; zeros stand after them in a value that we make.
+pub struct Octets {
+    pub len: usize,
+    pub bytes: [u8; 16],
+}
+
+// A parameter that is a byte string; the value counts where it is taken.
+pub struct OctetsParameter {
+    pub report: Report,
+    pub value: Octets,
+}
+
+// Beside a refusal the parameter is absent.
+pub struct OctetsRead {
+    pub verdict: Verdict,
+    pub parameter: OctetsParameter,
+}
+
+// A parameter with no value.
+pub fn no_octets(report: Report) -> OctetsParameter
+    ensures { λ r. ⌜ r ≡ noOctetsParameter report ⌝ }
+{
+    let zeros = [0u8; 16];
+    let value = Octets {
+        len: 0,
+        bytes: zeros,
+    };
+    OctetsParameter {
+        report: report,
+        value: value,
+    }
+}
+
+// The byte string at a place, of `least` to 16 bytes.
+pub fn read_octets(s: &[u8], at: usize, least: usize) -> OctetsRead
+    ensures { λ r. ⌜ r ≡ octetsAnswer (octetsRead least (valueView (drop at (now (s .entry))))) ⌝ }
+{
+    let v = value_at(s, at);
+    match v {
+        Value::Bytes { start, len } => {
+            if len < least {
+                return discarded();
+            }
+            if 16 < len {
+                return discarded();
+            }
+            let bytes = copied(s, start, len);
+            let value = Octets {
+                len: len,
+                bytes: bytes,
+            };
+            let parameter = OctetsParameter {
+                report: Report::Taken,
+                value: value,
+            };
+            OctetsRead {
+                verdict: Verdict::Accepted,
+                parameter: parameter,
+            }
+        }
+        _ => {
+            let parameter = no_octets(Report::Absent);
+            OctetsRead {
+                verdict: Verdict::Refused(Refusal::Type),
+                parameter: parameter,
+            }
+        }
+    }
+}
+
+// A byte string whose length is outside the limits.
+fn discarded() -> OctetsRead
+    ensures { λ r. ⌜ r ≡ octetsAnswer (read (noOctetsParameter Report.Discarded)) ⌝ }
+{
+    let parameter = no_octets(Report::Discarded);
+    OctetsRead {
+        verdict: Verdict::Accepted,
+        parameter: parameter,
+    }
+}

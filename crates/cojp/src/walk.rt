@@ -1,0 +1,8 @@
+// The labels of a map.
+
+// How a label stands to what was read before it.
+pub enum Standing {
+    Unknown,
+    Fresh,
+    Again,
+}

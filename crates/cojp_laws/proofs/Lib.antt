@@ -1,0 +1,3 @@
+mod Demand1
+mod ReadBack
+mod RoundTrip

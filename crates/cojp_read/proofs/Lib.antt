@@ -1,0 +1,4 @@
+mod Parameters
+mod Maps
+mod Requests
+mod Configurations

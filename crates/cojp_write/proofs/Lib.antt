@@ -1,0 +1,10 @@
+mod Taken
+pub mod Joined
+mod Sizes
+pub mod Limits
+mod Strings
+mod Addresses
+mod KeySets
+mod Roles
+pub mod Maps
+mod Plans

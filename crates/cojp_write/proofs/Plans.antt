@@ -1,0 +1,65 @@
+-- The plans of both objects: RANGE, OWED, or the bytes of the map.
+use mathlib.Core.Path.{_≡_}
+use mathlib.Core.Bool.{true, false}
+use mathlib.Core.List.{List}
+use Prim.Native.Nat.{ℕ}
+use Rattle.refusal.specs.declared.Refusal.the-variants.{Range, Owed}
+use Rattle.cbor.specs.Answer.{Did, emit}
+use Rattle.cbor.specs.Encode.{encode}
+use Rattle.cbor.specs.Item.{map}
+use Rattle.cbor.specs.declared.write.Written.{Written}
+use Rattle.cbor.specs.declared.write.Written.the-variants.{Refused}
+use Rattle.cbor.proofs.Writing.{did-refuse}
+use Rattle.cojp.specs.Request.{owing}
+use Rattle.cojp.specs.Writing.{keysInRange, addressInRange, jrcInRange, octetsInRange, requestPairs, requestInRange, requestPlan, configurationPairs, configurationInRange, configurationPlan}
+use Rattle.cojp.specs.declared.configuration.Configuration.{Configuration}
+use Rattle.cojp.specs.declared.request.JoinRequest.{JoinRequest}
+
+module _ (q : JoinRequest) where
+  pub request-range : (d : List ℕ) → requestInRange q ≡ false → Did (requestPlan q) d (Refused Range) d
+  unfolding requestPlan
+  request-range d h = simp h (did-refuse Range d)
+
+  module _ (h : requestInRange q ≡ true) where
+    pub request-owed : (d : List ℕ) → owing (q .role) (q .network .report) ≡ true → Did (requestPlan q) d (Refused Owed) d
+    unfolding requestPlan
+    request-owed d e = simp (h, e) (did-refuse Owed d)
+
+    pub request-emit : {d d′ : List ℕ} {r : Written} → owing (q .role) (q .network .report) ≡ false → Did (emit (encode (map (requestPairs q)))) d r d′
+        → Did (requestPlan q) d r d′
+    unfolding requestPlan
+    request-emit e w = simp (h, e) w
+
+module _ (c : Configuration) where
+  pub configuration-range : (d : List ℕ) → configurationInRange c ≡ false → Did (configurationPlan c) d (Refused Range) d
+  unfolding configurationPlan
+  configuration-range d h = simp h (did-refuse Range d)
+
+  pub configuration-emit : {d d′ : List ℕ} {r : Written} → configurationInRange c ≡ true → Did (emit (encode (map (configurationPairs c)))) d r d′
+      → Did (configurationPlan c) d r d′
+  unfolding configurationPlan
+  configuration-emit h w = simp h w
+
+  -- the parameters are judged in turn
+  module _ (b : keysInRange (c .keys) ≡ true) where
+    module _ (d : addressInRange (c .address) ≡ true) where
+      module _ (e : jrcInRange (c .jrc) ≡ true) where
+        pub in-range-5 : octetsInRange (c .network) ≡ true → octetsInRange (c .prefix) ≡ configurationInRange c
+        unfolding configurationInRange
+        in-range-5 f = simp (b, d, e, f)
+
+        pub in-range-4 : octetsInRange (c .network) ≡ false → false ≡ configurationInRange c
+        unfolding configurationInRange
+        in-range-4 f = simp (b, d, e, f)
+
+      pub in-range-3 : jrcInRange (c .jrc) ≡ false → false ≡ configurationInRange c
+      unfolding configurationInRange
+      in-range-3 e = simp (b, d, e)
+
+    pub in-range-2 : addressInRange (c .address) ≡ false → false ≡ configurationInRange c
+    unfolding configurationInRange
+    in-range-2 d = simp (b, d)
+
+  pub in-range-1 : keysInRange (c .keys) ≡ false → false ≡ configurationInRange c
+  unfolding configurationInRange
+  in-range-1 b = simp b

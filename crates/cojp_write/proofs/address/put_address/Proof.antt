@@ -1,0 +1,55 @@
+-- An address where it is taken, nothing else.
+use Prim.Native.Nat.{_+_}
+use mathlib.Core.Path.{_≡_}
+use native.Mathlib.Omega.{arith}
+use borrow.Author.Needs.{needs}
+use lib.ListN.{length}
+use Rattle.cbor.specs.Item.{array, empty, count}
+use Rattle.cbor.proofs.Writing.{wrote-none}
+use Rattle.cojp.specs.Writing.{labelled}
+use Rattle.cojp_write.specs.Room.{addressItems}
+use Rattle.cojp_write.proofs.Addresses.{address-taken, place-length}
+use Rattle.cojp_write.proofs.Joined.{wrote-same, same-room}
+use Rattle.cojp_write.proofs.Taken.{taken-not}
+use Rattle.cojp_write.proofs.address.put_address.Statement.{statement}
+use Rattle.cojp_write.proofs.address.put_address.Tie as tie
+
+is-taken-requires : tie.Need-is-taken-requires
+is-taken-requires c κs = search needs
+
+optional-size-requires : tie.Need-optional-size-requires
+optional-size-requires c κs = search needs
+
+add-members : tie.Need-add-members
+add-members c = search needs
+
+put-place-requires : tie.Need-put-place-requires
+put-place-requires c κs =
+    let p = (c .before .before .before .before .before .before .args .p) in
+    let m : 1 + (c .before .before .optional-size .result .members) ≡ count (addressItems (p .value)) = omega (arith, (c .before .before .optional-size .ensures .members)) in
+    let e = address-taken p _ (c .before .before .before .before .is-taken .ensures) (c .before .before .before .if1 .taken) in
+    (m, omega (arith, same-room (length (c .before .before .before .before .before .before .args .dst .now)) e (c .before .before .before .before .before .before .pre), place-length (p .value) _ m))
+
+same-length : tie.Need-same-length
+same-length c = search needs
+
+returns : tie.Need-returns
+returns c = wrote-same (address-taken (c .before .before .before .before .before .before .before .before .before .args .p) _ (c .before .before .before .before .before .before .before .is-taken .ensures) (c .before .before .before .before .before .before .if1 .taken)) (c .before .before .put-place .ensures)
+
+returns-2 : tie.Need-returns-2
+returns-2 c =
+    let p = (c .before .before .before .args .p) in
+    let i = labelled 3 (array (addressItems (p .value))) in
+    wrote-same (taken-not (p .report) i empty _ (c .before .is-taken .ensures) (c .if1 .left)) (wrote-none (c .before .before .before .args .dst .now))
+
+pub put-address-spec : {M : Type 1} → statement M
+put-address-spec =
+    tie.close
+    (tie.spec
+    is-taken-requires
+    optional-size-requires
+    add-members
+    put-place-requires
+    same-length
+    returns
+    returns-2)

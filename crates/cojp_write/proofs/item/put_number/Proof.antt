@@ -1,0 +1,43 @@
+-- The label's head, and then the number's in the part after it.
+use borrow.Author.Needs.{needs}
+use Rattle.cbor.specs.Item.{unsigned}
+use Rattle.cojp_write.proofs.Joined.{labelled-seam}
+use Rattle.cojp_write.proofs.item.put_number.Statement.{statement}
+use Rattle.cojp_write.proofs.item.put_number.Tie as tie
+
+put-head-requires : tie.Need-put-head-requires
+put-head-requires c κs = search needs
+
+sub-put-head : tie.Need-sub-put-head
+sub-put-head c = search needs
+
+part-put-head-start : tie.Need-part-put-head-start
+part-put-head-start c = search needs
+
+part-put-head-end : tie.Need-part-put-head-end
+part-put-head-end c = search needs
+
+put-head-requires-2 : tie.Need-put-head-requires-2
+put-head-requires-2 c κs = search needs
+
+add-result : tie.Need-add-result
+add-result c = search needs
+
+same-length : tie.Need-same-length
+same-length c = search needs
+
+returns : tie.Need-returns
+returns c = labelled-seam (c .before .before .before .before .before .before .before .before .before .args .label) (unsigned (c .before .before .before .before .before .before .before .before .before .args .number)) (c .before .before .before .before .before .before .before .before .before .pre) (c .before .before .before .before .before .before .put-head .ensures) (c .before .before .put-head2 .ensures)
+
+pub put-number-spec : {M : Type 1} → statement M
+put-number-spec =
+    tie.close
+    (tie.spec
+    put-head-requires
+    sub-put-head
+    part-put-head-start
+    part-put-head-end
+    put-head-requires-2
+    add-result
+    same-length
+    returns)

@@ -1,0 +1,46 @@
+-- The heads, and then the groups in the part after them.
+use native.Mathlib.Omega.{arith}
+use borrow.Author.Needs.{needs}
+use lib.ListN.{length-append}
+use Rattle.cbor.specs.Encode.{shortest}
+use Rattle.keys.specs.KeySet.{keysOf}
+use Rattle.cojp_write.proofs.KeySets.{set-seam}
+use Rattle.cojp_write.proofs.key_set.put_set.Statement.{statement}
+use Rattle.cojp_write.proofs.key_set.put_set.Tie as tie
+
+put-array-requires : tie.Need-put-array-requires
+put-array-requires c κs = omega (arith, length-append (shortest 0 2) (shortest 4 (c .before .before .args .members)), (c .before .before .pre .1))
+
+sub-put-groups : tie.Need-sub-put-groups
+sub-put-groups c = search needs
+
+part-put-groups-start : tie.Need-part-put-groups-start
+part-put-groups-start c = search needs
+
+part-put-groups-end : tie.Need-part-put-groups-end
+part-put-groups-end c = search needs
+
+put-groups-requires : tie.Need-put-groups-requires
+put-groups-requires c κs = search needs
+
+add-result : tie.Need-add-result
+add-result c = search needs
+
+same-length : tie.Need-same-length
+same-length c = search needs
+
+returns : tie.Need-returns
+returns c = set-seam (keysOf (c .before .before .before .before .before .before .before .before .before .args .set)) (c .before .before .before .before .before .before .before .before .before .args .members) (c .before .before .before .before .before .before .before .before .before .pre .0) (c .before .before .before .before .before .before .before .before .before .pre .1) (c .before .before .before .before .before .before .put-array .ensures) (c .before .before .put-groups .ensures)
+
+pub put-set-spec : {M : Type 1} → statement M
+put-set-spec =
+    tie.close
+    (tie.spec
+    put-array-requires
+    sub-put-groups
+    part-put-groups-start
+    part-put-groups-end
+    put-groups-requires
+    add-result
+    same-length
+    returns)

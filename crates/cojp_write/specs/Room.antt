@@ -1,0 +1,50 @@
+-- For the contracts of private functions alone: the room that an array or an object with so many members takes, as the sum of its parts.
+use Prim.Native.Nat.{ℕ, _+_}
+use mathlib.Core.Bool.{not}
+use mathlib.Core.List.{List, _++_}
+use lib.Dec.{eqb}
+use lib.ListN.{length}
+use Rattle.cbor.specs.Encode.{shortest, encode, encodes, encodePairs}
+use Rattle.cbor.specs.Item.{Items, Pairs, bytes, more}
+use Rattle.cojp.specs.Writing.{leaseItems, groupsItems, rolePairs, keysPairs, addressPairs, octetsPairs}
+use Rattle.cojp.specs.declared.address.ShortAddress.{ShortAddress}
+use Rattle.cojp.specs.declared.configuration.Configuration.{Configuration}
+use Rattle.cojp.specs.declared.request.JoinRequest.{JoinRequest}
+use Rattle.keys.specs.declared.key.Key.{Key}
+
+-- ---- arrays: a label, a head, and the members
+abbrev pub arrayLength : ℕ → ℕ → ℕ
+arrayLength label members = length (shortest 0 label ++ shortest 4 members)
+
+abbrev pub addressItems : ShortAddress → Items
+addressItems a = more (bytes (a .bytes)) (leaseItems (a .leased) (a .lease))
+
+abbrev pub addressLength : ShortAddress → ℕ → ℕ
+addressLength a members =
+    arrayLength 3 members + (length (encode (bytes (a .bytes))) + length (encodes (leaseItems (a .leased) (a .lease))))
+
+-- a usage is a number that may be left out
+abbrev pub usedItems : ℕ → Items
+usedItems usage = leaseItems (not (eqb usage 0)) usage
+
+abbrev pub keyLength : Key → ℕ
+keyLength k =
+    length (shortest 0 (k .identifier)) + (length (encodes (usedItems (k .usage))) + length (encode (bytes (k .value))))
+
+abbrev pub setLength : List Key → ℕ → ℕ
+setLength ks members = arrayLength 2 members + length (encodes (groupsItems ks))
+
+-- ---- objects: a map's head, and the parameters
+abbrev pub pairsLength : Pairs → ℕ
+pairsLength ps = length (encodePairs ps)
+
+abbrev pub requestLength : JoinRequest → ℕ → ℕ
+requestLength q members =
+    length (shortest 5 members) + (pairsLength (rolePairs (q .role)) + pairsLength (octetsPairs 5 (q .network)))
+
+abbrev pub configurationLength : Configuration → ℕ → ℕ
+configurationLength c members =
+    length (shortest 5 members)
+    + (pairsLength (keysPairs (c .keys))
+    + (pairsLength (addressPairs (c .address))
+    + (pairsLength (octetsPairs 4 (c .jrc)) + (pairsLength (octetsPairs 5 (c .network)) + pairsLength (octetsPairs 6 (c .prefix))))))

@@ -1,0 +1,91 @@
+// Configurations.
+use crate::address::address_in_range;
+use crate::address::address_size;
+use crate::address::put_address;
+use crate::item::put_head;
+use crate::key_set::keys_in_range;
+use crate::key_set::keys_size;
+use crate::key_set::put_keys;
+use crate::octets::jrc_in_range;
+use crate::octets::octets_in_range;
+use crate::octets::octets_size;
+use crate::octets::put_octets;
+use crate::size::Size;
+use cbor::Written;
+use cojp::Configuration;
+use refusal::Refusal;
+ghost use mathlib.Core.Bool.{true};
+ghost use mathlib.Core.Path.{_≡_};
+ghost use Prim.Native.Nat.{_≤_};
+ghost use lib.ListN.{length};
+ghost use Rattle.cbor.specs.Answer.{Did, Wrote, emit};
+ghost use Rattle.cbor.specs.Encode.{encode};
+ghost use Rattle.cbor.specs.Item.{map, countPairs};
+ghost use Rattle.cojp.specs.Writing.{configurationPairs, configurationInRange, configurationPlan};
+ghost use Rattle.cojp_write.specs.Room.{configurationLength};
+ghost use Rattle.cojp_write.specs.Size.{PairsSize};
+
+fn configuration_in_range(c: Configuration) -> bool
+    ensures { λ r. ⌜ r ≡ configurationInRange c ⌝ }
+{
+    if !keys_in_range(c.keys) {
+        return false;
+    }
+    if !address_in_range(c.address) {
+        return false;
+    }
+    if !jrc_in_range(c.jrc) {
+        return false;
+    }
+    if !octets_in_range(c.network) {
+        return false;
+    }
+    octets_in_range(c.prefix)
+}
+
+fn configuration_size(c: Configuration) -> Size
+    requires { ⌜ configurationInRange c ≡ true ⌝ }
+    ensures { λ r. ⌜ PairsSize (configurationPairs c) 5 231 r ⌝ }
+{
+    let size = keys_size(c.keys);
+    let size = size.plus(address_size(c.address));
+    let size = size.plus(octets_size(4, c.jrc));
+    let size = size.plus(octets_size(5, c.network));
+    size.plus(octets_size(6, c.prefix))
+}
+
+// The map, with `members` pairs: each parameter in the part after those before it.
+fn put_configuration(dst: &mut [u8], c: Configuration, members: u64) -> usize
+    requires { ⌜ (configurationInRange c ≡ true) × (members ≡ countPairs (configurationPairs c)) × (configurationLength c members ≤ length (now dst)) ⌝ }
+    ensures { λ r. ⌜ Wrote (encode (map (configurationPairs c))) (now (dst .entry)) r (now (dst .exit)) ⌝ }
+{
+    let n1 = put_head(dst, 5, members);
+    let n2 = n1 + put_keys(&mut dst[n1..], c.keys);
+    let n3 = n2 + put_address(&mut dst[n2..], c.address);
+    let n4 = n3 + put_octets(&mut dst[n3..], 4, c.jrc);
+    let n5 = n4 + put_octets(&mut dst[n4..], 5, c.network);
+    n5 + put_octets(&mut dst[n5..], 6, c.prefix)
+}
+
+// What is in range, where there is room for it.
+fn emit_configuration(dst: &mut [u8], c: Configuration) -> Written
+    requires { ⌜ configurationInRange c ≡ true ⌝ }
+    ensures { λ r. ⌜ Did (emit (encode (map (configurationPairs c)))) (now (dst .entry)) r (now (dst .exit)) ⌝ }
+{
+    let size = configuration_size(c);
+    let members = size.members;
+    if dst.len() < 1 + size.bytes {
+        return Written::Refused(Refusal::Room);
+    }
+    Written::Length(put_configuration(dst, c, members as u64))
+}
+
+// Writes a configuration: RANGE, ROOM, or the length written.
+pub fn write_configuration(dst: &mut [u8], c: Configuration) -> Written
+    ensures { λ r. ⌜ Did (configurationPlan c) (now (dst .entry)) r (now (dst .exit)) ⌝ }
+{
+    if !configuration_in_range(c) {
+        return Written::Refused(Refusal::Range);
+    }
+    emit_configuration(dst, c)
+}

@@ -1,0 +1,73 @@
+// Heads and byte strings where there is room for them.
+use cbor::Written;
+use cbor::write_bytes;
+use cbor::write_head;
+ghost use mathlib.Core.List.{_++_};
+ghost use Prim.Native.Nat.{_+_, _≤_};
+ghost use lib.ListN.{length};
+ghost use Rattle.cbor.specs.Answer.{Wrote};
+ghost use Rattle.cbor.specs.Encode.{shortest, encode, encodes, encodePairs};
+ghost use Rattle.cbor.specs.Item.{unsigned, bytes};
+ghost use Rattle.cojp.specs.Writing.{labelled, leaseItems};
+
+// A head.
+pub(crate) fn put_head(dst: &mut [u8], major: u8, argument: u64) -> usize
+    requires { ⌜ (major ≤ 7) × (length (shortest major argument) ≤ length (now dst)) ⌝ }
+    ensures { λ r. ⌜ Wrote (shortest major argument) (now (dst .entry)) r (now (dst .exit)) ⌝ }
+{
+    let w = write_head(dst, major, argument);
+    match w {
+        Written::Refused(_) => 0,
+        Written::Length(n) => n,
+    }
+}
+
+// A byte string.
+pub(crate) fn put_bytes(dst: &mut [u8], s: &[u8]) -> usize
+    requires { ⌜ length (encode (bytes (now s))) ≤ length (now dst) ⌝ }
+    ensures { λ r. ⌜ Wrote (encode (bytes (now (s .entry)))) (now (dst .entry)) r (now (dst .exit)) ⌝ }
+{
+    let w = write_bytes(dst, s);
+    match w {
+        Written::Refused(_) => 0,
+        Written::Length(n) => n,
+    }
+}
+
+// A number, where there is one.
+pub(crate) fn put_optional(dst: &mut [u8], given: bool, number: u64) -> usize
+    requires { ⌜ length (encodes (leaseItems given number)) ≤ length (now dst) ⌝ }
+    ensures { λ r. ⌜ Wrote (encodes (leaseItems given number)) (now (dst .entry)) r (now (dst .exit)) ⌝ }
+{
+    if given {
+        return put_head(dst, 0, number);
+    }
+    0
+}
+
+// A label and a number.
+pub(crate) fn put_number(dst: &mut [u8], label: u64, number: u64) -> usize
+    requires { ⌜ length (shortest 0 label) + length (shortest 0 number) ≤ length (now dst) ⌝ }
+    ensures { λ r. ⌜ Wrote (encodePairs (labelled label (unsigned number))) (now (dst .entry)) r (now (dst .exit)) ⌝ }
+{
+    let n = put_head(dst, 0, label);
+    n + put_head(&mut dst[n..], 0, number)
+}
+
+// A label and a byte string.
+pub(crate) fn put_string(dst: &mut [u8], label: u64, s: &[u8]) -> usize
+    requires { ⌜ length (shortest 0 label) + length (encode (bytes (now s))) ≤ length (now dst) ⌝ }
+    ensures { λ r. ⌜ Wrote (encodePairs (labelled label (bytes (now (s .entry))))) (now (dst .entry)) r (now (dst .exit)) ⌝ }
+{
+    let n = put_head(dst, 0, label);
+    n + put_bytes(&mut dst[n..], s)
+}
+
+// A label and the head of an array.
+pub(crate) fn put_array(dst: &mut [u8], label: u64, count: u64) -> usize
+    requires { ⌜ length (shortest 0 label) + length (shortest 4 count) ≤ length (now dst) ⌝ }
+    ensures { λ r. ⌜ Wrote (shortest 0 label ++ shortest 4 count) (now (dst .entry)) r (now (dst .exit)) ⌝ }
+{
+    let n = put_head(dst, 0, label);
+    n + put_head(&mut dst[n..], 4, count)
+}
