@@ -1,0 +1,7 @@
+mod Answers
+mod Turns
+mod Hearing
+mod Places
+mod Flood
+mod Rekey
+mod Line

@@ -1,0 +1,187 @@
+-- The rekey of a line of three nodes is computed, and demand 3 is applied to it.
+use Prim.Native.Nat.{ℕ, zero, suc, _<_}
+use native.Mathlib.Omega.{arith}
+use mathlib.Core.Path.{_≡_, refl, ap}
+use mathlib.Core.List.{List, [], _∷_, List·Memᴰ, List·Memᴰ·head as at, List·Memᴰ·tail as past, List·Memᴰ·eq-of-singleton}
+use mathlib.Core.List.{_++_, List·Memᴰ·not-nil, List·Memᴰ·append-cases}
+use mathlib.Core.Logic.{inl, inr, ⊎-elim}
+use lib.Dec.{lit<}
+use Rattle.refusal.specs.declared.Refusal.the-variants as refusal
+use Rattle.keys.specs.Key.{inLimits, sameKey, covers}
+use Rattle.keys.specs.KeySet.{allowed, allowedSet, Apart}
+use Rattle.keys.specs.declared.key.Key.{Key}
+use Rattle.cbor.specs.Decode.{payload, decodeBy, heading, argument, next, digits, members, pairs, majorOf}
+use Rattle.cbor.specs.Encode.{bytesOf, infoOf, extraOf, shortest}
+use Rattle.cojp.specs.Octets.{padded, octetsJudged}
+use Rattle.cojp.specs.Address.{addressIn}
+use Rattle.cojp.specs.KeySet.{groups}
+use Rattle.cojp.specs.Request.{owing}
+use Rattle.cojp.specs.Walk.{payloadRead}
+use Rattle.cojp.specs.Configuration.{configurationStanding, configurationTaking}
+use Rattle.cojp.specs.Writing.{requestInRange, requestPlan}
+use Rattle.node.specs.Node.{activeOf, pendingOf}
+use Rattle.node.specs.Range.{valid, Valid}
+use Rattle.node.specs.Timing.{requestOf, startPlan, start, stepped, poll}
+use Rattle.node.specs.Delivery.{install, reportsOf, configured, apply, deliver}
+use Rattle.node.specs.Frames.{send, afterSend, receive, verified}
+use Rattle.node.specs.Calls.{perform}
+use Rattle.node.specs.Laws.{Takes}
+use Rattle.node.specs.declared.delivery.Call.the-variants.{Update}
+use Rattle.network.specs.Network.{nodeAt, withNode}
+use Rattle.network.specs.Turn.{judged, turn}
+use Rattle.network.specs.Events.{Event, turning, step, run, Come, Comes}
+use Rattle.network.specs.Rounds.{Neighbours, Hops, here, hop, Linked, AllLinked, Round, Rounds, none, more}
+use Rattle.network.specs.Demand3.{Supposed, Demand3}
+use Rattle.network.specs.Witness
+use Rattle.network.specs.Witness.{oldKeys, newKeys, line, lineLinks, first, taken, worst, twice, Witness}
+
+-- what computing unfolds: items, keys, objects, the node's calls, and the network's events
+computing : Unit {0}
+unfolding payload decodeBy heading argument next digits members pairs majorOf bytesOf infoOf extraOf shortest
+    inLimits sameKey covers allowed allowedSet
+    padded octetsJudged addressIn groups owing payloadRead configurationStanding configurationTaking requestInRange requestPlan
+    valid requestOf startPlan start stepped poll install reportsOf configured apply deliver send afterSend receive verified perform
+    nodeAt withNode judged turn step run Come Comes
+computing = tt
+
+three : (P : ℕ → Type 0) → P 0 → P 1 → P 2 → (i : ℕ) → i < 3 → P i
+three P a b c zero l = a
+three P a b c (suc zero) l = b
+three P a b c (suc (suc zero)) l = c
+three P a b c (suc (suc (suc i))) l = absurd (omega arith)
+
+apart : Apart oldKeys newKeys
+apart k l m m′ e =
+    let a = ap (λ (x : Key). x .identifier) (List·Memᴰ·eq-of-singleton m) in
+    let b = ap (λ (x : Key). x .identifier) (List·Memᴰ·eq-of-singleton m′) in
+    omega (arith, a, b, e)
+
+differ : oldKeys ≡ newKeys → ⊥
+differ e = let z : _≡_ {A = ℕ} 1 5 = ap first-id e in omega arith
+  where
+    first-id : List Key → ℕ
+    first-id [] = 0
+    first-id (k ∷ ks) = k .identifier
+
+-- ---- the nodes
+supposed : Supposed line 0 newKeys 1
+unfolding computing
+supposed =
+    record {
+      valid = three (λ i. Valid (nodeAt line i)) refl refl refl;
+      inside = lit< tt;
+      is-border = refl;
+      ordinary = three (λ i. (i ≡ 0 → ⊥) → nodeAt line i .role ≡ 0) (λ f. absurd (f refl)) (λ _. refl) (λ _. refl);
+      covering = record { key = _; member = at refl; covering = refl };
+      pending =
+          three (λ i. nodeAt line i .role ≡ 0 → pendingOf (nodeAt line i) ≡ newKeys) (λ e. absurd (omega arith)) (λ _. refl) (λ _. refl);
+      active-at-none = three (λ i. activeOf (nodeAt line i) ≡ newKeys → ⊥) differ differ differ;
+      former-apart = apart;
+    }
+
+-- ---- links, rounds and hops
+linked-worst : AllLinked lineLinks 1 worst
+linked-worst e (at q) = rw q (inr (past (at refl)), refl)
+linked-worst e (past (at q)) = rw q (inl (past (at refl)), refl)
+linked-worst e (past (past (at q))) = rw q (inr (at refl), refl)
+linked-worst e (past (past (past (at q)))) = rw q (inl (at refl), refl)
+
+-- what holds of the two nodes of a link
+of-link : (P : ℕ → ℕ → Type 0) (i j x y : ℕ) → _≡_ {A = ℕ × ℕ} (i, j) (x, y) → P x y → P i j
+of-link P i j x y q p =
+    let a : i ≡ x = ap (λ (l : ℕ × ℕ). l .0) q in
+    let b : j ≡ y = ap (λ (l : ℕ × ℕ). l .1) q in
+    rw (a, b) p
+
+abbrev There : ℕ → ℕ → Type 0
+There i j = List·Memᴰ (turning i j 1) worst
+
+abbrev Back : ℕ → ℕ → Type 0
+Back i j = There j i
+
+round-worst : Round lineLinks 1 worst
+round-worst i j (inl (at q)) = of-link There i j 0 1 q (past (past (past (at refl))))
+round-worst i j (inl (past (at q))) = of-link There i j 1 2 q (past (at refl))
+round-worst i j (inr (at q)) = of-link Back j i 0 1 q (past (past (at refl)))
+round-worst i j (inr (past (at q))) = of-link Back j i 1 2 q (at refl)
+
+hops : Hops (Neighbours lineLinks) 2 0 2
+hops = hop (inl (at refl)) (hop (inl (past (at refl))) here)
+
+linked-twice : AllLinked lineLinks 1 twice
+linked-twice e m = ⊎-elim (linked-worst e) again (List·Memᴰ·append-cases worst m)
+  where
+    again : List·Memᴰ e (worst ++ []) → Linked lineLinks 1 e
+    again n = ⊎-elim (linked-worst e) (λ o. absurd (List·Memᴰ·not-nil o)) (List·Memᴰ·append-cases worst n)
+
+-- ---- what happens, computed
+before : Come line first
+unfolding computing
+before = (
+  (lit< tt, lit< tt, λ e. omega arith),
+  (
+    (lit< tt, lit< tt, λ e. omega arith),
+    (
+      (lit< tt, lit< tt, λ e. omega arith),
+      (
+        (lit< tt, record { why = refusal.Keys; refused = refl }),
+        (
+          (lit< tt, record { why = refusal.Clock; refused = refl }),
+          (
+            (lit< tt, record { why = refusal.Phase; refused = refl }),
+            ((lit< tt, tt), ((lit< tt, tt), ((lit< tt, tt), tt))),
+          ),
+        ),
+      ),
+    ),
+  ),
+)
+
+takes : Takes Update (nodeAt (run line first) 0) 20000 Witness.payload newKeys
+unfolding computing
+takes = record { accepted = refl; taken = refl; set = refl }
+
+after : Come taken twice
+unfolding computing
+after = (
+  (lit< tt, lit< tt, λ e. omega arith),
+  (
+    (lit< tt, lit< tt, λ e. omega arith),
+    (
+      (lit< tt, lit< tt, λ e. omega arith),
+      (
+        (lit< tt, lit< tt, λ e. omega arith),
+        (
+          (lit< tt, lit< tt, λ e. omega arith),
+          (
+            (lit< tt, lit< tt, λ e. omega arith),
+            ((lit< tt, lit< tt, λ e. omega arith), ((lit< tt, lit< tt, λ e. omega arith), tt)),
+          ),
+        ),
+      ),
+    ),
+  ),
+)
+
+pub witness : Demand3 → Witness
+unfolding Demand3 computing
+witness claim =
+    let said = claim line 0 newKeys 1 supposed first before in
+    record {
+      supposed = supposed;
+      before = before;
+      takes = takes;
+      after = after;
+      linked = linked-twice;
+      rounds = rounds;
+      hops = hops;
+      one-round-active = refl;
+      one-round-pending = refl;
+      two-rounds-active = refl;
+      two-rounds-pending = refl;
+      silent = said .0;
+      rekeyed = said .1 Update 20000 Witness.payload takes lineLinks 2 twice after linked-twice rounds 2 (lit< tt) hops;
+    }
+  where
+    rounds : Rounds lineLinks 1 2 twice
+    rounds = more worst round-worst (more worst round-worst none)

@@ -1,0 +1,159 @@
+-- The kinds of a network's nodes, place by place, follow its events: an event changes the nodes that it names and no other.
+use Prim.Native.Nat.{ℕ, _<_}
+use native.Mathlib.Decide.{ℕ-discrete}
+use mathlib.Core.Path.{_≡_, refl, _∙_}
+use mathlib.Core.List.{List, [], _∷_, List·Memᴰ·head, List·Memᴰ·tail}
+use borrow.Author.Tests.{eq-eqb, ne-eqb}
+use lib.ListN.{length, length-set}
+use lib.Seq.{getD-set-same, getD-set-other}
+use Rattle.keys.specs.KeySet.{Covers}
+use Rattle.keys.specs.declared.key.Key.{Key}
+use Rattle.node.specs.Node.{emptyNode}
+use Rattle.node.specs.Calls.{NodeCall, starting, polling, delivering, asking, sending, receiving, reporting, perform}
+use Rattle.node.specs.Laws.{Kept, NodeLaws}
+use Rattle.node.specs.declared.node.Node.{Node}
+use Rattle.network.specs.Network.{Network, nodeAt, withNode}
+use Rattle.network.specs.Events.{Event, turning, calling, step, run, Permitted, Comes, Come}
+use Rattle.network.specs.Rounds.{Links, Linked, AllLinked}
+use Rattle.network.specs.Turn.{turn}
+use Rattle.network.proofs.Turns.{kept-self, sender-kept, hearer-role}
+use Rattle.network.proofs.Hearing.{Kind, new, Quiet, Is, hearing, kept-is, hears}
+use Rattle.network.proofs.Flood.{Kinds, with, moves, flows, still}
+
+-- ---- one node replaced
+module _ (net : Network) (i : ℕ) (n : Node) where
+  pub size-with : length (withNode net i n) ≡ length net
+  unfolding withNode
+  size-with = length-set net i n
+
+  at-same : i < length net → nodeAt (withNode net i n) i ≡ n
+  unfolding nodeAt withNode
+  at-same l = getD-set-same net i n emptyNode l
+
+  at-other : (k : ℕ) → (k ≡ i → ⊥) → nodeAt (withNode net i n) k ≡ nodeAt net k
+  unfolding nodeAt withNode
+  at-other k f = getD-set-other net i k n emptyNode f
+
+-- what holds of each node by its place, P, still holds, as Q, where one of them is replaced
+abbrev All : (ℕ → Node → Type 0) → Network → Type 0
+All P net = (k : ℕ) → k < length net → P k (nodeAt net k)
+
+all-with :
+    (P Q : ℕ → Node → Type 0) (net : Network) (i : ℕ) (n : Node) → All P net → Q i n →
+    ((k : ℕ) (m : Node) → (k ≡ i → ⊥) → P k m → Q k m) → All Q (withNode net i n)
+all-with P Q net i n a q others k l = go (ℕ-discrete k i)
+  where
+    inside : k < length net
+    inside = rw (size-with net i n) at l
+
+    go : Dec (k ≡ i) → Q k (nodeAt (withNode net i n) k)
+    go (yes e) = rw (e, at-same net i n (rw e at inside)) q
+    go (no f) = rw (at-other net i n k f) (others k (nodeAt net k) f (a k inside))
+
+all-kept : (P : ℕ → Node → Type 0) (net : Network) (i : ℕ) (n : Node) → All P net → P i n → All P (withNode net i n)
+all-kept P net i n a p = all-with P P net i n a p (λ k m f q. q)
+
+-- ---- each node is of the kind that its place says
+abbrev pub Are : List Key → Kinds → Network → Type 0
+Are ks kinds net = All (λ (k : ℕ) (n : Node). Is ks (kinds k) n) net
+
+module _ (ks : List Key) (kinds : Kinds) (net : Network) (i : ℕ) (n : Node) (a : Are ks kinds net) where
+  pub are-with : (kind : Kind) → Is ks kind n → Are ks (with kinds i kind) (withNode net i n)
+  are-with kind p =
+      all-with (λ k m. Is ks (kinds k) m) (λ k m. Is ks (with kinds i kind k) m) net i n a (rw (eq-eqb i i refl) p)
+      (λ k m f q. rw (ne-eqb k i f) q)
+
+  are-kept : Is ks (kinds i) n → Are ks kinds (withNode net i n)
+  are-kept p = all-kept (λ k m. Is ks (kinds k) m) net i n a p
+
+-- ---- one event
+module _ (L : NodeLaws) (ks : List Key) where
+  -- starts and polls leave the keys, and a call that is refused leaves the node
+  call-kept : (n : Node) (c : NodeCall) → Permitted n c → Kept n (perform c n .node)
+  call-kept n (starting time timeout d) h = unfold perform in L .start-kept n time timeout d
+  call-kept n (polling time) h = unfold perform in L .poll-kept n time
+  call-kept n (delivering call time payload) h =
+      rw (L .refused-stays (delivering call time payload) n (h .why) (h .refused)) (kept-self n)
+  call-kept n (asking time) h = absurd h
+  call-kept n (sending type) h = absurd h
+  call-kept n (receiving type identifier) h = absurd h
+  call-kept n (reporting type identifier) h = absurd h
+
+  -- a node that has switched is asked for a type that the set covers
+  abbrev Fits : Kinds → Event → Type 0
+  Fits kinds (turning i j type) = kinds i ≡ new → Covers ks type
+  Fits kinds (calling i c) = Unit {0}
+
+  step-are :
+      (kinds : Kinds) (net : Network) (e : Event) → Comes net e → Fits kinds e → Are ks kinds net →
+      Are ks (moves kinds e) (step net e)
+  unfolding step Comes
+  step-are kinds net (turning i j type) h f a =
+      let t = turn (nodeAt net i) (nodeAt net j) type in
+      let s = kept-is ks (kinds i) (sender-kept L (nodeAt net i) (nodeAt net j) type) (a i (h .0)) in
+      are-with ks kinds (withNode net i (t .sender)) j (t .hearer) (are-kept ks kinds net i (t .sender) a s) (hearing (kinds i) (kinds j))
+      (hears L ks (nodeAt net i) (nodeAt net j) type (kinds i) (kinds j) f (a i (h .0)) (a j (h .1)))
+  step-are kinds net (calling i c) h f a =
+      are-kept ks kinds net i (perform c (nodeAt net i) .node) a
+      (kept-is ks (kinds i) (call-kept (nodeAt net i) c (h .1)) (a i (h .0)))
+
+  -- ---- a list of events
+  -- where no node has switched, each node's kind stays, whatever the frame types
+  module _ (kinds : Kinds) (quiet : (k : ℕ) → Quiet (kinds k)) where
+    pub step-quiet : (net : Network) (e : Event) → Comes net e → Are ks kinds net → Are ks kinds (step net e)
+    step-quiet net e h a k l = rw (still kinds quiet e k) at (step-are kinds net e h (fits e) a k l)
+      where
+        fits : (e : Event) → Fits kinds e
+        fits (turning i j type) = λ w. absurd (rw w at (quiet i))
+        fits (calling i c) = tt
+
+    pub run-quiet : (net : Network) (es : List Event) → Come net es → Are ks kinds net → Are ks kinds (run net es)
+    unfolding run Come
+    run-quiet net [] h a = a
+    run-quiet net (e ∷ es) h a = run-quiet (step net e) es (h .1) (step-quiet net e (h .0) a)
+
+  -- with turns of a type that the set covers, the kinds flow
+  module _ (links : Links) (type : ℕ) (covering : Covers ks type) where
+    fits : (kinds : Kinds) (e : Event) → Linked links type e → Fits kinds e
+    fits kinds (turning i j u) l = λ w. rw (l .1) covering
+    fits kinds (calling i c) l = tt
+
+    pub run-flows :
+        (kinds : Kinds) (net : Network) (es : List Event) → Come net es → AllLinked links type es → Are ks kinds net →
+        Are ks (flows kinds es) (run net es)
+    unfolding run Come
+    run-flows kinds net [] h l a = a
+    run-flows kinds net (e ∷ es) h l a =
+        run-flows (moves kinds e) (step net e) es (h .1) (λ x m. l x (List·Memᴰ·tail m))
+        (step-are kinds net e (h .0) (fits kinds e (l e (List·Memᴰ·head refl))) a)
+
+-- ---- sizes and roles stay
+pub size-step : (net : Network) (e : Event) → length (step net e) ≡ length net
+unfolding step
+size-step net (turning i j type) = size-with _ j _ ∙ size-with net i _
+size-step net (calling i c) = size-with net i _
+
+pub size-run : (net : Network) (es : List Event) → length (run net es) ≡ length net
+unfolding run
+size-run net [] = refl
+size-run net (e ∷ es) = size-run (step net e) es ∙ size-step net e
+
+module _ (L : NodeLaws) where
+  abbrev RoleOf : Network → ℕ → Node → Type 0
+  RoleOf net k n = n .role ≡ nodeAt net k .role
+
+  step-role : (net : Network) (e : Event) → All (RoleOf net) (step net e)
+  unfolding step
+  step-role net (turning i j type) =
+      let t = turn (nodeAt net i) (nodeAt net j) type in
+      all-kept (RoleOf net) (withNode net i (t .sender)) j (t .hearer)
+      (all-kept (RoleOf net) net i (t .sender) (λ k l. refl) (sender-kept L (nodeAt net i) (nodeAt net j) type .role))
+      (hearer-role L (nodeAt net i) (nodeAt net j) type)
+  step-role net (calling i c) = all-kept (RoleOf net) net i (perform c (nodeAt net i) .node) (λ k l. refl) (L .role-stays c (nodeAt net i))
+
+  pub run-role : (net : Network) (es : List Event) (k : ℕ) → k < length net → nodeAt (run net es) k .role ≡ nodeAt net k .role
+  unfolding run
+  run-role net [] k l = refl
+  run-role net (e ∷ es) k l =
+      let inside : k < length (step net e) = rw (size-step net e) l in
+      run-role (step net e) es k inside ∙ step-role net e k inside

@@ -1,0 +1,22 @@
+// A network of nodes: what a frame from one node to another does to both.
+pub mod turn;
+
+pub use turn::Answer;
+pub use turn::Turned;
+ghost use Rattle.network.specs.Demand3.{Demand3};
+ghost use Rattle.network.specs.Witness.{Witness};
+
+// Demand 3: before the border router accepts a new key set that waits at all other nodes, nobody sends under it;
+// h rounds after it, every node at most h hops away has followed.
+pub fn rekey_reaches_all()
+    ensures { λ r. ⌜ Demand3 ⌝ }
+{
+    node::laws();
+}
+
+// Demand 3 is not empty: a line of three nodes is rekeyed, and its far node follows after two rounds and not after one.
+pub fn rekey_of_a_line()
+    ensures { λ r. ⌜ Witness ⌝ }
+{
+    rekey_reaches_all();
+}

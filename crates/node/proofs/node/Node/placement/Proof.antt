@@ -1,0 +1,26 @@
+-- `placement` meets its contract: only a set that is taken is installed.
+use mathlib.Core.Bool.{false}
+use mathlib.Core.Path.{_∙_}
+use borrow.Author.Needs.{needs}
+use Rattle.node.specs.Delivery.{install, placed}
+use Rattle.node.proofs.Applied.{taken-is, untaken-is}
+use Rattle.node.proofs.Tests.{is-false, is-true}
+use Rattle.node.proofs.node.Node.placement.Statement.{statement}
+use Rattle.node.proofs.node.Node.placement.Tie as tie
+
+is-taken-requires : tie.Need-is-taken-requires
+is-taken-requires c κs = search needs
+
+install-requires : tie.Need-install-requires
+install-requires c κs = search needs
+
+returns : tie.Need-returns
+returns c =
+    c .install .ensures ∙ taken-is (c .before .before .before .before .args .parameter .report) _ (placed false (c .before .before .before .before .args .self .active) (c .before .before .before .before .args .self .pending)) (is-true (c .before .before .before .is-taken .ensures) (c .before .before .if1 .taken))
+
+returns-2 : tie.Need-returns-2
+returns-2 c =
+    untaken-is (c .before .before .before .before .args .parameter .report) (install (c .before .before .before .before .args .self) (c .before .before .before .before .args .parameter .value)) _ (is-false (c .before .before .before .is-taken .ensures) (c .before .before .if1 .left))
+
+pub placement-spec : {M : Type 1} → statement M
+placement-spec = tie.close (tie.spec is-taken-requires install-requires returns returns-2)

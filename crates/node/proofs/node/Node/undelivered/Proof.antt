@@ -1,0 +1,13 @@
+-- `undelivered` meets its contract: the report in it is the empty one.
+use borrow.Author.Needs.{needs}
+use Rattle.node.proofs.node.Node.undelivered.Statement.{statement}
+use Rattle.node.proofs.node.Node.undelivered.Tie as tie
+
+no-reports-requires : tie.Need-no-reports-requires
+no-reports-requires c κs = search needs
+
+returns : tie.Need-returns
+returns c = rw (c .no-reports .ensures)
+
+pub undelivered-spec : {M : Type 1} → statement M
+undelivered-spec = tie.close (tie.spec no-reports-requires returns)

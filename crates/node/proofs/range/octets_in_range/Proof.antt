@@ -1,0 +1,12 @@
+-- `octets_in_range` meets its contract: each test of the code is one of the definition's.
+use Rattle.node.proofs.range.octets_in_range.Statement.{statement}
+use Rattle.node.proofs.range.octets_in_range.Tie as tie
+
+returns : tie.Need-returns
+returns c = rw (c .before .before .if1 .taken)
+
+returns-2 : tie.Need-returns-2
+returns-2 c = rw (c .if1 .left)
+
+pub octets-in-range-spec : {M : Type 1} → statement M
+octets-in-range-spec = tie.close (tie.spec returns returns-2)

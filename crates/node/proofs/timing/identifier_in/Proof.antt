@@ -1,0 +1,16 @@
+-- `identifier_in` meets its contract: taken where one is held.
+use borrow.Author.Needs.{needs}
+use Rattle.node.proofs.timing.identifier_in.Statement.{statement}
+use Rattle.node.proofs.timing.identifier_in.Tie as tie
+
+returns : tie.Need-returns
+returns c = rw (c .before .if1 .taken)
+
+no-octets-requires : tie.Need-no-octets-requires
+no-octets-requires c κs = search needs
+
+returns-2 : tie.Need-returns-2
+returns-2 c = rw (c .before .if1 .left) (c .no-octets .ensures)
+
+pub identifier-in-spec : {M : Type 1} → statement M
+identifier-in-spec = tie.close (tie.spec returns no-octets-requires returns-2)
