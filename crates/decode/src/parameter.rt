@@ -1,0 +1,30 @@
+// A parameter of an object: absent, discarded, or what was taken.
+use cojp::OctetsParameter;
+use cojp::Report;
+use text::output::Buffer;
+use text::output::Output;
+
+// The word for a parameter that was not taken; nothing for one that was.
+pub fn put_report(out: Output, report: Report, buffer: &mut Buffer) -> Output {
+    match report {
+        Report::Absent => out.text(b"absent", buffer),
+        Report::Taken => out,
+        Report::Discarded => out.text(b"discarded", buffer),
+    }
+}
+
+// A byte string, as `network=h'cafe'` with its name in front.
+pub fn put_octets(
+    out: Output,
+    name: &[u8],
+    parameter: OctetsParameter,
+    buffer: &mut Buffer,
+) -> Output {
+    let report = parameter.report;
+    let out = out.text(name, buffer);
+    let out = put_report(out, report, buffer);
+    let Report::Taken = report else {
+        return out;
+    };
+    notation::put_octets(out, parameter.value, buffer)
+}

@@ -1,0 +1,24 @@
+// The command `request HEX`.
+use crate::parameter::put_octets;
+use cojp::JoinRequest;
+use refusal::Verdict;
+use text::output::Buffer;
+use text::output::Output;
+
+pub fn answer(payload: &[u8], out: Output, buffer: &mut Buffer) -> Output {
+    let read = cojp_read::read_request(payload);
+    let verdict = read.verdict;
+    match verdict {
+        Verdict::Accepted => put_request(out, read.request, buffer),
+        Verdict::Refused(refusal) => notation::put_refusal(out, refusal, buffer),
+    }
+}
+
+fn put_request(out: Output, request: JoinRequest, buffer: &mut Buffer) -> Output {
+    let network = request.network;
+    let out = out.text(b"accepted role=", buffer);
+    let out = out.number(request.role as u64, buffer);
+    let out = put_octets(out, b" network=", network, buffer);
+    let out = out.text(b" passed=", buffer);
+    out.number(request.passed, buffer)
+}

@@ -1,0 +1,168 @@
+#!/usr/bin/env python3
+"""Adds to crates/decode/stdin and stdout lines at the edges of the tool's rules, after the vectors: lines far longer than any buffer, carriage
+returns, bytes that are no text, payloads around the limit of 256 bytes, a last line with no end.
+
+What they are answered follows from the rules of the desk tools, from document 01's examples and from the draft's, by the code below alone.
+"""
+import os
+import random
+
+MARK = b"# Lines of tools/decode_edges.py\n"
+
+NONE = "keys=absent address=absent lease=absent jrc=absent network=absent prefix=absent"
+
+# payloads whose answers document 01 gives, or that differ from one of those in a length alone
+OBJECTS = [
+    ("request", "A1 05 42 CA FE", "accepted role=0 network=h'cafe' passed=0"),
+    ("request", "B8 01 05 42 CA FE", "accepted role=0 network=h'cafe' passed=0"),
+    ("request", "A0", "refused 9 OWED"),
+    ("request", "A1 01 01", "accepted role=1 network=absent passed=0"),
+    ("request", "A1 01 02", "refused 8 ROLE"),
+    ("request", "", "refused 1 CUT"),
+    ("request", "A1 05 42 CA FE 00", "refused 4 EXTRA"),
+    ("request", "BF 05 42 CA FE FF", "refused 2 FORM"),
+    ("request", "A2 05 42 CA FE 05 42 CA FE", "refused 6 TWICE"),
+    ("configuration", "A0", "accepted " + NONE + " passed=0"),
+    (
+        "configuration",
+        "A1 03 82 42 12 34 19 0E 10",
+        "accepted keys=absent address=h'1234' lease=3600 jrc=absent network=absent prefix=absent passed=0",
+    ),
+    (
+        "configuration",
+        "A1 03 81 41 12",
+        "accepted keys=absent address=discarded lease=discarded jrc=absent network=absent prefix=absent passed=0",
+    ),
+    ("configuration", "A1 04 41 00", "accepted keys=absent address=absent lease=absent jrc=discarded network=absent prefix=absent passed=0"),
+    ("configuration", "A1 02 80", "refused 7 KEYS"),
+    ("configuration", "A1 02 81 01", "refused 5 TYPE"),
+    (
+        "configuration",
+        "A1 02 82 01 50 00 01 02 03 04 05 06 07 08 09 0A 0B 0C 0D 0E 0F",
+        "accepted keys=[1/0/h'000102030405060708090a0b0c0d0e0f'] address=absent lease=absent jrc=absent network=absent prefix=absent passed=0",
+    ),
+    # draft-ietf-6tisch-minimal-security-06, Appendix A
+    (
+        "configuration",
+        "a202820150e6bf4287c2d7618d6a9687445ffd33e6038142af93",
+        "accepted keys=[1/0/h'e6bf4287c2d7618d6a9687445ffd33e6'] address=h'af93' lease=none jrc=absent network=absent prefix=absent passed=0",
+    ),
+    ("configuration", "A1 18 63 F6", "accepted " + NONE + " passed=1"),
+    ("configuration", "A1 18 63" + " 81" * 6 + " 00", "accepted " + NONE + " passed=1"),
+    ("configuration", "A1 18 63" + " 81" * 7 + " 00", "refused 3 DEEP"),
+]
+
+
+def padded(size):
+    """A configuration of so many bytes, 256 at most: an unknown label with a byte string."""
+    return "A118635900%02X" % (size - 6) + "5A" * (size - 6)
+
+
+LONG = "refused 15 LONG"
+for size in (255, 256):
+    OBJECTS.append(("configuration", padded(size), "accepted " + NONE + " passed=1"))
+for size in (257, 258, 300, 5000, 33000):
+    OBJECTS.append(("configuration", "A0" + "00" * (size - 1), LONG))
+    OBJECTS.append(("request", "FF" * size, LONG))
+
+
+def spelled(r, digits):
+    """The digits in another spelling: case by case, spaces anywhere among them."""
+    out = ""
+    spaced = r.choice([0, 0, 3, 40]) if len(digits) < 2000 else 0
+    for d in digits.replace(" ", ""):
+        if spaced and r.randrange(spaced) == 0:
+            out += " " * r.randrange(1, 4)
+        out += r.choice([d.lower(), d.upper()])
+    return out
+
+
+def lines(r):
+    """Pairs: a line without its end, and its answer, or None."""
+    for command, digits, said in OBJECTS:
+        for _ in range(4 if len(digits) < 2000 else 1):
+            front = " " * r.choice([0, 0, 1, 7])
+            gap = " " * r.choice([1, 1, 2, 30])
+            back = r.choice(["", " ", "   ", "\r", "  \r"])
+            yield (front + command + gap + spelled(r, digits) + back).encode(), said
+    hexes = "A10542CAFE"
+    far = 1000000
+    good = "accepted role=0 network=h'cafe' passed=0"
+    yield b"request" + b" " * far + hexes.encode(), good
+    yield b" " * 66000 + b"request A105" + b" " * 66000 + b"42CAFE" + b" " * 66000 + b"\r", good
+    yield b" " * 66000, None
+    yield b"#" * 66000, None
+    yield b"request " + b"00" * 33000, LONG
+    yield b"request " + b"00" * 33000 + b"0", "error hex"
+    yield b"request " + b"00" * 33000 + b"x", "error hex"
+    yield b"request x" + b"00" * 33000, "error hex"
+    yield b"x" * 66000, "error command"
+    yield b"request" + b"t" * 66000 + b" A0", "error command"
+    # around the buffer's size, with the line's end and a carriage return on either side
+    for size in range(65535, 65538):
+        line = b"request A1 05 42 CA" + b" " * (size - 21) + b"FE"
+        yield line, good
+        yield line[:-1] + b"\r", "error hex"
+        yield line + b"\r", good
+    yield b"request A0\r\r", "error hex"
+    yield b"request A0\r ", "error hex"
+    yield b"request A0 \r", "refused 9 OWED"
+    yield b"\r", None
+    yield b"\r\r", "error command"
+    yield b" \r", None
+    yield b"\r ", "error command"
+    yield b"request\r", "refused 1 CUT"
+    yield b"request\0", "error command"
+    yield b"request \0", "error hex"
+    yield b"\0", "error command"
+    yield b"\0request A0", "error command"
+    yield b"request A\0000", "error hex"
+    yield b"\xef\xbb\xbfrequest A0", "error command"
+    yield b"\trequest A0", "error command"
+    yield b"request\tA0", "error command"
+    yield b"request \tA0", "error hex"
+    yield b"Request A0", "error command"
+    yield b"requests A0", "error command"
+    yield b"reques A0", "error command"
+    yield b"configurationA0", "error command"
+    yield b"configuration", "refused 1 CUT"
+    yield b"configuratio\xee A0", "error command"
+    yield b"  # request A0", None
+    yield b"request # A0", "error hex"
+    yield b"request 0xA0", "error hex"
+    yield b"request A0,", "error hex"
+    for c in b"/:@G`g\x1f!\x7f\x80\xff-":
+        yield b"request A" + bytes([c]), "error hex"
+        yield b"request " + bytes([c]) + b"0", "error hex"
+    # the last line has no end
+    yield b"request A1 01 01\r", "accepted role=1 network=absent passed=0"
+
+
+def is_silent(line):
+    """Whether the line is not answered: it is empty, or a comment."""
+    text = (line[:-1] if line.endswith(b"\r") else line).strip(b" ")
+    return not text or text.startswith(b"#")
+
+
+def before(path, keep):
+    """What stands before the lines of this script: up to the mark, or the first `keep` answers."""
+    with open(path, "rb") as f:
+        text = f.read()
+    if keep is None:
+        return text.split(MARK)[0]
+    return b"".join(text.splitlines(keepends=True)[:keep])
+
+
+def main():
+    folder = os.path.join(os.path.dirname(os.path.dirname(os.path.abspath(__file__))), "crates", "decode")
+    stdin, stdout = os.path.join(folder, "stdin"), os.path.join(folder, "stdout")
+    vectors = before(stdin, None)
+    answers = before(stdout, sum(not is_silent(line) for line in vectors.split(b"\n")))
+    edges = list(lines(random.Random(9031)))
+    with open(stdin, "wb") as f:
+        f.write(vectors + MARK + b"\n".join(line for line, _ in edges))
+    with open(stdout, "wb") as f:
+        f.write(answers + b"".join(said.encode() + b"\n" for _, said in edges if said is not None))
+
+
+main()

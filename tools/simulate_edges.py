@@ -1,0 +1,122 @@
+#!/usr/bin/env python3
+"""Adds to crates/simulate/stdin and stdout, after the vectors, the story examples/rekey.txt with the answers that stand in it, and lines at the
+edges of the tool's rules: missing and extra words, numbers and bytes around their limits, `-`, lines far longer than any buffer.
+
+What they are answered follows from the rules of the desk tools and document 01, by hand: nothing is taken from the program.
+"""
+import os
+
+MARK = b"# Lines of tools/simulate_edges.py\n"
+
+COMMAND, NUMBER, HEX, NODE = "error command", "error number", "error hex", "error node"
+RANGE, PHASE, LONG, SILENT, CLOCK = "refused 13 RANGE", "refused 16 PHASE", "refused 15 LONG", "refused 14 SILENT", "refused 11 CLOCK"
+MOST = 2**64 - 1
+FAR = 66000  # longer than the buffer that the tool reads through
+
+
+def fresh(role, network, clock=0):
+    """What `show` writes of a node that was made and has taken nothing."""
+    return (
+        "role=%d phase=idle clock=%d sent=0 timeout=0 count=0 active=none pending=none address=none lease=none received=none"
+        " jrc=none network=%s prefix=none" % (role, clock, network)
+    )
+
+
+def story(path):
+    """The commands of a story, each with the answer that stands below it."""
+    with open(path) as f:
+        text = f.read().splitlines()
+    for line, below in zip(text, text[1:] + [""]):
+        if line and not line.startswith("#"):
+            assert below.startswith("#> "), line
+            yield line, below[3:]
+
+
+def edges():
+    """Pairs: a line without its end, and its answer, or None."""
+    # every number up to 15 may have a node since the vectors; 17 has none
+    yield "node 8 0 CAFE", "made"
+    yield "show 8", fresh(0, "h'cafe'")
+    yield "node 8 1", "made"
+    yield "show 8", fresh(1, "h''")
+    yield "node 8 1 - ", "made"
+    yield "show 8", fresh(1, "none")
+    yield "node 9 0 " + "A5" * 16, "made"
+    yield "node 9 0 " + "A5" * 17, RANGE
+    yield "node 9 0 " + "A5" * 300, RANGE
+    yield "node 9 2 CAFE", RANGE
+    yield "node 9 255 CAFE", RANGE
+    yield "show 9", fresh(0, "h'%s'" % ("a5" * 16))
+    yield "node 15 0 CAFE", "made"
+    for text, answer in [
+        ("node", COMMAND), ("node 9", COMMAND), ("node  9  ", COMMAND), ("nodes 9 0", COMMAND), ("node9 0 0", COMMAND),
+        ("node x 0 zz", NUMBER), ("node 9 x zz", NUMBER), ("node 9 256 zz", NUMBER), ("node 9 0 zz", HEX), ("node 9 0 C", HEX),
+        ("node 16 0 zz", HEX), ("node 16 0 C", HEX), ("node 16 0 CAFE", NODE), ("node %d 0" % MOST, NODE), ("node %d 0" % (MOST + 1), NUMBER),
+        ("node 9 0 - -", HEX), ("node 9 0 --", HEX), ("node 9 0 -0", HEX), ("node 9 0 0-", HEX), ("node 9 0 - 00", HEX), ("node 9 0 00 -", HEX),
+        ("start", COMMAND), ("start 9", COMMAND), ("start 9 0", COMMAND), ("start 9 0 10000 1", COMMAND), ("start x 0", COMMAND),
+        ("start 9 0 x", NUMBER), ("start 9 x 10000", NUMBER), ("start x 0 10000", NUMBER), ("start 9 0 -1", NUMBER), ("start 9 0 1e4", NUMBER),
+        ("start 17 0 10000", NODE), ("start 16 0 10000", NODE), ("start 17 0 x", NUMBER),
+        ("start 9 0 9999", RANGE), ("start 9 0 15001", RANGE), ("start 9 0 %d" % MOST, RANGE), ("start 9 0 %d" % (MOST + 1), NUMBER),
+        ("poll", COMMAND), ("poll 9", COMMAND), ("poll 9 0 0", COMMAND), ("poll 9 x", NUMBER), ("poll 17 0", NODE), ("poll 9 0", PHASE),
+        ("answer", COMMAND), ("answer 9", COMMAND), ("answer x 0 zz", NUMBER), ("answer 9 0 zz", HEX), ("answer 9 0 0", HEX),
+        ("answer 9 0 -", HEX), ("answer 17 0 zz", HEX), ("answer 17 0 A0", NODE), ("answer 9 0", PHASE), ("answer 9 0 A0", PHASE),
+        ("answer 9 0 " + "00" * 256, PHASE), ("answer 9 0 " + "00" * 257, LONG), ("answer 9 0 " + "00" * 257 + "0", HEX),
+        ("update", COMMAND), ("update 9", COMMAND), ("update 9 0", PHASE), ("update 9 0 " + "f F" * 400, LONG), ("update 16 0", NODE),
+        ("holds", COMMAND), ("holds 9", COMMAND), ("holds 9 0 0", COMMAND), ("holds 9 0", "no"), ("holds 9 %d" % MOST, "no"), ("holds 17 0", NODE),
+        ("send", COMMAND), ("send 9", COMMAND), ("send 9 0 0", COMMAND), ("send 9 256", NUMBER), ("send 9 255", RANGE), ("send 9 2", RANGE),
+        ("send 9 0", SILENT), ("send 9 1", SILENT), ("send 17 0", NODE), ("send 17 256", NUMBER),
+        ("receive 9 0", COMMAND), ("receive 9 0 0 0", COMMAND), ("receive 9 0 256", NUMBER), ("receive 9 256 1", NUMBER), ("receive 9 0 0", RANGE),
+        ("receive 9 2 1", RANGE), ("receive 9 1 255", SILENT), ("receive 17 0 1", NODE),
+        ("verified 9 0", COMMAND), ("verified 9 0 256", NUMBER), ("verified 9 0 0", RANGE), ("verified 9 2 1", RANGE), ("verified 9 0 1", SILENT),
+        ("turn 8 9", COMMAND), ("turn 8 9 0 0", COMMAND), ("turn 8 9 256", NUMBER), ("turn 8 x 0", NUMBER), ("turn 8 8 0", NODE), ("turn 8 17 0", NODE),
+        ("turn 17 8 0", NODE), ("turn 8 16 0", NODE), ("turn %d 8 0" % MOST, NODE), ("turn 8 8 256", NUMBER), ("turn 8 9 2", RANGE), ("turn 8 9 0", SILENT),
+        ("show", COMMAND), ("show 9 9", COMMAND), ("show x", NUMBER), ("show 17", NODE), ("show 16", NODE), ("Show 9", COMMAND), ("#show 9", None),
+        ("show\t9", COMMAND), ("show 9\t", NUMBER), ("show 9\0", NUMBER), ("", None), ("   ", None), ("\r", None), (" # 1 \r", None),
+    ]:
+        yield text, answer
+    zeros = "0" * FAR
+    yield "show " + zeros + "9", fresh(0, "h'%s'" % ("a5" * 16))
+    yield "show " + zeros + "17", NODE
+    yield " " * FAR + "holds" + " " * FAR + "9" + " " * FAR + zeros + str(MOST) + " " * FAR + "\r", "no"
+    yield "holds 9 " + zeros + str(MOST + 1), NUMBER
+    yield "node 9 0" + " " * FAR + "C A" + " " * FAR + "FE\r", "made"
+    yield "show 9\r", fresh(0, "h'cafe'")
+    yield "node 9 0" + " " * FAR + "-" + " " * FAR, "made"
+    yield "show   9   ", fresh(0, "none")
+    yield "answer 9 0 " + "0f" * FAR, LONG
+    yield "answer 9 0 " + "0f" * FAR + "g", HEX
+    # a refused call leaves the clock, an accepted one moves it, and the question whether the address holds does not
+    yield "node 9 1 -", "made"
+    yield "holds 9 7", "no"
+    yield "show 9", fresh(1, "none")
+    yield "start 9 5 10000", "sent h'a10101'"
+    yield "start 9 4 10000", CLOCK
+    yield "poll 9 4", CLOCK
+    yield "poll 9 10004", "not yet"
+    yield "poll 9 10005", "send again"
+    yield "start 9 10005 10000", PHASE
+    # the last line has no end
+    yield "turn 9 8 1", SILENT
+
+
+def is_silent(line):
+    """Whether the line is not answered: it is empty, or a comment."""
+    text = (line[:-1] if line.endswith(b"\r") else line).strip(b" ")
+    return not text or text.startswith(b"#")
+
+
+def main():
+    root = os.path.dirname(os.path.dirname(os.path.abspath(__file__)))
+    stdin, stdout = (os.path.join(root, "crates", "simulate", name) for name in ("stdin", "stdout"))
+    with open(stdin, "rb") as f:
+        vectors = f.read().split(MARK)[0]
+    with open(stdout, "rb") as f:
+        answers = f.read().splitlines(keepends=True)[: sum(not is_silent(line) for line in vectors.split(b"\n"))]
+    every = list(story(os.path.join(root, "examples", "rekey.txt"))) + list(edges())
+    with open(stdin, "wb") as f:
+        f.write(vectors + MARK + b"\n".join(line.encode() for line, _ in every))
+    with open(stdout, "wb") as f:
+        f.write(b"".join(answers) + b"".join(said.encode() + b"\n" for _, said in every if said is not None))
+
+
+main()
