@@ -31,13 +31,6 @@ skip-answer s (got a t) (sv.Next p) q =
     let f : drop p s ≡ t = cc in
     ap sv.Next (left-over s t p (q .inside) f)
 
-pub head-answer : (s : List ℕ) (at : ℕ) (r : HeadRead) → HeadAt s at r → r ≡ headAnswer (length s) (heading (drop at s))
-head-answer s at (hv.Refused k) q = rw (← q .says)
-head-answer s at (hv.Got h) q =
-    rw (← q .says)
-    (ap (λ (p : ℕ). hv.Got (record { major = h .major; info = h .info; argument = h .argument; next = p }))
-    (left-over s (drop (h .next) s) (h .next) (q .inside) refl))
-
 -- ---- from the equations
 -- what is left of drop at s, k bytes further, begins at the length less what is left
 pub place : (s t : List ℕ) (at k : ℕ) → at ≤ length s → k ≤ length (drop at s) → t ≡ drop k (drop at s)

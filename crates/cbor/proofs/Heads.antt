@@ -1,16 +1,18 @@
--- What `read_head` answers, case by case of its returns.
+-- What `read_head` and its parts answer, case by case of their returns.
 use Prim.Native.Nat.{ℕ, _+_, _-_, _/_, _%_, _^_, _≤_, _<_}
-use mathlib.Core.Path.{_≡_, sym}
-use mathlib.Core.List.{List}
+use mathlib.Core.Path.{_≡_, ap, _∙_}
+use mathlib.Core.List.{List, _∷_}
 use native.Mathlib.Omega.{arith}
+use native.Mathlib.Decide.{decLt}
 use native.Mathlib.Numerals.{add-one}
 use borrow.Author.Tests.{le-ltb, lt-ltb, le-leb, lt-leb}
 use lib.ListN.{length, take, drop, getD, length-drop, drop-of-length-le}
 use lib.Seq.{drop-cons, drop-drop}
+use Rattle.refusal.specs.declared.Refusal.{Refusal}
 use Rattle.refusal.specs.declared.Refusal.the-variants.{Cut, Form}
 use Rattle.cbor.specs.Decode.{refused, got, andThen, next, bigEndian, argument, heading}
+use Rattle.cbor.specs.Answer.{headAnswer, announced}
 use Rattle.cbor.specs.declared.head.HeadRead.the-variants as hv
-use Rattle.cbor.proofs.Places.{HeadAt}
 
 pub next-got : (n : ℕ) (s : List ℕ) → n ≤ length s → next n s ≡ got (take n s) (drop n s)
 unfolding next
@@ -35,42 +37,51 @@ pub argument-wide : (k : ℕ) (s : List ℕ) → 24 ≤ k → k ≤ 27
 unfolding argument
 argument-wide k s l h = simp (le-ltb k 24 l, le-ltb 27 k h)
 
-pub head-none : (s : List ℕ) (at : ℕ) → length s ≤ at → HeadAt s at (hv.Refused Cut)
-unfolding heading
-head-none s at h = record { says = rw (drop-of-length-le s h); inside = tt }
+-- ---- an argument, by the bytes from a place on
+module _ (s : List ℕ) (k at end : ℕ) (e : end ≡ at + announced k) where
+  pub argument-none : k < 24 → argument k (drop at s) ≡ got k (drop end s)
+  argument-none h =
+      let f : end ≡ at + 0 = rw (lt-ltb k 24 h) at e in
+      let g : end ≡ at = omega arith in
+      rw g (argument-direct k (drop at s) h)
 
-module _ (s : List ℕ) (at : ℕ) (h : at < length s) where
-  abbrev first : ℕ
-  first = getD s at 0
+  -- its bytes are missing
+  pub argument-cut : k ≤ 27 → at ≤ length s → length s < end → argument k (drop at s) ≡ refused Cut
+  argument-cut h i l = go (decLt k 24)
+    where
+      go : Dec (k < 24) → argument k (drop at s) ≡ refused Cut
+      go (yes a) = let f : end ≡ at + 0 = rw (lt-ltb k 24 a) at e in absurd (omega arith)
+      go (no a) =
+          let a′ : 24 ≤ k = omega arith in
+          let f : end ≡ at + 2 ^ (k - 24) = rw (le-ltb k 24 a′) at e in
+          let n : length (drop at s) < 2 ^ (k - 24) = omega (arith, length-drop at s) in
+          argument-wide k (drop at s) a′ h ∙ rw (next-cut (2 ^ (k - 24)) (drop at s) n)
 
-  abbrev k : ℕ
-  k = first % 32
+  pub argument-whole : (v : ℕ) → 24 ≤ k → k ≤ 27 → end ≤ length s → v ≡ bigEndian (take (end - at) (drop at s))
+      → argument k (drop at s) ≡ got v (drop end s)
+  argument-whole v l h i w =
+      let f : end ≡ at + 2 ^ (k - 24) = rw (le-ltb k 24 l) at e in
+      let g : end - at ≡ 2 ^ (k - 24) = omega arith in
+      let j : 2 ^ (k - 24) ≤ length (drop at s) = omega (arith, length-drop at s) in
+      argument-wide k (drop at s) l h ∙ rw (next-got (2 ^ (k - 24)) (drop at s) j, w, g, drop-drop (2 ^ (k - 24)) at s, ← f)
 
-  abbrev after : List ℕ
-  after = drop (at + 1) s
-
-  heading-at : heading (drop at s) ≡ andThen (argument k after) (λ n t. got (record { major = first / 32; info = k; argument = n }) t)
+-- ---- a head: its first byte, and its argument in the bytes from a place on
+module _ (s : List ℕ) (at : ℕ) where
+  pub head-none : length s ≤ at → hv.Refused Cut ≡ headAnswer (length s) (heading (drop at s))
   unfolding heading
-  heading-at = rw (add-one at, drop-cons s at 0)
+  head-none h = rw (drop-of-length-le s h)
 
-  pub head-direct : (a : ℕ) → a ≡ k → k < 24
-      → HeadAt s at (hv.Got (record { major = first / 32; info = k; argument = a; next = at + 1 }))
-  head-direct a e l = record { says = sym (rw (heading-at, argument-direct k after l, e)); inside = omega arith }
+  pub head-first : at < length s → drop at s ≡ getD s at 0 ∷ drop (at + 1) s
+  head-first h = rw (add-one at, drop-cons s at 0)
 
-  pub head-form : 27 < k → HeadAt s at (hv.Refused Form)
-  head-form l = record { says = sym (rw (heading-at, argument-form k after l)); inside = tt }
+  module _ (b : ℕ) where
+    pub head-no : (k : Refusal) → argument (b % 32) (drop at s) ≡ refused k → hv.Refused k ≡ headAnswer (length s) (heading (b ∷ drop at s))
+    unfolding heading
+    head-no k e = rw e
 
-  module _ (n : ℕ) (e : n ≡ 2 ^ (k - 24)) (l : 24 ≤ k) (m : k ≤ 27) where
-    pub head-short : length s - (at + 1) < n → HeadAt s at (hv.Refused Cut)
-    head-short c =
-        let d : length after < n = rw (length-drop (at + 1) s) c in
-        record { says = sym (rw (heading-at, argument-wide k after l m, ← e, next-cut n after d)); inside = tt }
-
-    pub head-whole : (v : ℕ) → n ≤ length s - (at + 1) → v ≡ bigEndian (take n after)
-        → HeadAt s at (hv.Got (record { major = first / 32; info = k; argument = v; next = at + 1 + n }))
-    head-whole v c w =
-        let d : n ≤ length after = rw (length-drop (at + 1) s) c in
-        record {
-          says = sym (rw (heading-at, argument-wide k after l m, ← e, next-got n after d, w, drop-drop n (at + 1) s));
-          inside = omega arith;
-        }
+    pub head-yes : (v p : ℕ) → p ≤ length s → argument (b % 32) (drop at s) ≡ got v (drop p s)
+        → hv.Got (record { major = b / 32; info = b % 32; argument = v; next = p }) ≡ headAnswer (length s) (heading (b ∷ drop at s))
+    unfolding heading
+    head-yes v p i e =
+        rw e
+        (ap (λ (q : ℕ). hv.Got (record { major = b / 32; info = b % 32; argument = v; next = q })) (omega (arith, length-drop p s)))

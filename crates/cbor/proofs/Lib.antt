@@ -4,7 +4,6 @@ pub mod Heads
 pub mod Outcomes
 pub mod Tails
 pub mod Answers
-pub mod Items
 pub mod Views
 pub mod Payloads
 pub mod RoundTrip

@@ -13,14 +13,13 @@ use Rattle.cbor.specs.Decode.{digits}
 take-drop-cons : (s : List ℕ) (p k : ℕ) → p < length s → take (suc k) (drop p s) ≡ getD s p 0 ∷ take k (drop (suc p) s)
 take-drop-cons s p k h = rw (drop-cons s p 0)
 
-pub digits-step : (s : List ℕ) (v at n i : ℕ) → i < n → at + n ≤ length s
-    → digits v (take (n - i) (drop (at + i) s)) ≡ digits (v * 256 + getD s (at + i) 0) (take (n - (i + 1)) (drop (at + (i + 1)) s))
+pub digits-step : (s : List ℕ) (v i end : ℕ) → i < end → end ≤ length s
+    → digits v (take (end - i) (drop i s)) ≡ digits (v * 256 + getD s i 0) (take (end - (i + 1)) (drop (i + 1) s))
 unfolding digits
-digits-step s v at n i h l =
-    let e : n - i ≡ suc (n - (i + 1)) = omega arith in
-    let f : suc (at + i) ≡ at + (i + 1) = omega arith in
-    let g : at + i < length s = omega arith in
-    rw (e, take-drop-cons s (at + i) (n - (i + 1)) g, f)
+digits-step s v i end h l =
+    let e : end - i ≡ suc (end - (i + 1)) = omega arith in
+    let g : i < length s = omega arith in
+    rw (e, take-drop-cons s i (end - (i + 1)) g, add-one i)
 
 -- below 256 ^ i, and one byte more, is below 256 ^ (i + 1)
 pub grows : (v b i : ℕ) → v < 256 ^ i → b < 256 → v * 256 + b < 256 ^ (i + 1)

@@ -1,40 +1,21 @@
 -- How the contents of a destination compose: what is written to its front, and then to the lent part after it, is written one after the other.
-use Prim.Native.Nat.{ℕ, zero, suc, _+_, _*_, _-_, _/_, _%_, _≤_, _<_}
+use Prim.Native.Nat.{ℕ, _+_, _-_, _≤_, _<_}
 use mathlib.Core.Path.{_≡_, refl, ap, sym, _∙_}
 use mathlib.Core.Bool.{Bool, true, false, cond}
-use mathlib.Core.List.{List, [], _∷_, _++_, append-assoc, append-nil}
+use mathlib.Core.List.{List, [], _++_, append-assoc, append-nil}
 use native.Mathlib.Omega.{arith}
 use native.Mathlib.Decide.{decLt}
 use borrow.Author.Tests.{le-ltb, lt-ltb, le-leb, lt-leb}
 use lib.Dec.{ltb}
-use lib.ListN.{length, take, drop, set, length-append, length-drop, length-set, drop-of-length-le}
-use lib.Seq.{drop-set-lt, drop-cons, drop-drop, take-at, drop-at, take-all, take-length, getD-set-same}
+use lib.ListN.{length, take, drop, length-append, length-drop, drop-of-length-le}
+use lib.Seq.{drop-drop, take-at, drop-at, take-all}
 use Rattle.refusal.specs.declared.Refusal.{Refusal}
-use Rattle.refusal.specs.declared.Refusal.the-variants.{Room, Range}
-use Rattle.cbor.specs.Encode.{bytesOf, infoOf, extraOf, shortest}
+use Rattle.refusal.specs.declared.Refusal.the-variants.{Room}
+use Rattle.cbor.specs.Encode.{extraOf, shortest}
 use Rattle.cbor.specs.Answer.{refuse, emit, Did, Wrote, headPlan}
 use Rattle.cbor.specs.declared.write.Written.{Written}
 use Rattle.cbor.specs.declared.write.Written.the-variants as wv
 use Rattle.cbor.proofs.RoundTrip.{length-bytesOf}
-
--- ---- a number, from its last byte on
-drop-set : (l : List ℕ) (i b : ℕ) → i < length l → drop i (set l i b) ≡ b ∷ drop (suc i) l
-drop-set l i b h =
-    drop-cons (set l i b) i 0 (omega (arith, length-set l i b))
-    ∙ rw (getD-set-same l i b 0 h, drop-set-lt (suc i) l i b (omega arith))
-
-pub number-step : (l : List ℕ) (i v : ℕ) → 0 < i → i ≤ length l
-    → bytesOf i v ++ drop i l ≡ bytesOf (i - 1) (v / 256) ++ drop (i - 1) (set l (i - 1) (v % 256))
-unfolding bytesOf
-number-step l zero v h k = absurd (omega arith)
-number-step l (suc i) v h k =
-    let e : suc i - 1 ≡ i = omega arith in
-    rw (e, drop-set l i (v % 256) (omega arith)) (append-assoc (bytesOf i (v / 256)) (v % 256 ∷ []) (drop (suc i) l))
-
-pub number-none : (l : List ℕ) (i v : ℕ) → i ≤ 0 → l ≡ bytesOf i v ++ drop i l
-unfolding bytesOf
-number-none l zero v h = refl
-number-none l (suc i) v h = absurd (omega arith)
 
 -- ---- the shortest head: its first byte, and the bytes of its argument
 pub length-head : (m n : ℕ) → length (shortest m n) ≡ extraOf n + 1
@@ -46,17 +27,10 @@ module _ {p d d′ : List ℕ} {n : ℕ} (w : Wrote p d n d′) (fits : length p
   pub wrote-length : length d′ ≡ length d
   wrote-length = ap length (w .holds) ∙ simp (length-append, length-drop) (omega arith)
 
-  pub wrote-start : n ≤ length d′
-  wrote-start = omega (arith, w .many, wrote-length)
-
   rest-is : take (length d′ - n) (drop n d′) ≡ drop (length p) d
   rest-is =
       take-all (length d′ - n) (drop n d′) (omega (arith, length-drop n d′))
       ∙ ap (drop n) (w .holds) ∙ drop-at p (drop (length p) d) n (sym (w .many))
-
-  -- what is left has room for what is left to write
-  pub wrote-room : (m : ℕ) → length p + m ≤ length d → m ≤ length (take (length d′ - n) (drop n d′))
-  wrote-room m h = rw rest-is (omega (arith, length-drop (length p) d))
 
 -- p was written, and then q in the part that was lent
 pub seam : {p q d d′ e : List ℕ} {n m : ℕ} → length p + length q ≤ length d → Wrote p d n d′ → Wrote q (take (length d′ - n) (drop n d′)) m e
@@ -71,11 +45,6 @@ seam {p} {q} {d} {d′} {e} {n} {m} h w v =
       many = omega (arith, w .many, v .many, length-append p q);
       holds = rw (end, front, mid, append-nil, drop-drop (length q) (length p) d, append-assoc p q, length-append p q);
     }
-
--- one byte
-pub wrote-byte : (d : List ℕ) (b : ℕ) → 1 ≤ length d → Wrote (b ∷ []) d 1 (set d 0 b)
-wrote-byte [] b h = absurd (omega arith)
-wrote-byte (x ∷ d) b h = record { many = refl; holds = refl }
 
 -- the same, counted otherwise
 pub wrote-as : {p d d′ : List ℕ} {n : ℕ} (m : ℕ) → m ≡ length p → Wrote p d n d′ → Wrote p d m d′
@@ -107,34 +76,13 @@ did-never p d r d′ k h w e =
     omega arith
 
 -- ---- heads
-pub head-range : (m n : ℕ) (d : List ℕ) → 7 < m → Did (headPlan m n) d (wv.Refused Range) d
-head-range m n d h = simp (lt-ltb 7 m h) (did-refuse Range d)
-
-pub head-room : (m n k : ℕ) (d : List ℕ) → m ≤ 7 → k ≡ extraOf n + 1 → length d < k → Did (headPlan m n) d (wv.Refused Room) d
-head-room m n k d h e l = simp (le-ltb 7 m h) (did-room (shortest m n) d (omega (arith, length-head m n)))
-
-pub head-wrote : (m n k i : ℕ) (d d′ : List ℕ) → m ≤ 7 → k ≤ length d → k ≡ extraOf n + 1 → i ≡ infoOf n
-    → Wrote ((m * 32 + i) ∷ bytesOf (k - 1) n) d (1 + (k - 1)) d′ → Did (headPlan m n) d (wv.Length k) d′
-unfolding shortest
-head-wrote m n k i d d′ h l e f w =
-    let g : 1 + (k - 1) ≡ k = omega arith in
-    let j : k - 1 ≡ extraOf n = omega arith in
-    let v : Wrote (shortest m n) d k d′ = rw (g, f, j) at w in
-    simp (le-ltb 7 m h) (did-emit (omega (arith, length-head m n)) v)
-
 -- a head of a major type that there is
 pub head-did : (m n : ℕ) (d : List ℕ) (r : Written) (d′ : List ℕ) → m ≤ 7 → Did (headPlan m n) d r d′ → Did (emit (shortest m n)) d r d′
 head-did m n d r d′ h w = simp (le-ltb 7 m h) at w
 
-pub number-wrote : (k v : ℕ) (d d′ : List ℕ) → d′ ≡ bytesOf k v ++ drop k d → Wrote (bytesOf k v) d k d′
-number-wrote k v d d′ e = record { many = sym (length-bytesOf k v); holds = rw (length-bytesOf k v) e }
-
 -- ---- byte strings
 pub length-string : (m : ℕ) (s : List ℕ) → length (shortest m (length s) ++ s) ≡ extraOf (length s) + 1 + length s
 length-string m s = length-append (shortest m (length s)) s ∙ rw (length-head m (length s))
-
-pub wrote-copy : (s d d′ : List ℕ) → d′ ≡ take (length s) s ++ drop (length s) d → Wrote s d (length s) d′
-wrote-copy s d d′ e = record { many = refl; holds = rw (take-length s) at e }
 
 -- a head of one byte
 pub short-head : (m n : ℕ) → n ≤ 23 → length (shortest m n) ≡ 1

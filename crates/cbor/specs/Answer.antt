@@ -1,6 +1,6 @@
 -- What the functions of this crate answer, each as a function of what Decode and Encode say of the bytes.
 -- n is the length of the slice: a place is where the bytes that are left begin, so it is n less their length.
-use Prim.Native.Nat.{ℕ, _-_}
+use Prim.Native.Nat.{ℕ, _-_, _^_}
 use mathlib.Core.Bool.{cond}
 use mathlib.Core.List.{List, _++_}
 use mathlib.Core.Path.{_≡_}
@@ -23,6 +23,10 @@ use Rattle.cbor.specs.declared.item.Opened.{Opened}
 use Rattle.cbor.specs.declared.item.Opened.the-variants as ov
 
 -- ---- reading
+-- how many bytes hold the argument that length information 0 to 27 announces
+abbrev pub announced : ℕ → ℕ
+announced info = cond (ltb info 24) 0 (2 ^ (info - 24))
+
 -- a head, and where the bytes go on after it
 abbrev pub headAnswer : ℕ → Outcome Heading → HeadRead
 headAnswer n (refused k) = hv.Refused k

@@ -3,39 +3,35 @@
 use refusal::Verdict;
 use text::hex::Hex;
 use text::hex::Payload;
+use text::output::Buffer;
 use text::output::Output;
 
-// What the item scan of the payload answers, in document 01's numbers.
-fn scanned(payload: &[u8]) -> u8 {
-    let verdict = cbor::scan(payload);
+// What the item scan of the payload answers, in document 01's numbers. What is no HEX prints 255, which no scan answers.
+fn scanned(hex: Hex, payload: &[u8]) -> u8 {
+    let Payload::Bytes(n) = hex.payload() else {
+        return 255;
+    };
+    let verdict = cbor_scan::scan(text::first(payload, n));
     match verdict {
         Verdict::Accepted => 0,
         Verdict::Refused(refusal) => refusal.number(),
     }
 }
 
-// One line's answer; a comment has none. A line that is no HEX prints 255, which no scan answers.
-fn answer(line: &[u8], out: Output, buffer: &mut [u8; 4096]) -> Output {
-    if line.len() == 0 {
-        return out;
-    }
-    if line[0] == b'#' {
+// One line's answer; a comment has none.
+fn answer(line: &[u8], out: Output, buffer: &mut Buffer) -> Output {
+    if line.len() == 0 || line[0] == b'#' {
         return out;
     }
     let end = bytes::scan::find(line, 0, line.len(), b' ');
     let mut payload = [0u8; 512];
     let hex = Hex::new().more(&line[0..end], &mut payload);
-    let mut number = 255;
-    if let Payload::Bytes(n) = hex.payload() {
-        if n < 512 {
-            number = scanned(&payload[0..n]);
-        }
-    }
-    out.number(number as u64, buffer).byte(b'\n', buffer)
+    let out = out.number(scanned(hex, &payload) as u64, buffer);
+    out.byte(b'\n', buffer)
 }
 
 // Every line of the text.
-fn answers(text: &[u8], buffer: &mut [u8; 4096]) {
+fn answers(text: &[u8], buffer: &mut Buffer) {
     let mut out = Output::new();
     let mut at = 0;
     while at < text.len() {
@@ -54,7 +50,7 @@ fn main() {
         return;
     }
     let mut text = io::large_buffer();
-    let mut buffer = io::buffer();
+    let mut buffer = io::large_buffer();
     let n = io::read_full(file, &mut text);
     libc::close(file);
     answers(&text[..n], &mut buffer);

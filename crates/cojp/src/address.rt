@@ -9,7 +9,7 @@ use refusal::Verdict;
 ghost use mathlib.Core.Path.{_≡_};
 ghost use Prim.Native.Nat.{_+_, _≤_};
 ghost use lib.ListN.{length, take, drop};
-ghost use Rattle.cojp.specs.Address.{noAddressParameter, addressBy, addressIn, addressConcluded, addressRead, addressAnswer};
+ghost use Rattle.cojp.specs.Address.{isAddress, noAddressParameter, addressBy, addressIn, addressConcluded, addressRead, addressAnswer};
 ghost use Rattle.cojp.specs.Bytes.{valueView, membersAt, stringAnd};
 ghost use Rattle.cojp.specs.Reading.{broken};
 
@@ -30,6 +30,13 @@ pub struct AddressParameter {
 pub struct AddressRead {
     pub verdict: Verdict,
     pub parameter: AddressParameter,
+}
+
+// Any two bytes are an address.
+pub fn is_address(bytes: [u8; 2]) -> bool
+    ensures { λ r. ⌜ r ≡ isAddress bytes ⌝ }
+{
+    true
 }
 
 // A parameter with no value.

@@ -1,6 +1,8 @@
 -- Configurations: a label's standing, its value, and the answer, case by case.
 use Prim.Native.Nat.{ℕ}
-use mathlib.Core.Path.{_≡_, _∙_}
+use mathlib.Core.Path.{_≡_, refl, sym, _∙_}
+use mathlib.Core.Bool.{Bool, true, false, cond, false≢true}
+use lib.Dec.{eqb}
 use borrow.Author.Tests.{ne-eqb}
 use Rattle.refusal.specs.declared.Refusal.{Refusal}
 use Rattle.refusal.specs.declared.Verdict.the-variants as verdict
@@ -13,8 +15,10 @@ use Rattle.cojp.specs.Reading.{Reading, put, said}
 use Rattle.cojp.specs.Walk.{standingOf}
 use Rattle.cojp.specs.declared.configuration.Configuration.{Configuration}
 use Rattle.cojp.specs.declared.configuration.ConfigurationRead.{ConfigurationRead}
+use Rattle.cojp.specs.declared.octets.OctetsParameter.{OctetsParameter}
 use Rattle.cojp.specs.declared.walk.Standing.{Standing}
 use Rattle.cojp.specs.declared.walk.Standing.the-variants.{Unknown}
+use Rattle.cojp_read.specs.Configurations.{withOctets}
 
 module _ (c : Configuration) (n : ℕ) where
   -- ---- a label's standing
@@ -53,18 +57,37 @@ module _ (c : Configuration) (n : ℕ) where
     unfolding configurationTaking
     taking-address h e = e ∙ rw h
 
-    pub taking-jrc : n ≡ 4 → r ≡ put (withJrc c) (octetsRead 16 v) → r ≡ configurationTaking c n v
+    pub taking-jrc : n ≡ 4 → r ≡ put (withOctets c 4) (octetsRead 16 v) → r ≡ configurationTaking c n v
     unfolding configurationTaking
     taking-jrc h e = e ∙ rw h
 
-    pub taking-network : n ≡ 5 → r ≡ put (withNetwork c) (octetsRead 0 v) → r ≡ configurationTaking c n v
+    pub taking-octets : ¬ (n ≡ 2) → ¬ (n ≡ 3) → ¬ (n ≡ 4) → r ≡ put (withOctets c n) (octetsRead 0 v) → r ≡ configurationTaking c n v
     unfolding configurationTaking
-    taking-network h e = e ∙ rw h
+    taking-octets h₂ h₃ h₄ e = e ∙ rw (ne-eqb n 2 h₂, ne-eqb n 3 h₃) (go (eqb n 4) (ne-eqb n 4 h₄) (eqb n 5) (octetsRead 0 v))
+      where
+        go : (a : Bool) → a ≡ false → (b : Bool) (x : Reading OctetsParameter)
+            → put (λ p. cond a (withJrc c p) (cond b (withNetwork c p) (withPrefix c p))) x
+            ≡ cond a (put (withJrc c) (octetsRead 16 v)) (cond b (put (withNetwork c) x) (put (withPrefix c) x))
+        go true h b x = absurd (false≢true (sym h))
+        go false h true x = refl
+        go false h false x = refl
 
-    pub taking-prefix : ¬ (n ≡ 2) → ¬ (n ≡ 3) → ¬ (n ≡ 4) → ¬ (n ≡ 5) → r ≡ put (withPrefix c) (octetsRead 0 v)
-        → r ≡ configurationTaking c n v
-    unfolding configurationTaking
-    taking-prefix h₂ h₃ h₄ h₅ e = e ∙ rw (ne-eqb n 2 h₂, ne-eqb n 3 h₃, ne-eqb n 4 h₄, ne-eqb n 5 h₅)
+  pub octets-jrc : (p : OctetsParameter) → n ≡ 4 → withJrc c p ≡ withOctets c n p
+  octets-jrc p h = rw h
+
+  pub octets-network : (p : OctetsParameter) → n ≡ 5 → withNetwork c p ≡ withOctets c n p
+  octets-network p h = rw h
+
+  pub octets-prefix : (p : OctetsParameter) → ¬ (n ≡ 4) → ¬ (n ≡ 5) → withPrefix c p ≡ withOctets c n p
+  octets-prefix p h k = rw (ne-eqb n 4 h, ne-eqb n 5 k)
+
+  pub octets-passed : (p : OctetsParameter) → withOctets c n p .passed ≡ c .passed
+  octets-passed p = go (eqb n 4) (eqb n 5)
+    where
+      go : (a b : Bool) → cond a (withJrc c p) (cond b (withNetwork c p) (withPrefix c p)) .passed ≡ c .passed
+      go true b = refl
+      go false true = refl
+      go false false = refl
 
 -- ---- the answer
 module _ (r : ConfigurationRead) where
@@ -75,3 +98,8 @@ module _ (r : ConfigurationRead) where
   pub answer-refused : (k : Refusal) → r .verdict ≡ verdict.Refused k → (c : Configuration) → c ≡ emptyConfiguration
       → _≡_ {A = ConfigurationRead} (record { verdict = r .verdict; configuration = c }) (configurationAnswer (said (r .verdict) (r .configuration)))
   answer-refused k h c e = rw (h, e)
+
+-- label 0 is unknown
+pub zero-unknown : (c : Configuration) → configurationStanding c 0 ≡ Unknown
+unfolding configurationStanding
+zero-unknown c = refl

@@ -1,4 +1,1 @@
-mod Parameters
-mod Maps
-mod Requests
 mod Configurations

@@ -1,28 +1,31 @@
 // Configurations, which join responses and parameter updates carry.
-use crate::walk::PAYLOAD_BYTES;
-use crate::walk::Pair;
-use crate::walk::pair_at;
-use crate::walk::standing_of;
-use cbor::Label;
-use cbor::Opened;
-use cbor::open_map;
 use cojp::Configuration;
 use cojp::ConfigurationRead;
+use cojp::OctetsParameter;
 use cojp::Standing;
 use cojp::empty_configuration;
 use cojp::read_address;
 use cojp::read_keys;
 use cojp::read_octets;
+use map_walk::Pair;
+use map_walk::Start;
+use map_walk::left_after;
+use map_walk::open_payload;
+use map_walk::pair_at;
+use map_walk::standing_of;
 use refusal::Refusal;
 use refusal::Verdict;
 ghost use mathlib.Core.Path.{_≡_};
 ghost use Prim.Native.Nat.{_+_, _^_, _<_};
 ghost use lib.ListN.{drop};
-ghost use Rattle.cojp_read.specs.Pairs.{walkAt, ConfigurationStep};
+ghost use Rattle.cojp_read.specs.Configurations.{Stepped, withOctets};
+ghost use Rattle.cojp.specs.Address.{addressRead};
 ghost use Rattle.cojp.specs.Bytes.{valueView};
-ghost use Rattle.cojp.specs.Configuration.{emptyConfiguration, configurationStanding, configurationTaking, configurationForm, configurationPassing, acceptConfiguration, refuseConfiguration, configurationAnswer, readConfiguration};
-ghost use Rattle.cojp.specs.Reading.{said};
-ghost use Rattle.cojp.specs.Walk.{pairRead};
+ghost use Rattle.cojp.specs.Configuration.{emptyConfiguration, withKeys, withAddress, configurationStanding, configurationTaking, configurationForm, configurationPassing, acceptConfiguration, refuseConfiguration, configurationAnswer, readConfiguration};
+ghost use Rattle.cojp.specs.KeySet.{keysRead};
+ghost use Rattle.cojp.specs.Octets.{octetsRead};
+ghost use Rattle.cojp.specs.Reading.{put, said};
+ghost use Rattle.map_walk.specs.Pairs.{walkAt, pairTaken};
 
 fn refused_configuration(why: Refusal) -> ConfigurationRead
     ensures { λ r. ⌜ r ≡ refuseConfiguration why ⌝ }
@@ -68,64 +71,77 @@ fn label_standing(c: Configuration, label: u64) -> Standing
     }
 }
 
-// Reads the value of a known label into its place. Beside a refusal the configuration says nothing.
-fn take_value(s: &[u8], at: usize, label: u64, c: Configuration) -> ConfigurationRead
-    ensures { λ r. ⌜ ConfigurationStep c r (configurationTaking c label (valueView (drop at (now (s .entry))))) ⌝ }
+// ---- The value of a known label is read into its place. Beside a refusal the configuration says nothing.
+
+fn take_keys(s: &[u8], at: usize, c: Configuration) -> ConfigurationRead
+    ensures { λ r. ⌜ Stepped c r (put (withKeys c) (keysRead (valueView (drop at (now (s .entry)))))) ⌝ }
 {
+    let r = read_keys(s, at);
+    let verdict = r.verdict;
+    let parameter = r.parameter;
     let mut d = c;
-    match label {
-        2 => {
-            let r = read_keys(s, at);
-            let verdict = r.verdict;
-            let parameter = r.parameter;
-            d.keys = parameter;
-            ConfigurationRead {
-                verdict: verdict,
-                configuration: d,
-            }
-        }
-        3 => {
-            let r = read_address(s, at);
-            let verdict = r.verdict;
-            let parameter = r.parameter;
-            d.address = parameter;
-            ConfigurationRead {
-                verdict: verdict,
-                configuration: d,
-            }
-        }
-        4 => {
-            let r = read_octets(s, at, 16);
-            let verdict = r.verdict;
-            let parameter = r.parameter;
-            d.jrc = parameter;
-            ConfigurationRead {
-                verdict: verdict,
-                configuration: d,
-            }
-        }
-        5 => {
-            let r = read_octets(s, at, 0);
-            let verdict = r.verdict;
-            let parameter = r.parameter;
-            d.network = parameter;
-            ConfigurationRead {
-                verdict: verdict,
-                configuration: d,
-            }
-        }
-        _ => {
-            let r = read_octets(s, at, 0);
-            let verdict = r.verdict;
-            let parameter = r.parameter;
-            d.prefix = parameter;
-            ConfigurationRead {
-                verdict: verdict,
-                configuration: d,
-            }
-        }
+    d.keys = parameter;
+    ConfigurationRead {
+        verdict: verdict,
+        configuration: d,
     }
 }
+
+fn take_address(s: &[u8], at: usize, c: Configuration) -> ConfigurationRead
+    ensures { λ r. ⌜ Stepped c r (put (withAddress c) (addressRead (valueView (drop at (now (s .entry)))))) ⌝ }
+{
+    let r = read_address(s, at);
+    let verdict = r.verdict;
+    let parameter = r.parameter;
+    let mut d = c;
+    d.address = parameter;
+    ConfigurationRead {
+        verdict: verdict,
+        configuration: d,
+    }
+}
+
+// The byte string of label 4, 5 or 6.
+fn with_octets(c: Configuration, label: u64, p: OctetsParameter) -> Configuration
+    ensures { λ r. ⌜ r ≡ withOctets c label p ⌝ }
+{
+    let mut d = c;
+    if label == 4 {
+        d.jrc = p;
+        return d;
+    }
+    if label == 5 {
+        d.network = p;
+        return d;
+    }
+    d.prefix = p;
+    d
+}
+
+fn take_octets(s: &[u8], at: usize, least: usize, label: u64, c: Configuration) -> ConfigurationRead
+    ensures { λ r. ⌜ Stepped c r (put (withOctets c label) (octetsRead least (valueView (drop at (now (s .entry)))))) ⌝ }
+{
+    let r = read_octets(s, at, least);
+    let verdict = r.verdict;
+    let d = with_octets(c, label, r.parameter);
+    ConfigurationRead {
+        verdict: verdict,
+        configuration: d,
+    }
+}
+
+fn take_value(s: &[u8], at: usize, label: u64, c: Configuration) -> ConfigurationRead
+    ensures { λ r. ⌜ Stepped c r (configurationTaking c label (valueView (drop at (now (s .entry))))) ⌝ }
+{
+    match label {
+        2 => take_keys(s, at, c),
+        3 => take_address(s, at, c),
+        4 => take_octets(s, at, 16, 4, c),
+        _ => take_octets(s, at, 0, label, c),
+    }
+}
+
+// ---- The pairs.
 
 // A label that is not known here.
 fn pass_over(c: Configuration) -> ConfigurationRead
@@ -141,21 +157,31 @@ fn pass_over(c: Configuration) -> ConfigurationRead
 }
 
 // One pair: label kind, repetition, then its value. Beside a refusal the configuration says nothing.
-fn take_pair(s: &[u8], label: Label, value: usize, c: Configuration) -> ConfigurationRead
+fn take_pair(s: &[u8], pair: Pair, c: Configuration) -> ConfigurationRead
     requires { ⌜ c .passed + 1 < 2 ^ 64 ⌝ }
-    ensures { λ r. ⌜ ConfigurationStep c r (pairRead configurationForm c label (valueView (drop value (now (s .entry))))) ⌝ }
+    ensures { λ r. ⌜ Stepped c r (pairTaken configurationForm c (pair .verdict) (pair .label) (valueView (drop (pair .value) (now (s .entry))))) ⌝ }
 {
-    match label {
-        Label::NoInteger => refused_configuration(Refusal::Type),
-        Label::Negative => pass_over(c),
-        Label::Number(n) => {
-            let standing = label_standing(c, n);
+    let verdict = pair.verdict;
+    match verdict {
+        Verdict::Refused(k) => refused_configuration(k),
+        Verdict::Accepted => {
+            let standing = label_standing(c, pair.label);
             match standing {
                 Standing::Unknown => pass_over(c),
-                Standing::Fresh => take_value(s, value, n, c),
+                Standing::Fresh => take_value(s, pair.value, pair.label, c),
                 Standing::Again => refused_configuration(Refusal::Twice),
             }
         }
+    }
+}
+
+fn nothing_read() -> ConfigurationRead
+    ensures { λ r. ⌜ r ≡ acceptConfiguration emptyConfiguration ⌝ }
+{
+    let none = empty_configuration();
+    ConfigurationRead {
+        verdict: Verdict::Accepted,
+        configuration: none,
     }
 }
 
@@ -165,30 +191,15 @@ fn take_pairs(s: &[u8], start: usize, count: u64) -> ConfigurationRead
 {
     let mut at = start;
     let mut left = count;
-    let mut c = empty_configuration();
+    let mut read = nothing_read();
     while 0 < left {
         let pair = pair_at(s, at);
-        match pair {
-            Pair::Refused(k) => return refused_configuration(k),
-            Pair::Found { label, value, next } => {
-                let r = take_pair(s, label, value, c);
-                let verdict = r.verdict;
-                match verdict {
-                    Verdict::Refused(_) => return r,
-                    Verdict::Accepted => {
-                        let d = r.configuration;
-                        c = d;
-                        at = next;
-                        left -= 1;
-                    }
-                }
-            }
-        }
+        read = take_pair(s, pair, read.configuration);
+        let verdict = read.verdict;
+        at = pair.next;
+        left = left_after(verdict, left);
     }
-    ConfigurationRead {
-        verdict: Verdict::Accepted,
-        configuration: c,
-    }
+    read
 }
 
 // The answer: the configuration, or the refusal beside the empty one, whatever was read before it.
@@ -214,14 +225,10 @@ fn answered(r: ConfigurationRead) -> ConfigurationRead
 pub fn read_configuration(payload: &[u8]) -> ConfigurationRead
     ensures { λ r. ⌜ r ≡ readConfiguration (now (payload .entry)) ⌝ }
 {
-    if PAYLOAD_BYTES < payload.len() {
-        return refused_configuration(Refusal::Long);
-    }
-    let opened = open_map(payload);
+    let opened = open_payload(payload);
     match opened {
-        Opened::Refused(k) => refused_configuration(k),
-        Opened::NoMap => refused_configuration(Refusal::Type),
-        Opened::Map { count, start } => {
+        Start::Refused(k) => refused_configuration(k),
+        Start::Pairs { count, start } => {
             let r = take_pairs(payload, start, count);
             answered(r)
         }

@@ -1,36 +1,26 @@
 -- A taken short address is one pair: its label and an array of its bytes and perhaps a lease.
-use Prim.Native.Nat.{ℕ, suc, _+_, _-_, _≤_}
+use Prim.Native.Nat.{ℕ, _+_, _-_, _≤_}
 use mathlib.Core.Path.{_≡_, refl, ap, sym, _∙_}
 use mathlib.Core.Bool.{Bool, true, false}
 use mathlib.Core.List.{List, _++_, append-assoc}
 use native.Mathlib.Omega.{arith}
-use borrow.Author.Tests.{eq-eqb}
 use lib.ListN.{length, take, drop, length-append}
 use Rattle.cbor.specs.Answer.{Wrote}
 use Rattle.cbor.specs.Encode.{shortest, encode, encodes, encodePairs}
-use Rattle.cbor.specs.Item.{Items, Pairs, bytes, array, more, empty, count}
+use Rattle.cbor.specs.Item.{bytes, array, empty, count}
 use Rattle.cbor.proofs.Writing.{seam, short-head}
-use Rattle.cojp.specs.Address.{isAddress}
 use Rattle.cojp.specs.Reading.{ifTaken}
-use Rattle.cojp.specs.Writing.{labelled, leaseItems, addressPairs, addressInRange}
+use Rattle.cojp.specs.Writing.{labelled, leaseItems, addressPairs}
 use Rattle.cojp.specs.declared.address.AddressParameter.{AddressParameter}
 use Rattle.cojp.specs.declared.address.ShortAddress.{ShortAddress}
 use Rattle.cojp.specs.declared.report.Report.{Report}
-use Rattle.cojp.specs.declared.report.Report.the-variants.{Absent, Taken, Discarded}
+use Rattle.cojp.specs.declared.report.Report.the-variants.{Taken}
 use Rattle.cojp_write.specs.Room.{addressItems, addressLength}
 use Rattle.cojp_write.specs.Size.{ItemsSize, PairsSize}
 use Rattle.cojp_write.specs.declared.size.Size.{Size}
-use Rattle.cojp_write.proofs.Joined.{array-bytes, array-length}
+use Rattle.cojp_write.proofs.Joined.{array-bytes}
 use Rattle.cojp_write.proofs.Limits.{string-length}
-use Rattle.cojp_write.proofs.Taken.{taken-is}
-
-if-address : (r : Report) (s : List ℕ) → length s ≡ 2 → true ≡ ifTaken r (isAddress s) true
-if-address Absent s h = refl
-if-address Taken s h = sym (eq-eqb (length s) 2 h)
-if-address Discarded s h = refl
-
-pub address-good : (p : AddressParameter) → length (p .value .bytes) ≡ 2 → true ≡ addressInRange p
-address-good p h = if-address (p .report) (p .value .bytes) h
+use Rattle.cojp_range.proofs.Taken.{taken-is}
 
 -- ---- its members: the bytes, and perhaps a lease
 module _ (a : ShortAddress) (m : ℕ) (e : m ≡ count (addressItems a)) where

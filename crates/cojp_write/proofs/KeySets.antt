@@ -24,7 +24,7 @@ use Rattle.cojp_write.specs.declared.size.Size.{Size}
 use Rattle.cojp_write.proofs.Joined.{chain-bytes, chain-count, chain-length, chain-assoc, chain-none, array-bytes, array-length}
 use Rattle.cojp_write.proofs.Limits.{string-length, fine-keys}
 use Rattle.cojp_write.proofs.Sizes.{sizes-chain}
-use Rattle.cojp_write.proofs.Taken.{taken-is}
+use Rattle.cojp_range.proofs.Taken.{taken-is}
 
 -- ---- one group
 usage-items : (u : ℕ) → usageItems u ≡ usedItems u

@@ -1,4 +1,3 @@
-mod Taken
 pub mod Joined
 mod Sizes
 pub mod Limits

@@ -12,7 +12,7 @@ use Rattle.cbor.specs.Item.{Item, Items, Pairs, unsigned, bytes, array, none, m
 use Rattle.cbor.proofs.Writing.{length-head, short-head, byte-head, extra-most, length-string}
 use Rattle.keys.specs.Key.{inLimits}
 use Rattle.keys.specs.KeySet.{keysOf, allowedSet}
-use Rattle.keys.specs.Usage.{listed}
+use Rattle.usage.specs.Usage.{listed}
 use Rattle.keys.specs.declared.key.Key.{Key}
 use Rattle.keys.proofs.Lists.{both-left, both-right}
 use Rattle.keys.proofs.KeySets.{set-allowed, allowed-few, allowed-in-limits}

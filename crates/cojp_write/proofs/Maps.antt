@@ -1,7 +1,7 @@
 -- An object is a map whose head takes one byte: ROOM, and what is written where there is room.
 use Prim.Native.Nat.{ℕ, _+_, _≤_, _<_}
-use mathlib.Core.Path.{_≡_, refl, ap, sym, _∙_}
-use mathlib.Core.List.{List, _++_}
+use mathlib.Core.Path.{_≡_, _∙_}
+use mathlib.Core.List.{List, _++_, append-assoc}
 use native.Mathlib.Omega.{arith}
 use lib.ListN.{length, length-append}
 use Rattle.refusal.specs.declared.Refusal.the-variants.{Room}
@@ -12,10 +12,11 @@ use Rattle.cbor.specs.declared.write.Written.the-variants as written
 use Rattle.cbor.proofs.Writing.{short-head, did-room, did-emit}
 use Rattle.cojp.specs.Writing.{join, keysPairs, addressPairs, octetsPairs, configurationPairs}
 use Rattle.cojp.specs.declared.configuration.Configuration.{Configuration}
-use Rattle.cojp_write.specs.Room.{configurationLength}
+use Rattle.cojp.specs.declared.octets.OctetsParameter.{OctetsParameter}
+use Rattle.cojp_write.specs.Room.{configurationLength, stringsBytes, stringsLength}
 use Rattle.cojp_write.specs.Size.{PairsSize}
 use Rattle.cojp_write.specs.declared.size.Size.{Size}
-use Rattle.cojp_write.proofs.Joined.{join-length}
+use Rattle.cojp_write.proofs.Joined.{join-bytes, join-length}
 
 pub map-length : (ps : Pairs) → countPairs ps ≤ 23 → length (encode (map ps)) ≡ 1 + length (encodePairs ps)
 map-length ps h = length-append (shortest 5 (countPairs ps)) (encodePairs ps) ∙ rw (short-head 5 (countPairs ps) h)
@@ -42,6 +43,10 @@ map-fitting ps m d e h = rw (← e) (omega (arith, length-append (shortest 5 m) 
 pub map-head : (n : ℕ) {m k : ℕ} {d d′ : List ℕ} → m ≡ n → Wrote (shortest 5 m) d k d′ → Wrote (shortest 5 n) d k d′
 map-head n e w = rw e at w
 
+-- ---- the configuration: its byte strings are written together
+pub strings-length : (jrc network prefix : OctetsParameter) → length (stringsBytes jrc network prefix) ≡ stringsLength jrc network prefix
+strings-length jrc network prefix = simp length-append (omega arith)
+
 -- the room that a configuration's parameters take
 pub configuration-length : (c : Configuration) (m : ℕ) → length (shortest 5 m) + length (encodePairs (configurationPairs c)) ≡ configurationLength c m
 configuration-length c m =
@@ -55,3 +60,14 @@ configuration-length c m =
       join-length kaj (octetsPairs 5 (c .network)),
       join-length kajn (octetsPairs 6 (c .prefix)),
     )
+
+module _ (c : Configuration) (m : ℕ) (e : m ≡ countPairs (configurationPairs c)) where
+  configuration-bytes :
+      encode (map (configurationPairs c))
+      ≡ ((shortest 5 m ++ encodePairs (keysPairs (c .keys))) ++ encodePairs (addressPairs (c .address))) ++ stringsBytes (c .jrc) (c .network) (c .prefix)
+  configuration-bytes = rw (← e) (simp (join-bytes, append-assoc))
+
+  pub configuration-wrote : {d d′ : List ℕ} {n : ℕ}
+      → Wrote (((shortest 5 m ++ encodePairs (keysPairs (c .keys))) ++ encodePairs (addressPairs (c .address))) ++ stringsBytes (c .jrc) (c .network) (c .prefix)) d n d′
+      → Wrote (encode (map (configurationPairs c))) d n d′
+  configuration-wrote w = rw configuration-bytes w

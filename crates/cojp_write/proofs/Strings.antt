@@ -16,7 +16,7 @@ use Rattle.cojp.specs.declared.octets.OctetsParameter.{OctetsParameter}
 use Rattle.cojp_write.specs.Size.{PairsSize}
 use Rattle.cojp_write.proofs.Joined.{labelled-length}
 use Rattle.cojp_write.proofs.Limits.{string-length}
-use Rattle.cojp_write.proofs.Taken.{taken-is, taken-good}
+use Rattle.cojp_range.proofs.Taken.{taken-is, taken-good}
 
 module _ (p : OctetsParameter) (t : Bool) (e : t ≡ ifTaken (p .report) true false) (h : t ≡ true) where
   pub octets-taken : (n : ℕ) → octetsPairs n p ≡ labelled n (bytes (bytesIn (p .value)))

@@ -9,6 +9,7 @@ use Rattle.cbor.specs.Item.{Items, Pairs, bytes, more}
 use Rattle.cojp.specs.Writing.{leaseItems, groupsItems, rolePairs, keysPairs, addressPairs, octetsPairs}
 use Rattle.cojp.specs.declared.address.ShortAddress.{ShortAddress}
 use Rattle.cojp.specs.declared.configuration.Configuration.{Configuration}
+use Rattle.cojp.specs.declared.octets.OctetsParameter.{OctetsParameter}
 use Rattle.cojp.specs.declared.request.JoinRequest.{JoinRequest}
 use Rattle.keys.specs.declared.key.Key.{Key}
 
@@ -42,9 +43,15 @@ abbrev pub requestLength : JoinRequest → ℕ → ℕ
 requestLength q members =
     length (shortest 5 members) + (pairsLength (rolePairs (q .role)) + pairsLength (octetsPairs 5 (q .network)))
 
+-- the byte strings of a configuration
+abbrev pub stringsBytes : OctetsParameter → OctetsParameter → OctetsParameter → List ℕ
+stringsBytes jrc network prefix = (encodePairs (octetsPairs 4 jrc) ++ encodePairs (octetsPairs 5 network)) ++ encodePairs (octetsPairs 6 prefix)
+
+abbrev pub stringsLength : OctetsParameter → OctetsParameter → OctetsParameter → ℕ
+stringsLength jrc network prefix =
+    pairsLength (octetsPairs 4 jrc) + (pairsLength (octetsPairs 5 network) + pairsLength (octetsPairs 6 prefix))
+
 abbrev pub configurationLength : Configuration → ℕ → ℕ
 configurationLength c members =
     length (shortest 5 members)
-    + (pairsLength (keysPairs (c .keys))
-    + (pairsLength (addressPairs (c .address))
-    + (pairsLength (octetsPairs 4 (c .jrc)) + (pairsLength (octetsPairs 5 (c .network)) + pairsLength (octetsPairs 6 (c .prefix))))))
+    + (pairsLength (keysPairs (c .keys)) + (pairsLength (addressPairs (c .address)) + stringsLength (c .jrc) (c .network) (c .prefix)))

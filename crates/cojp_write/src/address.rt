@@ -2,28 +2,21 @@
 use crate::item::put_array;
 use crate::item::put_bytes;
 use crate::item::put_optional;
-use crate::report::is_taken;
 use crate::size::Size;
 use crate::size::no_size;
 use crate::size::optional_size;
 use cojp::AddressParameter;
 use cojp::ShortAddress;
+use cojp_range::is_taken;
 ghost use mathlib.Core.Path.{_≡_};
 ghost use Prim.Native.Nat.{_+_, _≤_};
 ghost use lib.ListN.{length};
 ghost use Rattle.cbor.specs.Answer.{Wrote};
 ghost use Rattle.cbor.specs.Encode.{encodePairs};
 ghost use Rattle.cbor.specs.Item.{array, count};
-ghost use Rattle.cojp.specs.Writing.{labelled, addressInRange, addressPairs};
+ghost use Rattle.cojp.specs.Writing.{labelled, addressPairs};
 ghost use Rattle.cojp_write.specs.Size.{PairsSize};
 ghost use Rattle.cojp_write.specs.Room.{addressItems, addressLength};
-
-// Any two bytes are an address.
-pub(crate) fn address_in_range(p: AddressParameter) -> bool
-    ensures { λ r. ⌜ r ≡ addressInRange p ⌝ }
-{
-    true
-}
 
 pub(crate) fn address_size(p: AddressParameter) -> Size
     ensures { λ r. ⌜ PairsSize (addressPairs p) 1 14 r ⌝ }

@@ -1,18 +1,16 @@
 // Configurations.
-use crate::address::address_in_range;
 use crate::address::address_size;
 use crate::address::put_address;
 use crate::item::put_head;
-use crate::key_set::keys_in_range;
 use crate::key_set::keys_size;
 use crate::key_set::put_keys;
-use crate::octets::jrc_in_range;
-use crate::octets::octets_in_range;
 use crate::octets::octets_size;
 use crate::octets::put_octets;
 use crate::size::Size;
 use cbor::Written;
 use cojp::Configuration;
+use cojp::OctetsParameter;
+use cojp_range::configuration_in_range;
 use refusal::Refusal;
 ghost use mathlib.Core.Bool.{true};
 ghost use mathlib.Core.Path.{_≡_};
@@ -21,27 +19,9 @@ ghost use lib.ListN.{length};
 ghost use Rattle.cbor.specs.Answer.{Did, Wrote, emit};
 ghost use Rattle.cbor.specs.Encode.{encode};
 ghost use Rattle.cbor.specs.Item.{map, countPairs};
-ghost use Rattle.cojp.specs.Writing.{configurationPairs, configurationInRange, configurationPlan};
-ghost use Rattle.cojp_write.specs.Room.{configurationLength};
+ghost use Rattle.cojp.specs.Writing.{octetsInRange, configurationPairs, configurationInRange, configurationPlan};
+ghost use Rattle.cojp_write.specs.Room.{configurationLength, stringsLength, stringsBytes};
 ghost use Rattle.cojp_write.specs.Size.{PairsSize};
-
-fn configuration_in_range(c: Configuration) -> bool
-    ensures { λ r. ⌜ r ≡ configurationInRange c ⌝ }
-{
-    if !keys_in_range(c.keys) {
-        return false;
-    }
-    if !address_in_range(c.address) {
-        return false;
-    }
-    if !jrc_in_range(c.jrc) {
-        return false;
-    }
-    if !octets_in_range(c.network) {
-        return false;
-    }
-    octets_in_range(c.prefix)
-}
 
 fn configuration_size(c: Configuration) -> Size
     requires { ⌜ configurationInRange c ≡ true ⌝ }
@@ -54,6 +34,21 @@ fn configuration_size(c: Configuration) -> Size
     size.plus(octets_size(6, c.prefix))
 }
 
+// The byte strings: JRC address, network identifier, prefix.
+fn put_strings(
+    dst: &mut [u8],
+    jrc: OctetsParameter,
+    network: OctetsParameter,
+    prefix: OctetsParameter,
+) -> usize
+    requires { ⌜ (octetsInRange jrc ≡ true) × (octetsInRange network ≡ true) × (octetsInRange prefix ≡ true) × (stringsLength jrc network prefix ≤ length (now dst)) ⌝ }
+    ensures { λ r. ⌜ Wrote (stringsBytes jrc network prefix) (now (dst .entry)) r (now (dst .exit)) ⌝ }
+{
+    let n1 = put_octets(dst, 4, jrc);
+    let n2 = n1 + put_octets(&mut dst[n1..], 5, network);
+    n2 + put_octets(&mut dst[n2..], 6, prefix)
+}
+
 // The map, with `members` pairs: each parameter in the part after those before it.
 fn put_configuration(dst: &mut [u8], c: Configuration, members: u64) -> usize
     requires { ⌜ (configurationInRange c ≡ true) × (members ≡ countPairs (configurationPairs c)) × (configurationLength c members ≤ length (now dst)) ⌝ }
@@ -62,9 +57,7 @@ fn put_configuration(dst: &mut [u8], c: Configuration, members: u64) -> usize
     let n1 = put_head(dst, 5, members);
     let n2 = n1 + put_keys(&mut dst[n1..], c.keys);
     let n3 = n2 + put_address(&mut dst[n2..], c.address);
-    let n4 = n3 + put_octets(&mut dst[n3..], 4, c.jrc);
-    let n5 = n4 + put_octets(&mut dst[n4..], 5, c.network);
-    n5 + put_octets(&mut dst[n5..], 6, c.prefix)
+    n3 + put_strings(&mut dst[n3..], c.jrc, c.network, c.prefix)
 }
 
 // What is in range, where there is room for it.

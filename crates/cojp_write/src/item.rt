@@ -1,7 +1,7 @@
 // Heads and byte strings where there is room for them.
 use cbor::Written;
-use cbor::write_bytes;
-use cbor::write_head;
+use cbor_write::write_bytes;
+use cbor_write::write_head;
 ghost use mathlib.Core.List.{_++_};
 ghost use Prim.Native.Nat.{_+_, _≤_};
 ghost use lib.ListN.{length};

@@ -3,12 +3,12 @@ use crate::item::put_array;
 use crate::item::put_bytes;
 use crate::item::put_head;
 use crate::item::put_optional;
-use crate::report::is_taken;
 use crate::size::Size;
 use crate::size::no_size;
 use crate::size::optional_size;
-use cbor::head_len;
+use cbor_write::head_len;
 use cojp::KeysParameter;
+use cojp_range::is_taken;
 use keys::Key;
 use keys::KeySet;
 ghost use mathlib.Core.Bool.{true};
@@ -22,16 +22,6 @@ ghost use Rattle.cojp.specs.Writing.{labelled, keysInRange, keysPairs, groupIte
 ghost use Rattle.keys.specs.KeySet.{keysOf};
 ghost use Rattle.cojp_write.specs.Size.{ItemsSize, PairsSize};
 ghost use Rattle.cojp_write.specs.Room.{keyLength, setLength};
-
-pub(crate) fn keys_in_range(p: KeysParameter) -> bool
-    ensures { λ r. ⌜ r ≡ keysInRange p ⌝ }
-{
-    let report = p.report;
-    if is_taken(report) {
-        return p.value.allowed();
-    }
-    true
-}
 
 // A group: identifier, usage unless it is 0, value.
 fn key_size(k: Key) -> Size

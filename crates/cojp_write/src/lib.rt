@@ -4,7 +4,6 @@ mod configuration;
 mod item;
 mod key_set;
 mod octets;
-mod report;
 mod request;
 mod size;
 

@@ -1,39 +1,17 @@
 // Parameters that are byte strings: the network identifier, the prefix, the JRC address.
 use crate::item::put_string;
-use crate::report::is_taken;
 use crate::size::Size;
 use crate::size::no_size;
 use cojp::OctetsParameter;
+use cojp_range::is_taken;
 ghost use mathlib.Core.Bool.{true};
 ghost use mathlib.Core.Path.{_≡_};
 ghost use Prim.Native.Nat.{_≤_};
 ghost use lib.ListN.{length};
 ghost use Rattle.cbor.specs.Answer.{Wrote};
 ghost use Rattle.cbor.specs.Encode.{encodePairs};
-ghost use Rattle.cojp.specs.Writing.{octetsInRange, jrcInRange, octetsPairs};
+ghost use Rattle.cojp.specs.Writing.{octetsInRange, octetsPairs};
 ghost use Rattle.cojp_write.specs.Size.{PairsSize};
-
-// An identifier or a prefix has at most 16 bytes.
-pub(crate) fn octets_in_range(p: OctetsParameter) -> bool
-    ensures { λ r. ⌜ r ≡ octetsInRange p ⌝ }
-{
-    let report = p.report;
-    if is_taken(report) {
-        return p.value.len <= 16;
-    }
-    true
-}
-
-// A JRC address has 16 bytes.
-pub(crate) fn jrc_in_range(p: OctetsParameter) -> bool
-    ensures { λ r. ⌜ r ≡ jrcInRange p ⌝ }
-{
-    let report = p.report;
-    if is_taken(report) {
-        return p.value.len == 16;
-    }
-    true
-}
 
 pub(crate) fn octets_size(label: u64, p: OctetsParameter) -> Size
     requires { ⌜ (label ≤ 23) × (octetsInRange p ≡ true) ⌝ }

@@ -1,15 +1,14 @@
 // Join requests.
 use crate::item::put_head;
 use crate::item::put_number;
-use crate::octets::octets_in_range;
 use crate::octets::octets_size;
 use crate::octets::put_octets;
-use crate::report::is_taken;
 use crate::size::Size;
 use crate::size::no_size;
 use cbor::Written;
 use cojp::JoinRequest;
-use cojp::Report;
+use cojp::is_owing;
+use cojp_range::request_in_range;
 use refusal::Refusal;
 ghost use mathlib.Core.Bool.{true};
 ghost use mathlib.Core.Path.{_≡_};
@@ -18,29 +17,9 @@ ghost use lib.ListN.{length};
 ghost use Rattle.cbor.specs.Answer.{Did, Wrote, emit};
 ghost use Rattle.cbor.specs.Encode.{encode, encodePairs};
 ghost use Rattle.cbor.specs.Item.{map, countPairs};
-ghost use Rattle.cojp.specs.Request.{owing};
 ghost use Rattle.cojp.specs.Writing.{rolePairs, requestPairs, requestInRange, requestPlan};
 ghost use Rattle.cojp_write.specs.Room.{requestLength};
 ghost use Rattle.cojp_write.specs.Size.{PairsSize};
-
-fn request_in_range(q: JoinRequest) -> bool
-    ensures { λ r. ⌜ r ≡ requestInRange q ⌝ }
-{
-    if 1 < q.role {
-        return false;
-    }
-    octets_in_range(q.network)
-}
-
-// An ordinary node's request without a network identifier.
-fn is_owing(role: u8, report: Report) -> bool
-    ensures { λ r. ⌜ r ≡ owing role report ⌝ }
-{
-    if is_taken(report) {
-        return false;
-    }
-    role == 0
-}
 
 // Role 0 is omitted.
 fn role_size(role: u8) -> Size
@@ -60,10 +39,10 @@ fn put_role(dst: &mut [u8], role: u8) -> usize
     requires { ⌜ length (encodePairs (rolePairs role)) ≤ length (now dst) ⌝ }
     ensures { λ r. ⌜ Wrote (encodePairs (rolePairs role)) (now (dst .entry)) r (now (dst .exit)) ⌝ }
 {
-    if role == 0 {
-        return 0;
+    if role != 0 {
+        return put_number(dst, 1, role as u64);
     }
-    put_number(dst, 1, role as u64)
+    0
 }
 
 // The map, with `members` pairs.
@@ -93,11 +72,11 @@ fn emit_request(dst: &mut [u8], q: JoinRequest) -> Written
 pub fn write_request(dst: &mut [u8], q: JoinRequest) -> Written
     ensures { λ r. ⌜ Did (requestPlan q) (now (dst .entry)) r (now (dst .exit)) ⌝ }
 {
-    let network = q.network;
-    let report = network.report;
     if !request_in_range(q) {
         return Written::Refused(Refusal::Range);
     }
+    let network = q.network;
+    let report = network.report;
     if is_owing(q.role, report) {
         return Written::Refused(Refusal::Owed);
     }

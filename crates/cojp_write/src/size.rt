@@ -1,5 +1,5 @@
 // How much there is to write, before any of it is written.
-use cbor::head_len;
+use cbor_write::head_len;
 ghost use mathlib.Core.List.{[]};
 ghost use Prim.Native.Nat.{_+_, _≤_};
 ghost use Rattle.cojp.specs.Writing.{leaseItems};

@@ -5,6 +5,7 @@ use cojp::AddressParameter;
 use cojp::Configuration;
 use cojp::KeysParameter;
 use cojp::Report;
+use cojp::ShortAddress;
 use refusal::Verdict;
 use text::output::Buffer;
 use text::output::Output;
@@ -19,16 +20,11 @@ pub fn answer(payload: &[u8], out: Output, buffer: &mut Buffer) -> Output {
 }
 
 fn put_configuration(out: Output, configuration: Configuration, buffer: &mut Buffer) -> Output {
-    let keys = configuration.keys;
-    let address = configuration.address;
-    let jrc = configuration.jrc;
-    let network = configuration.network;
-    let prefix = configuration.prefix;
-    let out = put_keys(out, keys, buffer);
-    let out = put_address(out, address, buffer);
-    let out = put_octets(out, b" jrc=", jrc, buffer);
-    let out = put_octets(out, b" network=", network, buffer);
-    let out = put_octets(out, b" prefix=", prefix, buffer);
+    let out = put_keys(out, configuration.keys, buffer);
+    let out = put_address(out, configuration.address, buffer);
+    let out = put_octets(out, b" jrc=", configuration.jrc, buffer);
+    let out = put_octets(out, b" network=", configuration.network, buffer);
+    let out = put_octets(out, b" prefix=", configuration.prefix, buffer);
     let out = out.text(b" passed=", buffer);
     out.number(configuration.passed, buffer)
 }
@@ -46,18 +42,21 @@ fn put_keys(out: Output, keys: KeysParameter, buffer: &mut Buffer) -> Output {
 // The short address and its lease, which is absent or discarded as the address is.
 fn put_address(out: Output, address: AddressParameter, buffer: &mut Buffer) -> Output {
     let report = address.report;
-    let value = address.value;
-    let bytes = value.bytes;
     let out = out.text(b" address=", buffer);
-    let Report::Taken = report else {
-        let out = put_report(out, report, buffer);
-        let out = out.text(b" lease=", buffer);
-        return put_report(out, report, buffer);
-    };
+    if let Report::Taken = report {
+        return put_leased(out, address.value, buffer);
+    }
+    let out = put_report(out, report, buffer);
+    let out = out.text(b" lease=", buffer);
+    put_report(out, report, buffer)
+}
+
+fn put_leased(out: Output, address: ShortAddress, buffer: &mut Buffer) -> Output {
+    let bytes = address.bytes;
     let out = out.octets(&bytes, buffer);
     let out = out.text(b" lease=", buffer);
-    if value.leased {
-        return out.number(value.lease, buffer);
+    if address.leased {
+        return out.number(address.lease, buffer);
     }
     out.text(b"none", buffer)
 }

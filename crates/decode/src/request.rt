@@ -6,7 +6,7 @@ use text::output::Buffer;
 use text::output::Output;
 
 pub fn answer(payload: &[u8], out: Output, buffer: &mut Buffer) -> Output {
-    let read = cojp_read::read_request(payload);
+    let read = request_read::read_request(payload);
     let verdict = read.verdict;
     match verdict {
         Verdict::Accepted => put_request(out, read.request, buffer),
@@ -15,10 +15,9 @@ pub fn answer(payload: &[u8], out: Output, buffer: &mut Buffer) -> Output {
 }
 
 fn put_request(out: Output, request: JoinRequest, buffer: &mut Buffer) -> Output {
-    let network = request.network;
     let out = out.text(b"accepted role=", buffer);
     let out = out.number(request.role as u64, buffer);
-    let out = put_octets(out, b" network=", network, buffer);
+    let out = put_octets(out, b" network=", request.network, buffer);
     let out = out.text(b" passed=", buffer);
     out.number(request.passed, buffer)
 }

@@ -1,13 +1,14 @@
 -- Laws of key sets: what the tests say of the keys in them, and what the searches find.
 use Prim.Native.Nat.{ℕ, _≤_, _<_}
+use native.Mathlib.Omega.{arith}
 use mathlib.Core.Path.{_≡_, refl, sym}
-use mathlib.Core.Bool.{Bool, true, false, not, _&&_, _||_, and-false}
+use mathlib.Core.Bool.{Bool, true, false, cond, not, _&&_, _||_, and-false}
 use mathlib.Core.List.{List, [], _∷_, _++_, List·Memᴰ, List·Memᴰ·head, List·Memᴰ·tail}
-use mathlib.Core.Option.{none, some}
+use mathlib.Core.Option.{Option, none, some}
 use borrow.Author.Tests.{leb-true, eqb-true, eqb-false, eq-eqb, ne-eqb, le-leb, lt-leb, not-true}
 use lib.Dec.{leb, eqb}
-use lib.ListN.{length}
-use Rattle.keys.specs.Key.{inLimits, sameKey, covers}
+use lib.ListN.{length, length-take}
+use Rattle.keys.specs.Key.{inLimits, sameKey, covers, foundKey}
 use Rattle.keys.specs.KeySet.{keysOf, noKeys, named, has, allowed, allowedSet, allInLimits, noneTwice, sameKeys, shares, Apart}
 use Rattle.keys.specs.KeySet.{Covers, firstCover, findKey}
 use Rattle.keys.specs.declared.key.Key.{Key}
@@ -91,6 +92,16 @@ find-found identifier ks k e =
 pub find-none : (identifier : ℕ) (ks : List Key) → findKey identifier ks ≡ none → has identifier ks ≡ false
 find-none identifier ks e = first-none (named identifier) ks e
 
+-- a key is found where one has the identifier
+found-step : (b c : Bool) (k : Key) (o : Option Key) → foundKey o .found ≡ c → foundKey (cond b (some k) o) .found ≡ (b || c)
+found-step true c k o e = refl
+found-step false c k o e = e
+
+pub found-has : (identifier : ℕ) (ks : List Key) → foundKey (findKey identifier ks) .found ≡ has identifier ks
+found-has identifier [] = refl
+found-has identifier (k ∷ ks) =
+    found-step (named identifier k) (has identifier ks) k (findKey identifier ks) (found-has identifier ks)
+
 pub none-find : (identifier : ℕ) (ks : List Key) → has identifier ks ≡ false → findKey identifier ks ≡ none
 none-find identifier ks e = none-first (named identifier) ks e
 
@@ -110,6 +121,13 @@ one-of-a-name ks k l e m n p =
     cc
 
 -- ---- limits
+-- every key is in its limits, and no identifier comes twice
+abbrev pub keysAllowed : List Key → Bool
+keysAllowed ks = (allInLimits ks && noneTwice ks)
+
+pub not-twice : (k : Key) (ks : List Key) → has (k .identifier) ks ≡ true → keysAllowed (k ∷ ks) ≡ false
+not-twice k ks h = rw h (and-false (inLimits k && allInLimits ks))
+
 module _ (ks : List Key) (ok : allowed ks ≡ true) where
   pub allowed-none-twice : noneTwice ks ≡ true
   unfolding allowed
@@ -145,11 +163,13 @@ pub set-over : (set : KeySet) → 8 < set .count → allowedSet set ≡ false
 unfolding allowedSet
 set-over set h = rw (lt-leb (set .count) 8 h)
 
-module _ (set : KeySet) (few : set .count ≤ 8) where
-  pub set-empty : length (keysOf set) ≡ 0 → allowedSet set ≡ false
-  unfolding allowedSet allowed
-  set-empty e = rw (le-leb (set .count) 8 few, e)
+pub set-none : (set : KeySet) → set .count ≡ 0 → allowedSet set ≡ false
+unfolding allowedSet allowed
+set-none set e = rw e
 
-  pub set-limits : 1 ≤ length (keysOf set) → length (keysOf set) ≤ 8 → allowedSet set ≡ (allInLimits (keysOf set) && noneTwice (keysOf set))
-  unfolding allowedSet allowed
-  set-limits h k = rw (le-leb (set .count) 8 few, le-leb 1 (length (keysOf set)) h, le-leb (length (keysOf set)) 8 k)
+pub set-limits :
+    (set : KeySet) → length (set .keys) ≡ 8 → (set .count ≡ 0 → ⊥) → set .count ≤ 8 → allowedSet set ≡ keysAllowed (keysOf set)
+unfolding allowedSet allowed
+set-limits set places held few =
+    let size = length-take (set .count) (set .keys) in
+    rw (le-leb (set .count) 8 few, le-leb 1 (length (keysOf set)) (omega (arith, held)), le-leb (length (keysOf set)) 8 (omega arith))

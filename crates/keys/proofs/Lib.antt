@@ -1,6 +1,4 @@
 mod Places
-mod Table
 pub mod Lists
-pub mod Usages
 pub mod Keys
 pub mod KeySets

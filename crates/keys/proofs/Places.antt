@@ -9,7 +9,7 @@ use mathlib.Core.List.{List, [], _∷_}
 use lib.ListN.{length, drop, getD, length-take, drop-of-length-le}
 use lib.Seq.{drop-cons, getD-take}
 use Rattle.keys.specs.Lists.{sameBy}
-use Rattle.keys.specs.Key.{sameKey}
+use Rattle.keys.specs.Key.{noKey, sameKey}
 use Rattle.keys.specs.KeySet.{keysOf, sameKeys}
 use Rattle.keys.specs.declared.key.Key.{Key}
 use Rattle.keys.specs.declared.key_set.KeySet.{KeySet}
@@ -27,19 +27,22 @@ module _ {A : Type 0} (same : A → A → Bool) (xs ys : List A) (i : ℕ) where
   pub same-stop : length xs ≤ i → length ys ≤ i → sameBy same (drop i xs) (drop i ys) ≡ true
   same-stop h k = rw (drop-of-length-le xs {i = i} h, drop-of-length-le ys {i = i} k)
 
--- what a read past the end would give
-abbrev past : Key
-past = record { identifier = 0; usage = 0; value = [] }
+-- it does not matter what a read past the end would give
+pub read-any : {A : Type 0} (xs : List A) (i : ℕ) (d e : A) → i < length xs → getD xs i d ≡ getD xs i e
+read-any xs i d e h =
+    let p = drop-cons xs i d h in
+    let q = drop-cons xs i e h in
+    cc
 
 abbrev keyAt : KeySet → ℕ → Key
-keyAt set i = getD (set .keys) i past
+keyAt set i = getD (set .keys) i noKey
 
-within : (set : KeySet) (i : ℕ) → i < length (keysOf set) → getD (keysOf set) i past ≡ keyAt set i
-within set i h = getD-take (set .count) (set .keys) i past (omega (arith, length-take (set .count) (set .keys)))
+within : (set : KeySet) (i : ℕ) → i < length (keysOf set) → getD (keysOf set) i noKey ≡ keyAt set i
+within set i h = getD-take (set .count) (set .keys) i noKey (omega (arith, length-take (set .count) (set .keys)))
 
 module _ (set : KeySet) {B : Type 0} (ask : List Key → B) (i : ℕ) where
-  pub turn : i < length (keysOf set) → ask (drop i (keysOf set)) ≡ ask (keyAt set i ∷ drop (i + 1) (keysOf set))
-  turn h = rw (next (keysOf set) i past h, within set i h)
+  pub turn : (k : Key) → k ≡ keyAt set i → i < length (keysOf set) → ask (drop i (keysOf set)) ≡ ask (k ∷ drop (i + 1) (keysOf set))
+  turn k e h = rw (next (keysOf set) i noKey h, within set i h, e)
 
   pub stop : length (keysOf set) ≤ i → ask (drop i (keysOf set)) ≡ ask []
   stop h = ap ask (drop-of-length-le (keysOf set) h)
@@ -49,4 +52,4 @@ pub same-keys-turn :
     sameKeys (drop i (keysOf a)) (drop i (keysOf b)) ≡
     (sameKey (keyAt a i) (keyAt b i) && sameKeys (drop (i + 1) (keysOf a)) (drop (i + 1) (keysOf b)))
 same-keys-turn a b i h k =
-    rw (same-turn sameKey (keysOf a) (keysOf b) i past h k, within a i h, within b i k)
+    rw (same-turn sameKey (keysOf a) (keysOf b) i noKey h k, within a i h, within b i k)

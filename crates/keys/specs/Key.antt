@@ -8,11 +8,11 @@ use lib.ListN.{length, replicate}
 use Rattle.refusal.specs.Refusal.{numberOf}
 use Rattle.refusal.specs.declared.Refusal.the-variants.{Range}
 use Rattle.keys.specs.Lists.{sameBy}
-use Rattle.keys.specs.Usage.{familyOf, familyCovers, listed, knownType}
+use Rattle.usage.specs.Usage.{familyOf, familyCovers, listed, knownType}
 use Rattle.keys.specs.declared.key.Key.{Key}
 use Rattle.keys.specs.declared.key.FoundKey.{FoundKey}
-use Rattle.keys.specs.declared.usage.Coverage.{Coverage}
-use Rattle.keys.specs.declared.usage.Coverage.the-variants as coverage
+use Rattle.usage.specs.declared.Coverage.{Coverage}
+use Rattle.usage.specs.declared.Coverage.the-variants as coverage
 
 -- all zero: what stands where there is no key
 abbrev pub noKey : Key

@@ -5,13 +5,13 @@ use mathlib.Core.Bool.{true, false, not, cond, _&&_, _||_}
 use mathlib.Core.List.{List, [], _∷_, _++_, List·Memᴰ}
 use mathlib.Core.Option.{Option, none, some}
 use lib.ListN.{length}
-use Rattle.keys.specs.Usage.{listed, knownType, usageOf, entryAt, entrySays}
+use Rattle.usage.specs.Usage.{listed, knownType, usageOf, entryAt, entrySays}
 use Rattle.keys.specs.Key.{inLimits, sameKey, covers, coverageOf, coverageSays, foundKey}
 use Rattle.keys.specs.KeySet.{keysOf, noKeys, has, allowed, allowedSet, noneTwice, allInLimits, sameKeys, shares, Apart, Covers}
 use Rattle.keys.specs.KeySet.{firstCover, findKey}
 use Rattle.keys.specs.declared.key.Key.{Key}
 use Rattle.keys.specs.declared.key_set.KeySet.{KeySet}
-use Rattle.keys.specs.declared.usage.Coverage.the-variants.{Covered}
+use Rattle.usage.specs.declared.Coverage.the-variants.{Covered}
 
 pub record KeyLaws : Type 0 where
   -- the usage list and what a key covers; 13 is RANGE

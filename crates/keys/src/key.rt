@@ -1,8 +1,8 @@
 // A link-layer key.
-use crate::usage::Coverage;
-use crate::usage::Entry;
-use crate::usage::entry_at;
 use refusal::Refusal;
+use usage::Coverage;
+use usage::Entry;
+use usage::entry_at;
 ghost use mathlib.Core.Path.{_≡_};
 ghost use Rattle.keys.specs.Key.{noKey, inLimits, sameKey, sameValue, covers, coverageOf};
 

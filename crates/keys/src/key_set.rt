@@ -4,9 +4,11 @@ use crate::key::Key;
 use crate::key::no_key;
 ghost use mathlib.Core.Path.{_≡_};
 ghost use Prim.Native.Nat.{_≤_};
-ghost use lib.ListN.{length, drop};
+ghost use mathlib.Core.Bool.{_&&_};
+ghost use mathlib.Core.Option.{none};
+ghost use lib.ListN.{length, drop, getD};
 ghost use Rattle.keys.specs.KeySet.{keysOf, noKeys, has, allInLimits, noneTwice, allowedSet, sameKeys, shares, findKey, firstCover};
-ghost use Rattle.keys.specs.Key.{foundKey};
+ghost use Rattle.keys.specs.Key.{noKey, foundKey, sameKey};
 
 pub struct KeySet {
     // How many keys the set has; 0 is no set.
@@ -26,61 +28,58 @@ pub fn no_keys() -> KeySet
     }
 }
 
+// What a search gives that finds nothing.
+fn not_found() -> FoundKey
+    ensures { λ r. ⌜ r ≡ foundKey none ⌝ }
+{
+    let none = no_key();
+    FoundKey {
+        found: false,
+        key: none,
+    }
+}
+
 impl KeySet {
     // How many keys there are: the count, and 8 where the count is over 8.
     pub fn len(self) -> usize
         ensures exact { λ r. ⌜ r ≡ length (keysOf self) ⌝ }
         ensures few { λ r. ⌜ r ≤ 8 ⌝ }
     {
-        let count = self.count;
-        if count <= 8 {
-            return count;
+        if self.count <= 8 {
+            return self.count;
         }
         8
+    }
+
+    // The key at a place; all zero past the eighth.
+    fn key_at(self, i: usize) -> Key
+        ensures { λ r. ⌜ r ≡ getD (self .keys) i noKey ⌝ }
+    {
+        if i < 8 {
+            return self.keys[i];
+        }
+        no_key()
     }
 
     // Whether the set is within document 01's limits (KEYS): 1 to 8 keys, each in its limits, no identifier twice.
     pub fn allowed(self) -> bool
         ensures { λ r. ⌜ r ≡ allowedSet self ⌝ }
     {
-        let count = self.count;
-        if 8 < count {
+        if self.count == 0 || 8 < self.count {
             return false;
         }
-        if self.len() == 0 {
-            return false;
-        }
-        if !self.all_in_limits() {
-            return false;
-        }
-        self.none_twice()
+        self.keys_allowed()
     }
 
-    // Whether every key is in its limits.
-    fn all_in_limits(self) -> bool
-        ensures { λ r. ⌜ r ≡ allInLimits (keysOf self) ⌝ }
+    // Whether every key is in its limits, and no identifier comes twice.
+    fn keys_allowed(self) -> bool
+        ensures { λ r. ⌜ r ≡ (allInLimits (keysOf self) && noneTwice (keysOf self)) ⌝ }
     {
         let n = self.len();
         let mut i: usize = 0;
         while i < n {
-            let key = self.keys[i];
-            if !key.in_limits() {
-                return false;
-            }
-            i += 1;
-        }
-        true
-    }
-
-    // Whether no identifier comes twice.
-    fn none_twice(self) -> bool
-        ensures { λ r. ⌜ r ≡ noneTwice (keysOf self) ⌝ }
-    {
-        let n = self.len();
-        let mut i: usize = 0;
-        while i < n {
-            let key = self.keys[i];
-            if self.has_from(i + 1, key.identifier) {
+            let key = self.key_at(i);
+            if !key.in_limits() || self.has_from(i + 1, key.identifier) {
                 return false;
             }
             i += 1;
@@ -99,16 +98,23 @@ impl KeySet {
     fn has_from(self, from: usize, identifier: u8) -> bool
         ensures { λ r. ⌜ r ≡ has identifier (drop from (keysOf self)) ⌝ }
     {
+        self.find_from(from, identifier).found
+    }
+
+    // The key with the identifier from this place on.
+    fn find_from(self, from: usize, identifier: u8) -> FoundKey
+        ensures { λ r. ⌜ r ≡ foundKey (findKey identifier (drop from (keysOf self))) ⌝ }
+    {
         let n = self.len();
         let mut i = from;
         while i < n {
-            let key = self.keys[i];
+            let key = self.key_at(i);
             if key.identifier == identifier {
-                return true;
+                return FoundKey { found: true, key };
             }
             i += 1;
         }
-        false
+        not_found()
     }
 
     // Whether two sets have the same keys in the same order.
@@ -121,14 +127,20 @@ impl KeySet {
         }
         let mut i: usize = 0;
         while i < n {
-            let mine = self.keys[i];
-            let theirs = other.keys[i];
-            if !mine.same_key(theirs) {
+            if !self.same_at(other, i) {
                 return false;
             }
             i += 1;
         }
         true
+    }
+
+    // Whether the keys at a place are equal.
+    fn same_at(self, other: KeySet, i: usize) -> bool
+        ensures { λ r. ⌜ r ≡ sameKey (getD (self .keys) i noKey) (getD (other .keys) i noKey) ⌝ }
+    {
+        let key = self.key_at(i);
+        key.same_key(other.key_at(i))
     }
 
     // Whether some identifier is in both sets.
@@ -138,7 +150,7 @@ impl KeySet {
         let n = self.len();
         let mut i: usize = 0;
         while i < n {
-            let key = self.keys[i];
+            let key = self.key_at(i);
             if other.has(key.identifier) {
                 return true;
             }
@@ -151,23 +163,7 @@ impl KeySet {
     pub fn find_key(self, identifier: u8) -> FoundKey
         ensures { λ r. ⌜ r ≡ foundKey (findKey identifier (keysOf self)) ⌝ }
     {
-        let n = self.len();
-        let mut i: usize = 0;
-        while i < n {
-            let found = self.keys[i];
-            if found.identifier == identifier {
-                return FoundKey {
-                    found: true,
-                    key: found,
-                };
-            }
-            i += 1;
-        }
-        let none = no_key();
-        FoundKey {
-            found: false,
-            key: none,
-        }
+        self.find_from(0, identifier)
     }
 
     // The first key that covers the frame type.
@@ -177,16 +173,12 @@ impl KeySet {
         let n = self.len();
         let mut i: usize = 0;
         while i < n {
-            let key = self.keys[i];
+            let key = self.key_at(i);
             if key.covers(frame_type) {
                 return FoundKey { found: true, key };
             }
             i += 1;
         }
-        let none = no_key();
-        FoundKey {
-            found: false,
-            key: none,
-        }
+        not_found()
     }
 }

@@ -7,10 +7,10 @@ use Rattle.refusal.specs.declared.Verdict.the-variants as verdict
 use Rattle.keys.specs.Key.{sameKey}
 use Rattle.keys.specs.declared.key.Key.{Key}
 use Rattle.node.specs.Frames.{send, afterSend, receive, verified}
-use Rattle.node.specs.declared.frames.Change.{Change}
-use Rattle.node.specs.declared.frames.Change.the-variants as change
+use Rattle.key_sets.specs.declared.frames.Change.{Change}
+use Rattle.key_sets.specs.declared.frames.Change.the-variants as change
 use Rattle.node.specs.declared.frames.Heard.{Heard}
-use Rattle.node.specs.declared.frames.KeyAnswer.{KeyAnswer}
+use Rattle.key_sets.specs.declared.frames.KeyAnswer.{KeyAnswer}
 use Rattle.node.specs.declared.node.Node.{Node}
 use Rattle.network.specs.Turn.{turned, answerOf, judged, receives, turn}
 use Rattle.network.specs.declared.turn.Answer.{Answer}

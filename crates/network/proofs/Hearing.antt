@@ -9,7 +9,7 @@ use Rattle.keys.specs.declared.key.Key.{Key}
 use Rattle.node.specs.Node.{activeOf, pendingOf}
 use Rattle.node.specs.Range.{Valid}
 use Rattle.node.specs.Frames.{send}
-use Rattle.node.specs.Laws.{Kept, Sends, NodeLaws}
+use Rattle.node_laws.specs.Laws.{Kept, Sends, NodeLaws}
 use Rattle.node.specs.declared.node.Node.{Node}
 use Rattle.network.specs.Events.{Under}
 use Rattle.network.specs.Turn.{turn}

@@ -19,13 +19,20 @@ use Rattle.cojp.specs.Request.{owing}
 use Rattle.cojp.specs.Walk.{payloadRead}
 use Rattle.cojp.specs.Configuration.{configurationStanding, configurationTaking}
 use Rattle.cojp.specs.Writing.{requestInRange, requestPlan}
+use Rattle.key_sets.specs.Sets as sets
+use Rattle.key_sets.specs.Sets.{install}
+use Rattle.key_sets.specs.Frames.{sendingKey, receivingKey, hears}
+use Rattle.joining.specs.Attempt as attempt
+use Rattle.joining.specs.Attempt.{mayStart}
+use Rattle.joining.specs.Poll as polling
+use Rattle.joining.specs.Poll.{stepped}
 use Rattle.node.specs.Node.{activeOf, pendingOf}
 use Rattle.node.specs.Range.{valid, Valid}
-use Rattle.node.specs.Timing.{requestOf, startPlan, start, stepped, poll}
-use Rattle.node.specs.Delivery.{install, reportsOf, configured, apply, deliver}
+use Rattle.node.specs.Timing.{requestOf, startVerdict, startPlan, start, poll}
+use Rattle.node.specs.Delivery.{reportsOf, configured, apply, deliverVerdict, deliver}
 use Rattle.node.specs.Frames.{send, afterSend, receive, verified}
-use Rattle.node.specs.Calls.{perform}
-use Rattle.node.specs.Laws.{Takes}
+use Rattle.node_laws.specs.Calls.{perform}
+use Rattle.node_laws.specs.Laws.{Takes}
 use Rattle.node.specs.declared.delivery.Call.the-variants.{Update}
 use Rattle.network.specs.Network.{nodeAt, withNode}
 use Rattle.network.specs.Turn.{judged, turn}
@@ -40,7 +47,8 @@ computing : Unit {0}
 unfolding payload decodeBy heading argument next digits members pairs majorOf bytesOf infoOf extraOf shortest
     inLimits sameKey covers allowed allowedSet
     padded octetsJudged addressIn groups owing payloadRead configurationStanding configurationTaking requestInRange requestPlan
-    valid requestOf startPlan start stepped poll install reportsOf configured apply deliver send afterSend receive verified perform
+    sets.fits install sendingKey receivingKey hears attempt.fits mayStart stepped polling.poll
+    valid requestOf startVerdict startPlan start poll reportsOf configured apply deliverVerdict deliver send afterSend receive verified perform
     nodeAt withNode judged turn step run Come Comes
 computing = tt
 

@@ -9,8 +9,8 @@ use lib.Seq.{getD-set-same, getD-set-other}
 use Rattle.keys.specs.KeySet.{Covers}
 use Rattle.keys.specs.declared.key.Key.{Key}
 use Rattle.node.specs.Node.{emptyNode}
-use Rattle.node.specs.Calls.{NodeCall, starting, polling, delivering, asking, sending, receiving, reporting, perform}
-use Rattle.node.specs.Laws.{Kept, NodeLaws}
+use Rattle.node_laws.specs.Calls.{NodeCall, starting, polling, delivering, asking, sending, receiving, reporting, perform}
+use Rattle.node_laws.specs.Laws.{Kept, NodeLaws}
 use Rattle.node.specs.declared.node.Node.{Node}
 use Rattle.network.specs.Network.{Network, nodeAt, withNode}
 use Rattle.network.specs.Events.{Event, turning, calling, step, run, Permitted, Comes, Come}

@@ -15,9 +15,9 @@ use Rattle.keys.specs.declared.key.Key.{Key}
 use Rattle.node.specs.Node.{activeOf}
 use Rattle.node.specs.Range.{Valid}
 use Rattle.node.specs.Delivery.{deliver}
-use Rattle.node.specs.Laws.{Takes, NodeLaws}
+use Rattle.node_laws.specs.Laws.{Takes, NodeLaws}
 use Rattle.node.specs.declared.delivery.Call.{Call}
-use Rattle.node.specs.declared.frames.KeyAnswer.{KeyAnswer}
+use Rattle.key_sets.specs.declared.frames.KeyAnswer.{KeyAnswer}
 use Rattle.node.specs.declared.node.Node.{Node}
 use Rattle.network.specs.Network.{Network, nodeAt}
 use Rattle.network.specs.Events.{Event, turning, calling, step, run, Comes, Come, answers, Under}

@@ -13,7 +13,7 @@ use Rattle.keys.specs.declared.key.Key.{Key}
 use Rattle.node.specs.Node.{activeOf, pendingOf}
 use Rattle.node.specs.Range.{Valid}
 use Rattle.node.specs.Frames.{send, afterSend, receive, verified}
-use Rattle.node.specs.Laws.{Kept, Switched, Sends, Switching, NodeLaws, Without}
+use Rattle.node_laws.specs.Laws.{Kept, Switched, Sends, Switching, NodeLaws, Without}
 use Rattle.node.specs.declared.node.Node.{Node}
 use Rattle.network.specs.Turn.{turned, told, judged, received, sent, turn}
 use Rattle.network.specs.declared.turn.Answer.{Answer}

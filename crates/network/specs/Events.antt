@@ -6,9 +6,9 @@ use lib.ListN.{length}
 use Rattle.refusal.specs.declared.Refusal.{Refusal}
 use Rattle.refusal.specs.declared.Verdict.the-variants.{Accepted, Refused}
 use Rattle.keys.specs.declared.key.Key.{Key}
-use Rattle.node.specs.Calls.{NodeCall, starting, polling, delivering, asking, sending, receiving, reporting, perform}
+use Rattle.node_laws.specs.Calls.{NodeCall, starting, polling, delivering, asking, sending, receiving, reporting, perform}
 use Rattle.node.specs.Frames.{send}
-use Rattle.node.specs.declared.frames.KeyAnswer.{KeyAnswer}
+use Rattle.key_sets.specs.declared.frames.KeyAnswer.{KeyAnswer}
 use Rattle.node.specs.declared.node.Node.{Node}
 use Rattle.network.specs.Network.{Network, nodeAt, withNode}
 use Rattle.network.specs.Turn.{turn}

@@ -9,13 +9,16 @@ use Rattle.keys.specs.declared.key.Key.{Key}
 use Rattle.keys.specs.declared.key_set.KeySet.{KeySet}
 use Rattle.cojp.specs.KeySet.{keyOf, keySetOf}
 use Rattle.cojp.specs.Octets.{octetsOf}
-use Rattle.node.specs.Node.{activeOf, pendingOf, absentAddress, absentOctets}
-use Rattle.node.specs.Calls.{starting, polling, delivering}
-use Rattle.node.specs.Laws.{Takes}
+use Rattle.key_sets.specs.Sets.{twoSets}
+use Rattle.joining.specs.Attempt.{attempt}
+use Rattle.joining.specs.Lease.{absentAddress}
+use Rattle.joining.specs.declared.attempt.Phase.the-variants.{Joined}
+use Rattle.node.specs.Node.{activeOf, pendingOf, absentOctets}
+use Rattle.node_laws.specs.Calls.{starting, polling, delivering}
+use Rattle.node_laws.specs.Laws.{Takes}
 use Rattle.node.specs.declared.delivery.Call.the-variants.{JoinAnswer, Update}
 use Rattle.node.specs.declared.node.HeldOctets.{HeldOctets}
 use Rattle.node.specs.declared.node.Node.{Node}
-use Rattle.node.specs.declared.node.Phase.the-variants.{Joined}
 use Rattle.network.specs.Network.{Network, nodeAt}
 use Rattle.network.specs.Events.{Event, turning, calling, run, Come}
 use Rattle.network.specs.Rounds.{Links, Neighbours, Hops, AllLinked, Rounds}
@@ -35,13 +38,8 @@ cafe = record { held = true; value = octetsOf (0xCA ∷ 0xFE ∷ []) }
 abbrev pub joined : ℕ → KeySet → Node
 joined role pending = record {
   role = role;
-  phase = Joined;
-  clock = 12000;
-  sent = 10000;
-  timeout = 10000;
-  count = 0;
-  active = keySetOf oldKeys;
-  pending = pending;
+  attempt = attempt Joined 12000 10000 10000 0;
+  sets = twoSets (keySetOf oldKeys) pending;
   address = absentAddress;
   jrc = absentOctets;
   network = cafe;

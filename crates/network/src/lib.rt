@@ -11,7 +11,7 @@ ghost use Rattle.network.specs.Witness.{Witness};
 pub fn rekey_reaches_all()
     ensures { λ r. ⌜ Demand3 ⌝ }
 {
-    node::laws();
+    node_laws::laws();
 }
 
 // Demand 3 is not empty: a line of three nodes is rekeyed, and its far node follows after two rounds and not after one.

@@ -1,6 +1,6 @@
 // Turns: one node is asked to send a frame, another hears it.
+use key_sets::Change;
 use keys::Key;
-use node::Change;
 use node::Node;
 use refusal::Refusal;
 use refusal::Verdict;

@@ -1,15 +1,2 @@
-mod Tests
-mod Valid
-mod Kept
-mod Halves
-mod Timings
-mod Reading
-mod Deliveries
-mod Alike
-mod FrameKeys
-mod Attempts
+mod Starts
 mod Applied
-mod Answers
-mod Untouched
-mod GivesUp
-mod NodeLaws

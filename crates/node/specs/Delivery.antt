@@ -8,8 +8,14 @@ use Rattle.refusal.specs.declared.Refusal.{Refusal}
 use Rattle.refusal.specs.declared.Refusal.the-variants as refusal
 use Rattle.refusal.specs.declared.Verdict.{Verdict}
 use Rattle.refusal.specs.declared.Verdict.the-variants as verdict
-use Rattle.keys.specs.KeySet.{keysOf, noKeys, sameKeys, shares}
-use Rattle.keys.specs.declared.key_set.KeySet.{KeySet}
+use Rattle.key_sets.specs.Sets.{placed, install}
+use Rattle.key_sets.specs.declared.sets.KeySets.{KeySets}
+use Rattle.key_sets.specs.declared.sets.Placement.{Placement}
+use Rattle.joining.specs.Attempt.{isWaiting, isJoined, attempt}
+use Rattle.joining.specs.declared.attempt.Attempt.{Attempt}
+use Rattle.joining.specs.declared.attempt.Phase.{Phase}
+use Rattle.joining.specs.declared.attempt.Phase.the-variants as phase
+use Rattle.joining.specs.declared.lease.HeldAddress.{HeldAddress}
 use Rattle.cojp.specs.Reading.{ifTaken}
 use Rattle.cojp.specs.Configuration.{readConfiguration}
 use Rattle.cojp.specs.declared.address.AddressParameter.{AddressParameter}
@@ -19,36 +25,18 @@ use Rattle.cojp.specs.declared.key_set.KeysParameter.{KeysParameter}
 use Rattle.cojp.specs.declared.octets.Octets.{Octets}
 use Rattle.cojp.specs.declared.report.Report.{Report}
 use Rattle.cojp.specs.declared.report.Report.the-variants.{Absent, Taken, Discarded}
-use Rattle.node.specs.Node.{activeOf, isBorder, isWaiting, isJoined}
+use Rattle.node.specs.Node.{isBorder, clockOf}
 use Rattle.node.specs.Range.{valid}
 use Rattle.node.specs.declared.delivery.Call.{Call}
 use Rattle.node.specs.declared.delivery.Call.the-variants.{JoinAnswer, Update}
 use Rattle.node.specs.declared.delivery.Delivered.{Delivered}
-use Rattle.node.specs.declared.delivery.Placement.{Placement}
 use Rattle.node.specs.declared.delivery.Reports.{Reports}
-use Rattle.node.specs.declared.node.HeldAddress.{HeldAddress}
 use Rattle.node.specs.declared.node.HeldOctets.{HeldOctets}
 use Rattle.node.specs.declared.node.Node.{Node}
-use Rattle.node.specs.declared.node.Phase.{Phase}
-use Rattle.node.specs.declared.node.Phase.the-variants as phase
 
--- ---- key sets
-abbrev pub placed : Bool → KeySet → KeySet → Placement
-placed clash active pending = record { clash = clash; active = active; pending = pending }
-
--- a border node's new set replaces its active set at once; at an ordinary node a set equal to the active one empties the pending place,
--- one that otherwise shares an identifier with the active one clashes, and any other replaces what is pending
-unfoldable pub install : Node → KeySet → Placement
-install n set =
-    cond (isBorder n)
-    (placed false set noKeys)
-    (cond (sameKeys (keysOf set) (activeOf n))
-    (placed false (n .active) noKeys)
-    (cond (shares (keysOf set) (activeOf n)) (placed true (n .active) (n .pending)) (placed false (n .active) set)))
-
--- a set that is absent or discarded leaves both
+-- ---- key sets: one that is absent or discarded leaves both
 abbrev pub placementOf : Node → KeysParameter → Placement
-placementOf n p = ifTaken (p .report) (install n (p .value)) (placed false (n .active) (n .pending))
+placementOf n p = ifTaken (p .report) (install (isBorder n) (n .sets) (p .value)) (placed false (n .sets))
 
 -- ---- the reports
 abbrev pub noReports : Reports
@@ -80,21 +68,19 @@ addressAfter time p old = ifTaken (p .report) (record { held = true; value = p .
 abbrev pub octetsAfter : Report → Octets → HeldOctets → HeldOctets
 octetsAfter r o old = ifTaken r (record { held = true; value = o }) old
 
--- an accepted join answer makes the node joined
+-- the time is the new clock, and an accepted join answer makes the node joined
 abbrev pub phaseAfter : Call → Phase → Phase
 phaseAfter JoinAnswer p = phase.Joined
 phaseAfter Update p = p
 
-unfoldable pub configured : Call → Node → ℕ → Configuration → Placement → Reports → Node
+abbrev pub attemptAfter : Call → Attempt → ℕ → Attempt
+attemptAfter call a time = attempt (phaseAfter call (a .phase)) time (a .sent) (a .timeout) (a .count)
+
+unfoldable pub configured : Call → Node → ℕ → Configuration → KeySets → Reports → Node
 configured call n time c sets reports = record {
   role = n .role;
-  phase = phaseAfter call (n .phase);
-  clock = time;
-  sent = n .sent;
-  timeout = n .timeout;
-  count = n .count;
-  active = sets .active;
-  pending = sets .pending;
+  attempt = attemptAfter call (n .attempt) time;
+  sets = sets;
   address = addressAfter time (c .address) (n .address);
   jrc = octetsAfter (reports .jrc) (c .jrc .value) (n .jrc);
   network = octetsAfter (reports .network) (c .network .value) (n .network);
@@ -113,37 +99,43 @@ abbrev pub asksIdentifier : Call → Bool
 asksIdentifier JoinAnswer = true
 asksIdentifier Update = false
 
-abbrev pub owesIdentifier : Call → Node → Configuration → Bool
-owesIdentifier call n c = (asksIdentifier call && isBorder n && not (n .network .held) && ifTaken (c .network .report) false true)
+abbrev pub owesIdentifier : Call → Node → Report → Bool
+owesIdentifier call n r = (asksIdentifier call && isBorder n && not (n .network .held) && not (ifTaken r true false))
 
 -- a configuration is applied: OWED, CLASH, the change
 unfoldable pub apply : Call → Node → ℕ → Configuration → Delivered
 apply call n time c =
-    cond (owesIdentifier call n c)
+    cond (owesIdentifier call n (c .network .report))
     (undelivered refusal.Owed n)
     (cond (placementOf n (c .keys) .clash)
     (undelivered refusal.Clash n)
-    (delivered (reportsOf n c) (configured call n time c (placementOf n (c .keys)) (reportsOf n c))))
+    (delivered (reportsOf n c) (configured call n time c (placementOf n (c .keys) .sets) (reportsOf n c))))
 
 -- a join answer belongs to waiting, an update to joined
 abbrev pub belongs : Call → Phase → Bool
 belongs JoinAnswer p = isWaiting p
 belongs Update p = isJoined p
 
+-- whether a payload of so many bytes may be handed over: RANGE: the node; LONG, CLOCK, PHASE
+unfoldable pub deliverVerdict : Call → Node → ℕ → ℕ → Verdict
+deliverVerdict call n time len =
+    cond (valid n)
+    (cond (leb len 256)
+    (cond (leb (clockOf n) time)
+    (cond (belongs call (n .attempt .phase)) verdict.Accepted (verdict.Refused refusal.Phase))
+    (verdict.Refused refusal.Clock))
+    (verdict.Refused refusal.Long))
+    (verdict.Refused refusal.Range)
+
 -- nothing of a payload that is refused is applied
 abbrev pub applyRead : Verdict → Call → Node → ℕ → Configuration → Delivered
 applyRead (verdict.Refused k) call n time c = undelivered k n
 applyRead verdict.Accepted call n time c = apply call n time c
 
--- a payload is handed over: LONG, CLOCK, PHASE, then reading and applying
+abbrev pub deliverBy : Verdict → Call → Node → ℕ → ConfigurationRead → Delivered
+deliverBy (verdict.Refused k) call n time r = undelivered k n
+deliverBy verdict.Accepted call n time r = applyRead (r .verdict) call n time (r .configuration)
+
+-- a payload is handed over: then reading and applying
 unfoldable pub deliver : Call → Node → ℕ → List ℕ → Delivered
-deliver call n time payload =
-    cond (valid n)
-    (cond (leb (length payload) 256)
-    (cond (leb (n .clock) time)
-    (cond (belongs call (n .phase))
-    (applyRead (readConfiguration payload .verdict) call n time (readConfiguration payload .configuration))
-    (undelivered refusal.Phase n))
-    (undelivered refusal.Clock n))
-    (undelivered refusal.Long n))
-    (undelivered refusal.Range n)
+deliver call n time payload = deliverBy (deliverVerdict call n time (length payload)) call n time (readConfiguration payload)

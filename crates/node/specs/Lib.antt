@@ -2,8 +2,5 @@ pub mod Node
 pub mod Range
 pub mod Timing
 pub mod Delivery
-pub mod Same
 pub mod Lease
 pub mod Frames
-pub mod Calls
-pub mod Laws

@@ -1,10 +1,8 @@
--- The join attempt: a start writes the join request, and polls say when to send it again and when to give up.
-use Prim.Native.Nat.{ℕ, _+_, _-_, _*_}
+-- The join attempt of a node: a start writes the join request, and polls say when to send it again and when to give up.
+use Prim.Native.Nat.{ℕ}
 use mathlib.Core.Path.{_≡_}
-use mathlib.Core.Bool.{Bool, true, false, cond}
+use mathlib.Core.Bool.{Bool, cond}
 use mathlib.Core.List.{List}
-use lib.Dec.{leb, ltb}
-use Rattle.refusal.specs.Refusal.{numberOf}
 use Rattle.refusal.specs.declared.Refusal.{Refusal}
 use Rattle.refusal.specs.declared.Refusal.the-variants as refusal
 use Rattle.refusal.specs.declared.Verdict.{Verdict}
@@ -15,15 +13,17 @@ use Rattle.cbor.specs.declared.write.Written.the-variants as written
 use Rattle.cojp.specs.Octets.{octetsParameter, noOctetsParameter}
 use Rattle.cojp.specs.Writing.{requestPlan}
 use Rattle.cojp.specs.declared.octets.OctetsParameter.{OctetsParameter}
-use Rattle.cojp.specs.declared.report.Report.the-variants.{Absent, Taken, Discarded}
+use Rattle.cojp.specs.declared.report.Report.the-variants.{Absent, Taken}
 use Rattle.cojp.specs.declared.request.JoinRequest.{JoinRequest}
-use Rattle.node.specs.Node.{isWaiting, timed}
-use Rattle.node.specs.Range.{valid, firstTimeout}
+use Rattle.joining.specs.Attempt.{mayStart, waitingFrom}
+use Rattle.joining.specs.Poll as attempt
+use Rattle.joining.specs.declared.poll.Due.{Due}
+use Rattle.joining.specs.declared.poll.Due.the-variants as due
+use Rattle.joining.specs.declared.poll.Step.{Step}
+use Rattle.node.specs.Node.{attempting}
+use Rattle.node.specs.Range.{valid}
 use Rattle.node.specs.declared.node.HeldOctets.{HeldOctets}
 use Rattle.node.specs.declared.node.Node.{Node}
-use Rattle.node.specs.declared.node.Phase.the-variants as phase
-use Rattle.node.specs.declared.timing.Due.{Due}
-use Rattle.node.specs.declared.timing.Due.the-variants.{Refused, NotYet, SendAgain, GaveUp}
 use Rattle.node.specs.declared.timing.Polled.{Polled}
 use Rattle.node.specs.declared.timing.Started.{Started}
 
@@ -35,20 +35,21 @@ identifierIn h = cond (h .held) (octetsParameter Taken (h .value)) (noOctetsPara
 unfoldable pub requestOf : Node → JoinRequest
 requestOf n = record { role = n .role; network = identifierIn (n .network); passed = 0 }
 
--- what a start writes: CLOCK, PHASE, RANGE, then the request, which may be OWED or have no ROOM
+-- whether it may start: RANGE: the node; CLOCK, PHASE, RANGE: the timeout
+unfoldable pub startVerdict : Node → ℕ → ℕ → Verdict
+startVerdict n time timeout = cond (valid n) (mayStart (n .attempt) time timeout) (verdict.Refused refusal.Range)
+
+-- what a start writes: the request, which may be OWED or have no ROOM
+abbrev pub planBy : Verdict → Plan → Plan
+planBy (verdict.Refused k) p = refuse k
+planBy verdict.Accepted p = p
+
 unfoldable pub startPlan : Node → ℕ → ℕ → Plan
-startPlan n time timeout =
-    cond (valid n)
-    (cond (leb (n .clock) time)
-    (cond (isWaiting (n .phase))
-    (refuse refusal.Phase)
-    (cond (firstTimeout timeout) (requestPlan (requestOf n)) (refuse refusal.Range)))
-    (refuse refusal.Clock))
-    (refuse refusal.Range)
+startPlan n time timeout = planBy (startVerdict n time timeout) (requestPlan (requestOf n))
 
 -- the node after it: waiting, the counter 0; keys, address and the rest stay
-abbrev pub waitingFrom : Node → ℕ → ℕ → Node
-waitingFrom n time timeout = timed n phase.Waiting time time timeout 0
+abbrev pub startedFrom : Node → ℕ → ℕ → Node
+startedFrom n time timeout = attempting n (waitingFrom time timeout)
 
 abbrev pub unstarted : Refusal → Node → Started
 unstarted k n = record { verdict = verdict.Refused k; length = 0; node = n }
@@ -59,7 +60,7 @@ startedBy (written.Length l) n m = record { verdict = verdict.Accepted; length =
 
 -- the answer, d being what the destination holds
 unfoldable pub start : Node → ℕ → ℕ → List ℕ → Started
-start n time timeout d = startedBy (answer (startPlan n time timeout) d) n (waitingFrom n time timeout)
+start n time timeout d = startedBy (answer (startPlan n time timeout) d) n (startedFrom n time timeout)
 
 -- the destination's contents afterwards
 unfoldable pub startAfter : Node → ℕ → ℕ → List ℕ → List ℕ
@@ -70,51 +71,12 @@ pub record StartDid (n : Node) (time timeout : ℕ) (d : List ℕ) (r : Started)
   pub says : r ≡ start n time timeout d
   pub holds : d′ ≡ startAfter n time timeout d
 
--- ---- polling
+-- ---- polling: RANGE: the node; then as its join attempt
 abbrev pub polled : Due → Node → Polled
 polled due n = record { due = due; node = n }
 
--- the step that is due: the request goes out again, up to 4 times
-unfoldable pub stepped : Node → ℕ → Polled
-stepped n time =
-    cond (ltb (n .count) 4)
-    (polled SendAgain (timed n (n .phase) time time (2 * n .timeout) (n .count + 1)))
-    (polled GaveUp (timed n phase.GaveUp time (n .sent) (n .timeout) (n .count)))
+abbrev pub polledBy : Node → Step → Polled
+polledBy n s = polled (s .due) (attempting n (s .attempt))
 
--- a step is due once the time since the last sending has reached the timeout
 unfoldable pub poll : Node → ℕ → Polled
-poll n time =
-    cond (valid n)
-    (cond (leb (n .clock) time)
-    (cond (isWaiting (n .phase))
-    (cond (leb (n .timeout) (time - n .sent)) (stepped n time) (polled NotYet (timed n (n .phase) time (n .sent) (n .timeout) (n .count))))
-    (polled (Refused refusal.Phase) n))
-    (polled (Refused refusal.Clock) n))
-    (polled (Refused refusal.Range) n)
-
--- the answer in document 01's terms: its verdict, and the refusal's number, 0 where there is none
-abbrev pub dueVerdict : Due → Verdict
-dueVerdict (Refused k) = verdict.Refused k
-dueVerdict NotYet = verdict.Accepted
-dueVerdict SendAgain = verdict.Accepted
-dueVerdict GaveUp = verdict.Accepted
-
-abbrev pub dueNumber : Due → ℕ
-dueNumber (Refused k) = numberOf k
-dueNumber NotYet = 0
-dueNumber SendAgain = 0
-dueNumber GaveUp = 0
-
--- the request is to be sent again
-abbrev pub sendsAgain : Due → Bool
-sendsAgain (Refused k) = false
-sendsAgain NotYet = false
-sendsAgain SendAgain = true
-sendsAgain GaveUp = false
-
--- the node gave up
-abbrev pub givesUp : Due → Bool
-givesUp (Refused k) = false
-givesUp NotYet = false
-givesUp SendAgain = false
-givesUp GaveUp = true
+poll n time = cond (valid n) (polledBy n (attempt.poll (n .attempt) time)) (polled (due.Refused refusal.Range) n)

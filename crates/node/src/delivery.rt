@@ -1,25 +1,26 @@
 // Configurations handed to a node: join answers (join responses) and parameter updates.
-use crate::node::HeldAddress;
 use crate::node::HeldOctets;
 use crate::node::Node;
-use crate::node::Phase;
-use crate::node::is_joined;
-use crate::node::is_waiting;
-use crate::node::timed;
 use cojp::AddressParameter;
 use cojp::Configuration;
+use cojp::ConfigurationRead;
 use cojp::KeysParameter;
 use cojp::OctetsParameter;
 use cojp::Report;
 use cojp_read::read_configuration;
-use keys::KeySet;
-use keys::key_set::no_keys;
+use joining::Attempt;
+use joining::HeldAddress;
+use joining::Phase;
+use joining::attempt::is_joined;
+use joining::attempt::is_waiting;
+use key_sets::KeySets;
+use key_sets::Placement;
 use refusal::Refusal;
 use refusal::Verdict;
 ghost use mathlib.Core.Path.{_≡_};
 ghost use mathlib.Core.Bool.{true, false};
 ghost use Rattle.cojp.specs.Reading.{ifTaken};
-ghost use Rattle.node.specs.Delivery.{install, placementOf, noReports, discarded, borderOnly, reportsOf, addressAfter, octetsAfter, phaseAfter, configured, undelivered, asksIdentifier, owesIdentifier, apply, belongs, deliver};
+ghost use Rattle.node.specs.Delivery.{placementOf, noReports, discarded, borderOnly, reportsOf, addressAfter, octetsAfter, phaseAfter, attemptAfter, configured, undelivered, asksIdentifier, owesIdentifier, apply, belongs, deliverVerdict, applyRead, deliver};
 ghost use Rattle.node.specs.declared.delivery.Call.the-variants as call;
 
 // A longer payload is LONG.
@@ -46,13 +47,6 @@ pub struct Delivered {
     pub verdict: Verdict,
     pub reports: Reports,
     pub node: Node,
-}
-
-// The key sets after a new one came; where it clashes they are as they were.
-pub struct Placement {
-    pub clash: bool,
-    pub active: KeySet,
-    pub pending: KeySet,
 }
 
 fn no_reports() -> Reports
@@ -98,7 +92,7 @@ fn address_after(time: u64, parameter: AddressParameter, old: HeldAddress) -> He
         let value = parameter.value;
         return HeldAddress {
             held: true,
-            value: value,
+            value,
             received: time,
         };
     }
@@ -111,10 +105,7 @@ fn octets_after(report: Report, parameter: OctetsParameter, old: HeldOctets) -> 
 {
     if is_taken(report) {
         let value = parameter.value;
-        return HeldOctets {
-            held: true,
-            value: value,
-        };
+        return HeldOctets { held: true, value };
     }
     old
 }
@@ -127,6 +118,20 @@ impl Call {
         match self {
             Call::JoinAnswer => Phase::Joined,
             Call::Update => phase,
+        }
+    }
+
+    // The join attempt after an accepted configuration: the time is its clock.
+    fn attempt_after(self, old: Attempt, time: u64) -> Attempt
+        ensures { λ r. ⌜ r ≡ attemptAfter self old time ⌝ }
+    {
+        let phase = old.phase;
+        Attempt {
+            phase: self.phase_after(phase),
+            clock: time,
+            sent: old.sent,
+            timeout: old.timeout,
+            count: old.count,
         }
     }
 
@@ -155,46 +160,10 @@ impl Node {
     fn undelivered(self, why: Refusal) -> Delivered
         ensures { λ r. ⌜ r ≡ undelivered why self ⌝ }
     {
-        let none = no_reports();
         Delivered {
             verdict: Verdict::Refused(why),
-            reports: none,
+            reports: no_reports(),
             node: self,
-        }
-    }
-
-    // The key sets after a new set: a border node's is active at once; an ordinary node's is the active one, clashes, or waits.
-    fn install(self, set: KeySet) -> Placement
-        ensures { λ r. ⌜ r ≡ install self set ⌝ }
-    {
-        let active = self.active;
-        let pending = self.pending;
-        let none = no_keys();
-        if self.role == 1 {
-            return Placement {
-                clash: false,
-                active: set,
-                pending: none,
-            };
-        }
-        if set.same_keys(active) {
-            return Placement {
-                clash: false,
-                active: active,
-                pending: none,
-            };
-        }
-        if set.shares(active) {
-            return Placement {
-                clash: true,
-                active: active,
-                pending: pending,
-            };
-        }
-        Placement {
-            clash: false,
-            active: active,
-            pending: set,
         }
     }
 
@@ -204,16 +173,10 @@ impl Node {
     {
         let report = parameter.report;
         if is_taken(report) {
-            let set = parameter.value;
-            return self.install(set);
+            return self.sets.install(self.role == 1, parameter.value);
         }
-        let active = self.active;
-        let pending = self.pending;
-        Placement {
-            clash: false,
-            active: active,
-            pending: pending,
-        }
+        let sets = self.sets;
+        Placement { clash: false, sets }
     }
 
     // An ordinary node further discards network identifier and prefix.
@@ -240,14 +203,12 @@ impl Node {
         let network_report = network.report;
         let prefix = c.prefix;
         let prefix_report = prefix.report;
-        let network_kept = self.border_only(network_report);
-        let prefix_kept = self.border_only(prefix_report);
         Reports {
             keys: keys_report,
             address: address_report,
             jrc: jrc_report,
-            network: network_kept,
-            prefix: prefix_kept,
+            network: self.border_only(network_report),
+            prefix: self.border_only(prefix_report),
             passed: c.passed,
         }
     }
@@ -258,77 +219,83 @@ impl Node {
         call: Call,
         time: u64,
         c: Configuration,
-        sets: Placement,
+        sets: KeySets,
         reports: Reports,
     ) -> Node
         ensures { λ r. ⌜ r ≡ configured call self time c sets reports ⌝ }
     {
-        let old_phase = self.phase;
-        let phase = call.phase_after(old_phase);
-        let mut node = timed(self, phase, time, self.sent, self.timeout, self.count);
-        let active = sets.active;
-        node.active = active;
-        let pending = sets.pending;
-        node.pending = pending;
-        let address = c.address;
-        let old_address = self.address;
-        let new_address = address_after(time, address, old_address);
-        node.address = new_address;
-        let jrc_report = reports.jrc;
-        let jrc = c.jrc;
-        let old_jrc = self.jrc;
-        let new_jrc = octets_after(jrc_report, jrc, old_jrc);
-        node.jrc = new_jrc;
-        let network_report = reports.network;
-        let network = c.network;
-        let old_network = self.network;
-        let new_network = octets_after(network_report, network, old_network);
-        node.network = new_network;
-        let prefix_report = reports.prefix;
-        let prefix = c.prefix;
-        let old_prefix = self.prefix;
-        let new_prefix = octets_after(prefix_report, prefix, old_prefix);
-        node.prefix = new_prefix;
-        node
+        let jrc = reports.jrc;
+        let network = reports.network;
+        let prefix = reports.prefix;
+        Node {
+            role: self.role,
+            attempt: call.attempt_after(self.attempt, time),
+            sets,
+            address: address_after(time, c.address, self.address),
+            jrc: octets_after(jrc, c.jrc, self.jrc),
+            network: octets_after(network, c.network, self.network),
+            prefix: octets_after(prefix, c.prefix, self.prefix),
+        }
     }
 
     // A border node's join answer owes a network identifier that neither the request nor the answer had.
-    fn owes_identifier(self, call: Call, c: Configuration) -> bool
-        ensures { λ r. ⌜ r ≡ owesIdentifier call self c ⌝ }
+    fn owes_identifier(self, call: Call, report: Report) -> bool
+        ensures { λ r. ⌜ r ≡ owesIdentifier call self report ⌝ }
     {
-        if !call.asks_identifier() {
-            return false;
-        }
-        if self.role != 1 {
-            return false;
-        }
-        let held = self.network;
-        if held.held {
-            return false;
-        }
-        let network = c.network;
-        let report = network.report;
-        !is_taken(report)
+        let network = self.network;
+        call.asks_identifier() && self.role == 1 && !network.held && !is_taken(report)
     }
 
     // Applies a configuration: OWED, CLASH, the change.
     fn apply(self, call: Call, time: u64, c: Configuration) -> Delivered
         ensures { λ r. ⌜ r ≡ apply call self time c ⌝ }
     {
-        if self.owes_identifier(call, c) {
+        let network = c.network;
+        let report = network.report;
+        if self.owes_identifier(call, report) {
             return self.undelivered(Refusal::Owed);
         }
-        let keys = c.keys;
-        let sets = self.placement(keys);
-        if sets.clash {
+        let placed = self.placement(c.keys);
+        if placed.clash {
             return self.undelivered(Refusal::Clash);
         }
         let reports = self.reports_of(c);
-        let node = self.configured(call, time, c, sets, reports);
         Delivered {
             verdict: Verdict::Accepted,
-            reports: reports,
-            node: node,
+            reports,
+            node: self.configured(call, time, c, placed.sets, reports),
+        }
+    }
+
+    // Whether a payload of so many bytes may be handed over. RANGE: the node; LONG, CLOCK, PHASE.
+    fn may_deliver(self, call: Call, time: u64, len: usize) -> Verdict
+        ensures { λ r. ⌜ r ≡ deliverVerdict call self time len ⌝ }
+    {
+        if !self.valid() {
+            return Verdict::Refused(Refusal::Range);
+        }
+        if PAYLOAD_MOST < len {
+            return Verdict::Refused(Refusal::Long);
+        }
+        let attempt = self.attempt;
+        if time < attempt.clock {
+            return Verdict::Refused(Refusal::Clock);
+        }
+        let phase = attempt.phase;
+        if call.belongs(phase) {
+            return Verdict::Accepted;
+        }
+        Verdict::Refused(Refusal::Phase)
+    }
+
+    // What was read is applied.
+    fn apply_read(self, call: Call, time: u64, read: ConfigurationRead) -> Delivered
+        ensures { λ r. ⌜ r ≡ applyRead (read .verdict) call self time (read .configuration) ⌝ }
+    {
+        let verdict = read.verdict;
+        match verdict {
+            Verdict::Refused(why) => self.undelivered(why),
+            Verdict::Accepted => self.apply(call, time, read.configuration),
         }
     }
 
@@ -336,27 +303,9 @@ impl Node {
     fn deliver(self, call: Call, time: u64, payload: &[u8]) -> Delivered
         ensures { λ r. ⌜ r ≡ deliver call self time (now (payload .entry)) ⌝ }
     {
-        if !self.valid() {
-            return self.undelivered(Refusal::Range);
-        }
-        if PAYLOAD_MOST < payload.len() {
-            return self.undelivered(Refusal::Long);
-        }
-        if time < self.clock {
-            return self.undelivered(Refusal::Clock);
-        }
-        let phase = self.phase;
-        if !call.belongs(phase) {
-            return self.undelivered(Refusal::Phase);
-        }
-        let read = read_configuration(payload);
-        let verdict = read.verdict;
-        match verdict {
+        match self.may_deliver(call, time, payload.len()) {
             Verdict::Refused(why) => self.undelivered(why),
-            Verdict::Accepted => {
-                let c = read.configuration;
-                self.apply(call, time, c)
-            }
+            Verdict::Accepted => self.apply_read(call, time, read_configuration(payload)),
         }
     }
 

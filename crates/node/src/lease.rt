@@ -1,30 +1,13 @@
 // Whether the short address holds.
-use crate::node::HeldAddress;
 use crate::node::Node;
 use refusal::Refusal;
 ghost use mathlib.Core.Path.{_≡_};
-ghost use Prim.Native.Nat.{_≤_};
-ghost use Rattle.node.specs.Lease.{lasts, holds};
+ghost use Rattle.node.specs.Lease.{holds};
 
 pub enum Holding {
     Refused(Refusal),
     Holds,
     Lapsed,
-}
-
-// A lease counts seconds.
-const LEASE_UNIT: u64 = 1000;
-
-// Whether the lease of an address that was received before still lasts.
-fn lasts(address: HeldAddress, time: u64) -> bool
-    requires { ⌜ address .received ≤ time ⌝ }
-    ensures { λ r. ⌜ r ≡ lasts address time ⌝ }
-{
-    let value = address.value;
-    if value.leased {
-        return (time - address.received) / LEASE_UNIT < value.lease;
-    }
-    true
 }
 
 impl Node {
@@ -35,15 +18,12 @@ impl Node {
         if !self.valid() {
             return Holding::Refused(Refusal::Range);
         }
-        if time < self.clock {
+        let attempt = self.attempt;
+        if time < attempt.clock {
             return Holding::Refused(Refusal::Clock);
         }
-        let address = self.address;
-        if address.held {
-            if lasts(address, time) {
-                return Holding::Holds;
-            }
-            return Holding::Lapsed;
+        if self.address.holds_at(time) {
+            return Holding::Holds;
         }
         Holding::Lapsed
     }

@@ -1,35 +1,24 @@
 // The join attempt: a start writes the join request, polls say when to send it again and when to give up.
 use crate::node::HeldOctets;
 use crate::node::Node;
-use crate::node::Phase;
-use crate::node::is_waiting;
-use crate::node::timed;
-use crate::range::first_timeout;
 use cbor::Written;
 use cojp::JoinRequest;
 use cojp::OctetsParameter;
 use cojp::Report;
 use cojp::no_octets;
 use cojp_write::write_request;
+use joining::Due;
+use joining::attempt::waiting_from;
 use refusal::Refusal;
 use refusal::Verdict;
 ghost use mathlib.Core.Path.{_≡_};
-ghost use Prim.Native.Nat.{_≤_};
-ghost use Rattle.node.specs.Timing.{identifierIn, requestOf, unstarted, StartDid, stepped, poll};
+ghost use Rattle.node.specs.Timing.{identifierIn, requestOf, startVerdict, startedFrom, startedBy, unstarted, StartDid, poll};
 
 // A start wrote `length` bytes of the join request; beside a refusal stand 0 and the node as it was.
 pub struct Started {
     pub verdict: Verdict,
     pub length: usize,
     pub node: Node,
-}
-
-// What a poll tells the caller to do.
-pub enum Due {
-    Refused(Refusal),
-    NotYet,
-    SendAgain,
-    GaveUp,
 }
 
 pub struct Polled {
@@ -45,7 +34,7 @@ fn identifier_in(network: HeldOctets) -> OctetsParameter
         let value = network.value;
         return OctetsParameter {
             report: Report::Taken,
-            value: value,
+            value,
         };
     }
     no_octets(Report::Absent)
@@ -56,11 +45,9 @@ impl Node {
     fn request(self) -> JoinRequest
         ensures { λ r. ⌜ r ≡ requestOf self ⌝ }
     {
-        let held = self.network;
-        let network = identifier_in(held);
         JoinRequest {
             role: self.role,
-            network: network,
+            network: identifier_in(self.network),
             passed: 0,
         }
     }
@@ -75,63 +62,41 @@ impl Node {
         }
     }
 
+    // Whether a join attempt may start. RANGE: the node; CLOCK, PHASE; RANGE: the timeout.
+    fn may_start(self, time: u64, timeout: u64) -> Verdict
+        ensures { λ r. ⌜ r ≡ startVerdict self time timeout ⌝ }
+    {
+        if self.valid() {
+            return self.attempt.may_start(time, timeout);
+        }
+        Verdict::Refused(Refusal::Range)
+    }
+
+    // The answer to a start, by what became of its request.
+    fn started(self, written: Written, time: u64, timeout: u64) -> Started
+        ensures { λ r. ⌜ r ≡ startedBy written self (startedFrom self time timeout) ⌝ }
+    {
+        match written {
+            Written::Refused(why) => self.unstarted(why),
+            Written::Length(length) => Started {
+                verdict: Verdict::Accepted,
+                length,
+                node: self.attempting(waiting_from(time, timeout)),
+            },
+        }
+    }
+
     // Starts a join attempt with this first timeout: the join request is written to `dst`, and the node waits.
     // RANGE: the node; CLOCK, PHASE; RANGE: the timeout; OWED, ROOM.
     pub fn start(self, dst: &mut [u8], time: u64, timeout: u64) -> Started
         ensures { λ r. ⌜ StartDid self time timeout (now (dst .entry)) r (now (dst .exit)) ⌝ }
     {
-        if !self.valid() {
-            return self.unstarted(Refusal::Range);
-        }
-        if time < self.clock {
-            return self.unstarted(Refusal::Clock);
-        }
-        let phase = self.phase;
-        if is_waiting(phase) {
-            return self.unstarted(Refusal::Phase);
-        }
-        if !first_timeout(timeout) {
-            return self.unstarted(Refusal::Range);
-        }
-        let request = self.request();
-        let written = write_request(dst, request);
-        match written {
-            Written::Refused(why) => self.unstarted(why),
-            Written::Length(length) => {
-                let node = timed(self, Phase::Waiting, time, time, timeout, 0);
-                Started {
-                    verdict: Verdict::Accepted,
-                    length: length,
-                    node: node,
-                }
+        match self.may_start(time, timeout) {
+            Verdict::Refused(why) => self.unstarted(why),
+            Verdict::Accepted => {
+                let written = write_request(dst, self.request());
+                self.started(written, time, timeout)
             }
-        }
-    }
-
-    // The step that is due: the request goes out again, or the node gives up.
-    fn stepped(self, time: u64) -> Polled
-        requires { ⌜ self .timeout ≤ 240000 ⌝ }
-        ensures { λ r. ⌜ r ≡ stepped self time ⌝ }
-    {
-        let phase = self.phase;
-        if self.count < Node::RETRANSMISSIONS {
-            let again = timed(self, phase, time, time, 2 * self.timeout, self.count + 1);
-            return Polled {
-                due: Due::SendAgain,
-                node: again,
-            };
-        }
-        let over = timed(
-            self,
-            Phase::GaveUp,
-            time,
-            self.sent,
-            self.timeout,
-            self.count,
-        );
-        Polled {
-            due: Due::GaveUp,
-            node: over,
         }
     }
 
@@ -145,26 +110,11 @@ impl Node {
                 node: self,
             };
         }
-        if time < self.clock {
-            return Polled {
-                due: Due::Refused(Refusal::Clock),
-                node: self,
-            };
-        }
-        let phase = self.phase;
-        if !is_waiting(phase) {
-            return Polled {
-                due: Due::Refused(Refusal::Phase),
-                node: self,
-            };
-        }
-        if self.timeout <= time - self.sent {
-            return self.stepped(time);
-        }
-        let still = timed(self, phase, time, self.sent, self.timeout, self.count);
+        let step = self.attempt.poll(time);
+        let due = step.due;
         Polled {
-            due: Due::NotYet,
-            node: still,
+            due,
+            node: self.attempting(step.attempt),
         }
     }
 }

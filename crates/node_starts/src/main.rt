@@ -3,48 +3,59 @@
 use cojp::Octets;
 use node::HeldOctets;
 use node::Node;
-use node::Started;
 use notation::put_refusal;
 use refusal::Verdict;
 use text::output::Buffer;
 use text::output::Output;
 
-// A start's answer and the slice afterwards.
-fn put_started(out: Output, started: Started, dst: &[u8], buffer: &mut Buffer) -> Output {
-    let verdict = started.verdict;
-    let out = match verdict {
-        Verdict::Accepted => out.text(b"sent ", buffer)
-            .number(started.length as u64, buffer),
+// The node after a start, and the output with what was answered.
+struct Tried {
+    node: Node,
+    out: Output,
+}
+
+fn put_verdict(out: Output, verdict: Verdict, length: usize, buffer: &mut Buffer) -> Output {
+    match verdict {
+        Verdict::Accepted => out.text(b"sent ", buffer).number(length as u64, buffer),
         Verdict::Refused(why) => put_refusal(out, why, buffer),
-    };
+    }
+}
+
+// A start, its answer and the slice afterwards.
+fn start(out: Output, node: Node, time: u64, dst: &mut [u8], buffer: &mut Buffer) -> Tried {
+    let started = node.start(dst, time, 10_000);
+    let verdict = started.verdict;
+    let node = started.node;
+    let out = put_verdict(out, verdict, started.length, buffer);
+    Tried {
+        node,
+        out: put_slice(out, dst, buffer),
+    }
+}
+
+fn put_slice(out: Output, slice: &[u8], buffer: &mut Buffer) -> Output {
     out.byte(b' ', buffer)
-        .octets(dst, buffer)
+        .octets(slice, buffer)
         .byte(b'\n', buffer)
 }
 
 // A start of the node into four bytes, which are too few, then into seven, then once more while it waits.
 fn put_story(out: Output, node: Node, buffer: &mut Buffer) {
     let mut short = [0xEEu8; 4];
-    let refused = node.start(&mut short, 1_000, 10_000);
-    let out = put_started(out, refused, &short, buffer);
-    let same = refused.node;
+    let refused = start(out, node, 1_000, &mut short, buffer);
     let mut room = [0xEEu8; 7];
-    let sent = same.start(&mut room, 1_000, 10_000);
-    let out = put_started(out, sent, &room, buffer);
-    let waiting = sent.node;
+    let sent = start(refused.out, refused.node, 1_000, &mut room, buffer);
     let mut again = [0xEEu8; 7];
-    let phase = waiting.start(&mut again, 2_000, 10_000);
-    let out = put_started(out, phase, &again, buffer);
-    out.flush(buffer);
+    let waiting = start(sent.out, sent.node, 2_000, &mut again, buffer);
+    waiting.out.flush(buffer);
 }
 
 fn main() {
     let mut buffer = io::large_buffer();
-    let mut bytes = [0u8; 16];
-    bytes[0] = 0xCA;
-    bytes[1] = 0xFE;
-    let value = Octets { len: 2, bytes };
+    let value = Octets {
+        len: 2,
+        bytes: *b"\xCA\xFE\0\0\0\0\0\0\0\0\0\0\0\0\0\0",
+    };
     let made = Node::new(0, HeldOctets { held: true, value });
-    let node = made.node;
-    put_story(Output::new(), node, &mut buffer);
+    put_story(Output::new(), made.node, &mut buffer);
 }

@@ -19,30 +19,48 @@ const FORM: Form = Form {
     is_word: false,
 };
 
-// The first `count` of the nodes; node 0 is the border router.
-struct Network {
-    count: usize,
-    nodes: [Node; 16],
+// The nodes 0 to 15; node 0 is the border router.
+type Nodes = [Node; 16];
+
+// What a line asks for: `turn I J` is a turn, `round N` writes who has switched, and any other word with a number begins a network of so
+// many nodes. An empty line, a comment and a turn of other numbers ask for nothing.
+enum Verb {
+    Nothing,
+    Turn,
+    Round,
+    Begin,
 }
 
-// What is kept from line to line.
+struct Order {
+    verb: Verb,
+    word: Word,
+    first: usize,
+    second: usize,
+}
+
+// What is kept from line to line beside the nodes, and what the last line asks for.
 struct Desk {
     line: Line,
     input: Input,
     out: Output,
+    order: Order,
     open: bool,
-    network: Network,
 }
 
-// A node that joined the network CAFE, and was handed the old key set, of identifier 1.
-fn joined(role: u8) -> Node {
-    let mut bytes = [0u8; 16];
-    bytes[0] = 0xCA;
-    bytes[1] = 0xFE;
-    let value = Octets { len: 2, bytes };
+// A node that holds the network identifier CAFE.
+fn made(role: u8) -> Node {
+    let value = Octets {
+        len: 2,
+        bytes: *b"\xCA\xFE\0\0\0\0\0\0\0\0\0\0\0\0\0\0",
+    };
     let made = Node::new(role, HeldOctets { held: true, value });
+    made.node
+}
+
+// A node that joined, and was handed the old key set, of identifier 1.
+fn joined(role: u8) -> Node {
     let mut request = [0u8; 32];
-    let started = made.node.start(&mut request, 1_000, 10_000);
+    let started = made(role).start(&mut request, 1_000, 10_000);
     let answered = started
         .node
         .join_answer(2_000, b"\xA1\x02\x82\x01\x50the old key set.");
@@ -57,30 +75,26 @@ fn updated(node: Node) -> Node {
 
 // A network at the moment when its border router has accepted the new set, which waits at all other nodes. They took up the old set by a
 // frame of the border router.
-fn rekeyed(count: usize) -> Network {
+fn rekeyed() -> Nodes {
     let border = joined(1);
     let first = turn(border, joined(0), 1);
     let ordinary = updated(first.hearer);
-    let mut nodes = [ordinary; 16];
-    nodes[0] = updated(border);
-    Network { count, nodes }
+    stored([ordinary; 16], 0, updated(border))
 }
 
-// The network after a turn of two nodes with a data frame.
-fn exchanged(network: Network, sender: usize, hearer: usize) -> Network {
-    if 16 <= sender {
-        return network;
-    }
-    if 16 <= hearer {
-        return network;
-    }
-    let turned = turn(network.nodes[sender], network.nodes[hearer], 1);
-    let sent = turned.sender;
-    let heard = turned.hearer;
-    let mut after = network;
-    after.nodes[sender] = sent;
-    after.nodes[hearer] = heard;
-    after
+fn load(nodes: Nodes, number: usize) -> Node {
+    nodes[number % 16]
+}
+
+fn stored(mut nodes: Nodes, number: usize, node: Node) -> Nodes {
+    nodes[number % 16] = node;
+    nodes
+}
+
+// The nodes after a turn of two of them with a data frame.
+fn exchanged(nodes: Nodes, sender: usize, hearer: usize) -> Nodes {
+    let turned = turn(load(nodes, sender), load(nodes, hearer), 1);
+    stored(stored(nodes, sender, turned.sender), hearer, turned.hearer)
 }
 
 // Whether the node sends data frames under the new set.
@@ -104,14 +118,20 @@ fn place(number: Decimal) -> usize {
     value as usize
 }
 
-// Which nodes have switched, a number for each.
-fn put_switched(network: Network, out: Output, buffer: &mut Buffer) -> Output {
+// The number, after a space, if it is to be written.
+fn put_number(out: Output, written: bool, number: usize, buffer: &mut Buffer) -> Output {
+    if written {
+        return out.byte(b' ', buffer).number(number as u64, buffer);
+    }
+    out
+}
+
+// Which of the first `count` nodes have switched, a number for each.
+fn put_switched(out: Output, nodes: Nodes, count: usize, buffer: &mut Buffer) -> Output {
     let mut out = out.byte(b':', buffer);
     let mut i: usize = 0;
-    while i < 16 {
-        if i < network.count && has_switched(network.nodes[i]) {
-            out = out.byte(b' ', buffer).number(i as u64, buffer);
-        }
+    while i < count {
+        out = put_number(out, has_switched(load(nodes, i)), i, buffer);
         i += 1;
     }
     out
@@ -132,10 +152,31 @@ fn put_line(word: Word, number: usize, out: Output, buffer: &mut Buffer) -> Outp
     out.number(number as u64, buffer)
 }
 
-// `turn I J` is a turn, `round N` writes who has switched, and any other word with a number begins a network of so many nodes.
-fn obeyed(desk: Desk, line: Line, buffer: &mut Buffer) -> Desk {
+fn no_order() -> Order {
+    Order {
+        verb: Verb::Nothing,
+        word: Word::new(),
+        first: 0,
+        second: 0,
+    }
+}
+
+fn verb_of(word: Word, first: usize, second: usize) -> Verb {
+    if word.is(b"round") {
+        return Verb::Round;
+    }
+    if !word.is(b"turn") {
+        return Verb::Begin;
+    }
+    if first < 16 && second < 16 {
+        return Verb::Turn;
+    }
+    Verb::Nothing
+}
+
+fn order_of(line: Line) -> Order {
     if line.is_silent() {
-        return desk;
+        return no_order();
     }
     let head = line.head;
     let word = head.command;
@@ -143,25 +184,55 @@ fn obeyed(desk: Desk, line: Line, buffer: &mut Buffer) -> Desk {
     let second = head.second;
     let first = place(first);
     let second = place(second);
-    let input = desk.input;
-    let mut network = desk.network;
-    let mut out = desk.out;
-    if word.is(b"turn") {
-        network = exchanged(network, first, second);
-    } else if word.is(b"round") {
-        out = put_line(word, first, out, buffer);
-        out = put_switched(network, out, buffer).byte(b'\n', buffer);
-    } else {
-        out = put_line(word, first, out, buffer).byte(b'\n', buffer);
-        network = rekeyed(first);
+    Order {
+        verb: verb_of(word, first, second),
+        word,
+        first,
+        second,
     }
-    Desk {
-        line: Line::new(),
-        input,
-        out,
-        open: desk.open,
-        network,
+}
+
+// The nodes after an order.
+fn obeyed(nodes: Nodes, order: Order) -> Nodes {
+    let verb = order.verb;
+    match verb {
+        Verb::Turn => exchanged(nodes, order.first, order.second),
+        Verb::Begin => rekeyed(),
+        _ => nodes,
     }
+}
+
+// How many nodes the network has after an order.
+fn counted(count: usize, order: Order) -> usize {
+    let verb = order.verb;
+    if let Verb::Begin = verb {
+        return order.first;
+    }
+    count
+}
+
+fn put_answer(
+    out: Output,
+    order: Order,
+    nodes: Nodes,
+    count: usize,
+    buffer: &mut Buffer,
+) -> Output {
+    let verb = order.verb;
+    match verb {
+        Verb::Round => put_round(
+            put_line(order.word, order.first, out, buffer),
+            nodes,
+            count,
+            buffer,
+        ),
+        Verb::Begin => put_line(order.word, order.first, out, buffer).byte(b'\n', buffer),
+        _ => out,
+    }
+}
+
+fn put_round(out: Output, nodes: Nodes, count: usize, buffer: &mut Buffer) -> Output {
+    put_switched(out, nodes, count, buffer).byte(b'\n', buffer)
 }
 
 // Takes one line, or what there is of it, and reads on where all was taken.
@@ -172,42 +243,54 @@ fn advanced(
     buffer: &mut Buffer,
 ) -> Desk {
     let taken = desk.input.take(desk.line, bytes, FORM, payload);
-    let line = taken.line;
-    let input = taken.input;
-    let network = desk.network;
-    let out = desk.out;
-    if taken.complete {
-        let next = Desk {
-            line: Line::new(),
-            input,
-            out,
-            open: desk.open,
-            network,
-        };
-        return obeyed(next, line, buffer);
+    if !taken.complete {
+        return read_on(taken.line, desk.out, bytes, buffer);
     }
+    let input = taken.input;
+    let out = desk.out;
+    Desk {
+        line: Line::new(),
+        input,
+        out,
+        order: order_of(taken.line),
+        open: true,
+    }
+}
+
+fn read_on(line: Line, out: Output, bytes: &mut [u8; 65536], buffer: &mut Buffer) -> Desk {
     let out = out.flush(buffer);
-    let input = input.fill(bytes);
+    let input = Input::new().fill(bytes);
     Desk {
         line,
         input,
         out,
+        order: no_order(),
         open: out.open && input.end != 0,
-        network,
+    }
+}
+
+fn new_desk() -> Desk {
+    Desk {
+        line: Line::new(),
+        input: Input::new(),
+        out: Output::new(),
+        order: no_order(),
+        open: true,
     }
 }
 
 fn run(bytes: &mut [u8; 65536], payload: &mut [u8; 257], buffer: &mut Buffer) {
-    let mut desk = Desk {
-        line: Line::new(),
-        input: Input::new(),
-        out: Output::new(),
-        open: true,
-        network: rekeyed(0),
-    };
+    let mut nodes = rekeyed();
+    let mut count = 0;
+    let mut desk = new_desk();
     let mut turns = u64::MAX;
     while turns > 0 && desk.open {
         desk = advanced(desk, bytes, payload, buffer);
+        let order = desk.order;
+        let after = obeyed(nodes, order);
+        nodes = after;
+        count = counted(count, order);
+        desk.out = put_answer(desk.out, order, nodes, count, buffer);
         turns -= 1;
     }
     desk.out.flush(buffer);

@@ -1,16 +1,15 @@
 // Writes the object of each payload that is read, into the room that it takes and into one byte less, and reads what was written again.
 // The input has decode's commands; tools/round_trip.py makes it, and the expected output, from decode's.
-mod configuration;
-mod destination;
-mod request;
+mod again;
+mod object;
 
+use text::desk::Desk;
 use text::hex::Hex;
 use text::hex::Payload;
-use text::input::Input;
 use text::line::Form;
-use text::line::Line;
 use text::output::Buffer;
 use text::output::Output;
+use text::word::Word;
 
 // A command and HEX.
 const FORM: Form = Form {
@@ -18,78 +17,39 @@ const FORM: Form = Form {
     is_word: false,
 };
 
-// What is kept from line to line.
-struct Desk {
-    line: Line,
-    input: Input,
-    out: Output,
-    open: bool,
-}
-
-// Answers the line; an empty one and a comment are not answered.
-fn answer(line: Line, payload: &[u8; 257], out: Output, buffer: &mut Buffer) -> Output {
-    if line.is_silent() {
-        return out;
-    }
-    let out = answer_command(line, payload, out, buffer);
-    out.byte(b'\n', buffer)
-}
-
-fn answer_command(line: Line, payload: &[u8; 257], out: Output, buffer: &mut Buffer) -> Output {
-    let command = line.head.command;
-    let hex = line.tail.hex;
-    let whole = &payload[..];
+fn answer(command: Word, hex: Hex, payload: &[u8], out: Output, buffer: &mut Buffer) -> Output {
     let Payload::Bytes(len) = hex.payload() else {
         return out.text(b"error hex", buffer);
     };
-    if whole.len() < len {
-        return out.text(b"error hex", buffer);
-    }
-    if command.is(b"request") {
-        return request::answer(&whole[0..len], out, buffer);
-    }
-    configuration::answer(&whole[0..len], out, buffer)
+    again::answer(
+        command.is(b"request"),
+        text::first(payload, len),
+        out,
+        buffer,
+    )
 }
 
-// Takes one line, or what there is of it, and reads on where all was taken.
-fn turn(desk: Desk, bytes: &mut [u8; 65536], payload: &mut [u8; 257], buffer: &mut Buffer) -> Desk {
-    let input = desk.input;
-    let taken = input.take(desk.line, bytes, FORM, payload);
-    let input = taken.input;
-    let line = taken.line;
-    if taken.complete {
-        return Desk {
-            line: Line::new(),
-            input,
-            out: answer(line, payload, desk.out, buffer),
-            open: desk.open,
-        };
+// Answers the next line; an empty one and a comment are not answered.
+fn turn(desk: Desk, bytes: &mut Buffer, payload: &mut [u8; 257], buffer: &mut Buffer) -> Desk {
+    let asked = desk.next(FORM, bytes, payload, buffer);
+    let line = asked.line;
+    let mut desk = asked.desk;
+    if !line.is_silent() {
+        let out = answer(line.head.command, line.tail.hex, payload, desk.out, buffer);
+        desk.out = out.byte(b'\n', buffer);
     }
-    let out = desk.out.flush(buffer);
-    let input = input.fill(bytes);
-    Desk {
-        line,
-        input,
-        out,
-        open: out.open && input.end != 0,
-    }
+    desk
 }
 
 // Answers line after line until the input ends or nobody reads the answers.
-fn run(bytes: &mut [u8; 65536], payload: &mut [u8; 257], buffer: &mut Buffer) {
-    let mut desk = Desk {
-        line: Line::new(),
-        input: Input::new(),
-        out: Output::new(),
-        open: true,
-    };
+fn run(bytes: &mut Buffer, payload: &mut [u8; 257], buffer: &mut Buffer) {
+    let mut desk = Desk::new();
     let mut turns = u64::MAX;
     while turns > 0 && desk.open {
         desk = turn(desk, bytes, payload, buffer);
         turns -= 1;
     }
-    let out = answer(desk.line, payload, desk.out, buffer);
-    out.flush(buffer);
+    desk.out.flush(buffer);
 }
 
 fn main() {

@@ -1,14 +1,21 @@
 // The desk tool simulate: up to 16 nodes, made and called by lines of standard input (docs/TOOLS.md).
+mod fill;
 mod nodes;
 mod order;
 mod perform;
+mod reply;
 mod show;
 
-use nodes::Nodes;
+use nodes::load;
 use nodes::no_nodes;
 use nodes::obey;
-use order::Fault;
+use order::Made;
+use order::Order;
+use order::Verb;
+use order::no_order;
 use order::order_of;
+use reply::marked;
+use reply::put_answer;
 use text::input::Input;
 use text::line::Form;
 use text::line::Line;
@@ -21,115 +28,93 @@ const FORM: Form = Form {
     is_word: true,
 };
 
-// What is kept from line to line.
+// What is kept from line to line beside the nodes, and what the last line asks for.
 struct Desk {
     line: Line,
     input: Input,
     out: Output,
-    nodes: Nodes,
+    order: Order,
     open: bool,
 }
 
-// The nodes as a line left them, and the output with its answer.
-pub struct Answered {
-    pub nodes: Nodes,
-    pub out: Output,
-}
-
-// Answers the line; an empty one and a comment are not answered.
-fn answer(
-    nodes: Nodes,
-    line: Line,
-    payload: &[u8; 257],
-    out: Output,
-    buffer: &mut Buffer,
-) -> Answered {
-    if line.is_silent() {
-        return Answered { nodes, out };
-    }
-    let answered = answer_command(nodes, line, payload, out, buffer);
-    let nodes = answered.nodes;
-    let out = answered.out;
-    Answered {
-        nodes,
-        out: out.byte(b'\n', buffer),
-    }
-}
-
-fn answer_command(
-    nodes: Nodes,
-    line: Line,
-    payload: &[u8; 257],
-    out: Output,
-    buffer: &mut Buffer,
-) -> Answered {
-    let order = order_of(line);
-    let fault = order.fault;
-    match fault {
-        Fault::Nothing => obey(nodes, order, payload, out, buffer),
-        Fault::Command => Answered {
-            nodes,
-            out: out.text(b"error command", buffer),
-        },
-        Fault::Number => Answered {
-            nodes,
-            out: out.text(b"error number", buffer),
-        },
-        Fault::Hex => Answered {
-            nodes,
-            out: out.text(b"error hex", buffer),
-        },
+fn new_desk() -> Desk {
+    Desk {
+        line: Line::new(),
+        input: Input::new(),
+        out: Output::new(),
+        order: no_order(Verb::Nothing, 0),
+        open: true,
     }
 }
 
 // Takes one line, or what there is of it, and reads on where all was taken.
-fn turn(desk: Desk, bytes: &mut [u8; 65536], payload: &mut [u8; 257], buffer: &mut Buffer) -> Desk {
-    let input = desk.input;
-    let nodes = desk.nodes;
-    let taken = input.take(desk.line, bytes, FORM, payload);
-    let input = taken.input;
-    let line = taken.line;
-    if taken.complete {
-        let answered = answer(nodes, line, payload, desk.out, buffer);
-        let nodes = answered.nodes;
-        let out = answered.out;
-        return Desk {
-            line: Line::new(),
-            input,
-            out,
-            nodes,
-            open: desk.open,
-        };
+fn advanced(
+    desk: Desk,
+    made: Made,
+    bytes: &mut [u8; 65536],
+    payload: &mut [u8; 257],
+    buffer: &mut Buffer,
+) -> Desk {
+    let taken = desk.input.take(desk.line, bytes, FORM, payload);
+    if !taken.complete {
+        return read_on(taken.line, made, desk.out, bytes, buffer);
     }
-    let out = desk.out.flush(buffer);
-    let input = input.fill(bytes);
+    let input = taken.input;
+    let out = desk.out;
+    Desk {
+        line: Line::new(),
+        input,
+        out,
+        order: order_of(taken.line, true, made),
+        open: true,
+    }
+}
+
+// Writes what waits and reads more of the line, which is over at the input's end. The desk closes there, and where nobody reads the answers.
+fn read_on(
+    line: Line,
+    made: Made,
+    out: Output,
+    bytes: &mut [u8; 65536],
+    buffer: &mut Buffer,
+) -> Desk {
+    let out = out.flush(buffer);
+    let input = Input::new().fill(bytes);
+    let ended = input.end == 0;
     Desk {
         line,
         input,
         out,
-        nodes,
-        open: out.open && input.end != 0,
+        order: order_of(line, ended, made),
+        open: out.open && !ended,
     }
 }
 
 // Answers line after line until the input ends or nobody reads the answers.
 fn run(bytes: &mut [u8; 65536], payload: &mut [u8; 257], buffer: &mut Buffer) {
-    let nodes = no_nodes();
-    let mut desk = Desk {
-        line: Line::new(),
-        input: Input::new(),
-        out: Output::new(),
-        nodes,
-        open: true,
-    };
+    let mut nodes = no_nodes();
+    let mut made: Made = [false; 16];
+    let mut desk = new_desk();
     let mut turns = u64::MAX;
     while turns > 0 && desk.open {
-        desk = turn(desk, bytes, payload, buffer);
+        desk = advanced(desk, made, bytes, payload, buffer);
+        let order = desk.order;
+        let done = obey(nodes, order, payload);
+        let reply = done.reply;
+        nodes = done.nodes;
+        let now_made = marked(made, order.first, reply);
+        made = now_made;
+        desk.out = put_answer(
+            desk.out,
+            reply,
+            load(nodes, order.first),
+            order,
+            payload,
+            buffer,
+        );
         turns -= 1;
     }
-    let nodes = desk.nodes;
-    let answered = answer(nodes, desk.line, payload, desk.out, buffer);
-    answered.out.flush(buffer);
+    desk.out.flush(buffer);
 }
 
 fn main() {

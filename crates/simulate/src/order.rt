@@ -1,11 +1,19 @@
-// What a line asks for: its command, with its numbers and HEX, and what is wrong with it.
+// What a line asks for: its command, with its numbers and HEX, or what is wrong with it.
+use crate::nodes::index;
+use crate::reply::NO_COMMAND;
+use crate::reply::NO_HEX;
+use crate::reply::NO_NODE;
+use crate::reply::NO_NUMBER;
 use text::decimal::Decimal;
 use text::hex::Payload;
 use text::line::Line;
 use text::word::Word;
 
 pub enum Verb {
-    Unknown,
+    // an empty line, a comment, or a line that is not over
+    Nothing,
+    // a line that is no command
+    Wrong,
     Make,
     Start,
     Poll,
@@ -30,17 +38,13 @@ struct Shape {
     hex: bool,
 }
 
-// What is wrong with a line, in the order in which it is asked.
-pub enum Fault {
-    Nothing,
-    Command,
-    Number,
-    Hex,
-}
+// Which of the nodes 0 to 15 are made.
+pub type Made = [bool; 16];
 
 pub struct Order {
     pub verb: Verb,
-    pub fault: Fault,
+    // the answer to a line that is no command, by its number; else 0
+    pub fault: u64,
     pub first: u64,
     pub second: u64,
     pub third: u64,
@@ -50,41 +54,69 @@ pub struct Order {
     pub none: bool,
 }
 
+// How far a word was looked for in a list of words: so many were passed, and so many letters of the next are its own.
+struct Search {
+    passed: u64,
+    same: usize,
+}
+
+impl Search {
+    // The search after the list's next character.
+    fn next(self, c: u8, word: Word) -> Search {
+        if c == b'|' {
+            return Search {
+                passed: self.passed % 64 + 1,
+                same: 0,
+            };
+        }
+        let same = self.same;
+        let letters = word.letters;
+        if same < 16 && letters[same] == c {
+            return Search {
+                passed: self.passed,
+                same: same + 1,
+            };
+        }
+        Search {
+            passed: self.passed,
+            same: 99,
+        }
+    }
+}
+
+// The number of the word in a list of words with a bar after each, from 0 on; 99 for one that is not there.
+fn number_in(list: &[u8], word: Word) -> u64 {
+    let mut search = Search { passed: 0, same: 0 };
+    let mut i = 0;
+    while i < list.len() {
+        let c = list[i];
+        if c == b'|' && search.same == word.len {
+            return search.passed;
+        }
+        search = search.next(c, word);
+        i += 1;
+    }
+    99
+}
+
 fn verb_of(word: Word) -> Verb {
-    if word.is(b"turn") {
-        return Verb::Turn;
+    match number_in(
+        b"turn|poll|show|update|answer|start|holds|send|receive|verified|node|",
+        word,
+    ) {
+        0 => Verb::Turn,
+        1 => Verb::Poll,
+        2 => Verb::Show,
+        3 => Verb::Update,
+        4 => Verb::Answer,
+        5 => Verb::Start,
+        6 => Verb::Holds,
+        7 => Verb::Send,
+        8 => Verb::Receive,
+        9 => Verb::Verified,
+        10 => Verb::Make,
+        _ => Verb::Wrong,
     }
-    if word.is(b"poll") {
-        return Verb::Poll;
-    }
-    if word.is(b"show") {
-        return Verb::Show;
-    }
-    if word.is(b"update") {
-        return Verb::Update;
-    }
-    if word.is(b"answer") {
-        return Verb::Answer;
-    }
-    if word.is(b"start") {
-        return Verb::Start;
-    }
-    if word.is(b"holds") {
-        return Verb::Holds;
-    }
-    if word.is(b"send") {
-        return Verb::Send;
-    }
-    if word.is(b"receive") {
-        return Verb::Receive;
-    }
-    if word.is(b"verified") {
-        return Verb::Verified;
-    }
-    if word.is(b"node") {
-        return Verb::Make;
-    }
-    Verb::Unknown
 }
 
 const ANY: u64 = u64::MAX;
@@ -103,7 +135,8 @@ fn shaped(words: usize, second: u64, third: u64, hex: bool) -> Shape {
 
 fn shape_of(verb: Verb) -> Shape {
     match verb {
-        Verb::Unknown => shaped(0, ANY, ANY, false),
+        Verb::Nothing => shaped(0, ANY, ANY, false),
+        Verb::Wrong => shaped(0, ANY, ANY, false),
         Verb::Make => shaped(3, BYTE, ANY, true),
         Verb::Start => shaped(4, ANY, ANY, false),
         Verb::Poll | Verb::Holds => shaped(3, ANY, ANY, false),
@@ -126,11 +159,14 @@ fn has_words(line: Line, shape: Shape) -> bool {
     shape.words == line.words()
 }
 
-fn is_within(number: Decimal, most: u64) -> bool {
+// Whether the word is a number up to `most`, where it is asked for.
+fn fits(asked: bool, number: Decimal, most: u64) -> bool {
+    if !asked {
+        return true;
+    }
     match number {
-        Decimal::Empty => false,
         Decimal::Number(value) => value <= most,
-        Decimal::Fault => false,
+        _ => false,
     }
 }
 
@@ -141,18 +177,9 @@ fn has_numbers(line: Line, shape: Shape) -> bool {
     let first = head.first;
     let second = head.second;
     let third = tail.number;
-    if !is_within(first, ANY) {
-        return false;
-    }
-    if 2 < shape.words {
-        if !is_within(second, shape.second) {
-            return false;
-        }
-    }
-    if 3 < shape.words {
-        return is_within(third, shape.third);
-    }
-    true
+    fits(true, first, ANY)
+        && fits(2 < shape.words, second, shape.second)
+        && fits(3 < shape.words, third, shape.third)
 }
 
 // Whether `-` alone stands where HEX would.
@@ -178,46 +205,88 @@ fn has_hex(line: Line, verb: Verb) -> bool {
     }
 }
 
-fn fault_of(line: Line, verb: Verb) -> Fault {
+// Whether a node has this number.
+fn is_made(made: Made, number: u64) -> bool {
+    let at = index(number);
+    number < 16 && made[at]
+}
+
+// Whether the numbers name nodes: a turn's two different ones, and that of a new one need not be made.
+fn names_nodes(made: Made, verb: Verb, first: u64, second: u64) -> bool {
+    match verb {
+        Verb::Make => first < 16,
+        Verb::Turn => first != second && is_made(made, first) && is_made(made, second),
+        _ => is_made(made, first),
+    }
+}
+
+// What is wrong with a line, by the number of its answer, or 0.
+fn fault_of(line: Line, order: Order, made: Made) -> u64 {
+    let verb = order.verb;
     let shape = shape_of(verb);
     if !has_words(line, shape) {
-        return Fault::Command;
+        return NO_COMMAND;
     }
     if !has_numbers(line, shape) {
-        return Fault::Number;
+        return NO_NUMBER;
     }
-    if shape.hex {
-        if !has_hex(line, verb) {
-            return Fault::Hex;
-        }
+    if shape.hex && !has_hex(line, verb) {
+        return NO_HEX;
     }
-    Fault::Nothing
+    if names_nodes(made, verb, order.first, order.second) {
+        return 0;
+    }
+    NO_NODE
 }
 
 // The number, or 0 where there is none.
 fn value(number: Decimal) -> u64 {
     match number {
-        Decimal::Empty => 0,
         Decimal::Number(value) => value,
-        Decimal::Fault => 0,
+        _ => 0,
     }
 }
 
-pub fn order_of(line: Line) -> Order {
+// The order of a line that is no command.
+pub fn no_order(verb: Verb, fault: u64) -> Order {
+    Order {
+        verb,
+        fault,
+        first: 0,
+        second: 0,
+        third: 0,
+        len: 0,
+        none: false,
+    }
+}
+
+// What a line asks for, if it is over.
+pub fn order_of(line: Line, over: bool, made: Made) -> Order {
+    if !over || line.is_silent() {
+        return no_order(Verb::Nothing, 0);
+    }
+    let order = words_of(line);
+    let fault = fault_of(line, order, made);
+    if fault == 0 {
+        return order;
+    }
+    no_order(Verb::Wrong, fault)
+}
+
+// The order that the line's words spell, if they are right.
+fn words_of(line: Line) -> Order {
     let head = line.head;
     let tail = line.tail;
-    let verb = verb_of(head.command);
     let first = head.first;
     let second = head.second;
     let third = tail.number;
-    let hex = tail.hex;
     Order {
-        verb,
-        fault: fault_of(line, verb),
+        verb: verb_of(head.command),
+        fault: 0,
         first: value(first),
         second: value(second),
         third: value(third),
-        len: hex.len,
+        len: tail.hex.len,
         none: is_none(line),
     }
 }

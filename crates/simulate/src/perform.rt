@@ -1,168 +1,128 @@
-// What a command does to one node, and its answer.
+// What a command does to one node, and what it is answered.
 use crate::order::Order;
 use crate::order::Verb;
-use crate::show::put_node;
-use cojp::Report;
-use node::Change;
-use node::Due;
-use node::Holding;
-use node::KeyAnswer;
+use crate::reply::MADE;
+use crate::reply::Reply;
+use crate::reply::change_reply;
+use crate::reply::delivery_reply;
+use crate::reply::due_reply;
+use crate::reply::holding_reply;
+use crate::reply::start_reply;
+use cojp::Octets;
+use node::Delivered;
+use node::HeldOctets;
 use node::Node;
-use node::Reports;
 use refusal::Verdict;
-use text::output::Buffer;
-use text::output::Output;
 
-// The node as the command left it, and the output with the answer.
+// The node as the command left it, and what it is answered.
 pub struct Done {
     pub node: Node,
-    pub out: Output,
+    pub reply: Reply,
 }
 
-// The longest join request has 21 bytes.
-const REQUEST: usize = 32;
-
-fn start(node: Node, time: u64, timeout: u64, out: Output, buffer: &mut Buffer) -> Done {
-    let mut request = [0u8; REQUEST];
-    let started = node.start(&mut request, time, timeout);
-    let node = started.node;
-    let verdict = started.verdict;
-    let out = match verdict {
-        Verdict::Accepted => put_sent(out, &request, started.length, buffer),
-        Verdict::Refused(refusal) => notation::put_refusal(out, refusal, buffer),
-    };
-    Done { node, out }
+fn with_reply(node: Node, reply: Reply) -> Done {
+    Done { node, reply }
 }
 
-fn put_sent(out: Output, request: &[u8; REQUEST], length: usize, buffer: &mut Buffer) -> Output {
-    let whole = &request[..];
-    let out = out.text(b"sent ", buffer);
-    if whole.len() < length {
-        return out.octets(whole, buffer);
-    }
-    out.octets(&whole[0..length], buffer)
+// What stands for a node that was not made.
+pub fn no_node() -> Node {
+    let made = Node::new(0, identifier(b"", true));
+    made.node
 }
 
-fn poll(node: Node, time: u64, out: Output, buffer: &mut Buffer) -> Done {
-    let polled = node.poll(time);
-    let node = polled.node;
-    let due = polled.due;
-    let out = match due {
-        Due::Refused(refusal) => notation::put_refusal(out, refusal, buffer),
-        Due::NotYet => out.text(b"not yet", buffer),
-        Due::SendAgain => out.text(b"send again", buffer),
-        Due::GaveUp => out.text(b"gave up", buffer),
-    };
-    Done { node, out }
-}
-
-// A join answer, or an update.
-fn deliver(
-    node: Node,
-    time: u64,
-    payload: &[u8],
-    is_update: bool,
-    out: Output,
-    buffer: &mut Buffer,
-) -> Done {
-    let delivered = if is_update {
-        node.update(time, payload)
-    } else {
-        node.join_answer(time, payload)
-    };
-    let node = delivered.node;
-    let verdict = delivered.verdict;
-    let out = match verdict {
-        Verdict::Accepted => put_reports(out, delivered.reports, buffer),
-        Verdict::Refused(refusal) => notation::put_refusal(out, refusal, buffer),
-    };
-    Done { node, out }
-}
-
-fn put_reports(out: Output, reports: Reports, buffer: &mut Buffer) -> Output {
-    let keys = reports.keys;
-    let address = reports.address;
-    let jrc = reports.jrc;
-    let network = reports.network;
-    let prefix = reports.prefix;
-    let out = put_report(out, b"accepted keys=", keys, buffer);
-    let out = put_report(out, b" address=", address, buffer);
-    let out = put_report(out, b" jrc=", jrc, buffer);
-    let out = put_report(out, b" network=", network, buffer);
-    let out = put_report(out, b" prefix=", prefix, buffer);
-    let out = out.text(b" passed=", buffer);
-    out.number(reports.passed, buffer)
-}
-
-fn put_report(out: Output, name: &[u8], report: Report, buffer: &mut Buffer) -> Output {
-    let out = out.text(name, buffer);
-    match report {
-        Report::Absent => out.text(b"absent", buffer),
-        Report::Taken => out.text(b"taken", buffer),
-        Report::Discarded => out.text(b"discarded", buffer),
-    }
-}
-
-fn holds(node: Node, time: u64, out: Output, buffer: &mut Buffer) -> Done {
-    let out = match node.address_holds(time) {
-        Holding::Refused(refusal) => notation::put_refusal(out, refusal, buffer),
-        Holding::Holds => out.text(b"yes", buffer),
-        Holding::Lapsed => out.text(b"no", buffer),
-    };
-    Done { node, out }
-}
-
-fn put_key_answer(out: Output, answer: KeyAnswer, buffer: &mut Buffer) -> Output {
-    let verdict = answer.verdict;
-    match verdict {
-        Verdict::Accepted => {
-            let out = out.text(b"key ", buffer);
-            notation::put_key(out, answer.key, buffer)
+// The bytes as a network identifier, or none. One of over 16 bytes is handed on by its length, for the library to refuse.
+fn identifier(payload: &[u8], none: bool) -> HeldOctets {
+    let len = payload.len();
+    let mut bytes = [0u8; 16];
+    let mut i = 0;
+    while i < len {
+        if 16 <= i {
+            break;
         }
-        Verdict::Refused(refusal) => notation::put_refusal(out, refusal, buffer),
+        bytes[i] = payload[i];
+        i += 1;
+    }
+    HeldOctets {
+        held: !none,
+        value: Octets { len, bytes },
     }
 }
 
-fn verified(node: Node, frame_type: u8, identifier: u8, out: Output, buffer: &mut Buffer) -> Done {
-    let heard = node.verified(frame_type, identifier);
-    let node = heard.node;
-    let change = heard.change;
-    let out = match change {
-        Change::Refused(refusal) => notation::put_refusal(out, refusal, buffer),
-        Change::Switched => out.text(b"switched", buffer),
-        Change::Kept => out.text(b"kept", buffer),
-    };
-    Done { node, out }
+// The first bytes of the payload's place.
+pub fn first<'a>(payload: &'a [u8; 257], len: usize) -> &'a [u8] {
+    let whole = &payload[..];
+    if whole.len() < len {
+        return whole;
+    }
+    &whole[0..len]
 }
 
-// The number as a byte; an order's frame types and identifiers are no larger.
-fn byte(number: u64) -> u8 {
+// The number as a byte; an order's roles, frame types and identifiers are no larger.
+pub fn byte(number: u64) -> u8 {
     (number % 256) as u8
 }
 
-// A command on one node that exists.
-pub fn perform(node: Node, order: Order, payload: &[u8], out: Output, buffer: &mut Buffer) -> Done {
+// The node after an order that names it. A join request that it sends is written over the payload.
+pub fn perform(node: Node, order: Order, payload: &mut [u8; 257]) -> Done {
     let verb = order.verb;
-    let second = order.second;
-    let third = order.third;
     match verb {
-        Verb::Start => start(node, second, third, out, buffer),
-        Verb::Poll => poll(node, second, out, buffer),
-        Verb::Answer => deliver(node, second, payload, false, out, buffer),
-        Verb::Update => deliver(node, second, payload, true, out, buffer),
-        Verb::Holds => holds(node, second, out, buffer),
-        Verb::Send => Done {
-            node,
-            out: put_key_answer(out, node.sending_key(byte(second)), buffer),
-        },
-        Verb::Receive => Done {
-            node,
-            out: put_key_answer(out, node.receiving_key(byte(second), byte(third)), buffer),
-        },
-        Verb::Verified => verified(node, byte(second), byte(third), out, buffer),
-        _ => Done {
-            node,
-            out: put_node(out, node, buffer),
-        },
+        Verb::Make => make(node, order, first(payload, order.len)),
+        Verb::Start => start(node, order, payload),
+        Verb::Answer => answer(node, order.second, first(payload, order.len)),
+        Verb::Update => update(node, order.second, first(payload, order.len)),
+        _ => call(node, order),
     }
+}
+
+// The command `node I ROLE NETWORK`; a refused one leaves the node that was there.
+fn make(node: Node, order: Order, network: &[u8]) -> Done {
+    let made = Node::new(byte(order.second), identifier(network, order.none));
+    let verdict = made.verdict;
+    match verdict {
+        Verdict::Refused(refusal) => with_reply(node, Reply::Refused(refusal)),
+        Verdict::Accepted => with_reply(made.node, Reply::Said(MADE)),
+    }
+}
+
+fn start(node: Node, order: Order, request: &mut [u8; 257]) -> Done {
+    let started = node.start(request, order.second, order.third);
+    let verdict = started.verdict;
+    with_reply(started.node, start_reply(verdict, started.length))
+}
+
+fn answer(node: Node, time: u64, payload: &[u8]) -> Done {
+    delivered(node.join_answer(time, payload))
+}
+
+fn update(node: Node, time: u64, payload: &[u8]) -> Done {
+    delivered(node.update(time, payload))
+}
+
+fn delivered(delivered: Delivered) -> Done {
+    let verdict = delivered.verdict;
+    with_reply(delivered.node, delivery_reply(verdict, delivered.reports))
+}
+
+// A command without payload, a question, or a line that is no command.
+fn call(node: Node, order: Order) -> Done {
+    let verb = order.verb;
+    match verb {
+        Verb::Poll => poll(node, order.second),
+        Verb::Verified => verified(node, byte(order.second), byte(order.third)),
+        Verb::Holds => with_reply(node, holding_reply(node.address_holds(order.second))),
+        Verb::Wrong => with_reply(node, Reply::Said(order.fault)),
+        _ => with_reply(node, Reply::Asked),
+    }
+}
+
+fn poll(node: Node, time: u64) -> Done {
+    let polled = node.poll(time);
+    let due = polled.due;
+    with_reply(polled.node, due_reply(due))
+}
+
+fn verified(node: Node, frame_type: u8, identifier: u8) -> Done {
+    let heard = node.verified(frame_type, identifier);
+    let change = heard.change;
+    with_reply(heard.node, change_reply(change))
 }

@@ -34,19 +34,10 @@ impl Word {
     // Whether it is the word `name`, which has at most 16 letters.
     pub fn is(self, name: &[u8]) -> bool {
         let letters = self.letters;
-        if self.len != name.len() {
-            return false;
-        }
         let mut i = 0;
-        while i < name.len() {
-            if 16 <= i {
-                return false;
-            }
-            if letters[i] != name[i] {
-                return false;
-            }
+        while i < 16 && i < name.len() && letters[i] == name[i] {
             i += 1;
         }
-        true
+        (i == self.len) & (i == name.len())
     }
 }

@@ -1,4 +1,4 @@
--- Demand 3 follows from the node's laws, which `node::laws` ensures.
+-- Demand 3 follows from the node's laws, which `node_laws::laws` ensures.
 use borrow.Author.Needs.{needs}
 use Rattle.network.proofs.Rekey.{demand3}
 use Rattle.network.proofs.rekey_reaches_all.Statement.{statement}

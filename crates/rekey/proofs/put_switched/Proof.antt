@@ -1,14 +1,14 @@
 -- `put_switched` is safe and ends: the measure is how many nodes are left.
-use Prim.Native.Nat.{_-_}
+use Prim.Native.Nat.{_-_, _≤_}
 use borrow.Author.Needs.{needs}
 use Rattle.rekey.proofs.put_switched.Statement.{statement}
 use Rattle.rekey.proofs.put_switched.Tie as tie
 
 abbrev Inv-loop : tie.InvT-loop
-Inv-loop buffer₀ network out₀ i₀ buffer out i = Unit {0}
+Inv-loop nodes count buffer₀ out₀ i₀ buffer out i = Unit {0}
 
 abbrev μ-loop : tie.MeasureT-loop
-μ-loop buffer₀ network out₀ i₀ buffer out i = 16 - i
+μ-loop nodes count buffer₀ out₀ i₀ buffer out i = count - i
 
 byte-requires : tie.Need-byte-requires Inv-loop μ-loop
 byte-requires c κs = search needs
@@ -16,20 +16,14 @@ byte-requires c κs = search needs
 loop-holds : tie.Need-loop-holds Inv-loop μ-loop
 loop-holds c = search needs
 
-mul-has-switched : tie.Need-mul-has-switched Inv-loop μ-loop
-mul-has-switched c = search needs
-
-element-copy-out-has-switched : tie.Need-element-copy-out-has-switched Inv-loop μ-loop
-element-copy-out-has-switched c = search needs
+load-requires : tie.Need-load-requires Inv-loop μ-loop
+load-requires c κs = search needs
 
 has-switched-requires : tie.Need-has-switched-requires Inv-loop μ-loop
 has-switched-requires c κs = search needs
 
-byte-requires-2 : tie.Need-byte-requires-2 Inv-loop μ-loop
-byte-requires-2 c κs = search needs
-
-number-requires : tie.Need-number-requires Inv-loop μ-loop
-number-requires c κs = search needs
+put-number-requires : tie.Need-put-number-requires Inv-loop μ-loop
+put-number-requires c κs = search needs
 
 add-i : tie.Need-add-i Inv-loop μ-loop
 add-i c = search needs
@@ -51,11 +45,9 @@ put-switched-spec =
     μ-loop
     byte-requires
     loop-holds
-    mul-has-switched
-    element-copy-out-has-switched
+    load-requires
     has-switched-requires
-    byte-requires-2
-    number-requires
+    put-number-requires
     add-i
     loop-less
     loop-again

@@ -4,28 +4,31 @@ use Rattle.rekey.proofs.run.Statement.{statement}
 use Rattle.rekey.proofs.run.Tie as tie
 
 abbrev Inv-loop : tie.InvT-loop
-Inv-loop bytes₀ payload₀ buffer₀ desk₀ turns₀ bytes payload buffer desk turns = Unit {0}
+Inv-loop bytes₀ payload₀ buffer₀ nodes₀ count₀ desk₀ turns₀ bytes payload buffer nodes count desk turns = Unit {0}
 
 abbrev μ-loop : tie.MeasureT-loop
-μ-loop bytes₀ payload₀ buffer₀ desk₀ turns₀ bytes payload buffer desk turns = turns
-
-new-requires : tie.Need-new-requires Inv-loop μ-loop
-new-requires c κs = search needs
-
-new-requires-2 : tie.Need-new-requires-2 Inv-loop μ-loop
-new-requires-2 c κs = search needs
-
-new-requires-3 : tie.Need-new-requires-3 Inv-loop μ-loop
-new-requires-3 c κs = search needs
+μ-loop bytes₀ payload₀ buffer₀ nodes₀ count₀ desk₀ turns₀ bytes payload buffer nodes count desk turns = turns
 
 rekeyed-requires : tie.Need-rekeyed-requires Inv-loop μ-loop
 rekeyed-requires c κs = search needs
+
+new-desk-requires : tie.Need-new-desk-requires Inv-loop μ-loop
+new-desk-requires c κs = search needs
 
 loop-holds : tie.Need-loop-holds Inv-loop μ-loop
 loop-holds c = search needs
 
 advanced-requires : tie.Need-advanced-requires Inv-loop μ-loop
 advanced-requires c κs = search needs
+
+obeyed-requires : tie.Need-obeyed-requires Inv-loop μ-loop
+obeyed-requires c κs = search needs
+
+counted-requires : tie.Need-counted-requires Inv-loop μ-loop
+counted-requires c κs = search needs
+
+put-answer-requires : tie.Need-put-answer-requires Inv-loop μ-loop
+put-answer-requires c κs = search needs
 
 sub-turns : tie.Need-sub-turns Inv-loop μ-loop
 sub-turns c = search needs
@@ -48,12 +51,13 @@ run-spec =
     (tie.spec
     Inv-loop
     μ-loop
-    new-requires
-    new-requires-2
-    new-requires-3
     rekeyed-requires
+    new-desk-requires
     loop-holds
     advanced-requires
+    obeyed-requires
+    counted-requires
+    put-answer-requires
     sub-turns
     loop-less
     loop-again

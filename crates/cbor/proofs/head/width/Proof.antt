@@ -1,6 +1,7 @@
--- Each arm is one computed power of two.
+-- Each arm is one computed power of two, or none.
+use Prim.Native.Nat.{_<_}
 use native.Mathlib.Omega.{arith}
-use mathlib.Core.Path.{_≡_}
+use borrow.Author.Tests.{lt-ltb}
 use Rattle.cbor.proofs.head.width.Statement.{statement}
 use Rattle.cbor.proofs.head.width.Tie as tie
 
@@ -14,9 +15,12 @@ returns-3 : tie.Need-returns-3
 returns-3 c = (rw (c .match .keys3), omega arith)
 
 returns-4 : tie.Need-returns-4
-returns-4 c =
-    let e : c .before .args .info ≡ 27 = omega arith in
-    (rw e, omega arith)
+returns-4 c = (rw (c .match .keys4), omega arith)
+
+returns-5 : tie.Need-returns-5
+returns-5 c =
+    let h : c .before .args .info < 24 = omega arith in
+    (rw (lt-ltb (c .before .args .info) 24 h), omega arith)
 
 pub width-spec : {M : Type 1} → statement M
-width-spec = tie.close (tie.spec returns returns-2 returns-3 returns-4)
+width-spec = tie.close (tie.spec returns returns-2 returns-3 returns-4 returns-5)

@@ -1,87 +1,51 @@
 -- What is still to be read from here on is what was to be read from the start; at most so many labels were passed over as there were pairs.
 use native.Mathlib.Omega.{arith}
-use Prim.Native.Nat.{_+_, _≤_}
-use mathlib.Core.Path.{_≡_, _∙_}
-use lib.ListN.{drop}
-use Rattle.cojp_read.specs.Pairs.{walkAt}
-use Rattle.cojp.specs.Configuration.{configurationForm, emptyConfiguration}
-use Rattle.cojp_read.proofs.Maps.{walk-done, walk-refused, walk-stop, walk-on}
 use borrow.Author.Needs.{needs}
+use mathlib.Core.Path.{refl, _∙_}
+use lib.ListN.{drop}
+use Rattle.cojp.specs.Configuration.{configurationForm, emptyConfiguration}
+use Rattle.map_walk.specs.Pairs.{walkAt}
+use Rattle.map_walk.proofs.Maps.{Walking, walking-next, walk-done, left-less}
 use Rattle.cojp_read.proofs.configuration.take_pairs.Statement.{statement}
 use Rattle.cojp_read.proofs.configuration.take_pairs.Tie as tie
 
 abbrev Inv-loop : tie.InvT-loop
-Inv-loop s start count at₀ left₀ c₀ at left c =
-    (c .passed + left ≤ count) × (walkAt configurationForm left c (drop at s) ≡ walkAt configurationForm count emptyConfiguration (drop start s))
+Inv-loop s start count at₀ left₀ read₀ at left read =
+    Walking configurationForm (walkAt configurationForm count emptyConfiguration (drop start s)) count (read .configuration .passed) left (read .verdict) (read .configuration) (drop at s)
 
 abbrev μ-loop : tie.MeasureT-loop
-μ-loop s start count at₀ left₀ c₀ at left c = left
+μ-loop s start count at₀ left₀ read₀ at left read = left
 
-empty-configuration-requires : tie.Need-empty-configuration-requires Inv-loop μ-loop
-empty-configuration-requires c κs = search needs
+nothing-read-requires : tie.Need-nothing-read-requires Inv-loop μ-loop
+nothing-read-requires c κs = search needs
 
 loop-holds : tie.Need-loop-holds Inv-loop μ-loop
-loop-holds c = (rw (c .empty-configuration .ensures) (omega arith), rw (c .empty-configuration .ensures))
+loop-holds c = rw (c .nothing-read .ensures) (record { few = omega arith; going = λ h. refl; rest = refl })
 
 pair-at-requires : tie.Need-pair-at-requires Inv-loop μ-loop
 pair-at-requires c κs = search needs
 
-enum-known-pair : tie.Need-enum-known-pair Inv-loop μ-loop
-enum-known-pair c = search needs
-
-refused-configuration-requires : tie.Need-refused-configuration-requires Inv-loop μ-loop
-refused-configuration-requires c κs = search needs
-
-returns : tie.Need-returns Inv-loop μ-loop
-returns c =
-    let a = c .before .before .before .before .before .before .before .before .before .args in
-    let l = c .before .before .before .before .before .before .loop in
-    let q = c .before .before .before .before .pair-at in
-    walk-refused configurationForm (l .left) (c .before .before .before .before .before .loop-test .taken) (l .c) (a .s .now) (l .at) (q .result) (q .ensures) (c .before .before .pair .given .0 .0) (c .before .before .pair .given .1) _ (rw (c .refused-configuration .ensures)) ∙ l .inv .1
-
-enum-known-pair-2 : tie.Need-enum-known-pair-2 Inv-loop μ-loop
-enum-known-pair-2 c = search needs
-
 take-pair-requires : tie.Need-take-pair-requires Inv-loop μ-loop
-take-pair-requires c κs =
-    omega (arith, c .before .before .before .before .before .loop .inv .0, c .before .before .before .before .loop-test .taken, c .before .before .before .before .before .before .before .before .fits .count)
+take-pair-requires c κs = omega (arith, c .before .before .loop .inv .few, c .before .loop-test .taken, c .before .before .before .before .before .fits .count)
 
-enum-told : tie.Need-enum-told Inv-loop μ-loop
-enum-told c = search needs
-
-returns-2 : tie.Need-returns-2 Inv-loop μ-loop
-returns-2 c =
-    let a = c .before .before .before .before .before .before .before .before .before .before .before .args in
-    let l = c .before .before .before .before .before .before .before .before .loop in
-    let q = c .before .before .before .before .before .before .pair-at in
-    let g = c .before .before .before .before .pair2 .given in
-    let t = c .before .before .take-pair in
-    walk-stop configurationForm (l .left) (c .before .before .before .before .before .before .before .loop-test .taken) (l .c) (a .s .now) (l .at) (q .result) (q .ensures) (g .0 .0) (g .0 .1 .0) (g .0 .1 .1 .0) (g .1) (t .result .verdict) (t .result .configuration) (t .ensures .says) (c .enum-told .given .0 .0) (c .enum-told .given .1) ∙ l .inv .1
-
-enum-told-2 : tie.Need-enum-told-2 Inv-loop μ-loop
-enum-told-2 c = search needs
-
-sub-left : tie.Need-sub-left Inv-loop μ-loop
-sub-left c = omega (arith, c .before .before .before .before .before .before .before .before .loop-test .taken)
+left-after-requires : tie.Need-left-after-requires Inv-loop μ-loop
+left-after-requires c κs = search needs
 
 loop-less : tie.Need-loop-less Inv-loop μ-loop
-loop-less c = omega (arith, c .before .before .before .before .before .before .before .before .loop-test .taken)
+loop-less c = omega (arith, c .left-after .ensures, left-less (c .before .take-pair .result .verdict) (c .before .before .before .before .loop .left), c .before .before .before .loop-test .taken)
 
 loop-again : tie.Need-loop-again Inv-loop μ-loop
 loop-again c =
-    let a = c .before .before .before .before .before .before .before .before .before .before .before .before .args in
-    let l = c .before .before .before .before .before .before .before .before .before .loop in
-    let q = c .before .before .before .before .before .before .before .pair-at in
-    let g = c .before .before .before .before .before .pair2 .given in
-    let t = c .before .before .before .take-pair in (
-      omega (arith, l .inv .0, c .before .before .before .before .before .before .before .before .loop-test .taken, t .ensures .few),
-      walk-on configurationForm (l .left) (c .before .before .before .before .before .before .before .before .loop-test .taken) (l .c) (a .s .now) (l .at) (q .result) (q .ensures) (g .0 .0) (g .0 .1 .0) (g .0 .1 .1 .0) (g .1) (t .result .verdict) (t .result .configuration) (t .ensures .says) (c .before .enum-told2 .given .1) ∙ l .inv .1,
-    )
+    let a = c .before .before .before .before .before .before .before .args in
+    let l = c .before .before .before .before .loop in
+    let q = c .before .before .pair-at in
+    let t = c .before .take-pair in
+    rw (c .left-after .ensures) (walking-next configurationForm _ (a .count) (a .s .now) (l .at) (l .inv) (omega (arith, c .before .before .before .loop-test .taken)) (q .result) (q .ensures) (t .result .verdict) (t .result .configuration) (t .result .configuration .passed) (t .ensures .says) (t .ensures .few))
 
-returns-3 : tie.Need-returns-3 Inv-loop μ-loop
-returns-3 c =
+returns : tie.Need-returns Inv-loop μ-loop
+returns c =
     let l = c .before .loop in
-    walk-done configurationForm (l .left) (l .c) (drop (l .at) (c .before .before .before .before .args .s .now)) (omega (arith, c .loop-test .left)) ∙ l .inv .1
+    walk-done configurationForm (l .left) (l .read .verdict) (l .read .configuration) (drop (l .at) (c .before .before .before .before .args .s .now)) (omega (arith, c .loop-test .left)) ∙ l .inv .rest
 
 pub take-pairs-spec : {M : Type 1} → statement M
 take-pairs-spec =
@@ -89,18 +53,11 @@ take-pairs-spec =
     (tie.spec
     Inv-loop
     μ-loop
-    empty-configuration-requires
+    nothing-read-requires
     loop-holds
     pair-at-requires
-    enum-known-pair
-    refused-configuration-requires
-    returns
-    enum-known-pair-2
     take-pair-requires
-    enum-told
-    returns-2
-    enum-told-2
-    sub-left
+    left-after-requires
     loop-less
     loop-again
-    returns-3)
+    returns)

@@ -10,7 +10,7 @@ use Rattle.cojp.specs.Writing.{labelled}
 use Rattle.cojp_write.specs.Room.{addressItems}
 use Rattle.cojp_write.proofs.Addresses.{address-taken, place-length}
 use Rattle.cojp_write.proofs.Joined.{wrote-same, same-room}
-use Rattle.cojp_write.proofs.Taken.{taken-not}
+use Rattle.cojp_range.proofs.Taken.{taken-not}
 use Rattle.cojp_write.proofs.address.put_address.Statement.{statement}
 use Rattle.cojp_write.proofs.address.put_address.Tie as tie
 
@@ -21,7 +21,7 @@ optional-size-requires : tie.Need-optional-size-requires
 optional-size-requires c κs = search needs
 
 add-members : tie.Need-add-members
-add-members c = search needs
+add-members c = omega arith
 
 put-place-requires : tie.Need-put-place-requires
 put-place-requires c κs =

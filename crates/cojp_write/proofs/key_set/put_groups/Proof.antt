@@ -48,7 +48,7 @@ part-put-key-start : tie.Need-part-put-key-start Inv-loop μ-loop
 part-put-key-start c = omega (arith, room c)
 
 part-put-key-end : tie.Need-part-put-key-end Inv-loop μ-loop
-part-put-key-end c = search needs
+part-put-key-end c = omega arith
 
 put-key-requires : tie.Need-put-key-requires Inv-loop μ-loop
 put-key-requires c κs = omega (arith, room (c .before))
@@ -59,7 +59,7 @@ add-at c =
     omega (arith, room k, group-length (getD (c .before .before .before .before .before .before .before .before .before .args .t2 .keys) (c .before .before .before .before .before .before .loop .i) past))
 
 add-i : tie.Need-add-i Inv-loop μ-loop
-add-i c = search needs
+add-i c = omega arith
 
 loop-less : tie.Need-loop-less Inv-loop μ-loop
 loop-less c = search needs

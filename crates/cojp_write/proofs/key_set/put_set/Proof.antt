@@ -12,19 +12,19 @@ put-array-requires : tie.Need-put-array-requires
 put-array-requires c κs = omega (arith, length-append (shortest 0 2) (shortest 4 (c .before .before .args .members)), (c .before .before .pre .1))
 
 sub-put-groups : tie.Need-sub-put-groups
-sub-put-groups c = search needs
+sub-put-groups c = omega arith
 
 part-put-groups-start : tie.Need-part-put-groups-start
-part-put-groups-start c = search needs
+part-put-groups-start c = omega arith
 
 part-put-groups-end : tie.Need-part-put-groups-end
-part-put-groups-end c = search needs
+part-put-groups-end c = omega arith
 
 put-groups-requires : tie.Need-put-groups-requires
 put-groups-requires c κs = search needs
 
 add-result : tie.Need-add-result
-add-result c = search needs
+add-result c = omega arith
 
 same-length : tie.Need-same-length
 same-length c = search needs

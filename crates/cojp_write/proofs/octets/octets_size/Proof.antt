@@ -9,7 +9,7 @@ use Rattle.cojp.specs.Octets.{bytesIn}
 use Rattle.cojp.specs.Writing.{labelled}
 use Rattle.cojp_write.proofs.Sizes.{size-none}
 use Rattle.cojp_write.proofs.Strings.{octets-short, octets-size}
-use Rattle.cojp_write.proofs.Taken.{taken-not}
+use Rattle.cojp_range.proofs.Taken.{taken-not}
 use Rattle.cojp_write.proofs.octets.octets_size.Statement.{statement}
 use Rattle.cojp_write.proofs.octets.octets_size.Tie as tie
 

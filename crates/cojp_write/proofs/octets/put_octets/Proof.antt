@@ -11,7 +11,7 @@ use Rattle.cojp.specs.Octets.{bytesIn}
 use Rattle.cojp.specs.Writing.{labelled}
 use Rattle.cojp_write.proofs.Joined.{wrote-same, same-room, labelled-length}
 use Rattle.cojp_write.proofs.Strings.{octets-short, octets-taken}
-use Rattle.cojp_write.proofs.Taken.{taken-not}
+use Rattle.cojp_range.proofs.Taken.{taken-not}
 use Rattle.cojp_write.proofs.octets.put_octets.Statement.{statement}
 use Rattle.cojp_write.proofs.octets.put_octets.Tie as tie
 

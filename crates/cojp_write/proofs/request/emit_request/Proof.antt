@@ -1,10 +1,7 @@
 -- The sizes of the parameters, the test of the room, and the map.
-use mathlib.Core.Path.{_≡_}
 use native.Mathlib.Omega.{arith}
 use borrow.Author.Needs.{needs}
-use lib.ListN.{length}
 use Rattle.cojp.specs.Writing.{rolePairs, octetsPairs, requestPairs}
-use Rattle.cojp_write.specs.Size.{PairsSize}
 use Rattle.cojp_write.proofs.Joined.{join-length}
 use Rattle.cojp_write.proofs.Limits.{request-fits}
 use Rattle.cojp_write.proofs.Maps.{map-room, map-fits, map-emit}

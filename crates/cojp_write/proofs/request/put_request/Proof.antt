@@ -1,8 +1,6 @@
 -- The map's head, and then each parameter in the part after what is written.
-use mathlib.Core.List.{_++_}
 use native.Mathlib.Omega.{arith}
 use borrow.Author.Needs.{needs}
-use lib.ListN.{length}
 use lib.ListN.{length-append}
 use Rattle.cbor.specs.Encode.{shortest, encodePairs}
 use Rattle.cbor.proofs.Writing.{seam}
@@ -18,34 +16,34 @@ put-head-requires : tie.Need-put-head-requires
 put-head-requires c κs = search needs
 
 sub-put-role : tie.Need-sub-put-role
-sub-put-role c = search needs
+sub-put-role c = omega arith
 
 part-put-role-start : tie.Need-part-put-role-start
-part-put-role-start c = search needs
+part-put-role-start c = omega arith
 
 part-put-role-end : tie.Need-part-put-role-end
-part-put-role-end c = search needs
+part-put-role-end c = omega arith
 
 put-role-requires : tie.Need-put-role-requires
 put-role-requires c κs = omega (arith, (c .before .before .before .before .before .before .pre .2))
 
 add-n2 : tie.Need-add-n2
-add-n2 c = search needs
+add-n2 c = omega arith
 
 sub-put-octets : tie.Need-sub-put-octets
-sub-put-octets c = search needs
+sub-put-octets c = omega arith
 
 part-put-octets-start : tie.Need-part-put-octets-start
-part-put-octets-start c = search needs
+part-put-octets-start c = omega arith
 
 part-put-octets-end : tie.Need-part-put-octets-end
-part-put-octets-end c = search needs
+part-put-octets-end c = omega arith
 
 put-octets-requires : tie.Need-put-octets-requires
 put-octets-requires c κs = (request-fits (c .before .before .before .before .before .before .before .before .before .before .args .q) (c .before .before .before .before .before .before .before .before .before .before .pre .0) .network, omega (arith, (c .before .before .before .before .before .before .before .before .before .before .pre .2)))
 
 add-result : tie.Need-add-result
-add-result c = search needs
+add-result c = omega arith
 
 same-length : tie.Need-same-length
 same-length c = search needs

@@ -1,4 +1,4 @@
--- `absent_octets` meets its contract: its value is the one that stands for none.
+-- `absent_octets` meets its contract.
 use borrow.Author.Needs.{needs}
 use Rattle.node.proofs.node.absent_octets.Statement.{statement}
 use Rattle.node.proofs.node.absent_octets.Tie as tie

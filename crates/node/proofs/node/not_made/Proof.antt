@@ -1,4 +1,4 @@
--- `not_made` meets its contract: the node in it is the empty one.
+-- `not_made` meets its contract.
 use borrow.Author.Needs.{needs}
 use Rattle.node.proofs.node.not_made.Statement.{statement}
 use Rattle.node.proofs.node.not_made.Tie as tie

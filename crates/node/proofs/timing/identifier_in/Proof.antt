@@ -1,4 +1,4 @@
--- `identifier_in` meets its contract: taken where one is held.
+-- `identifier_in` meets its contract: by whether there is one.
 use borrow.Author.Needs.{needs}
 use Rattle.node.proofs.timing.identifier_in.Statement.{statement}
 use Rattle.node.proofs.timing.identifier_in.Tie as tie

@@ -1,7 +1,7 @@
 -- `covers` meets its contract: an answer of the usage list tells whether the usage is listed, and its family.
 use mathlib.Core.Path.{sym, _∙_}
 use Rattle.keys.specs.Key.{covers}
-use Rattle.keys.proofs.Usages.{refused, known}
+use Rattle.usage.proofs.Usages.{refused, known}
 use borrow.Author.Needs.{needs}
 use Rattle.keys.proofs.key.Key.covers.Statement.{statement}
 use Rattle.keys.proofs.key.Key.covers.Tie as tie

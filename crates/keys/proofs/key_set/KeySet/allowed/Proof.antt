@@ -1,51 +1,28 @@
 -- `allowed` meets its contract: each test of the code is one of the definition's.
-use native.Mathlib.Omega.{arith}
-use mathlib.Core.Path.{sym, _∙_}
-use borrow.Author.Tests.{not-true, not-false}
-use Rattle.keys.proofs.KeySets.{set-over, set-empty, set-limits}
+use mathlib.Core.Path.{_≡_, sym, _∙_}
+use mathlib.Core.Logic.{⊎-elim}
 use borrow.Author.Needs.{needs}
+use borrow.Author.Tests.{ltb-true, ltb-false}
+use lib.ListN.{length, length-map}
+use Rattle.keys.proofs.KeySets.{set-none, set-over, set-limits}
 use Rattle.keys.proofs.key_set.KeySet.allowed.Statement.{statement}
 use Rattle.keys.proofs.key_set.KeySet.allowed.Tie as tie
 
 returns : tie.Need-returns
-returns c = sym (set-over (c .before .args .self) (c .if1 .taken))
+returns c =
+    let set = c .before .before .args .self in
+    sym (⊎-elim (λ w. set-none set (w .taken)) (λ w. set-over set (ltb-true 8 (set .count) (w .2 .taken))) (c .if1 .came))
 
-len-requires : tie.Need-len-requires
-len-requires c κs = search needs
+keys-allowed-requires : tie.Need-keys-allowed-requires
+keys-allowed-requires c κs = search needs
 
 returns-2 : tie.Need-returns-2
 returns-2 c =
-    let few = c .before .before .if1 .left in
-    sym (set-empty (c .before .before .before .args .self) few (sym (c .before .len .ensures .0) ∙ c .if2 .taken))
-
-all-in-limits-requires : tie.Need-all-in-limits-requires
-all-in-limits-requires c κs = search needs
-
-returns-3 : tie.Need-returns-3
-returns-3 c =
-    let few = c .before .before .before .before .if1 .left in
-    let bad = sym (c .before .all-in-limits .ensures) ∙ not-true _ (c .if3 .taken) in
-    let set = c .before .before .before .before .before .args .self in
-    rw (set-limits set few (omega arith) (omega arith), bad)
-
-none-twice-requires : tie.Need-none-twice-requires
-none-twice-requires c κs = search needs
-
-returns-4 : tie.Need-returns-4
-returns-4 c =
-    let few = c .before .before .before .before .before .if1 .left in
-    let good = sym (c .before .before .all-in-limits .ensures) ∙ not-false _ (c .before .if3 .left) in
-    let set = c .before .before .before .before .before .before .args .self in
-    rw (set-limits set few (omega arith) (omega arith), good) (c .none-twice .ensures)
+    let asked = c .before .before .before in
+    let start = asked .before .before in
+    let set = start .args .self in
+    let places : length (set .keys) ≡ 8 = sym (length-map (set .keys) _) ∙ start .good .0 .1 .1 .1 .0 .1 .0 .1 in
+    c .keys-allowed .ensures ∙ sym (set-limits set places (asked .if1 .left) (ltb-false 8 (set .count) (c .before .if2 .left)))
 
 pub allowed-spec : {M : Type 1} → statement M
-allowed-spec =
-    tie.close
-    (tie.spec
-    returns
-    len-requires
-    returns-2
-    all-in-limits-requires
-    returns-3
-    none-twice-requires
-    returns-4)
+allowed-spec = tie.close (tie.spec returns keys-allowed-requires returns-2)

@@ -10,10 +10,10 @@ use Rattle.keys.proofs.key_set.KeySet.first_cover.Statement.{statement}
 use Rattle.keys.proofs.key_set.KeySet.first_cover.Tie as tie
 
 abbrev Inv-loop : tie.InvT-loop
-Inv-loop frame-type self n i₀ i = firstCover frame-type (keysOf self) ≡ firstCover frame-type (drop i (keysOf self))
+Inv-loop self frame-type n i₀ i = firstCover frame-type (keysOf self) ≡ firstCover frame-type (drop i (keysOf self))
 
 abbrev μ-loop : tie.MeasureT-loop
-μ-loop frame-type self n i₀ i = n - i
+μ-loop self frame-type n i₀ i = n - i
 
 len-requires : tie.Need-len-requires Inv-loop μ-loop
 len-requires c κs = search needs
@@ -21,21 +21,19 @@ len-requires c κs = search needs
 loop-holds : tie.Need-loop-holds Inv-loop μ-loop
 loop-holds c = refl
 
-mul-key : tie.Need-mul-key Inv-loop μ-loop
-mul-key c = search needs
-
-element-copy-out-key : tie.Need-element-copy-out-key Inv-loop μ-loop
-element-copy-out-key c = search needs
+key-at-requires : tie.Need-key-at-requires Inv-loop μ-loop
+key-at-requires c κs = search needs
 
 covers-requires : tie.Need-covers-requires Inv-loop μ-loop
 covers-requires c κs = search needs
 
 returns : tie.Need-returns Inv-loop μ-loop
 returns c =
-    let args = c .before .before .before .before .before .before .args in
-    let loop = c .before .before .before .before .loop in
+    let read = c .before .before in
+    let loop = read .before .before .loop in
+    let args = read .before .before .before .before .args in
     let yes = sym (c .before .covers .ensures) ∙ c .if1 .taken in
-    rw (loop .inv, turn (args .t1) (firstCover (args .frame-type)) (loop .i) (omega arith), yes)
+    rw (loop .inv, turn (args .self) (firstCover (args .frame-type)) (loop .i) _ (read .key-at .ensures) (omega arith), yes)
 
 add-i : tie.Need-add-i Inv-loop μ-loop
 add-i c = search needs
@@ -45,19 +43,20 @@ loop-less c = search needs
 
 loop-again : tie.Need-loop-again Inv-loop μ-loop
 loop-again c =
-    let args = c .before .before .before .before .before .before .args in
-    let loop = c .before .before .before .before .loop in
+    let read = c .before .before in
+    let loop = read .before .before .loop in
+    let args = read .before .before .before .before .args in
     let no = sym (c .before .covers .ensures) ∙ c .if1 .left in
-    rw (loop .inv, turn (args .t1) (firstCover (args .frame-type)) (loop .i) (omega arith), no)
+    rw (loop .inv, turn (args .self) (firstCover (args .frame-type)) (loop .i) _ (read .key-at .ensures) (omega arith), no)
 
-no-key-requires : tie.Need-no-key-requires Inv-loop μ-loop
-no-key-requires c κs = search needs
+not-found-requires : tie.Need-not-found-requires Inv-loop μ-loop
+not-found-requires c κs = search needs
 
 returns-2 : tie.Need-returns-2 Inv-loop μ-loop
 returns-2 c =
-    let args = c .before .before .before .before .args in
     let loop = c .before .before .loop in
-    rw (loop .inv, stop (args .t1) (firstCover (args .frame-type)) (loop .i) (omega arith), c .no-key .ensures)
+    let args = c .before .before .before .before .args in
+    rw (loop .inv, stop (args .self) (firstCover (args .frame-type)) (loop .i) (omega arith)) (c .not-found .ensures)
 
 pub first-cover-spec : {M : Type 1} → statement M
 first-cover-spec =
@@ -67,12 +66,11 @@ first-cover-spec =
     μ-loop
     len-requires
     loop-holds
-    mul-key
-    element-copy-out-key
+    key-at-requires
     covers-requires
     returns
     add-i
     loop-less
     loop-again
-    no-key-requires
+    not-found-requires
     returns-2)

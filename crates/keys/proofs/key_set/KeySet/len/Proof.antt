@@ -7,14 +7,14 @@ use Rattle.keys.proofs.key_set.KeySet.len.Tie as tie
 
 returns : tie.Need-returns
 returns c =
-    let set = c .before .args .self in
-    let places : length (set .keys) ≡ 8 = sym (length-map (set .keys) _) ∙ c .before .good .0 .1 .1 .1 .0 .1 .0 .1 in
+    let set = c .before .before .args .self in
+    let places : length (set .keys) ≡ 8 = sym (length-map (set .keys) _) ∙ c .before .before .good .0 .1 .1 .1 .0 .1 .0 .1 in
     omega (arith, length-take (set .count) (set .keys))
 
 returns-2 : tie.Need-returns-2
 returns-2 c =
-    let set = c .before .args .self in
-    let places : length (set .keys) ≡ 8 = sym (length-map (set .keys) _) ∙ c .before .good .0 .1 .1 .1 .0 .1 .0 .1 in
+    let set = c .before .before .args .self in
+    let places : length (set .keys) ≡ 8 = sym (length-map (set .keys) _) ∙ c .before .before .good .0 .1 .1 .1 .0 .1 .0 .1 in
     omega (arith, length-take (set .count) (set .keys))
 
 pub len-spec : {M : Type 1} → statement M

@@ -27,32 +27,20 @@ len-requires-2 c κs = search needs
 returns : tie.Need-returns Inv-loop μ-loop
 returns c =
     let args = c .before .before .before .args in
-    sym (differ sameKey (keysOf (args .t1)) (keysOf (args .t2)) (λ e. omega (arith, e)))
+    sym (differ sameKey (keysOf (args .self)) (keysOf (args .other)) (λ e. omega (arith, e)))
 
 loop-holds : tie.Need-loop-holds Inv-loop μ-loop
 loop-holds c = refl
 
-mul-mine : tie.Need-mul-mine Inv-loop μ-loop
-mul-mine c = search needs
-
-element-copy-out-mine : tie.Need-element-copy-out-mine Inv-loop μ-loop
-element-copy-out-mine c = search needs
-
-mul-theirs : tie.Need-mul-theirs Inv-loop μ-loop
-mul-theirs c = search needs
-
-element-copy-out-theirs : tie.Need-element-copy-out-theirs Inv-loop μ-loop
-element-copy-out-theirs c = search needs
-
-same-key-requires : tie.Need-same-key-requires Inv-loop μ-loop
-same-key-requires c κs = search needs
+same-at-requires : tie.Need-same-at-requires Inv-loop μ-loop
+same-at-requires c κs = search needs
 
 returns-2 : tie.Need-returns-2 Inv-loop μ-loop
 returns-2 c =
-    let args = c .before .before .before .before .before .before .before .before .before .args in
-    let loop = c .before .before .before .before .before .loop in
-    let unequal = sym (c .before .same-key .ensures) ∙ not-true _ (c .if2 .taken) in
-    rw (loop .inv, same-keys-turn (args .t1) (args .t2) (loop .i) (omega arith) (omega arith), unequal)
+    let loop = c .before .before .before .loop in
+    let args = c .before .before .before .before .before .before .before .args in
+    let unequal = sym (c .before .same-at .ensures) ∙ not-true _ (c .if2 .taken) in
+    rw (loop .inv, same-keys-turn (args .self) (args .other) (loop .i) (omega arith) (omega arith), unequal)
 
 add-i : tie.Need-add-i Inv-loop μ-loop
 add-i c = search needs
@@ -62,16 +50,16 @@ loop-less c = search needs
 
 loop-again : tie.Need-loop-again Inv-loop μ-loop
 loop-again c =
-    let args = c .before .before .before .before .before .before .before .before .before .args in
-    let loop = c .before .before .before .before .before .loop in
-    let equal = sym (c .before .same-key .ensures) ∙ not-false _ (c .if2 .left) in
-    rw (loop .inv, same-keys-turn (args .t1) (args .t2) (loop .i) (omega arith) (omega arith), equal)
+    let loop = c .before .before .before .loop in
+    let args = c .before .before .before .before .before .before .before .args in
+    let equal = sym (c .before .same-at .ensures) ∙ not-false _ (c .if2 .left) in
+    rw (loop .inv, same-keys-turn (args .self) (args .other) (loop .i) (omega arith) (omega arith), equal)
 
 returns-3 : tie.Need-returns-3 Inv-loop μ-loop
 returns-3 c =
     let args = c .before .before .before .before .before .args in
     let loop = c .before .loop in
-    rw (loop .inv, same-stop sameKey (keysOf (args .t1)) (keysOf (args .t2)) (loop .i) (omega arith) (omega arith))
+    rw (loop .inv, same-stop sameKey (keysOf (args .self)) (keysOf (args .other)) (loop .i) (omega arith) (omega arith))
 
 pub same-keys-spec : {M : Type 1} → statement M
 same-keys-spec =
@@ -83,11 +71,7 @@ same-keys-spec =
     len-requires-2
     returns
     loop-holds
-    mul-mine
-    element-copy-out-mine
-    mul-theirs
-    element-copy-out-theirs
-    same-key-requires
+    same-at-requires
     returns-2
     add-i
     loop-less

@@ -17,10 +17,10 @@ abbrev sharesWith : List Key → List Key → Bool
 sharesWith ys xs = shares xs ys
 
 abbrev Inv-loop : tie.InvT-loop
-Inv-loop other self n i₀ i = shares (keysOf self) (keysOf other) ≡ shares (drop i (keysOf self)) (keysOf other)
+Inv-loop self other n i₀ i = shares (keysOf self) (keysOf other) ≡ shares (drop i (keysOf self)) (keysOf other)
 
 abbrev μ-loop : tie.MeasureT-loop
-μ-loop other self n i₀ i = n - i
+μ-loop self other n i₀ i = n - i
 
 len-requires : tie.Need-len-requires Inv-loop μ-loop
 len-requires c κs = search needs
@@ -28,21 +28,19 @@ len-requires c κs = search needs
 loop-holds : tie.Need-loop-holds Inv-loop μ-loop
 loop-holds c = refl
 
-mul-key : tie.Need-mul-key Inv-loop μ-loop
-mul-key c = search needs
-
-element-copy-out-key : tie.Need-element-copy-out-key Inv-loop μ-loop
-element-copy-out-key c = search needs
+key-at-requires : tie.Need-key-at-requires Inv-loop μ-loop
+key-at-requires c κs = search needs
 
 has-requires : tie.Need-has-requires Inv-loop μ-loop
 has-requires c κs = search needs
 
 returns : tie.Need-returns Inv-loop μ-loop
 returns c =
-    let args = c .before .before .before .before .before .before .args in
-    let loop = c .before .before .before .before .loop in
+    let read = c .before .before in
+    let loop = read .before .before .loop in
+    let args = read .before .before .before .before .args in
     let yes = sym (c .before .has .ensures) ∙ c .if1 .taken in
-    rw (loop .inv, turn (args .t1) (sharesWith (keysOf (args .other))) (loop .i) (omega arith), yes)
+    rw (loop .inv, turn (args .self) (sharesWith (keysOf (args .other))) (loop .i) _ (read .key-at .ensures) (omega arith), yes)
 
 add-i : tie.Need-add-i Inv-loop μ-loop
 add-i c = search needs
@@ -52,16 +50,17 @@ loop-less c = search needs
 
 loop-again : tie.Need-loop-again Inv-loop μ-loop
 loop-again c =
-    let args = c .before .before .before .before .before .before .args in
-    let loop = c .before .before .before .before .loop in
+    let read = c .before .before in
+    let loop = read .before .before .loop in
+    let args = read .before .before .before .before .args in
     let no = sym (c .before .has .ensures) ∙ c .if1 .left in
-    rw (loop .inv, turn (args .t1) (sharesWith (keysOf (args .other))) (loop .i) (omega arith), no)
+    rw (loop .inv, turn (args .self) (sharesWith (keysOf (args .other))) (loop .i) _ (read .key-at .ensures) (omega arith), no)
 
 returns-2 : tie.Need-returns-2 Inv-loop μ-loop
 returns-2 c =
-    let args = c .before .before .before .args in
     let loop = c .before .loop in
-    rw (loop .inv, stop (args .t1) (sharesWith (keysOf (args .other))) (loop .i) (omega arith))
+    let args = c .before .before .before .args in
+    rw (loop .inv, stop (args .self) (sharesWith (keysOf (args .other))) (loop .i) (omega arith))
 
 pub shares-spec : {M : Type 1} → statement M
 shares-spec =
@@ -71,8 +70,7 @@ shares-spec =
     μ-loop
     len-requires
     loop-holds
-    mul-key
-    element-copy-out-key
+    key-at-requires
     has-requires
     returns
     add-i

@@ -1,9 +1,8 @@
--- `address_holds` meets its contract: each test of the code is one of the definition's, and a valid node received its address before now.
+-- `address_holds` meets its contract: each test of the code is one of the definition's.
 use borrow.Author.Needs.{needs}
 use borrow.Author.Tests.{le-leb, lt-leb}
 use Rattle.node.specs.Lease.{holds}
-use Rattle.node.proofs.Answers.{received-before}
-use Rattle.node.proofs.Tests.{denied, granted, is-false, is-true}
+use Rattle.key_sets.proofs.Tests.{denied, granted, is-false, is-true}
 use Rattle.node.proofs.node.Node.address_holds.Statement.{statement}
 use Rattle.node.proofs.node.Node.address_holds.Tie as tie
 
@@ -16,28 +15,19 @@ returns c = rw (denied (c .before .valid .ensures) (c .if1 .taken))
 
 returns-2 : tie.Need-returns-2
 unfolding holds
-returns-2 c = rw (granted (c .before .before .before .valid .ensures) (c .before .before .if1 .left), lt-leb _ _ (c .if2 .taken))
+returns-2 c = rw (granted (c .before .before .before .before .valid .ensures) (c .before .before .before .if1 .left), lt-leb _ _ (c .if2 .taken))
 
-lasts-requires : tie.Need-lasts-requires
-lasts-requires c κs =
-    received-before (c .before .before .before .before .before .before .args .self) (c .before .before .before .before .before .before .args .time) (granted (c .before .before .before .before .before .valid .ensures) (c .before .before .before .before .if1 .left)) (c .before .before .if2 .left) (c .if3 .taken)
+holds-at-requires : tie.Need-holds-at-requires
+holds-at-requires c κs = search needs
 
 returns-3 : tie.Need-returns-3
 unfolding holds
-returns-3 c =
-    rw (granted (c .before .before .before .before .before .before .before .valid .ensures) (c .before .before .before .before .before .before .if1 .left), le-leb _ _ (c .before .before .before .before .if2 .left), c .before .before .if3 .taken, is-true (c .before .lasts .ensures) (c .if4 .taken))
+returns-3 c = rw (granted (c .before .before .before .before .before .before .valid .ensures) (c .before .before .before .before .before .if1 .left), le-leb _ _ (c .before .before .if2 .left), is-true (c .before .holds-at .ensures) (c .if3 .taken))
 
 returns-4 : tie.Need-returns-4
 unfolding holds
-returns-4 c =
-    rw (granted (c .before .before .before .before .before .before .before .valid .ensures) (c .before .before .before .before .before .before .if1 .left), le-leb _ _ (c .before .before .before .before .if2 .left), c .before .before .if3 .taken, is-false (c .before .lasts .ensures) (c .if4 .left))
-
-returns-5 : tie.Need-returns-5
-unfolding holds
-returns-5 c =
-    rw (granted (c .before .before .before .before .before .valid .ensures) (c .before .before .before .before .if1 .left), le-leb _ _ (c .before .before .if2 .left), c .if3 .left)
+returns-4 c = rw (granted (c .before .before .before .before .before .before .valid .ensures) (c .before .before .before .before .before .if1 .left), le-leb _ _ (c .before .before .if2 .left), is-false (c .before .holds-at .ensures) (c .if3 .left))
 
 pub address-holds-spec : {M : Type 1} → statement M
 address-holds-spec =
-    tie.close
-    (tie.spec valid-requires returns returns-2 lasts-requires returns-3 returns-4 returns-5)
+    tie.close (tie.spec valid-requires returns returns-2 holds-at-requires returns-3 returns-4)

@@ -4,11 +4,8 @@ use Rattle.node.specs.Delivery.{configured}
 use Rattle.node.proofs.node.Node.configured.Statement.{statement}
 use Rattle.node.proofs.node.Node.configured.Tie as tie
 
-phase-after-requires : tie.Need-phase-after-requires
-phase-after-requires c κs = search needs
-
-timed-requires : tie.Need-timed-requires
-timed-requires c κs = search needs
+attempt-after-requires : tie.Need-attempt-after-requires
+attempt-after-requires c κs = search needs
 
 address-after-requires : tie.Need-address-after-requires
 address-after-requires c κs = search needs
@@ -24,15 +21,13 @@ octets-after-requires-3 c κs = search needs
 
 returns : tie.Need-returns
 unfolding configured
-returns c =
-    rw (c .octets-after3 .ensures, c .before .before .before .octets-after2 .ensures, c .before .before .before .before .before .before .octets-after .ensures, c .before .before .before .before .before .before .before .before .before .address-after .ensures, c .before .before .before .before .before .before .before .before .before .before .before .before .before .before .timed .ensures, c .before .before .before .before .before .before .before .before .before .before .before .before .before .before .before .phase-after .ensures)
+returns c = rw (c .before .before .before .before .attempt-after .ensures, c .before .before .before .address-after .ensures, c .before .before .octets-after .ensures, c .before .octets-after2 .ensures, c .octets-after3 .ensures)
 
 pub configured-spec : {M : Type 1} → statement M
 configured-spec =
     tie.close
     (tie.spec
-    phase-after-requires
-    timed-requires
+    attempt-after-requires
     address-after-requires
     octets-after-requires
     octets-after-requires-2

@@ -1,8 +1,8 @@
--- `new` meets its contract: RANGE for the role, then for the identifier, else a fresh node.
+-- `new` meets its contract: each test of the code is one of the definition's.
 use borrow.Author.Needs.{needs}
 use borrow.Author.Tests.{le-leb, lt-leb}
 use Rattle.node.specs.Node.{made}
-use Rattle.node.proofs.Tests.{denied, granted}
+use Rattle.key_sets.proofs.Tests.{denied, granted}
 use Rattle.node.proofs.node.Node.new.Statement.{statement}
 use Rattle.node.proofs.node.Node.new.Tie as tie
 
@@ -21,27 +21,17 @@ not-made-requires-2 c κs = search needs
 
 returns-2 : tie.Need-returns-2
 unfolding made
-returns-2 c =
-    rw (le-leb _ _ (c .before .before .before .if1 .left), denied (c .before .before .octets-in-range .ensures) (c .before .if2 .taken)) (c .not-made2 .ensures)
+returns-2 c = rw (le-leb _ _ (c .before .before .before .if1 .left), denied (c .before .before .octets-in-range .ensures) (c .before .if2 .taken)) (c .not-made2 .ensures)
+
+known-octets-requires : tie.Need-known-octets-requires
+known-octets-requires c κs = search needs
 
 fresh-node-requires : tie.Need-fresh-node-requires
 fresh-node-requires c κs = search needs
 
 returns-3 : tie.Need-returns-3
 unfolding made
-returns-3 c =
-    rw (le-leb _ _ (c .before .before .before .before .if1 .left), granted (c .before .before .before .octets-in-range .ensures) (c .before .before .if2 .left), c .fresh-node .ensures, c .before .if3 .taken)
-
-absent-octets-requires : tie.Need-absent-octets-requires
-absent-octets-requires c κs = search needs
-
-fresh-node-requires-2 : tie.Need-fresh-node-requires-2
-fresh-node-requires-2 c κs = search needs
-
-returns-4 : tie.Need-returns-4
-unfolding made
-returns-4 c =
-    rw (le-leb _ _ (c .before .before .before .before .before .if1 .left), granted (c .before .before .before .before .octets-in-range .ensures) (c .before .before .before .if2 .left), c .before .before .if3 .left, c .fresh-node2 .ensures, c .before .absent-octets .ensures)
+returns-3 c = rw (le-leb _ _ (c .before .before .before .before .if1 .left), granted (c .before .before .before .octets-in-range .ensures) (c .before .before .if2 .left), c .fresh-node .ensures, c .before .known-octets .ensures)
 
 pub new-spec : {M : Type 1} → statement M
 new-spec =
@@ -52,8 +42,6 @@ new-spec =
     octets-in-range-requires
     not-made-requires-2
     returns-2
+    known-octets-requires
     fresh-node-requires
-    returns-3
-    absent-octets-requires
-    fresh-node-requires-2
-    returns-4)
+    returns-3)

@@ -1,41 +1,50 @@
 -- `others_fit` meets its contract: each test of the code is one of the definition's.
+use mathlib.Core.Path.{_≡_, sym, _∙_}
+use mathlib.Core.Bool.{Bool, _&&_}
+use mathlib.Core.Logic.{⊎-elim}
 use borrow.Author.Needs.{needs}
 use borrow.Author.Tests.{le-leb, lt-leb}
-use Rattle.node.proofs.Tests.{denied, granted}
+use Rattle.key_sets.proofs.Tests.{and-next, and-stops}
+use Rattle.node.specs.Node.{roleInRange, octetsInRange}
+use Rattle.node.specs.Range.{jrcInRange}
+use Rattle.node.specs.declared.node.Node.{Node}
 use Rattle.node.proofs.node.Node.others_fit.Statement.{statement}
 use Rattle.node.proofs.node.Node.others_fit.Tie as tie
-
-returns : tie.Need-returns
-returns c = rw (lt-leb _ _ (c .if1 .taken))
 
 jrc-in-range-requires : tie.Need-jrc-in-range-requires
 jrc-in-range-requires c κs = search needs
 
-returns-2 : tie.Need-returns-2
-returns-2 c = rw (le-leb _ _ (c .before .before .before .if1 .left), denied (c .before .jrc-in-range .ensures) (c .if2 .taken))
-
 octets-in-range-requires : tie.Need-octets-in-range-requires
 octets-in-range-requires c κs = search needs
-
-returns-3 : tie.Need-returns-3
-returns-3 c =
-    rw (le-leb _ _ (c .before .before .before .before .before .before .if1 .left), granted (c .before .before .before .before .jrc-in-range .ensures) (c .before .before .before .if2 .left), denied (c .before .octets-in-range .ensures) (c .if3 .taken))
 
 octets-in-range-requires-2 : tie.Need-octets-in-range-requires-2
 octets-in-range-requires-2 c κs = search needs
 
-returns-4 : tie.Need-returns-4
-returns-4 c =
-    rw (le-leb _ _ (c .before .before .before .before .before .before .before .before .if1 .left), granted (c .before .before .before .before .before .before .jrc-in-range .ensures) (c .before .before .before .before .before .if2 .left), granted (c .before .before .before .octets-in-range .ensures) (c .before .before .if3 .left)) (c .octets-in-range2 .ensures)
+-- where the ways meet, after the second test and after the third
+abbrev two : Node → Bool
+two n = (roleInRange (n .role) && jrcInRange (n .jrc))
+
+two-met : (c : tie.Joined1) → c .if1 .if2 ≡ two (c .before .before .args .self)
+two-met c =
+    ⊎-elim (λ w. rw (le-leb _ _ (w .0 .taken)) (w .2 ∙ w .1 .ensures)) (λ w. rw (lt-leb _ _ (w .0 .left)) (w .1 ∙ lt-leb _ _ (w .0 .left))) (c .if1 .came)
+
+three-met : (c : tie.Joined2) → c .if2 .if3 ≡ (two (c .before .before .before .args .self) && octetsInRange (c .before .before .before .args .self .network))
+three-met c =
+    let first = two-met (c .before) in
+    ⊎-elim (λ w. and-next first (w .0 .taken) (w .1 .ensures) (w .2)) (λ w. and-stops _ first (w .0 .left) (w .1)) (c .if2 .came)
+
+returns : tie.Need-returns
+returns c = rw (sym (three-met (c .before .before)) ∙ c .before .if3 .taken) (c .octets-in-range2 .ensures)
+
+returns-2 : tie.Need-returns-2
+returns-2 c = rw (sym (three-met (c .before)) ∙ c .if3 .left) (c .if3 .left)
 
 pub others-fit-spec : {M : Type 1} → statement M
 others-fit-spec =
     tie.close
     (tie.spec
-    returns
     jrc-in-range-requires
-    returns-2
     octets-in-range-requires
-    returns-3
     octets-in-range-requires-2
-    returns-4)
+    returns
+    returns-2)

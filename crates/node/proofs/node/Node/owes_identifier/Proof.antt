@@ -1,33 +1,46 @@
 -- `owes_identifier` meets its contract: each test of the code is one of the definition's.
+use mathlib.Core.Path.{_≡_, refl, sym, _∙_, ap}
+use mathlib.Core.Bool.{Bool, not, _&&_}
+use mathlib.Core.Logic.{⊎-elim}
 use borrow.Author.Needs.{needs}
-use borrow.Author.Tests.{eq-eqb, ne-eqb}
-use Rattle.node.proofs.Applied.{not-taken}
-use Rattle.node.proofs.Tests.{denied, granted}
+use Rattle.key_sets.proofs.Tests.{and-next, and-stops}
+use Rattle.node.specs.Node.{isBorder}
+use Rattle.node.specs.Delivery.{asksIdentifier}
+use Rattle.node.specs.declared.delivery.Call.{Call}
+use Rattle.node.specs.declared.node.Node.{Node}
 use Rattle.node.proofs.node.Node.owes_identifier.Statement.{statement}
 use Rattle.node.proofs.node.Node.owes_identifier.Tie as tie
 
 asks-identifier-requires : tie.Need-asks-identifier-requires
 asks-identifier-requires c κs = search needs
 
-returns : tie.Need-returns
-returns c = rw (denied (c .before .asks-identifier .ensures) (c .if1 .taken))
-
-returns-2 : tie.Need-returns-2
-returns-2 c =
-    rw (granted (c .before .before .before .asks-identifier .ensures) (c .before .before .if1 .left), ne-eqb _ _ (c .if2 .taken))
-
-returns-3 : tie.Need-returns-3
-returns-3 c =
-    rw (granted (c .before .before .before .before .before .asks-identifier .ensures) (c .before .before .before .before .if1 .left), eq-eqb _ _ (c .before .before .if2 .left), c .if3 .taken)
-
 is-taken-requires : tie.Need-is-taken-requires
 is-taken-requires c κs = search needs
 
-returns-4 : tie.Need-returns-4
-returns-4 c =
-    rw (granted (c .before .before .before .before .before .before .before .asks-identifier .ensures) (c .before .before .before .before .before .before .if1 .left), eq-eqb _ _ (c .before .before .before .before .if2 .left), c .before .before .if3 .left) (not-taken (c .before .before .before .before .before .before .before .before .args .c .network .report) _ (c .is-taken .ensures))
+-- where the ways meet, after the second test and after the third
+abbrev two : Call → Node → Bool
+two call n = (asksIdentifier call && isBorder n)
+
+two-met : (c : tie.Joined1) → c .if1 .if2 ≡ two (c .before .before .before .args .call) (c .before .before .before .args .self)
+two-met c =
+    let first = c .before .asks-identifier .ensures in
+    ⊎-elim (λ w. and-next first (w .0 .taken) refl (w .2)) (λ w. and-stops _ first (w .0 .left) (w .1)) (c .if1 .came)
+
+three-met :
+    (c : tie.Joined2) →
+    c .if2 .if3
+    ≡ (two (c .before .before .before .before .args .call) (c .before .before .before .before .args .self)
+    && not (c .before .before .before .before .args .self .network .held))
+three-met c =
+    let first = two-met (c .before) in
+    ⊎-elim (λ w. and-next first (w .0 .taken) refl (w .2)) (λ w. and-stops _ first (w .0 .left) (w .1)) (c .if2 .came)
+
+returns : tie.Need-returns
+returns c = rw (sym (three-met (c .before .before)) ∙ c .before .if3 .taken) (ap not (c .is-taken .ensures))
+
+returns-2 : tie.Need-returns-2
+returns-2 c = rw (sym (three-met (c .before)) ∙ c .if3 .left) (c .if3 .left)
 
 pub owes-identifier-spec : {M : Type 1} → statement M
 owes-identifier-spec =
-    tie.close
-    (tie.spec asks-identifier-requires returns returns-2 returns-3 is-taken-requires returns-4)
+    tie.close (tie.spec asks-identifier-requires is-taken-requires returns returns-2)

@@ -2,9 +2,10 @@
 use mathlib.Core.Bool.{false}
 use mathlib.Core.Path.{_∙_}
 use borrow.Author.Needs.{needs}
-use Rattle.node.specs.Delivery.{install, placed}
+use Rattle.key_sets.specs.Sets.{install, placed}
+use Rattle.node.specs.Node.{isBorder}
 use Rattle.node.proofs.Applied.{taken-is, untaken-is}
-use Rattle.node.proofs.Tests.{is-false, is-true}
+use Rattle.key_sets.proofs.Tests.{is-false, is-true}
 use Rattle.node.proofs.node.Node.placement.Statement.{statement}
 use Rattle.node.proofs.node.Node.placement.Tie as tie
 
@@ -15,12 +16,10 @@ install-requires : tie.Need-install-requires
 install-requires c κs = search needs
 
 returns : tie.Need-returns
-returns c =
-    c .install .ensures ∙ taken-is (c .before .before .before .before .args .parameter .report) _ (placed false (c .before .before .before .before .args .self .active) (c .before .before .before .before .args .self .pending)) (is-true (c .before .before .before .is-taken .ensures) (c .before .before .if1 .taken))
+returns c = c .install .ensures ∙ taken-is (c .before .before .before .before .args .parameter .report) _ (placed false (c .before .before .before .before .args .self .sets)) (is-true (c .before .before .before .is-taken .ensures) (c .before .before .if1 .taken))
 
 returns-2 : tie.Need-returns-2
-returns-2 c =
-    untaken-is (c .before .before .before .before .args .parameter .report) (install (c .before .before .before .before .args .self) (c .before .before .before .before .args .parameter .value)) _ (is-false (c .before .before .before .is-taken .ensures) (c .before .before .if1 .left))
+returns-2 c = untaken-is (c .before .before .before .args .parameter .report) (install (isBorder (c .before .before .before .args .self)) (c .before .before .before .args .self .sets) (c .before .before .before .args .parameter .value)) _ (is-false (c .before .before .is-taken .ensures) (c .before .if1 .left))
 
 pub placement-spec : {M : Type 1} → statement M
 placement-spec = tie.close (tie.spec is-taken-requires install-requires returns returns-2)

@@ -1,4 +1,4 @@
--- `request` meets its contract: its network identifier is the one that the node holds.
+-- `request` meets its contract.
 use borrow.Author.Needs.{needs}
 use Rattle.node.specs.Timing.{requestOf}
 use Rattle.node.proofs.node.Node.request.Statement.{statement}

@@ -1,4 +1,4 @@
--- `undelivered` meets its contract: the report in it is the empty one.
+-- `undelivered` meets its contract: the report is the empty one.
 use borrow.Author.Needs.{needs}
 use Rattle.node.proofs.node.Node.undelivered.Statement.{statement}
 use Rattle.node.proofs.node.Node.undelivered.Tie as tie

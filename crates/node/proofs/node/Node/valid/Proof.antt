@@ -1,34 +1,57 @@
 -- `valid` meets its contract: each test of the code is one of the definition's.
+use mathlib.Core.Path.{_≡_, sym, _∙_}
+use mathlib.Core.Bool.{Bool, _&&_}
+use mathlib.Core.Logic.{⊎-elim}
 use borrow.Author.Needs.{needs}
+use Rattle.key_sets.specs.Sets as sets
+use Rattle.key_sets.proofs.Tests.{and-next, and-stops}
+use Rattle.joining.specs.Attempt as attempt
+use Rattle.joining.specs.Lease.{addressInRange}
+use Rattle.node.specs.Node.{isBorder, clockOf}
+use Rattle.node.specs.declared.node.Node.{Node}
 use Rattle.node.specs.Range.{valid}
-use Rattle.node.proofs.Tests.{denied, granted}
 use Rattle.node.proofs.node.Node.valid.Statement.{statement}
 use Rattle.node.proofs.node.Node.valid.Tie as tie
 
-keys-fit-requires : tie.Need-keys-fit-requires
-keys-fit-requires c κs = search needs
+fit-requires : tie.Need-fit-requires
+fit-requires c κs = search needs
 
-returns : tie.Need-returns
-unfolding valid
-returns c = rw (denied (c .before .keys-fit .ensures) (c .if1 .taken))
+fit-requires-2 : tie.Need-fit-requires-2
+fit-requires-2 c κs = search needs
 
-times-fit-requires : tie.Need-times-fit-requires
-times-fit-requires c κs = search needs
-
-returns-2 : tie.Need-returns-2
-unfolding valid
-returns-2 c =
-    rw (granted (c .before .before .before .keys-fit .ensures) (c .before .before .if1 .left), denied (c .before .times-fit .ensures) (c .if2 .taken))
+in-range-requires : tie.Need-in-range-requires
+in-range-requires c κs = search needs
 
 others-fit-requires : tie.Need-others-fit-requires
 others-fit-requires c κs = search needs
 
-returns-3 : tie.Need-returns-3
+-- where the ways meet, after the second test and after the third
+abbrev two : Node → Bool
+two n = (sets.fits (isBorder n) (n .sets) && attempt.fits (n .attempt))
+
+two-met : (c : tie.Joined1) → c .if1 .if2 ≡ two (c .before .before .before .before .args .self)
+two-met c =
+    let first = c .before .fit .ensures in
+    ⊎-elim (λ w. and-next first (w .0 .taken) (w .1 .ensures) (w .2)) (λ w. and-stops _ first (w .0 .left) (w .1)) (c .if1 .came)
+
+three-met :
+    (c : tie.Joined2) →
+    c .if2 .if3
+    ≡ (two (c .before .before .before .before .before .args .self)
+    && addressInRange (clockOf (c .before .before .before .before .before .args .self)) (c .before .before .before .before .before .args .self .address))
+three-met c =
+    let first = two-met (c .before) in
+    ⊎-elim (λ w. and-next first (w .0 .taken) (w .1 .ensures) (w .2)) (λ w. and-stops _ first (w .0 .left) (w .1)) (c .if2 .came)
+
+returns : tie.Need-returns
 unfolding valid
-returns-3 c =
-    rw (granted (c .before .before .before .before .keys-fit .ensures) (c .before .before .before .if1 .left), granted (c .before .before .times-fit .ensures) (c .before .if2 .left)) (c .others-fit .ensures)
+returns c = rw (sym (three-met (c .before .before)) ∙ c .before .if3 .taken) (c .others-fit .ensures)
+
+returns-2 : tie.Need-returns-2
+unfolding valid
+returns-2 c = rw (sym (three-met (c .before)) ∙ c .if3 .left) (c .if3 .left)
 
 pub valid-spec : {M : Type 1} → statement M
 valid-spec =
     tie.close
-    (tie.spec keys-fit-requires returns times-fit-requires returns-2 others-fit-requires returns-3)
+    (tie.spec fit-requires fit-requires-2 in-range-requires others-fit-requires returns returns-2)

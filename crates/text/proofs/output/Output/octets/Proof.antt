@@ -1,13 +1,12 @@
--- `Output::octets` is safe and ends: the buffer keeps its length. The measure is how many bytes are left.
+-- `Output::octets` is safe and ends. The measure is how many bytes are left.
 use Prim.Native.Nat.{_≤_, _-_}
-use mathlib.Core.Path.{_≡_}
 use borrow.Author.Needs.{needs}
 use lib.ListN.{length}
 use Rattle.text.proofs.output.Output.octets.Statement.{statement}
 use Rattle.text.proofs.output.Output.octets.Tie as tie
 
 abbrev Inv-loop : tie.InvT-loop
-Inv-loop bytes buffer₀ out₀ i₀ buffer out i = (i ≤ length bytes) × (length buffer ≡ length buffer₀)
+Inv-loop bytes buffer₀ out₀ i₀ buffer out i = i ≤ length bytes
 
 abbrev μ-loop : tie.MeasureT-loop
 μ-loop bytes buffer₀ out₀ i₀ buffer out i = length bytes - i
@@ -21,20 +20,11 @@ text-requires c κs = search needs
 loop-holds : tie.Need-loop-holds Inv-loop μ-loop
 loop-holds c = search needs
 
-shared-slice-read-b : tie.Need-shared-slice-read-b Inv-loop μ-loop
-shared-slice-read-b c = search needs
+shared-slice-read-octet : tie.Need-shared-slice-read-octet Inv-loop μ-loop
+shared-slice-read-octet c = search needs
 
-digit-requires : tie.Need-digit-requires Inv-loop μ-loop
-digit-requires c κs = search needs
-
-byte-requires : tie.Need-byte-requires Inv-loop μ-loop
-byte-requires c κs = search needs
-
-digit-requires-2 : tie.Need-digit-requires-2 Inv-loop μ-loop
-digit-requires-2 c κs = search needs
-
-byte-requires-2 : tie.Need-byte-requires-2 Inv-loop μ-loop
-byte-requires-2 c κs = search needs
+octet-requires : tie.Need-octet-requires Inv-loop μ-loop
+octet-requires c κs = search needs
 
 add-i : tie.Need-add-i Inv-loop μ-loop
 add-i c = search needs
@@ -45,11 +35,8 @@ loop-less c = search needs
 loop-again : tie.Need-loop-again Inv-loop μ-loop
 loop-again c = search needs
 
-byte-requires-3 : tie.Need-byte-requires-3 Inv-loop μ-loop
-byte-requires-3 c κs = search needs
-
-same-length : tie.Need-same-length Inv-loop μ-loop
-same-length c = search needs
+byte-requires : tie.Need-byte-requires Inv-loop μ-loop
+byte-requires c κs = search needs
 
 returns : tie.Need-returns Inv-loop μ-loop
 returns c = search needs
@@ -63,14 +50,10 @@ octets-spec =
     slice-aggregate-text
     text-requires
     loop-holds
-    shared-slice-read-b
-    digit-requires
-    byte-requires
-    digit-requires-2
-    byte-requires-2
+    shared-slice-read-octet
+    octet-requires
     add-i
     loop-less
     loop-again
-    byte-requires-3
-    same-length
+    byte-requires
     returns)

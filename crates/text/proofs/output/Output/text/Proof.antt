@@ -1,13 +1,12 @@
--- `Output::text` is safe and ends: the buffer keeps its length. The measure is what is left of the text.
+-- `Output::text` is safe and ends. The measure is what is left of the text.
 use Prim.Native.Nat.{_≤_, _-_}
-use mathlib.Core.Path.{_≡_}
 use borrow.Author.Needs.{needs}
 use lib.ListN.{length}
 use Rattle.text.proofs.output.Output.text.Statement.{statement}
 use Rattle.text.proofs.output.Output.text.Tie as tie
 
 abbrev Inv-loop : tie.InvT-loop
-Inv-loop text buffer₀ out₀ i₀ buffer out i = (i ≤ length text) × (length buffer ≡ length buffer₀)
+Inv-loop text buffer₀ out₀ i₀ buffer out i = i ≤ length text
 
 abbrev μ-loop : tie.MeasureT-loop
 μ-loop text buffer₀ out₀ i₀ buffer out i = length text - i
@@ -30,9 +29,6 @@ loop-less c = search needs
 loop-again : tie.Need-loop-again Inv-loop μ-loop
 loop-again c = search needs
 
-same-length : tie.Need-same-length Inv-loop μ-loop
-same-length c = search needs
-
 returns : tie.Need-returns Inv-loop μ-loop
 returns c = search needs
 
@@ -48,5 +44,4 @@ text-spec =
     add-i
     loop-less
     loop-again
-    same-length
     returns)

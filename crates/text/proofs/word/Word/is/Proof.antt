@@ -1,4 +1,4 @@
--- `Word::is` is safe and ends. The measure is what is left of the name.
+-- `Word::is` is safe and ends. The measure is what is left of the 16 letters.
 use Prim.Native.Nat.{_≤_, _-_}
 use mathlib.Core.Path.{_≡_}
 use borrow.Author.Needs.{needs}
@@ -7,28 +7,19 @@ use Rattle.text.proofs.word.Word.is.Statement.{statement}
 use Rattle.text.proofs.word.Word.is.Tie as tie
 
 abbrev Inv-loop : tie.InvT-loop
-Inv-loop name letters i₀ i = (i ≤ length name) × (length letters ≡ 16)
+Inv-loop self name letters i₀ i = (i ≤ 16) × (length letters ≡ 16)
 
 abbrev μ-loop : tie.MeasureT-loop
-μ-loop name letters i₀ i = length name - i
-
-returns : tie.Need-returns Inv-loop μ-loop
-returns c = search needs
+μ-loop self name letters i₀ i = 16 - i
 
 loop-holds : tie.Need-loop-holds Inv-loop μ-loop
 loop-holds c = search needs
 
-returns-2 : tie.Need-returns-2 Inv-loop μ-loop
-returns-2 c = search needs
+array-read-if2 : tie.Need-array-read-if2 Inv-loop μ-loop
+array-read-if2 c = search needs
 
-array-read-if3 : tie.Need-array-read-if3 Inv-loop μ-loop
-array-read-if3 c = search needs
-
-shared-slice-read-if3 : tie.Need-shared-slice-read-if3 Inv-loop μ-loop
-shared-slice-read-if3 c = search needs
-
-returns-3 : tie.Need-returns-3 Inv-loop μ-loop
-returns-3 c = search needs
+shared-slice-read-if2 : tie.Need-shared-slice-read-if2 Inv-loop μ-loop
+shared-slice-read-if2 c = search needs
 
 add-i : tie.Need-add-i Inv-loop μ-loop
 add-i c = search needs
@@ -39,8 +30,8 @@ loop-less c = search needs
 loop-again : tie.Need-loop-again Inv-loop μ-loop
 loop-again c = search needs
 
-returns-4 : tie.Need-returns-4 Inv-loop μ-loop
-returns-4 c = search needs
+returns : tie.Need-returns Inv-loop μ-loop
+returns c = search needs
 
 pub is-spec : {M : Type 1} → statement M
 is-spec =
@@ -48,13 +39,10 @@ is-spec =
     (tie.spec
     Inv-loop
     μ-loop
-    returns
     loop-holds
-    returns-2
-    array-read-if3
-    shared-slice-read-if3
-    returns-3
+    array-read-if2
+    shared-slice-read-if2
     add-i
     loop-less
     loop-again
-    returns-4)
+    returns)

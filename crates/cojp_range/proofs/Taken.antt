@@ -1,0 +1,21 @@
+-- A parameter's report decides what is written of it and whether it is judged.
+use mathlib.Core.Path.{_≡_, refl, sym, _∙_}
+use mathlib.Core.Bool.{Bool, true, false, false≢true}
+use Rattle.cojp.specs.Reading.{ifTaken}
+use Rattle.cojp.specs.declared.report.Report.{Report}
+use Rattle.cojp.specs.declared.report.Report.the-variants.{Absent, Taken, Discarded}
+
+module _ {A : Type 0} where
+  pub taken-is : (r : Report) (a b : A) (t : Bool) → t ≡ ifTaken r true false → t ≡ true → ifTaken r a b ≡ a
+  taken-is Absent a b t e h = absurd (false≢true (sym e ∙ h))
+  taken-is Taken a b t e h = refl
+  taken-is Discarded a b t e h = absurd (false≢true (sym e ∙ h))
+
+  pub taken-not : (r : Report) (a b : A) (t : Bool) → t ≡ ifTaken r true false → t ≡ false → ifTaken r a b ≡ b
+  taken-not Absent a b t e h = refl
+  taken-not Taken a b t e h = absurd (false≢true (sym h ∙ e))
+  taken-not Discarded a b t e h = refl
+
+-- what is judged where it is taken
+pub taken-good : (r : Report) (b t : Bool) → t ≡ ifTaken r true false → t ≡ true → ifTaken r b true ≡ true → b ≡ true
+taken-good r b t e h g = sym (taken-is r b true t e h) ∙ g

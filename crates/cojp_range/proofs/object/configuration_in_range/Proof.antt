@@ -1,0 +1,52 @@
+-- Each parameter in turn.
+use mathlib.Core.Path.{sym, _∙_}
+use borrow.Author.Tests.{not-true, not-false}
+use borrow.Author.Needs.{needs}
+use Rattle.cojp_range.proofs.InRange.{in-range-1, in-range-2, in-range-3, in-range-4, in-range-5}
+use Rattle.cojp_range.proofs.object.configuration_in_range.Statement.{statement}
+use Rattle.cojp_range.proofs.object.configuration_in_range.Tie as tie
+
+keys-in-range-requires : tie.Need-keys-in-range-requires
+keys-in-range-requires c κs = search needs
+
+returns : tie.Need-returns
+returns c = in-range-1 (c .before .before .args .c) (sym (c .before .keys-in-range .ensures) ∙ not-true _ (c .if1 .taken))
+
+address-in-range-requires : tie.Need-address-in-range-requires
+address-in-range-requires c κs = search needs
+
+returns-2 : tie.Need-returns-2
+returns-2 c = in-range-2 (c .before .before .before .before .args .c) (sym (c .before .before .before .keys-in-range .ensures) ∙ not-false _ (c .before .before .if1 .left)) (sym (c .before .address-in-range .ensures) ∙ not-true _ (c .if2 .taken))
+
+jrc-in-range-requires : tie.Need-jrc-in-range-requires
+jrc-in-range-requires c κs = search needs
+
+returns-3 : tie.Need-returns-3
+returns-3 c = in-range-3 (c .before .before .before .before .before .before .args .c) (sym (c .before .before .before .before .before .keys-in-range .ensures) ∙ not-false _ (c .before .before .before .before .if1 .left)) (sym (c .before .before .before .address-in-range .ensures) ∙ not-false _ (c .before .before .if2 .left)) (sym (c .before .jrc-in-range .ensures) ∙ not-true _ (c .if3 .taken))
+
+octets-in-range-requires : tie.Need-octets-in-range-requires
+octets-in-range-requires c κs = search needs
+
+returns-4 : tie.Need-returns-4
+returns-4 c = in-range-4 (c .before .before .before .before .before .before .before .before .args .c) (sym (c .before .before .before .before .before .before .before .keys-in-range .ensures) ∙ not-false _ (c .before .before .before .before .before .before .if1 .left)) (sym (c .before .before .before .before .before .address-in-range .ensures) ∙ not-false _ (c .before .before .before .before .if2 .left)) (sym (c .before .before .before .jrc-in-range .ensures) ∙ not-false _ (c .before .before .if3 .left)) (sym (c .before .octets-in-range .ensures) ∙ not-true _ (c .if4 .taken))
+
+octets-in-range-requires-2 : tie.Need-octets-in-range-requires-2
+octets-in-range-requires-2 c κs = search needs
+
+returns-5 : tie.Need-returns-5
+returns-5 c = (c .octets-in-range2 .ensures) ∙ in-range-5 (c .before .before .before .before .before .before .before .before .before .args .c) (sym (c .before .before .before .before .before .before .before .before .keys-in-range .ensures) ∙ not-false _ (c .before .before .before .before .before .before .before .if1 .left)) (sym (c .before .before .before .before .before .before .address-in-range .ensures) ∙ not-false _ (c .before .before .before .before .before .if2 .left)) (sym (c .before .before .before .before .jrc-in-range .ensures) ∙ not-false _ (c .before .before .before .if3 .left)) (sym (c .before .before .octets-in-range .ensures) ∙ not-false _ (c .before .if4 .left))
+
+pub configuration-in-range-spec : {M : Type 1} → statement M
+configuration-in-range-spec =
+    tie.close
+    (tie.spec
+    keys-in-range-requires
+    returns
+    address-in-range-requires
+    returns-2
+    jrc-in-range-requires
+    returns-3
+    octets-in-range-requires
+    returns-4
+    octets-in-range-requires-2
+    returns-5)

@@ -1,0 +1,75 @@
+// A short address and its lease.
+use cojp::Report;
+use cojp::ShortAddress;
+use cojp::no_address;
+ghost use mathlib.Core.Path.{_≡_};
+ghost use Prim.Native.Nat.{_-_};
+ghost use Rattle.cojp.specs.Address.{isAddress};
+ghost use Rattle.joining.specs.Lease.{absentAddress, addressInRange, holdsAt};
+
+// A short address and when it was received; without one neither counts.
+pub struct HeldAddress {
+    pub held: bool,
+    pub value: ShortAddress,
+    pub received: u64,
+}
+
+// A lease counts seconds.
+const LEASE_UNIT: u64 = 1000;
+
+pub fn absent_address() -> HeldAddress
+    ensures { λ r. ⌜ r ≡ absentAddress ⌝ }
+{
+    let none = no_address(Report::Absent);
+    let value = none.value;
+    HeldAddress {
+        held: false,
+        value: value,
+        received: 0,
+    }
+}
+
+// Any two bytes are an address.
+fn is_address(bytes: [u8; 2]) -> bool
+    ensures { λ r. ⌜ r ≡ isAddress bytes ⌝ }
+{
+    true
+}
+
+// How long ago that was; nothing of a time that is still to come.
+fn elapsed(since: u64, time: u64) -> u64
+    ensures { λ r. ⌜ r ≡ time - since ⌝ }
+{
+    if time < since {
+        return 0;
+    }
+    time - since
+}
+
+impl HeldAddress {
+    // Whether a node with this clock may hold it.
+    pub fn in_range(self, clock: u64) -> bool
+        ensures { λ r. ⌜ r ≡ addressInRange clock self ⌝ }
+    {
+        if self.held {
+            let value = self.value;
+            let bytes = value.bytes;
+            return is_address(bytes) && self.received <= clock;
+        }
+        true
+    }
+
+    // Whether the address holds at this time; without one none does.
+    pub fn holds_at(self, time: u64) -> bool
+        ensures { λ r. ⌜ r ≡ holdsAt self time ⌝ }
+    {
+        if self.held {
+            let value = self.value;
+            if value.leased {
+                return elapsed(self.received, time) / LEASE_UNIT < value.lease;
+            }
+            return true;
+        }
+        false
+    }
+}

@@ -1,0 +1,6 @@
+pub mod Tests
+mod Answers
+pub mod Fits
+pub mod Alike
+pub mod FrameKeys
+pub mod Untouched

@@ -1,0 +1,11 @@
+// A node's two key sets: the active one, which it sends with, and the pending one, which waits until a frame under it is verified.
+pub mod frames;
+pub mod sets;
+
+pub use frames::Change;
+pub use frames::Hearing;
+pub use frames::KeyAnswer;
+pub use frames::without_key;
+pub use sets::KeySets;
+pub use sets::Placement;
+pub use sets::no_sets;

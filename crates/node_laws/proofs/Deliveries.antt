@@ -1,0 +1,249 @@
+-- A refused configuration leaves the node; an accepted one leaves a valid node valid, since what it holds is in range and its key set
+-- is placed by the three rules; a border node has the set active at once.
+use Prim.Native.Nat.{ℕ, _≤_}
+use native.Mathlib.Omega.{arith}
+use mathlib.Core.Path.{_≡_, refl, sym, _∙_, ap}
+use mathlib.Core.Bool.{Bool, true, false, cond, not, _&&_, _||_}
+use mathlib.Core.List.{List, []}
+use borrow.Author.Tests.{leb-true, le-leb, eq-eqb}
+use lib.Dec.{leb, eqb}
+use lib.ListN.{length}
+use Rattle.refusal.specs.declared.Refusal.{Refusal}
+use Rattle.refusal.specs.declared.Refusal.the-variants as refusal
+use Rattle.refusal.specs.declared.Verdict.{Verdict}
+use Rattle.refusal.specs.declared.Verdict.the-variants as verdict
+use Rattle.keys.specs.KeySet.{keysOf, noKeys, allowedSet}
+use Rattle.keys.specs.declared.key.Key.{Key}
+use Rattle.keys.specs.declared.key_set.KeySet.{KeySet}
+use Rattle.key_sets.specs.Sets.{twoSets, placed, install}
+use Rattle.key_sets.specs.Sets as sets
+use Rattle.key_sets.specs.declared.sets.KeySets.{KeySets}
+use Rattle.key_sets.proofs.Fits.{install-fits, border-installs}
+use Rattle.joining.specs.Attempt as attempt
+use Rattle.joining.specs.Lease.{addressInRange}
+use Rattle.joining.specs.declared.attempt.Attempt.{Attempt}
+use Rattle.joining.specs.declared.lease.HeldAddress.{HeldAddress}
+use Rattle.joining.proofs.Attempts.{moved-fits, joined-fits}
+use Rattle.joining.proofs.Leases.{later}
+use Rattle.cojp.specs.Reading.{ifTaken}
+use Rattle.cojp.specs.Address.{isAddress}
+use Rattle.cojp.specs.Configuration.{readConfiguration}
+use Rattle.cojp.specs.declared.address.ShortAddress.{ShortAddress}
+use Rattle.cojp.specs.declared.configuration.Configuration.{Configuration}
+use Rattle.cojp.specs.declared.configuration.ConfigurationRead.{ConfigurationRead}
+use Rattle.cojp.specs.declared.octets.Octets.{Octets}
+use Rattle.cojp.specs.declared.report.Report.{Report}
+use Rattle.cojp.specs.declared.report.Report.the-variants.{Absent, Taken, Discarded}
+use Rattle.node.specs.Node.{activeOf, isBorder, clockOf, octetsInRange, roleInRange}
+use Rattle.node.specs.Range.{othersFit, jrcInRange, valid, Valid}
+use Rattle.node.specs.Delivery.{placementOf, noReports, discarded, borderOnly, reportsOf, octetsAfter, attemptAfter, configured, undelivered, delivered, owesIdentifier, apply, belongs, deliverVerdict, applyRead, deliverBy, deliver}
+use Rattle.node_laws.specs.Laws.{setIn, Takes, Installed}
+use Rattle.node.specs.declared.delivery.Call.{Call}
+use Rattle.node.specs.declared.delivery.Call.the-variants.{JoinAnswer, Update}
+use Rattle.node.specs.declared.delivery.Delivered.{Delivered}
+use Rattle.node.specs.declared.delivery.Reports.{Reports}
+use Rattle.node.specs.declared.node.HeldOctets.{HeldOctets}
+use Rattle.node.specs.declared.node.Node.{Node}
+use Rattle.key_sets.proofs.Tests.{all-four, first, second, third, fourth, both}
+use Rattle.node_laws.proofs.Valid.{keys-fit, attempt-fits, address-fits, others-fit, valid-by}
+use Rattle.node_laws.proofs.Reading.{InRange, read-in-range}
+
+-- ---- refusals
+-- where it is refused, the node is as it was, and the report is empty
+abbrev Leaves : Node → Delivered → Type 0
+Leaves n m = (k : Refusal) → m .verdict ≡ verdict.Refused k → (m .node ≡ n) × (m .reports ≡ noReports)
+
+module _ (n : Node) where
+  no-leaves : (k : Refusal) → Leaves n (undelivered k n)
+  no-leaves k j e = (refl, refl)
+
+  yes-leaves : (r : Reports) (m : Node) → Leaves n (delivered r m)
+  yes-leaves r m k e = absurd (let z : _≡_ {A = ℕ} 0 1 = cc in omega arith)
+
+  cond-leaves : (b : Bool) (x y : Delivered) → Leaves n x → Leaves n y → Leaves n (cond b x y)
+  cond-leaves true x y p q = p
+  cond-leaves false x y p q = q
+
+  apply-leaves : (call : Call) (time : ℕ) (c : Configuration) → Leaves n (apply call n time c)
+  unfolding apply
+  apply-leaves call time c =
+      cond-leaves (owesIdentifier call n (c .network .report)) _ _ (no-leaves refusal.Owed)
+      (cond-leaves (placementOf n (c .keys) .clash) _ _ (no-leaves refusal.Clash)
+      (yes-leaves (reportsOf n c) (configured call n time c (placementOf n (c .keys) .sets) (reportsOf n c))))
+
+  read-leaves : (v : Verdict) (call : Call) (time : ℕ) (c : Configuration) → Leaves n (applyRead v call n time c)
+  read-leaves (verdict.Refused k) call time c = no-leaves k
+  read-leaves verdict.Accepted call time c = apply-leaves call time c
+
+  by-leaves : (v : Verdict) (call : Call) (time : ℕ) (r : ConfigurationRead) → Leaves n (deliverBy v call n time r)
+  by-leaves (verdict.Refused k) call time r = no-leaves k
+  by-leaves verdict.Accepted call time r = read-leaves (r .verdict) call time (r .configuration)
+
+  pub deliver-leaves : (call : Call) (time : ℕ) (payload : List ℕ) → Leaves n (deliver call n time payload)
+  unfolding deliver
+  deliver-leaves call time payload = by-leaves (deliverVerdict call n time (length payload)) call time (readConfiguration payload)
+
+-- ---- an accepted configuration
+-- the tests before it passed
+record Passed (call : Call) (n : Node) (time : ℕ) (payload : List ℕ) : Type 0 where
+  later : clockOf n ≤ time
+  read : readConfiguration payload .verdict ≡ verdict.Accepted
+  placed : placementOf n (readConfiguration payload .configuration .keys) .clash ≡ false
+  is :
+      deliver call n time payload
+      ≡ delivered (reportsOf n (readConfiguration payload .configuration))
+      (configured call n time (readConfiguration payload .configuration) (placementOf n (readConfiguration payload .configuration .keys) .sets)
+      (reportsOf n (readConfiguration payload .configuration)))
+
+refused-not : {A : Type 0} (k : Refusal) → verdict.Refused k ≡ verdict.Accepted → A
+refused-not k e = absurd (let z : _≡_ {A = ℕ} 0 1 = cc in omega arith)
+
+-- a test that refuses where it is true did not
+failed : (b : Bool) (x : Delivered) (k : Refusal) (n : Node) → cond b (undelivered k n) x .verdict ≡ verdict.Accepted → b ≡ false
+failed true x k n e = refused-not k e
+failed false x k n e = refl
+
+accepted-read :
+    (v : Verdict) (call : Call) (n : Node) (time : ℕ) (c : Configuration) → applyRead v call n time c .verdict ≡ verdict.Accepted → v ≡ verdict.Accepted
+accepted-read (verdict.Refused k) call n time c e = refused-not k e
+accepted-read verdict.Accepted call n time c e = refl
+
+accepted-by :
+    (v : Verdict) (call : Call) (n : Node) (time : ℕ) (r : ConfigurationRead) → deliverBy v call n time r .verdict ≡ verdict.Accepted → v ≡ verdict.Accepted
+accepted-by (verdict.Refused k) call n time r e = refused-not k e
+accepted-by verdict.Accepted call n time r e = refl
+
+not-early : (call : Call) (n : Node) (time len : ℕ) → deliverVerdict call n time len ≡ verdict.Accepted → leb (clockOf n) time ≡ true
+unfolding deliverVerdict
+not-early call n time len = go (valid n) (leb len 256) (leb (clockOf n) time) (belongs call (n .attempt .phase))
+  where
+    go :
+        (v l t b : Bool) →
+        cond v (cond l (cond t (cond b verdict.Accepted (verdict.Refused refusal.Phase)) (verdict.Refused refusal.Clock)) (verdict.Refused refusal.Long)) (verdict.Refused refusal.Range)
+        ≡ verdict.Accepted → t ≡ true
+    go false l t b e = refused-not refusal.Range e
+    go true false t b e = refused-not refusal.Long e
+    go true true false b e = refused-not refusal.Clock e
+    go true true true b e = refl
+
+module _ (call : Call) (n : Node) (time : ℕ) (payload : List ℕ) where
+  abbrev c : Configuration
+  c = readConfiguration payload .configuration
+
+  accepted-passed : deliver call n time payload .verdict ≡ verdict.Accepted → Passed call n time payload
+  unfolding deliver apply
+  accepted-passed e =
+      let v = accepted-by (deliverVerdict call n time (length payload)) call n time (readConfiguration payload) e in
+      let e1 = rw v at e in
+      let r = accepted-read (readConfiguration payload .verdict) call n time c e1 in
+      let e2 = rw r at e1 in
+      let o = failed (owesIdentifier call n (c .network .report)) _ refusal.Owed n e2 in
+      let e3 = rw o at e2 in
+      let p = failed (placementOf n (c .keys) .clash) _ refusal.Clash n e3 in
+      record { later = leb-true (clockOf n) time (not-early call n time (length payload) v); read = r; placed = p; is = rw (v, r, o, p) }
+
+-- ---- key sets
+placement-fits :
+    (n : Node) (r : Report) (set : KeySet) → sets.fits (isBorder n) (n .sets) ≡ true → ifTaken r (allowedSet set) true ≡ true →
+    ifTaken r (install (isBorder n) (n .sets) set) (placed false (n .sets)) .clash ≡ false →
+    sets.fits (isBorder n) (ifTaken r (install (isBorder n) (n .sets) set) (placed false (n .sets)) .sets) ≡ true
+placement-fits n Absent set fits ok e = fits
+placement-fits n Discarded set fits ok e = fits
+placement-fits n Taken set fits ok e = install-fits (isBorder n) (n .sets) set fits ok e
+
+-- ---- the other parameters
+address-after :
+    (clock time : ℕ) (r : Report) (value : ShortAddress) (old : HeldAddress) → clock ≤ time → ifTaken r (isAddress (value .bytes)) true ≡ true →
+    addressInRange clock old ≡ true →
+    addressInRange time (ifTaken r (record { held = true; value = value; received = time }) old) ≡ true
+address-after clock time Absent value old h e f = later clock time old h f
+address-after clock time Discarded value old h e f = later clock time old h f
+address-after clock time Taken value old h e f = both (isAddress (value .bytes)) (leb time time) e (le-leb time time (omega arith))
+
+jrc-after :
+    (r : Report) (o : Octets) (old : HeldOctets) → ifTaken r (eqb (o .len) 16) true ≡ true → jrcInRange old ≡ true →
+    jrcInRange (octetsAfter r o old) ≡ true
+jrc-after Absent o old e f = f
+jrc-after Discarded o old e f = f
+jrc-after Taken o old e f = e
+
+octets-after :
+    (border : Bool) (r : Report) (o : Octets) (old : HeldOctets) → ifTaken r (leb (o .len) 16) true ≡ true → octetsInRange old ≡ true →
+    octetsInRange (octetsAfter (cond border r (discarded r)) o old) ≡ true
+octets-after true Absent o old e f = f
+octets-after true Discarded o old e f = f
+octets-after true Taken o old e f = e
+octets-after false Absent o old e f = f
+octets-after false Discarded o old e f = f
+octets-after false Taken o old e f = f
+
+attempt-after : (call : Call) (a : Attempt) (time : ℕ) → a .clock ≤ time → attempt.fits a ≡ true → attempt.fits (attemptAfter call a time) ≡ true
+attempt-after JoinAnswer a time h e = joined-fits a time h e
+attempt-after Update a time h e = moved-fits a time h e
+
+-- ---- the node stays valid
+module _ (call : Call) (n : Node) (time : ℕ) (c : Configuration) (v : Valid n) (h : clockOf n ≤ time) (r : InRange c)
+    (p : placementOf n (c .keys) .clash ≡ false) where
+  abbrev after : Node
+  after = configured call n time c (placementOf n (c .keys) .sets) (reportsOf n c)
+
+  others-after : othersFit after ≡ true
+  unfolding configured reportsOf
+  others-after =
+      let o = others-fit n v in
+      let part1 = roleInRange (n .role) in
+      let part2 = jrcInRange (n .jrc) in
+      let part3 = octetsInRange (n .network) in
+      let part4 = octetsInRange (n .prefix) in
+      all-four (roleInRange (n .role)) (jrcInRange (after .jrc)) (octetsInRange (after .network)) (octetsInRange (after .prefix))
+      (first part1 part2 part3 part4 o)
+      (jrc-after (c .jrc .report) (c .jrc .value) (n .jrc) (r .jrc) (second part1 part2 part3 part4 o))
+      (octets-after (isBorder n) (c .network .report) (c .network .value) (n .network) (r .network) (third part1 part2 part3 part4 o))
+      (octets-after (isBorder n) (c .prefix .report) (c .prefix .value) (n .prefix) (r .prefix) (fourth part1 part2 part3 part4 o))
+
+  configured-valid : Valid after
+  configured-valid =
+      valid-by after
+      (unfold configured in placement-fits n (c .keys .report) (c .keys .value) (keys-fit n v) (r .keys) p)
+      (unfold configured in attempt-after call (n .attempt) time h (attempt-fits n v))
+      (unfold configured in address-after (clockOf n) time (c .address .report) (c .address .value) (n .address) h (r .address) (address-fits n v))
+      others-after
+
+pub deliver-valid : (call : Call) (n : Node) (time : ℕ) (payload : List ℕ) → Valid n → Valid (deliver call n time payload .node)
+deliver-valid call n time payload v = go (deliver call n time payload .verdict) refl
+  where
+    go : (w : Verdict) → deliver call n time payload .verdict ≡ w → Valid (deliver call n time payload .node)
+    go (verdict.Refused k) e = rw (deliver-leaves n call time payload k e .0) v
+    go verdict.Accepted e =
+        let p = accepted-passed call n time payload e in
+        rw (p .is)
+        (configured-valid call n time (readConfiguration payload .configuration) v (p .later) (read-in-range payload (p .read)) (p .placed))
+
+pub deliver-role : (call : Call) (n : Node) (time : ℕ) (payload : List ℕ) → deliver call n time payload .node .role ≡ n .role
+deliver-role call n time payload = go (deliver call n time payload .verdict) refl
+  where
+    go : (w : Verdict) → deliver call n time payload .verdict ≡ w → deliver call n time payload .node .role ≡ n .role
+    go (verdict.Refused k) e = rw (deliver-leaves n call time payload k e .0)
+    go verdict.Accepted e = let p = accepted-passed call n time payload e in rw (p .is) (unfold configured in refl)
+
+-- ---- a border node that takes a set
+border-place :
+    (n : Node) (r : Report) (set : KeySet) → n .role ≡ 1 → r ≡ Taken →
+    ifTaken r (install (isBorder n) (n .sets) set) (placed false (n .sets)) ≡ placed false (twoSets set noKeys)
+border-place n r set b e = rw (e, eq-eqb (n .role) 1 b) (border-installs (n .sets) set)
+
+pub border-takes :
+    (call : Call) (n : Node) (time : ℕ) (payload : List ℕ) (ks : List Key) → Valid n → n .role ≡ 1 → Takes call n time payload ks →
+    Installed ks n (deliver call n time payload .node)
+unfolding configured reportsOf
+border-takes call n time payload ks v b h =
+    let p = accepted-passed call n time payload (h .accepted) in
+    let c = readConfiguration payload .configuration in
+    let taken : c .keys .report ≡ Taken = sym (ap (λ (m : Delivered). m .reports .keys) (p .is)) ∙ h .taken in
+    let place = border-place n (c .keys .report) (c .keys .value) b taken in
+    record {
+      active = rw (p .is) (rw place (h .set));
+      pending = rw (p .is) (rw place);
+      role = deliver-role call n time payload;
+      valid = deliver-valid call n time payload v;
+    }

@@ -1,0 +1,127 @@
+-- Keys for frames: a valid node answers as its key sets do, and a verified frame leaves the sets or switches them.
+use Prim.Native.Nat.{ℕ}
+use native.Mathlib.Omega.{arith}
+use mathlib.Core.Path.{_≡_, refl, sym, _∙_, ap}
+use mathlib.Core.Bool.{Bool, true, false, cond}
+use mathlib.Core.Logic.{_⊎_, inl, inr, ⊎-elim}
+use mathlib.Core.List.{List, [], List·Memᴰ}
+use Rattle.refusal.specs.declared.Refusal.{Refusal}
+use Rattle.refusal.specs.declared.Refusal.the-variants as refusal
+use Rattle.refusal.specs.declared.Verdict.the-variants as verdict
+use Rattle.keys.specs.Key.{covers}
+use Rattle.keys.specs.KeySet.{Covers}
+use Rattle.keys.specs.declared.key.Key.{Key}
+use Rattle.key_sets.specs.Frames.{withKey, withoutKey, sendingKey, receivingKey, hears, switched}
+use Rattle.key_sets.specs.declared.frames.Change.the-variants as change
+use Rattle.key_sets.specs.declared.frames.KeyAnswer.{KeyAnswer}
+use Rattle.key_sets.specs.declared.sets.KeySets.{KeySets}
+use Rattle.key_sets.proofs.Fits.{switched-fits}
+use Rattle.key_sets.proofs.FrameKeys as sets
+use Rattle.node.specs.Node.{activeOf, pendingOf, isBorder, keyed}
+use Rattle.node.specs.Range.{valid, Valid}
+use Rattle.node.specs.Frames.{send, receive, heard, heardBy, verified}
+use Rattle.node_laws.specs.Laws.{Without, Kept, Switched, Sends, Switching}
+use Rattle.node.specs.declared.node.Node.{Node}
+use Rattle.node_laws.proofs.Valid.{keys-fit, attempt-fits, address-fits, others-fit, valid-by}
+use Rattle.node_laws.proofs.Kept.{kept-self, kept-keyed}
+
+-- an accepted answer comes of a valid node
+answered-valid : (b : Bool) (x : KeyAnswer) → cond b x (withoutKey refusal.Range) .verdict ≡ verdict.Accepted → b ≡ true
+answered-valid true x e = refl
+answered-valid false x e = absurd (let z : _≡_ {A = ℕ} 0 1 = cc in omega arith)
+
+-- ---- sending
+module _ (n : Node) (type : ℕ) where
+  send-is : Valid n → send n type ≡ sendingKey (n .sets) type
+  unfolding send
+  send-is v = rw v
+
+  pub send-from : send n type .verdict ≡ verdict.Accepted → Sends n type
+  unfolding send
+  send-from a =
+      let v : Valid n = answered-valid (valid n) (sendingKey (n .sets) type) a in
+      let s = sets.sent-from (n .sets) type (rw v at a) in
+      record { accepted = a; member = rw v (s .0); covering = rw v (s .1) }
+
+  pub can-send : Valid n → Covers (activeOf n) type → Sends n type
+  can-send v c = send-from (rw (send-is v) (sets.can-send (n .sets) type c))
+
+-- ---- receiving
+module _ (n : Node) (type identifier : ℕ) where
+  receive-is : Valid n → receive n type identifier ≡ receivingKey (n .sets) type identifier
+  unfolding receive
+  receive-is v = rw v
+
+  pub receive-from :
+      receive n type identifier .verdict ≡ verdict.Accepted →
+      (List·Memᴰ (receive n type identifier .key) (activeOf n) ⊎ List·Memᴰ (receive n type identifier .key) (pendingOf n))
+      × (receive n type identifier .key .identifier ≡ identifier)
+      × (covers (receive n type identifier .key) type ≡ true)
+  unfolding receive
+  receive-from a =
+      let v : Valid n = answered-valid (valid n) (receivingKey (n .sets) type identifier) a in
+      rw v (sets.receive-from (n .sets) type identifier (rw v at a))
+
+pub receive-pending :
+    (n : Node) (type : ℕ) (k : Key) → Valid n → covers k type ≡ true → Without (k .identifier) (activeOf n) →
+    List·Memᴰ k (pendingOf n) → receive n type (k .identifier) ≡ withKey k
+receive-pending n type k v c absent member =
+    receive-is n type (k .identifier) v ∙ sets.receive-pending (isBorder n) (n .sets) type k (keys-fit n v) c absent member
+
+-- ---- the verified report
+switched-keyed : (n : Node) (s : KeySets) → s ≡ switched (n .sets) → Switched n (keyed n s)
+switched-keyed n s e =
+    rw e
+    (record {
+      active = refl;
+      pending = refl;
+      role = refl;
+      valid =
+          λ v. valid-by (keyed n (switched (n .sets))) (switched-fits (isBorder n) (n .sets) (keys-fit n v)) (attempt-fits n v) (address-fits n v)
+          (others-fit n v);
+    })
+
+module _ (n : Node) (type identifier : ℕ) where
+  abbrev heardSets : KeySets
+  heardSets = hears (n .sets) type identifier .sets
+
+  verified-is : Valid n → verified n type identifier ≡ heardBy n (hears (n .sets) type identifier)
+  unfolding verified
+  verified-is v = rw v
+
+  either-by : Kept n (keyed n heardSets) ⊎ (Switching n type identifier × Switched n (keyed n heardSets))
+  either-by =
+      ⊎-elim (λ e. inl (kept-keyed n heardSets e))
+      (λ s. inr (record { key = s .0 .key; named = s .0 .named; member = s .0 .member; covering = s .0 .covering; absent = s .0 .absent }, switched-keyed n heardSets (s .1)))
+      (sets.hears-either (n .sets) type identifier)
+
+  pub verified-either : Kept n (verified n type identifier .node) ⊎ (Switching n type identifier × Switched n (verified n type identifier .node))
+  unfolding verified
+  verified-either = go (valid n)
+    where
+      go :
+          (b : Bool) →
+          Kept n (cond b (heardBy n (hears (n .sets) type identifier)) (heard (change.Refused refusal.Range) n) .node)
+          ⊎ (Switching n type identifier × Switched n (cond b (heardBy n (hears (n .sets) type identifier)) (heard (change.Refused refusal.Range) n) .node))
+      go true = either-by
+      go false = inl (kept-self n)
+
+  pub verified-kept : Without identifier (pendingOf n) → Kept n (verified n type identifier .node)
+  verified-kept without = ⊎-elim (λ k. k) (λ s. absurd (without (s .0 .key) (s .0 .member) (s .0 .named))) verified-either
+
+  pub verified-switches : Valid n → Switching n type identifier → Switched n (verified n type identifier .node)
+  verified-switches v s =
+      rw (verified-is v)
+      (switched-keyed n heardSets
+      (sets.hears-switches (isBorder n) (n .sets) type identifier (keys-fit n v)
+      (record { key = s .key; named = s .named; member = s .member; covering = s .covering; absent = s .absent })))
+
+  pub verified-says : verified n type identifier .change ≡ change.Switched → Switched n (verified n type identifier .node)
+  unfolding verified
+  verified-says = go (valid n)
+    where
+      go :
+          (b : Bool) → cond b (heardBy n (hears (n .sets) type identifier)) (heard (change.Refused refusal.Range) n) .change ≡ change.Switched →
+          Switched n (cond b (heardBy n (hears (n .sets) type identifier)) (heard (change.Refused refusal.Range) n) .node)
+      go true e = switched-keyed n heardSets (sets.hears-says (n .sets) type identifier e)
+      go false e = absurd (let z : _≡_ {A = ℕ} 0 1 = cc in omega arith)

@@ -1,0 +1,81 @@
+-- Polled when due, a valid node answers as its join attempt does, which gives up 31t after its start.
+use Prim.Native.Nat.{ℕ, zero, suc}
+use native.Mathlib.Omega.{arith}
+use mathlib.Core.Path.{_≡_, refl, sym, _∙_, ap}
+use mathlib.Core.Bool.{Bool, true, false, cond}
+use mathlib.Core.List.{List, [], _∷_}
+use Rattle.refusal.specs.declared.Refusal.{Refusal}
+use Rattle.refusal.specs.declared.Verdict.{Verdict}
+use Rattle.refusal.specs.declared.Verdict.the-variants as verdict
+use Rattle.cbor.specs.Answer.{Plan, answer}
+use Rattle.cbor.specs.declared.write.Written.{Written}
+use Rattle.cbor.specs.declared.write.Written.the-variants as written
+use Rattle.cojp.specs.Writing.{requestPlan}
+use Rattle.joining.specs.Attempt.{waitingFrom}
+use Rattle.joining.specs.Poll as attempt
+use Rattle.joining.specs.declared.attempt.Attempt.{Attempt}
+use Rattle.joining.specs.declared.poll.Due.{Due}
+use Rattle.joining.proofs.Attempts.{may-start}
+use Rattle.joining.proofs.GivesUp.{attempt-gives-up}
+use Rattle.node.specs.Node.{clockOf}
+use Rattle.node.specs.Range.{Valid}
+use Rattle.node.specs.Timing.{requestOf, startVerdict, planBy, startPlan, startedFrom, startedBy, start, polledBy, poll}
+use Rattle.node_laws.specs.Laws.{dueAt, afterDue, answersDue, GaveUpAfter, GivesUp}
+use Rattle.node.specs.declared.node.Node.{Node}
+use Rattle.node_laws.proofs.Timings.{start-passed, start-kept, poll-is, poll-kept}
+
+-- ---- an accepted start
+refused-not : {A : Type 0} (k : Refusal) → verdict.Refused k ≡ verdict.Accepted → A
+refused-not k e = absurd (let z : _≡_ {A = ℕ} 0 1 = cc in omega arith)
+
+begun-by :
+    (n m : Node) (d : List ℕ) (v : Verdict) (p : Plan) → startedBy (answer (planBy v p) d) n m .verdict ≡ verdict.Accepted →
+    (v ≡ verdict.Accepted) × (startedBy (answer (planBy v p) d) n m .node ≡ m)
+begun-by n m d (verdict.Refused k) p e = refused-not k e
+begun-by n m d verdict.Accepted p e = (refl, go (answer p d) e)
+  where
+    go : (w : Written) → startedBy w n m .verdict ≡ verdict.Accepted → startedBy w n m .node ≡ m
+    go (written.Refused k) f = refused-not k f
+    go (written.Length l) f = refl
+
+started :
+    (n : Node) (time timeout : ℕ) (d : List ℕ) → start n time timeout d .verdict ≡ verdict.Accepted →
+    (startVerdict n time timeout ≡ verdict.Accepted) × (start n time timeout d .node ≡ startedFrom n time timeout)
+unfolding start startPlan
+started n time timeout d e =
+    begun-by n (startedFrom n time timeout) d (startVerdict n time timeout) (requestPlan (requestOf n)) e
+
+-- ---- polling when due
+abbrev after : Attempt → Attempt
+after a = attempt.poll a (attempt.dueAt a) .attempt
+
+next-is : (n : Node) → Valid n → poll n (dueAt n) .node .attempt ≡ after (n .attempt)
+next-is n v = rw (poll-is n (dueAt n) v)
+
+due-is : (n : Node) → Valid n → poll n (dueAt n) .due ≡ attempt.poll (n .attempt) (attempt.dueAt (n .attempt)) .due
+due-is n v = rw (poll-is n (dueAt n) v)
+
+answers-same : (polls : ℕ) (n : Node) → Valid n → answersDue polls n ≡ attempt.answersDue polls (n .attempt)
+answers-same zero n v = refl
+answers-same (suc polls) n v =
+    let rest : answersDue polls (poll n (dueAt n) .node) ≡ attempt.answersDue polls (after (n .attempt)) =
+    answers-same polls (poll n (dueAt n) .node) (poll-kept n (dueAt n) .valid v) ∙ ap (attempt.answersDue polls) (next-is n v) in
+    rw (due-is n v, rest)
+
+after-same : (polls : ℕ) (n : Node) → Valid n → afterDue polls n .attempt ≡ attempt.afterDue polls (n .attempt)
+after-same zero n v = refl
+after-same (suc polls) n v =
+    after-same polls (poll n (dueAt n) .node) (poll-kept n (dueAt n) .valid v) ∙ ap (attempt.afterDue polls) (next-is n v)
+
+pub gives-up : GivesUp
+gives-up n time timeout d e =
+    let s = started n time timeout d e in
+    let p = start-passed n time timeout (s .0) in
+    let g = attempt-gives-up time timeout (may-start (n .attempt) time timeout (p .1) .2) in
+    let v : Valid (start n time timeout d .node) = start-kept n time timeout d .valid (p .0) in
+    let a : start n time timeout d .node .attempt ≡ waitingFrom time timeout = ap (λ (x : Node). x .attempt) (s .1) in
+    record {
+      answers = answers-same 5 (start n time timeout d .node) v ∙ ap (attempt.answersDue 5) a ∙ g .answers;
+      end = ap (λ (x : Attempt). x .phase) (after-same 5 (start n time timeout d .node) v ∙ ap (attempt.afterDue 5) a) ∙ g .end;
+      at = ap (λ (x : Attempt). x .clock) (after-same 5 (start n time timeout d .node) v ∙ ap (attempt.afterDue 5) a) ∙ g .at;
+    }

@@ -1,0 +1,10 @@
+mod Valid
+mod Kept
+mod Timings
+mod Reading
+mod Deliveries
+mod Alike
+mod FrameKeys
+mod Untouched
+mod GivesUp
+mod NodeLaws

@@ -1,0 +1,78 @@
+-- Starts and polls leave keys and role, and a valid node valid.
+use Prim.Native.Nat.{ℕ}
+use native.Mathlib.Omega.{arith}
+use mathlib.Core.Path.{_≡_, refl}
+use mathlib.Core.Bool.{Bool, true, false, cond}
+use mathlib.Core.List.{List}
+use borrow.Author.Tests.{leb-true}
+use Rattle.refusal.specs.declared.Refusal.{Refusal}
+use Rattle.refusal.specs.declared.Refusal.the-variants as refusal
+use Rattle.refusal.specs.declared.Verdict.{Verdict}
+use Rattle.refusal.specs.declared.Verdict.the-variants as verdict
+use Rattle.cbor.specs.Answer.{Plan, answer}
+use Rattle.cbor.specs.declared.write.Written.{Written}
+use Rattle.cbor.specs.declared.write.Written.the-variants as written
+use Rattle.cojp.specs.Writing.{requestPlan}
+use Rattle.joining.specs.Attempt.{mayStart, waitingFrom}
+use Rattle.joining.specs.Poll as attempt
+use Rattle.joining.specs.declared.poll.Due.the-variants as due
+use Rattle.joining.specs.declared.poll.Step.{Step}
+use Rattle.joining.proofs.Attempts.{waiting-fits, may-start, poll-fits, poll-later}
+use Rattle.node.specs.Node.{attempting}
+use Rattle.node.specs.Range.{valid, Valid}
+use Rattle.node.specs.Timing.{requestOf, startVerdict, planBy, startPlan, startedFrom, startedBy, start, polled, polledBy, poll}
+use Rattle.node_laws.specs.Laws.{Kept}
+use Rattle.node.specs.declared.node.Node.{Node}
+use Rattle.node_laws.proofs.Valid.{attempt-fits}
+use Rattle.node_laws.proofs.Kept.{kept-self, kept-attempt}
+
+refused-not : {A : Type 0} (k : Refusal) → verdict.Refused k ≡ verdict.Accepted → A
+refused-not k e = absurd (let z : _≡_ {A = ℕ} 0 1 = cc in omega arith)
+
+-- ---- starting
+module _ (n : Node) (time timeout : ℕ) where
+  -- it may start: the node is valid, and its attempt may
+  pub start-passed : startVerdict n time timeout ≡ verdict.Accepted → Valid n × (mayStart (n .attempt) time timeout ≡ verdict.Accepted)
+  unfolding startVerdict
+  start-passed e = go (valid n) refl e
+    where
+      go :
+          (b : Bool) → valid n ≡ b → cond b (mayStart (n .attempt) time timeout) (verdict.Refused refusal.Range) ≡ verdict.Accepted →
+          Valid n × (mayStart (n .attempt) time timeout ≡ verdict.Accepted)
+      go true v a = (v, a)
+      go false v a = refused-not refusal.Range a
+
+  waiting-kept : startVerdict n time timeout ≡ verdict.Accepted → Kept n (startedFrom n time timeout)
+  waiting-kept e =
+      let m = may-start (n .attempt) time timeout (start-passed e .1) in
+      kept-attempt n (waitingFrom time timeout) (λ v. waiting-fits time timeout (m .2)) (leb-true _ _ (m .0))
+
+  start-cases :
+      (d : List ℕ) (v : Verdict) (p : Plan) → (v ≡ verdict.Accepted → Kept n (startedFrom n time timeout)) →
+      Kept n (startedBy (answer (planBy v p) d) n (startedFrom n time timeout) .node)
+  start-cases d (verdict.Refused k) p f = kept-self n
+  start-cases d verdict.Accepted p f = go (answer p d)
+    where
+      go : (w : Written) → Kept n (startedBy w n (startedFrom n time timeout) .node)
+      go (written.Refused k) = kept-self n
+      go (written.Length l) = f refl
+
+  pub start-kept : (d : List ℕ) → Kept n (start n time timeout d .node)
+  unfolding start startPlan
+  start-kept d = start-cases d (startVerdict n time timeout) (requestPlan (requestOf n)) waiting-kept
+
+-- ---- polling
+module _ (n : Node) (time : ℕ) where
+  pub poll-is : Valid n → poll n time ≡ polledBy n (attempt.poll (n .attempt) time)
+  unfolding poll
+  poll-is v = rw v
+
+  poll-cases : (b : Bool) (s : Step) → Kept n (attempting n (s .attempt)) → Kept n (cond b (polledBy n s) (polled (due.Refused refusal.Range) n) .node)
+  poll-cases true s k = k
+  poll-cases false s k = kept-self n
+
+  pub poll-kept : Kept n (poll n time .node)
+  unfolding poll
+  poll-kept =
+      poll-cases (valid n) (attempt.poll (n .attempt) time)
+      (kept-attempt n (attempt.poll (n .attempt) time .attempt) (λ v. poll-fits (n .attempt) time (attempt-fits n v)) (poll-later (n .attempt) time))

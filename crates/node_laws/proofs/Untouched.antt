@@ -1,0 +1,135 @@
+-- Each call's definition gives, beside a refusal, the node it was handed and the empty object, and a refused start writes nothing.
+use Prim.Native.Nat.{ℕ, _-_}
+use native.Mathlib.Omega.{arith}
+use mathlib.Core.Path.{_≡_, refl, ap}
+use mathlib.Core.Bool.{Bool, true, false, cond, not, _&&_}
+use mathlib.Core.List.{List, _++_}
+use mathlib.Core.Option.{Option, none, some}
+use lib.Dec.{leb, ltb, eqb}
+use lib.ListN.{length, drop}
+use Rattle.refusal.specs.declared.Refusal.{Refusal}
+use Rattle.refusal.specs.declared.Refusal.the-variants as refusal
+use Rattle.refusal.specs.declared.Verdict.{Verdict}
+use Rattle.refusal.specs.declared.Verdict.the-variants as verdict
+use Rattle.cbor.specs.Answer.{Plan, refuse, emit, answer, after}
+use Rattle.cbor.specs.declared.write.Written.the-variants as w
+use Rattle.keys.specs.Key.{noKey}
+use Rattle.key_sets.specs.Frames.{withoutKey, sendingKey, receivingKey, hears, changeVerdict}
+use Rattle.key_sets.specs.declared.frames.Change.the-variants as change
+use Rattle.key_sets.specs.declared.frames.KeyAnswer.{KeyAnswer}
+use Rattle.key_sets.proofs.Untouched as sets
+use Rattle.joining.specs.Poll as attempt
+use Rattle.joining.specs.declared.poll.Due.the-variants as due
+use Rattle.joining.proofs.Attempts.{poll-untouched}
+use Rattle.node.specs.Node.{emptyNode, roleInRange, octetsInRange, attempting, keyed, made}
+use Rattle.node.specs.Range.{valid}
+use Rattle.node.specs.Timing.{startPlan, startedFrom, startedBy, start, startAfter, polled, polledBy, poll}
+use Rattle.node.specs.Frames.{send, afterSend, receive, heard, heardBy, verified}
+use Rattle.node.specs.Lease.{holds, holdingVerdict}
+use Rattle.node_laws.specs.Calls.{NodeCall, starting, polling, delivering, asking, sending, receiving, reporting, nothing, written, reports, key, dueObject, holdingObject, changeObject, perform, Untouched, Demand1}
+use Rattle.node.specs.declared.frames.Heard.{Heard}
+use Rattle.node.specs.declared.lease.Holding.{Holding}
+use Rattle.node.specs.declared.lease.Holding.the-variants as holding
+use Rattle.node.specs.declared.node.HeldOctets.{HeldOctets}
+use Rattle.node.specs.declared.node.Made.{Made}
+use Rattle.node.specs.declared.node.Node.{Node}
+use Rattle.node.specs.declared.timing.Polled.{Polled}
+use Rattle.node_laws.proofs.Deliveries.{deliver-leaves}
+
+accepted-not : {A : Type 0} (k : Refusal) → verdict.Accepted ≡ verdict.Refused k → A
+accepted-not k e = absurd (let z : _≡_ {A = ℕ} 0 1 = cc in omega arith)
+
+-- ---- starting
+module _ (n m : Node) (d : List ℕ) (k : Refusal) where
+  room :
+      (b : Bool) (l : ℕ) (p : List ℕ) → startedBy (cond b (w.Length l) (w.Refused refusal.Room)) n m .verdict ≡ verdict.Refused k →
+      (startedBy (cond b (w.Length l) (w.Refused refusal.Room)) n m .node ≡ n)
+      × (cond b p d ≡ d) × (startedBy (cond b (w.Length l) (w.Refused refusal.Room)) n m .length ≡ 0)
+  room true l p e = accepted-not k e
+  room false l p e = (refl, refl, refl)
+
+  start-untouched :
+      (p : Plan) → startedBy (answer p d) n m .verdict ≡ verdict.Refused k →
+      (startedBy (answer p d) n m .node ≡ n) × (after p d ≡ d) × (startedBy (answer p d) n m .length ≡ 0)
+  start-untouched (refuse j) e = (refl, refl, refl)
+  start-untouched (emit p) e = room (leb (length p) (length d)) (length p) (p ++ drop (length p) d) e
+
+-- ---- polling
+node-polled : (n : Node) (time : ℕ) (k : Refusal) → attempt.dueVerdict (poll n time .due) ≡ verdict.Refused k → (poll n time .node ≡ n) × (dueObject (poll n time .due) ≡ nothing)
+unfolding poll
+node-polled n time k = go (valid n)
+  where
+    go :
+        (b : Bool) → attempt.dueVerdict (cond b (polledBy n (attempt.poll (n .attempt) time)) (polled (due.Refused refusal.Range) n) .due) ≡ verdict.Refused k →
+        (cond b (polledBy n (attempt.poll (n .attempt) time)) (polled (due.Refused refusal.Range) n) .node ≡ n)
+        × (dueObject (cond b (polledBy n (attempt.poll (n .attempt) time)) (polled (due.Refused refusal.Range) n) .due) ≡ nothing)
+    go true e = let u = poll-untouched (n .attempt) time k e in (ap (attempting n) (u .0), ap dueObject (u .1))
+    go false e = (refl, refl)
+
+-- ---- the answers that are one of several
+holding-untouched : (h : Holding) (k : Refusal) → holdingVerdict h ≡ verdict.Refused k → holdingObject h ≡ nothing
+holding-untouched (holding.Refused j) k e = refl
+holding-untouched holding.Holds k e = accepted-not k e
+holding-untouched holding.Lapsed k e = accepted-not k e
+
+abbrev Unanswered : KeyAnswer → Type 0
+Unanswered x = (k : Refusal) → x .verdict ≡ verdict.Refused k → x .key ≡ noKey
+
+range-or : (b : Bool) (x : KeyAnswer) → Unanswered x → Unanswered (cond b x (withoutKey refusal.Range))
+range-or true x p = p
+range-or false x p = λ k e. refl
+
+send-untouched : (n : Node) (type : ℕ) → Unanswered (send n type)
+unfolding send
+send-untouched n type = range-or (valid n) (sendingKey (n .sets) type) (sets.send-untouched (n .sets) type)
+
+receive-untouched : (n : Node) (type identifier : ℕ) → Unanswered (receive n type identifier)
+unfolding receive
+receive-untouched n type identifier = range-or (valid n) (receivingKey (n .sets) type identifier) (sets.receive-untouched (n .sets) type identifier)
+
+report-untouched :
+    (n : Node) (type identifier : ℕ) (k : Refusal) → changeVerdict (verified n type identifier .change) ≡ verdict.Refused k →
+    (verified n type identifier .node ≡ n) × (changeObject (verified n type identifier .change) ≡ nothing)
+unfolding verified
+report-untouched n type identifier k = go (valid n)
+  where
+    told : Bool → Heard
+    told b = cond b (heardBy n (hears (n .sets) type identifier)) (heard (change.Refused refusal.Range) n)
+
+    go : (b : Bool) → changeVerdict (told b .change) ≡ verdict.Refused k → (told b .node ≡ n) × (changeObject (told b .change) ≡ nothing)
+    go true e = let u = sets.hears-untouched (n .sets) type identifier k e in (ap (keyed n) (u .0), ap changeObject (u .1))
+    go false e = (refl, refl)
+
+-- ---- all calls
+untouched : (c : NodeCall) (n : Node) (k : Refusal) → perform c n .verdict ≡ verdict.Refused k → Untouched c n (perform c n)
+unfolding perform start startAfter afterSend
+untouched (starting time timeout d) n k e =
+    let u = start-untouched n (startedFrom n time timeout) d k (startPlan n time timeout) e in
+    record { node = u .0; lent = u .1; object = ap written (u .2) }
+untouched (polling time) n k e = let u = node-polled n time k e in record { node = u .0; lent = refl; object = u .1 }
+untouched (delivering call time payload) n k e =
+    let u = deliver-leaves n call time payload k e in record { node = u .0; lent = refl; object = ap reports (u .1) }
+untouched (asking time) n k e = record { node = refl; lent = refl; object = holding-untouched (holds n time) k e }
+untouched (sending type) n k e = record { node = refl; lent = refl; object = ap key (send-untouched n type k e) }
+untouched (receiving type identifier) n k e =
+    record { node = refl; lent = refl; object = ap key (receive-untouched n type identifier k e) }
+untouched (reporting type identifier) n k e =
+    let u = report-untouched n type identifier k e in
+    record { node = u .0; lent = refl; object = u .1 }
+
+cond-made :
+    (b : Bool) (x y : Made) (k : Refusal) → (x .verdict ≡ verdict.Refused k → x .node ≡ emptyNode) →
+    (y .verdict ≡ verdict.Refused k → y .node ≡ emptyNode) → cond b x y .verdict ≡ verdict.Refused k → cond b x y .node ≡ emptyNode
+cond-made true x y k p q e = p e
+cond-made false x y k p q e = q e
+
+made-empty : (role : ℕ) (network : HeldOctets) (k : Refusal) → made role network .verdict ≡ verdict.Refused k → made role network .node ≡ emptyNode
+unfolding made
+made-empty role network k e =
+    cond-made (roleInRange role) _ _ k
+    (λ f. cond-made (octetsInRange network) _ _ k (λ g. accepted-not k g) (λ g. refl) f)
+    (λ f. refl)
+    e
+
+pub node-demand1 : Demand1
+node-demand1 = record { calls = untouched; made-empty = made-empty }

@@ -1,0 +1,153 @@
+-- What the layer above may rely on of a node, whatever the definitions of its calls are; and when a join attempt gives up.
+use Prim.Native.Nat.{ℕ, zero, suc, _+_, _*_}
+use mathlib.Core.Path.{_≡_}
+use mathlib.Core.Bool.{true}
+use mathlib.Core.Logic.{_⊎_}
+use mathlib.Core.List.{List, [], _∷_, List·Memᴰ}
+use Rattle.refusal.specs.declared.Refusal.{Refusal}
+use Rattle.refusal.specs.declared.Verdict.the-variants.{Accepted, Refused}
+use Rattle.keys.specs.Key.{covers, sameKey}
+use Rattle.keys.specs.KeySet.{keysOf, Apart, Covers}
+use Rattle.keys.specs.declared.key.Key.{Key}
+use Rattle.keys.specs.declared.key_set.KeySet.{KeySet}
+use Rattle.key_sets.specs.Frames.{withKey}
+use Rattle.key_sets.specs.declared.frames.Change.the-variants as change
+use Rattle.joining.specs.Poll as attempt
+use Rattle.joining.specs.declared.attempt.Phase.the-variants as phase
+use Rattle.joining.specs.declared.poll.Due.{Due}
+use Rattle.joining.specs.declared.poll.Due.the-variants.{SendAgain, GaveUp}
+use Rattle.cojp.specs.Configuration.{readConfiguration}
+use Rattle.cojp.specs.declared.report.Report.the-variants.{Taken}
+use Rattle.node.specs.Node.{activeOf, pendingOf, clockOf}
+use Rattle.node.specs.Range.{Valid}
+use Rattle.node.specs.Timing.{start, poll}
+use Rattle.node.specs.Delivery.{deliver}
+use Rattle.node.specs.Frames.{send, afterSend, receive, verified}
+use Rattle.node_laws.specs.Calls.{NodeCall, perform}
+use Rattle.node.specs.declared.delivery.Call.{Call}
+use Rattle.node.specs.declared.node.Node.{Node}
+
+-- ---- the words of the laws
+-- no key of the list has the identifier
+abbrev pub Without : ℕ → List Key → Type 0
+Without identifier ks = (l : Key) → List·Memᴰ l ks → l .identifier ≡ identifier → ⊥
+
+-- the node m has the keys and the role of n, and is valid if n is
+pub record Kept (n m : Node) : Type 0 where
+  pub active : activeOf m ≡ activeOf n
+  pub pending : pendingOf m ≡ pendingOf n
+  pub role : m .role ≡ n .role
+  pub valid : Valid n → Valid m
+
+-- what n had pending is active at m, and nothing is pending
+pub record Switched (n m : Node) : Type 0 where
+  pub active : activeOf m ≡ pendingOf n
+  pub pending : pendingOf m ≡ []
+  pub role : m .role ≡ n .role
+  pub valid : Valid n → Valid m
+
+-- the node can send the type: its active set covers it
+abbrev pub CanSend : Node → ℕ → Type 0
+CanSend n type = Covers (activeOf n) type
+
+-- asked to send the type, the node answers with an active key that covers it
+pub record Sends (n : Node) (type : ℕ) : Type 0 where
+  pub accepted : send n type .verdict ≡ Accepted
+  pub member : List·Memᴰ (send n type .key) (activeOf n)
+  pub covering : covers (send n type .key) type ≡ true
+
+-- the key set that a payload holds
+abbrev pub setIn : List ℕ → KeySet
+setIn payload = readConfiguration payload .configuration .keys .value
+
+-- the node accepts the payload and takes the key set in it, which has the keys ks
+pub record Takes (call : Call) (n : Node) (time : ℕ) (payload : List ℕ) (ks : List Key) : Type 0 where
+  pub accepted : deliver call n time payload .verdict ≡ Accepted
+  pub taken : deliver call n time payload .reports .keys ≡ Taken
+  pub set : keysOf (setIn payload) ≡ ks
+
+-- the node m, which n became, has the keys active, and none pending
+pub record Installed (ks : List Key) (n m : Node) : Type 0 where
+  pub active : activeOf m ≡ ks
+  pub pending : pendingOf m ≡ []
+  pub role : m .role ≡ n .role
+  pub valid : Valid m
+
+-- the key by which the pending set of n becomes active: pending, covering the type, its identifier not active
+pub record Switching (n : Node) (type identifier : ℕ) : Type 0 where
+  pub key : Key
+  pub named : key .identifier ≡ identifier
+  pub member : List·Memᴰ key (pendingOf n)
+  pub covering : covers key type ≡ true
+  pub absent : Without identifier (activeOf n)
+
+pub record NodeLaws : Type 0 where
+  -- a valid node's two sets share no identifier, and a border node has none pending
+  pub valid-apart : (n : Node) → Valid n → Apart (activeOf n) (pendingOf n)
+  pub border-none : (n : Node) → Valid n → n .role ≡ 1 → pendingOf n ≡ []
+  -- every call leaves a valid node valid, and its role as it was; a refused one leaves the node
+  pub stays-valid : (c : NodeCall) (n : Node) → Valid n → Valid (perform c n .node)
+  pub role-stays : (c : NodeCall) (n : Node) → perform c n .node .role ≡ n .role
+  pub refused-stays : (c : NodeCall) (n : Node) (k : Refusal) → perform c n .verdict ≡ Refused k → perform c n .node ≡ n
+  -- a node that can send a type sends it; a key that is sent is an active one and covers the type; sending leaves the keys
+  pub covers-can : (n : Node) (type : ℕ) → Covers (activeOf n) type → CanSend n type
+  pub can-send : (n : Node) (type : ℕ) → Valid n → CanSend n type → Sends n type
+  pub send-from : (n : Node) (type : ℕ) → send n type .verdict ≡ Accepted → Sends n type
+  pub send-kept : (n : Node) (type : ℕ) → Kept n (afterSend n type)
+  -- a pending key that covers the type is found by its identifier, where no active key has it
+  pub receive-pending :
+      (n : Node) (type : ℕ) (k : Key) → Valid n → covers k type ≡ true → Without (k .identifier) (activeOf n) →
+      List·Memᴰ k (pendingOf n) → receive n type (k .identifier) ≡ withKey k
+  -- a key that receiving answers is active or pending, has the identifier and covers the type
+  pub receive-from :
+      (n : Node) (type identifier : ℕ) → receive n type identifier .verdict ≡ Accepted →
+      (List·Memᴰ (receive n type identifier .key) (activeOf n) ⊎ List·Memᴰ (receive n type identifier .key) (pendingOf n))
+      × (receive n type identifier .key .identifier ≡ identifier)
+      × (covers (receive n type identifier .key) type ≡ true)
+  -- a verified frame leaves the keys, or the pending set becomes active by a pending key that covers the type; such a key does that
+  pub verified-either :
+      (n : Node) (type identifier : ℕ) →
+      Kept n (verified n type identifier .node) ⊎ (Switching n type identifier × Switched n (verified n type identifier .node))
+  pub verified-switches :
+      (n : Node) (type identifier : ℕ) → Valid n → Switching n type identifier → Switched n (verified n type identifier .node)
+  pub verified-kept : (n : Node) (type identifier : ℕ) → Without identifier (pendingOf n) → Kept n (verified n type identifier .node)
+  -- the answer says which of the two
+  pub verified-says :
+      (n : Node) (type identifier : ℕ) → verified n type identifier .change ≡ change.Switched → Switched n (verified n type identifier .node)
+  -- a key equals itself
+  pub same-key-self : (k : Key) → sameKey k k ≡ true
+  -- starts and polls, refused or not, leave the keys; a refused join answer or update leaves the node
+  pub start-kept : (n : Node) (time timeout : ℕ) (d : List ℕ) → Kept n (start n time timeout d .node)
+  pub poll-kept : (n : Node) (time : ℕ) → Kept n (poll n time .node)
+  pub deliver-refused :
+      (call : Call) (n : Node) (time : ℕ) (payload : List ℕ) (k : Refusal) → deliver call n time payload .verdict ≡ Refused k →
+      deliver call n time payload .node ≡ n
+  -- a border node that accepts a payload and takes its key set has that set active
+  pub border-takes :
+      (call : Call) (n : Node) (time : ℕ) (payload : List ℕ) (ks : List Key) → Valid n → n .role ≡ 1 → Takes call n time payload ks →
+      Installed ks n (deliver call n time payload .node)
+
+-- ---- giving up
+-- when a waiting node's next step is due
+abbrev pub dueAt : Node → ℕ
+dueAt n = attempt.dueAt (n .attempt)
+
+-- the node after so many polls, each exactly when due, and their answers
+abbrev pub afterDue : ℕ → Node → Node
+afterDue zero n = n
+afterDue (suc polls) n = afterDue polls (poll n (dueAt n) .node)
+
+abbrev pub answersDue : ℕ → Node → List Due
+answersDue zero n = []
+answersDue (suc polls) n = poll n (dueAt n) .due ∷ answersDue polls (poll n (dueAt n) .node)
+
+-- the node has sent its request with first timeout t at that time: polled exactly when due, it sends four times more, and gives up 31t after
+pub record GaveUpAfter (n : Node) (time timeout : ℕ) : Type 0 where
+  pub answers : answersDue 5 n ≡ SendAgain ∷ SendAgain ∷ SendAgain ∷ SendAgain ∷ GaveUp ∷ []
+  pub end : afterDue 5 n .attempt .phase ≡ phase.GaveUp
+  pub at : clockOf (afterDue 5 n) ≡ time + 31 * timeout
+
+abbrev pub GivesUp : Type 0
+GivesUp =
+    (n : Node) (time timeout : ℕ) (d : List ℕ) → start n time timeout d .verdict ≡ Accepted →
+    GaveUpAfter (start n time timeout d .node) time timeout

@@ -1,0 +1,44 @@
+-- The same objects do the same to a node: what a configuration holds beside what is taken does not count.
+use Prim.Native.Nat.{ℕ}
+use mathlib.Core.Path.{_≡_}
+use mathlib.Core.Bool.{cond}
+use mathlib.Core.List.{List}
+use mathlib.Core.Option.{Option, none, some}
+use Rattle.cojp.specs.Octets.{bytesIn}
+use Rattle.cojp.specs.Same.{leaseOf, SameConfiguration}
+use Rattle.cojp.specs.declared.configuration.Configuration.{Configuration}
+use Rattle.joining.specs.declared.lease.HeldAddress.{HeldAddress}
+use Rattle.node.specs.Node.{activeOf, pendingOf}
+use Rattle.node.specs.Delivery.{apply}
+use Rattle.node.specs.declared.delivery.Call.{Call}
+use Rattle.node.specs.declared.delivery.Delivered.{Delivered}
+use Rattle.node.specs.declared.node.HeldOctets.{HeldOctets}
+use Rattle.node.specs.declared.node.Node.{Node}
+
+-- ---- what is held
+abbrev pub octetsHeld : HeldOctets → Option (List ℕ)
+octetsHeld h = cond (h .held) (some (bytesIn (h .value))) none
+
+-- an address, its lease, and when it was received
+abbrev pub addressHeld : HeldAddress → Option (List ℕ × Option ℕ × ℕ)
+addressHeld a = cond (a .held) (some (a .value .bytes, leaseOf (a .value), a .received)) none
+
+-- two nodes that differ at most in places that are never looked at
+pub record SameNode (n m : Node) : Type 0 where
+  pub role : n .role ≡ m .role
+  pub attempt : n .attempt ≡ m .attempt
+  pub active : activeOf n ≡ activeOf m
+  pub pending : pendingOf n ≡ pendingOf m
+  pub address : addressHeld (n .address) ≡ addressHeld (m .address)
+  pub jrc : octetsHeld (n .jrc) ≡ octetsHeld (m .jrc)
+  pub network : octetsHeld (n .network) ≡ octetsHeld (m .network)
+  pub prefix : octetsHeld (n .prefix) ≡ octetsHeld (m .prefix)
+
+pub record SameOutcome (x y : Delivered) : Type 0 where
+  pub verdict : x .verdict ≡ y .verdict
+  pub node : SameNode (x .node) (y .node)
+
+abbrev pub AppliesAlike : Type 0
+AppliesAlike =
+    (call : Call) (n : Node) (time : ℕ) (c d : Configuration) → SameConfiguration c d →
+    SameOutcome (apply call n time c) (apply call n time d)

@@ -1,0 +1,24 @@
+// What holds of a node's calls: demand 1, what the layer above may rely on, when a join attempt gives up, and that the same objects do the same.
+ghost use Rattle.node_laws.specs.Calls.{Demand1};
+ghost use Rattle.node_laws.specs.Laws.{NodeLaws, GivesUp};
+ghost use Rattle.node_laws.specs.Same.{AppliesAlike};
+
+// Demand 1 for the node: a refused call leaves node and lent bytes as they were, and gives the empty object.
+pub fn demand1()
+    ensures { λ r. ⌜ Demand1 ⌝ }
+{}
+
+// What the layer above may rely on.
+pub fn laws()
+    ensures { λ r. ⌜ NodeLaws ⌝ }
+{}
+
+// Polled exactly when due, a join attempt with first timeout t gives up 31t after its start.
+pub fn gives_up()
+    ensures { λ r. ⌜ GivesUp ⌝ }
+{}
+
+// Applied to the same node, the same configurations give the same verdict and the same node.
+pub fn applies_alike()
+    ensures { λ r. ⌜ AppliesAlike ⌝ }
+{}

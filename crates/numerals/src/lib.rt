@@ -1,0 +1,3 @@
+// Numerals: decimal numbers and hexadecimal bytes, read in as many parts as they come in.
+pub mod decimal;
+pub mod hex;

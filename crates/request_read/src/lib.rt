@@ -1,0 +1,4 @@
+// Join requests are read from payloads: one scan, and one walk over the pairs of the map.
+mod request;
+
+pub use request::read_request;
