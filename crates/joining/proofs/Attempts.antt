@@ -16,7 +16,7 @@ use Rattle.joining.specs.declared.attempt.Attempt.{Attempt}
 use Rattle.joining.specs.declared.attempt.Phase.the-variants as phase
 use Rattle.joining.specs.declared.poll.Due.the-variants.{Refused, NotYet, SendAgain, GaveUp}
 use Rattle.joining.specs.declared.poll.Step.{Step}
-use Rattle.joining.proofs.Tests.{then-so}
+use Rattle.keys.proofs.Tests.{then-so}
 
 -- ---- what it says, part by part, and back
 module _ (a : Attempt) (e : fits a ≡ true) where

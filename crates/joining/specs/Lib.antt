@@ -1,3 +1,2 @@
 pub mod Attempt
 pub mod Poll
-pub mod Lease

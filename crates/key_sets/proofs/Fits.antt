@@ -11,7 +11,7 @@ use Rattle.key_sets.specs.Sets.{activeIn, pendingIn, twoSets, isNone, se
 use Rattle.key_sets.specs.Frames.{switched}
 use Rattle.key_sets.specs.declared.sets.KeySets.{KeySets}
 use Rattle.key_sets.specs.declared.sets.Placement.{Placement}
-use Rattle.key_sets.proofs.Tests.{never, first, second, third, fourth, all-four, then-so}
+use Rattle.keys.proofs.Tests.{never, first, second, third, fourth, all-four, then-so}
 
 none-empty : (set : KeySet) → isNone set ≡ true → keysOf set ≡ []
 none-empty set e = rw (eqb-true (set .count) 0 e)

@@ -24,7 +24,7 @@ use Rattle.key_sets.specs.Frames.{withKey, withoutKey, keyOr, sendingKey
 use Rattle.key_sets.specs.declared.frames.Change.the-variants as change
 use Rattle.key_sets.specs.declared.frames.KeyAnswer.{KeyAnswer}
 use Rattle.key_sets.specs.declared.sets.KeySets.{KeySets}
-use Rattle.key_sets.proofs.Tests.{first}
+use Rattle.keys.proofs.Tests.{first}
 use Rattle.key_sets.proofs.Fits.{pending-fits, member-allowed}
 
 -- no key of the list has the identifier

@@ -1,4 +1,3 @@
-pub mod Tests
 mod Answers
 pub mod Fits
 pub mod Alike

@@ -1,4 +1,3 @@
-mod Answers
 mod Turns
 mod Hearing
 mod Places

@@ -26,10 +26,11 @@ use Rattle.joining.specs.Attempt as attempt
 use Rattle.joining.specs.Attempt.{mayStart}
 use Rattle.joining.specs.Poll as polling
 use Rattle.joining.specs.Poll.{stepped}
+use Rattle.held.specs.Reports.{reportsOf}
 use Rattle.node.specs.Node.{activeOf, pendingOf}
 use Rattle.node.specs.Range.{valid, Valid}
 use Rattle.node.specs.Timing.{requestOf, startVerdict, startPlan, start, poll}
-use Rattle.node.specs.Delivery.{reportsOf, configured, apply, deliverVerdict, deliver}
+use Rattle.node.specs.Delivery.{configured, apply, deliverVerdict, deliver}
 use Rattle.node.specs.Frames.{send, afterSend, receive, verified}
 use Rattle.node_laws.specs.Calls.{perform}
 use Rattle.node_laws.specs.Laws.{Takes}

@@ -11,13 +11,14 @@ use Rattle.cojp.specs.KeySet.{keyOf, keySetOf}
 use Rattle.cojp.specs.Octets.{octetsOf}
 use Rattle.key_sets.specs.Sets.{twoSets}
 use Rattle.joining.specs.Attempt.{attempt}
-use Rattle.joining.specs.Lease.{absentAddress}
+use Rattle.held.specs.Lease.{absentAddress}
+use Rattle.held.specs.Octets.{absentOctets}
 use Rattle.joining.specs.declared.attempt.Phase.the-variants.{Joined}
-use Rattle.node.specs.Node.{activeOf, pendingOf, absentOctets}
+use Rattle.node.specs.Node.{activeOf, pendingOf}
 use Rattle.node_laws.specs.Calls.{starting, polling, delivering}
 use Rattle.node_laws.specs.Laws.{Takes}
 use Rattle.node.specs.declared.delivery.Call.the-variants.{JoinAnswer, Update}
-use Rattle.node.specs.declared.node.HeldOctets.{HeldOctets}
+use Rattle.held.specs.declared.octets.HeldOctets.{HeldOctets}
 use Rattle.node.specs.declared.node.Node.{Node}
 use Rattle.network.specs.Network.{Network, nodeAt}
 use Rattle.network.specs.Events.{Event, turning, calling, run, Come}

@@ -1,4 +1,4 @@
-// A network of nodes: what a frame from one node to another does to both.
+// A network of nodes: what a frame from one node to another does to both, and how a rekey goes through.
 pub mod turn;
 
 pub use turn::Answer;

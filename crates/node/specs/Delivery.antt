@@ -15,59 +15,28 @@ use Rattle.joining.specs.Attempt.{isWaiting, isJoined, attempt}
 use Rattle.joining.specs.declared.attempt.Attempt.{Attempt}
 use Rattle.joining.specs.declared.attempt.Phase.{Phase}
 use Rattle.joining.specs.declared.attempt.Phase.the-variants as phase
-use Rattle.joining.specs.declared.lease.HeldAddress.{HeldAddress}
 use Rattle.cojp.specs.Reading.{ifTaken}
 use Rattle.cojp.specs.Configuration.{readConfiguration}
-use Rattle.cojp.specs.declared.address.AddressParameter.{AddressParameter}
 use Rattle.cojp.specs.declared.configuration.Configuration.{Configuration}
 use Rattle.cojp.specs.declared.configuration.ConfigurationRead.{ConfigurationRead}
 use Rattle.cojp.specs.declared.key_set.KeysParameter.{KeysParameter}
-use Rattle.cojp.specs.declared.octets.Octets.{Octets}
 use Rattle.cojp.specs.declared.report.Report.{Report}
-use Rattle.cojp.specs.declared.report.Report.the-variants.{Absent, Taken, Discarded}
+use Rattle.held.specs.Lease.{addressAfter}
+use Rattle.held.specs.Octets.{octetsAfter}
+use Rattle.held.specs.Reports.{noReports, reportsOf}
+use Rattle.held.specs.declared.reports.Reports.{Reports}
 use Rattle.node.specs.Node.{isBorder, clockOf}
 use Rattle.node.specs.Range.{valid}
 use Rattle.node.specs.declared.delivery.Call.{Call}
 use Rattle.node.specs.declared.delivery.Call.the-variants.{JoinAnswer, Update}
 use Rattle.node.specs.declared.delivery.Delivered.{Delivered}
-use Rattle.node.specs.declared.delivery.Reports.{Reports}
-use Rattle.node.specs.declared.node.HeldOctets.{HeldOctets}
 use Rattle.node.specs.declared.node.Node.{Node}
 
 -- ---- key sets: one that is absent or discarded leaves both
 abbrev pub placementOf : Node → KeysParameter → Placement
 placementOf n p = ifTaken (p .report) (install (isBorder n) (n .sets) (p .value)) (placed false (n .sets))
 
--- ---- the reports
-abbrev pub noReports : Reports
-noReports = record { keys = Absent; address = Absent; jrc = Absent; network = Absent; prefix = Absent; passed = 0 }
-
--- an ordinary node further discards network identifier and prefix
-abbrev pub discarded : Report → Report
-discarded Absent = Absent
-discarded Taken = Discarded
-discarded Discarded = Discarded
-
-abbrev pub borderOnly : Node → Report → Report
-borderOnly n r = cond (isBorder n) r (discarded r)
-
-unfoldable pub reportsOf : Node → Configuration → Reports
-reportsOf n c = record {
-  keys = c .keys .report;
-  address = c .address .report;
-  jrc = c .jrc .report;
-  network = borderOnly n (c .network .report);
-  prefix = borderOnly n (c .prefix .report);
-  passed = c .passed;
-}
-
--- ---- what the node holds afterwards: a parameter absent or discarded leaves what it holds
-abbrev pub addressAfter : ℕ → AddressParameter → HeldAddress → HeldAddress
-addressAfter time p old = ifTaken (p .report) (record { held = true; value = p .value; received = time }) old
-
-abbrev pub octetsAfter : Report → Octets → HeldOctets → HeldOctets
-octetsAfter r o old = ifTaken r (record { held = true; value = o }) old
-
+-- ---- the node afterwards: a parameter absent or discarded leaves what it holds
 -- the time is the new clock, and an accepted join answer makes the node joined
 abbrev pub phaseAfter : Call → Phase → Phase
 phaseAfter JoinAnswer p = phase.Joined
@@ -109,7 +78,7 @@ apply call n time c =
     (undelivered refusal.Owed n)
     (cond (placementOf n (c .keys) .clash)
     (undelivered refusal.Clash n)
-    (delivered (reportsOf n c) (configured call n time c (placementOf n (c .keys) .sets) (reportsOf n c))))
+    (delivered (reportsOf (isBorder n) c) (configured call n time c (placementOf n (c .keys) .sets) (reportsOf (isBorder n) c))))
 
 -- a join answer belongs to waiting, an update to joined
 abbrev pub belongs : Call → Phase → Bool

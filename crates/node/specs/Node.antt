@@ -9,10 +9,10 @@ use Rattle.keys.specs.declared.key.Key.{Key}
 use Rattle.key_sets.specs.Sets.{activeIn, pendingIn, noSets}
 use Rattle.key_sets.specs.declared.sets.KeySets.{KeySets}
 use Rattle.joining.specs.Attempt.{idle}
-use Rattle.joining.specs.Lease.{absentAddress}
 use Rattle.joining.specs.declared.attempt.Attempt.{Attempt}
-use Rattle.cojp.specs.Octets.{noOctets}
-use Rattle.node.specs.declared.node.HeldOctets.{HeldOctets}
+use Rattle.held.specs.Lease.{absentAddress}
+use Rattle.held.specs.Octets.{absentOctets, knownOctets, octetsInRange}
+use Rattle.held.specs.declared.octets.HeldOctets.{HeldOctets}
 use Rattle.node.specs.declared.node.Made.{Made}
 use Rattle.node.specs.declared.node.Node.{Node}
 
@@ -32,9 +32,6 @@ abbrev pub clockOf : Node → ℕ
 clockOf n = n .attempt .clock
 
 -- ---- how a node is made: idle, with its role and perhaps a network identifier, all else absent or 0
-abbrev pub absentOctets : HeldOctets
-absentOctets = record { held = false; value = noOctets }
-
 abbrev pub freshNode : ℕ → HeldOctets → Node
 freshNode role network = record {
   role = role;
@@ -49,12 +46,9 @@ freshNode role network = record {
 abbrev pub emptyNode : Node
 emptyNode = freshNode 0 absentOctets
 
--- a role is 0 or 1, a network identifier or prefix 0 to 16 bytes; one that is not held is not judged
+-- a role is 0 or 1
 abbrev pub roleInRange : ℕ → Bool
 roleInRange role = leb role 1
-
-abbrev pub octetsInRange : HeldOctets → Bool
-octetsInRange h = cond (h .held) (leb (h .value .len) 16) true
 
 -- the answer: RANGE for the role or the network identifier, and the empty node beside it
 abbrev pub unmade : Made
@@ -64,7 +58,7 @@ unfoldable pub made : ℕ → HeldOctets → Made
 made role network =
     cond (roleInRange role)
     (cond (octetsInRange network)
-    (record { verdict = verdict.Accepted; node = freshNode role (cond (network .held) network absentOctets) })
+    (record { verdict = verdict.Accepted; node = freshNode role (knownOctets network) })
     unmade)
     unmade
 

@@ -10,28 +10,22 @@ use Rattle.refusal.specs.declared.Verdict.the-variants as verdict
 use Rattle.cbor.specs.Answer.{Plan, refuse, emit, answer, after}
 use Rattle.cbor.specs.declared.write.Written.{Written}
 use Rattle.cbor.specs.declared.write.Written.the-variants as written
-use Rattle.cojp.specs.Octets.{octetsParameter, noOctetsParameter}
 use Rattle.cojp.specs.Writing.{requestPlan}
-use Rattle.cojp.specs.declared.octets.OctetsParameter.{OctetsParameter}
-use Rattle.cojp.specs.declared.report.Report.the-variants.{Absent, Taken}
 use Rattle.cojp.specs.declared.request.JoinRequest.{JoinRequest}
 use Rattle.joining.specs.Attempt.{mayStart, waitingFrom}
 use Rattle.joining.specs.Poll as attempt
 use Rattle.joining.specs.declared.poll.Due.{Due}
 use Rattle.joining.specs.declared.poll.Due.the-variants as due
 use Rattle.joining.specs.declared.poll.Step.{Step}
+use Rattle.held.specs.Octets.{identifierIn}
 use Rattle.node.specs.Node.{attempting}
 use Rattle.node.specs.Range.{valid}
-use Rattle.node.specs.declared.node.HeldOctets.{HeldOctets}
 use Rattle.node.specs.declared.node.Node.{Node}
 use Rattle.node.specs.declared.timing.Polled.{Polled}
 use Rattle.node.specs.declared.timing.Started.{Started}
 
 -- ---- starting
 -- the request carries the node's role, and its network identifier where it holds one
-abbrev pub identifierIn : HeldOctets → OctetsParameter
-identifierIn h = cond (h .held) (octetsParameter Taken (h .value)) (noOctetsParameter Absent)
-
 unfoldable pub requestOf : Node → JoinRequest
 requestOf n = record { role = n .role; network = identifierIn (n .network); passed = 0 }
 

@@ -1,15 +1,15 @@
 // Configurations handed to a node: join answers (join responses) and parameter updates.
-use crate::node::HeldOctets;
 use crate::node::Node;
-use cojp::AddressParameter;
 use cojp::Configuration;
 use cojp::ConfigurationRead;
 use cojp::KeysParameter;
-use cojp::OctetsParameter;
 use cojp::Report;
+use cojp_range::is_taken;
 use cojp_read::read_configuration;
+use held::Reports;
+use held::reports::no_reports;
+use held::reports::reports_of;
 use joining::Attempt;
-use joining::HeldAddress;
 use joining::Phase;
 use joining::attempt::is_joined;
 use joining::attempt::is_waiting;
@@ -18,9 +18,7 @@ use key_sets::Placement;
 use refusal::Refusal;
 use refusal::Verdict;
 ghost use mathlib.Core.Path.{_≡_};
-ghost use mathlib.Core.Bool.{true, false};
-ghost use Rattle.cojp.specs.Reading.{ifTaken};
-ghost use Rattle.node.specs.Delivery.{placementOf, noReports, discarded, borderOnly, reportsOf, addressAfter, octetsAfter, phaseAfter, attemptAfter, configured, undelivered, asksIdentifier, owesIdentifier, apply, belongs, deliverVerdict, applyRead, deliver};
+ghost use Rattle.node.specs.Delivery.{placementOf, phaseAfter, attemptAfter, configured, undelivered, asksIdentifier, owesIdentifier, apply, belongs, deliverVerdict, applyRead, deliver};
 ghost use Rattle.node.specs.declared.delivery.Call.the-variants as call;
 
 // A longer payload is LONG.
@@ -32,82 +30,11 @@ pub enum Call {
     Update,
 }
 
-// What the node made of each parameter; `passed` labels were passed over.
-pub struct Reports {
-    pub keys: Report,
-    pub address: Report,
-    pub jrc: Report,
-    pub network: Report,
-    pub prefix: Report,
-    pub passed: u64,
-}
-
 // Beside a refusal stand the empty report and the node as it was.
 pub struct Delivered {
     pub verdict: Verdict,
     pub reports: Reports,
     pub node: Node,
-}
-
-fn no_reports() -> Reports
-    ensures { λ r. ⌜ r ≡ noReports ⌝ }
-{
-    Reports {
-        keys: Report::Absent,
-        address: Report::Absent,
-        jrc: Report::Absent,
-        network: Report::Absent,
-        prefix: Report::Absent,
-        passed: 0,
-    }
-}
-
-fn is_taken(report: Report) -> bool
-    ensures { λ r. ⌜ r ≡ ifTaken report true false ⌝ }
-{
-    match report {
-        Report::Absent => false,
-        Report::Taken => true,
-        Report::Discarded => false,
-    }
-}
-
-// A parameter that was taken or discarded is discarded.
-fn discarded(report: Report) -> Report
-    ensures { λ r. ⌜ r ≡ discarded report ⌝ }
-{
-    match report {
-        Report::Absent => Report::Absent,
-        Report::Taken => Report::Discarded,
-        Report::Discarded => Report::Discarded,
-    }
-}
-
-// The short address after a configuration: the one taken at this time, else the old one.
-fn address_after(time: u64, parameter: AddressParameter, old: HeldAddress) -> HeldAddress
-    ensures { λ r. ⌜ r ≡ addressAfter time parameter old ⌝ }
-{
-    let report = parameter.report;
-    if is_taken(report) {
-        let value = parameter.value;
-        return HeldAddress {
-            held: true,
-            value,
-            received: time,
-        };
-    }
-    old
-}
-
-// The same for a JRC address, network identifier or prefix, with the node's report of it.
-fn octets_after(report: Report, parameter: OctetsParameter, old: HeldOctets) -> HeldOctets
-    ensures { λ r. ⌜ r ≡ octetsAfter report (parameter .value) old ⌝ }
-{
-    if is_taken(report) {
-        let value = parameter.value;
-        return HeldOctets { held: true, value };
-    }
-    old
 }
 
 impl Call {
@@ -179,40 +106,6 @@ impl Node {
         Placement { clash: false, sets }
     }
 
-    // An ordinary node further discards network identifier and prefix.
-    fn border_only(self, report: Report) -> Report
-        ensures { λ r. ⌜ r ≡ borderOnly self report ⌝ }
-    {
-        if self.role == 1 {
-            return report;
-        }
-        discarded(report)
-    }
-
-    // What the node makes of each parameter.
-    fn reports_of(self, c: Configuration) -> Reports
-        ensures { λ r. ⌜ r ≡ reportsOf self c ⌝ }
-    {
-        let keys = c.keys;
-        let keys_report = keys.report;
-        let address = c.address;
-        let address_report = address.report;
-        let jrc = c.jrc;
-        let jrc_report = jrc.report;
-        let network = c.network;
-        let network_report = network.report;
-        let prefix = c.prefix;
-        let prefix_report = prefix.report;
-        Reports {
-            keys: keys_report,
-            address: address_report,
-            jrc: jrc_report,
-            network: self.border_only(network_report),
-            prefix: self.border_only(prefix_report),
-            passed: c.passed,
-        }
-    }
-
     // The node after a configuration that is not refused.
     fn configured(
         self,
@@ -231,10 +124,10 @@ impl Node {
             role: self.role,
             attempt: call.attempt_after(self.attempt, time),
             sets,
-            address: address_after(time, c.address, self.address),
-            jrc: octets_after(jrc, c.jrc, self.jrc),
-            network: octets_after(network, c.network, self.network),
-            prefix: octets_after(prefix, c.prefix, self.prefix),
+            address: self.address.after(time, c.address),
+            jrc: self.jrc.after(jrc, c.jrc),
+            network: self.network.after(network, c.network),
+            prefix: self.prefix.after(prefix, c.prefix),
         }
     }
 
@@ -259,7 +152,7 @@ impl Node {
         if placed.clash {
             return self.undelivered(Refusal::Clash);
         }
-        let reports = self.reports_of(c);
+        let reports = reports_of(self.role == 1, c);
         Delivered {
             verdict: Verdict::Accepted,
             reports,

@@ -8,10 +8,8 @@ mod timing;
 
 pub use delivery::Call;
 pub use delivery::Delivered;
-pub use delivery::Reports;
 pub use frames::Heard;
 pub use lease::Holding;
-pub use node::HeldOctets;
 pub use node::Made;
 pub use node::Node;
 pub use timing::Polled;

@@ -1,25 +1,16 @@
 // One node's state, and how a node is made.
-use crate::range::octets_in_range;
-use cojp::Octets;
-use cojp::Report;
-use cojp::no_octets;
+use held::HeldAddress;
+use held::HeldOctets;
+use held::address::absent_address;
+use held::octets::absent_octets;
 use joining::Attempt;
-use joining::HeldAddress;
 use joining::attempt::idle;
-use joining::lease::absent_address;
 use key_sets::KeySets;
 use key_sets::sets::no_sets;
 use refusal::Refusal;
 use refusal::Verdict;
 ghost use mathlib.Core.Path.{_≡_};
-ghost use mathlib.Core.Bool.{cond};
-ghost use Rattle.node.specs.Node.{absentOctets, freshNode, unmade, made, attempting};
-
-// A JRC address, network identifier or prefix; without one the value does not count. An empty one is not an absent one.
-pub struct HeldOctets {
-    pub held: bool,
-    pub value: Octets,
-}
+ghost use Rattle.node.specs.Node.{freshNode, unmade, made, attempting};
 
 pub struct Node {
     // 0 ordinary, 1 border (6LBR).
@@ -36,15 +27,6 @@ pub struct Node {
 pub struct Made {
     pub verdict: Verdict,
     pub node: Node,
-}
-
-// No byte string; it is how `Node::new` is told that there is no network identifier.
-pub fn absent_octets() -> HeldOctets
-    ensures { λ r. ⌜ r ≡ absentOctets ⌝ }
-{
-    let none = no_octets(Report::Absent);
-    let value = none.value;
-    HeldOctets { held: false, value }
 }
 
 // A node as it is made, all but role and network identifier absent or 0.
@@ -86,12 +68,12 @@ impl Node {
         if 1 < role {
             return not_made();
         }
-        if !octets_in_range(network) {
+        if !network.in_range() {
             return not_made();
         }
         Made {
             verdict: Verdict::Accepted,
-            node: fresh_node(role, known_octets(network)),
+            node: fresh_node(role, network.known()),
         }
     }
 
@@ -103,14 +85,4 @@ impl Node {
         node.attempt = attempt;
         node
     }
-}
-
-// The byte string where there is one, with nothing beside it where there is none.
-fn known_octets(octets: HeldOctets) -> HeldOctets
-    ensures { λ r. ⌜ r ≡ cond (octets .held) octets absentOctets ⌝ }
-{
-    if octets.held {
-        return octets;
-    }
-    absent_octets()
 }

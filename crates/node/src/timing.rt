@@ -1,18 +1,14 @@
 // The join attempt: a start writes the join request, polls say when to send it again and when to give up.
-use crate::node::HeldOctets;
 use crate::node::Node;
 use cbor::Written;
 use cojp::JoinRequest;
-use cojp::OctetsParameter;
-use cojp::Report;
-use cojp::no_octets;
 use cojp_write::write_request;
 use joining::Due;
 use joining::attempt::waiting_from;
 use refusal::Refusal;
 use refusal::Verdict;
 ghost use mathlib.Core.Path.{_≡_};
-ghost use Rattle.node.specs.Timing.{identifierIn, requestOf, startVerdict, startedFrom, startedBy, unstarted, StartDid, poll};
+ghost use Rattle.node.specs.Timing.{requestOf, startVerdict, startedFrom, startedBy, unstarted, StartDid, poll};
 
 // A start wrote `length` bytes of the join request; beside a refusal stand 0 and the node as it was.
 pub struct Started {
@@ -26,20 +22,6 @@ pub struct Polled {
     pub node: Node,
 }
 
-// The request's network identifier: the one that the node holds.
-fn identifier_in(network: HeldOctets) -> OctetsParameter
-    ensures { λ r. ⌜ r ≡ identifierIn network ⌝ }
-{
-    if network.held {
-        let value = network.value;
-        return OctetsParameter {
-            report: Report::Taken,
-            value,
-        };
-    }
-    no_octets(Report::Absent)
-}
-
 impl Node {
     // The node's join request.
     fn request(self) -> JoinRequest
@@ -47,7 +29,7 @@ impl Node {
     {
         JoinRequest {
             role: self.role,
-            network: identifier_in(self.network),
+            network: self.network.parameter(),
             passed: 0,
         }
     }

@@ -11,7 +11,7 @@ use Rattle.keys.specs.declared.key_set.KeySet.{KeySet}
 use Rattle.key_sets.specs.Sets.{activeIn, pendingIn, placed, install}
 use Rattle.key_sets.specs.declared.sets.Placement.{Placement}
 use Rattle.key_sets.proofs.Alike.{install-alike}
-use Rattle.joining.specs.declared.lease.HeldAddress.{HeldAddress}
+use Rattle.held.specs.declared.address.HeldAddress.{HeldAddress}
 use Rattle.cojp.specs.Reading.{ifTaken}
 use Rattle.cojp.specs.Octets.{bytesIn}
 use Rattle.cojp.specs.Same.{leaseOf, addressTaken, SameConfiguration}
@@ -21,11 +21,14 @@ use Rattle.cojp.specs.declared.configuration.Configuration.{Configuration}
 use Rattle.cojp.specs.declared.octets.Octets.{Octets}
 use Rattle.cojp.specs.declared.report.Report.{Report}
 use Rattle.cojp.specs.declared.report.Report.the-variants.{Absent, Taken, Discarded}
+use Rattle.held.specs.Lease.{addressAfter}
+use Rattle.held.specs.Octets.{octetsAfter}
+use Rattle.held.specs.Reports.{discarded, reportsOf}
 use Rattle.node.specs.Node.{isBorder}
-use Rattle.node.specs.Delivery.{placementOf, discarded, reportsOf, addressAfter, octetsAfter, configured, undelivered, delivered, asksIdentifier, owesIdentifier, apply}
+use Rattle.node.specs.Delivery.{placementOf, configured, undelivered, delivered, asksIdentifier, owesIdentifier, apply}
 use Rattle.node_laws.specs.Same.{octetsHeld, addressHeld, SameNode, SameOutcome, AppliesAlike}
 use Rattle.node.specs.declared.delivery.Call.{Call}
-use Rattle.node.specs.declared.node.HeldOctets.{HeldOctets}
+use Rattle.held.specs.declared.octets.HeldOctets.{HeldOctets}
 use Rattle.node.specs.declared.node.Node.{Node}
 
 -- ---- two parameters that agree in what is taken
@@ -116,7 +119,7 @@ module _ (call : Call) (n : Node) (time : ℕ) (c d : Configuration) (h : SameCo
   owes-same = ap (λ (b : Bool). asksIdentifier call && isBorder n && not (n .network .held) && not b) owing
 
   node-same :
-      SameNode (configured call n time c (placementOf n (c .keys) .sets) (reportsOf n c)) (configured call n time d (placementOf n (d .keys) .sets) (reportsOf n d))
+      SameNode (configured call n time c (placementOf n (c .keys) .sets) (reportsOf (isBorder n) c)) (configured call n time d (placementOf n (d .keys) .sets) (reportsOf (isBorder n) d))
   unfolding configured reportsOf
   node-same = record {
     role = refl;
@@ -133,9 +136,9 @@ module _ (call : Call) (n : Node) (time : ℕ) (c d : Configuration) (h : SameCo
       (o k : Bool) →
       SameOutcome
       (cond o (undelivered refusal.Owed n)
-      (cond k (undelivered refusal.Clash n) (delivered (reportsOf n c) (configured call n time c (placementOf n (c .keys) .sets) (reportsOf n c)))))
+      (cond k (undelivered refusal.Clash n) (delivered (reportsOf (isBorder n) c) (configured call n time c (placementOf n (c .keys) .sets) (reportsOf (isBorder n) c)))))
       (cond o (undelivered refusal.Owed n)
-      (cond k (undelivered refusal.Clash n) (delivered (reportsOf n d) (configured call n time d (placementOf n (d .keys) .sets) (reportsOf n d)))))
+      (cond k (undelivered refusal.Clash n) (delivered (reportsOf (isBorder n) d) (configured call n time d (placementOf n (d .keys) .sets) (reportsOf (isBorder n) d)))))
   outcomes true k = record { verdict = refl; node = same-self n }
   outcomes false true = record { verdict = refl; node = same-self n }
   outcomes false false = record { verdict = refl; node = node-same }

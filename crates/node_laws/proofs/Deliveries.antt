@@ -20,11 +20,11 @@ use Rattle.key_sets.specs.Sets as sets
 use Rattle.key_sets.specs.declared.sets.KeySets.{KeySets}
 use Rattle.key_sets.proofs.Fits.{install-fits, border-installs}
 use Rattle.joining.specs.Attempt as attempt
-use Rattle.joining.specs.Lease.{addressInRange}
+use Rattle.held.specs.Lease.{addressInRange}
 use Rattle.joining.specs.declared.attempt.Attempt.{Attempt}
-use Rattle.joining.specs.declared.lease.HeldAddress.{HeldAddress}
+use Rattle.held.specs.declared.address.HeldAddress.{HeldAddress}
 use Rattle.joining.proofs.Attempts.{moved-fits, joined-fits}
-use Rattle.joining.proofs.Leases.{later}
+use Rattle.held.proofs.Leases.{later}
 use Rattle.cojp.specs.Reading.{ifTaken}
 use Rattle.cojp.specs.Address.{isAddress}
 use Rattle.cojp.specs.Configuration.{readConfiguration}
@@ -34,17 +34,19 @@ use Rattle.cojp.specs.declared.configuration.ConfigurationRead.{ConfigurationRe
 use Rattle.cojp.specs.declared.octets.Octets.{Octets}
 use Rattle.cojp.specs.declared.report.Report.{Report}
 use Rattle.cojp.specs.declared.report.Report.the-variants.{Absent, Taken, Discarded}
-use Rattle.node.specs.Node.{activeOf, isBorder, clockOf, octetsInRange, roleInRange}
-use Rattle.node.specs.Range.{othersFit, jrcInRange, valid, Valid}
-use Rattle.node.specs.Delivery.{placementOf, noReports, discarded, borderOnly, reportsOf, octetsAfter, attemptAfter, configured, undelivered, delivered, owesIdentifier, apply, belongs, deliverVerdict, applyRead, deliverBy, deliver}
+use Rattle.held.specs.Octets.{octetsInRange, jrcInRange, octetsAfter}
+use Rattle.held.specs.Reports.{noReports, discarded, reportsOf}
+use Rattle.node.specs.Node.{activeOf, isBorder, clockOf, roleInRange}
+use Rattle.node.specs.Range.{othersFit, valid, Valid}
+use Rattle.node.specs.Delivery.{placementOf, attemptAfter, configured, undelivered, delivered, owesIdentifier, apply, belongs, deliverVerdict, applyRead, deliverBy, deliver}
 use Rattle.node_laws.specs.Laws.{setIn, Takes, Installed}
 use Rattle.node.specs.declared.delivery.Call.{Call}
 use Rattle.node.specs.declared.delivery.Call.the-variants.{JoinAnswer, Update}
 use Rattle.node.specs.declared.delivery.Delivered.{Delivered}
-use Rattle.node.specs.declared.delivery.Reports.{Reports}
-use Rattle.node.specs.declared.node.HeldOctets.{HeldOctets}
+use Rattle.held.specs.declared.reports.Reports.{Reports}
+use Rattle.held.specs.declared.octets.HeldOctets.{HeldOctets}
 use Rattle.node.specs.declared.node.Node.{Node}
-use Rattle.key_sets.proofs.Tests.{all-four, first, second, third, fourth, both}
+use Rattle.keys.proofs.Tests.{all-four, first, second, third, fourth, both}
 use Rattle.node_laws.proofs.Valid.{keys-fit, attempt-fits, address-fits, others-fit, valid-by}
 use Rattle.node_laws.proofs.Reading.{InRange, read-in-range}
 
@@ -69,7 +71,7 @@ module _ (n : Node) where
   apply-leaves call time c =
       cond-leaves (owesIdentifier call n (c .network .report)) _ _ (no-leaves refusal.Owed)
       (cond-leaves (placementOf n (c .keys) .clash) _ _ (no-leaves refusal.Clash)
-      (yes-leaves (reportsOf n c) (configured call n time c (placementOf n (c .keys) .sets) (reportsOf n c))))
+      (yes-leaves (reportsOf (isBorder n) c) (configured call n time c (placementOf n (c .keys) .sets) (reportsOf (isBorder n) c))))
 
   read-leaves : (v : Verdict) (call : Call) (time : ℕ) (c : Configuration) → Leaves n (applyRead v call n time c)
   read-leaves (verdict.Refused k) call time c = no-leaves k
@@ -91,9 +93,9 @@ record Passed (call : Call) (n : Node) (time : ℕ) (payload : List ℕ) : Type 
   placed : placementOf n (readConfiguration payload .configuration .keys) .clash ≡ false
   is :
       deliver call n time payload
-      ≡ delivered (reportsOf n (readConfiguration payload .configuration))
+      ≡ delivered (reportsOf (isBorder n) (readConfiguration payload .configuration))
       (configured call n time (readConfiguration payload .configuration) (placementOf n (readConfiguration payload .configuration .keys) .sets)
-      (reportsOf n (readConfiguration payload .configuration)))
+      (reportsOf (isBorder n) (readConfiguration payload .configuration)))
 
 refused-not : {A : Type 0} (k : Refusal) → verdict.Refused k ≡ verdict.Accepted → A
 refused-not k e = absurd (let z : _≡_ {A = ℕ} 0 1 = cc in omega arith)
@@ -185,7 +187,7 @@ attempt-after Update a time h e = moved-fits a time h e
 module _ (call : Call) (n : Node) (time : ℕ) (c : Configuration) (v : Valid n) (h : clockOf n ≤ time) (r : InRange c)
     (p : placementOf n (c .keys) .clash ≡ false) where
   abbrev after : Node
-  after = configured call n time c (placementOf n (c .keys) .sets) (reportsOf n c)
+  after = configured call n time c (placementOf n (c .keys) .sets) (reportsOf (isBorder n) c)
 
   others-after : othersFit after ≡ true
   unfolding configured reportsOf

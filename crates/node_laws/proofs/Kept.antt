@@ -6,7 +6,7 @@ use Rattle.key_sets.specs.Sets.{activeIn, pendingIn}
 use Rattle.key_sets.specs.declared.sets.KeySets.{KeySets}
 use Rattle.joining.specs.Attempt.{fits}
 use Rattle.joining.specs.declared.attempt.Attempt.{Attempt}
-use Rattle.joining.proofs.Leases.{later}
+use Rattle.held.proofs.Leases.{later}
 use Rattle.node.specs.Node.{attempting, keyed, clockOf}
 use Rattle.node.specs.Range.{Valid}
 use Rattle.node_laws.specs.Laws.{Kept}

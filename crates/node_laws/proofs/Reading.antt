@@ -35,7 +35,7 @@ use Rattle.cojp.specs.declared.octets.Octets.{Octets}
 use Rattle.cojp.specs.declared.report.Report.the-variants.{Absent, Taken, Discarded}
 use Rattle.cojp.specs.declared.walk.Standing.{Standing}
 use Rattle.cojp.specs.declared.walk.Standing.the-variants.{Unknown, Fresh, Again}
-use Rattle.key_sets.proofs.Tests.{both, never}
+use Rattle.keys.proofs.Tests.{both, never}
 
 -- what is taken is in range
 pub record InRange (c : Configuration) : Type 0 where

@@ -21,7 +21,8 @@ use Rattle.key_sets.proofs.Untouched as sets
 use Rattle.joining.specs.Poll as attempt
 use Rattle.joining.specs.declared.poll.Due.the-variants as due
 use Rattle.joining.proofs.Attempts.{poll-untouched}
-use Rattle.node.specs.Node.{emptyNode, roleInRange, octetsInRange, attempting, keyed, made}
+use Rattle.held.specs.Octets.{octetsInRange}
+use Rattle.node.specs.Node.{emptyNode, roleInRange, attempting, keyed, made}
 use Rattle.node.specs.Range.{valid}
 use Rattle.node.specs.Timing.{startPlan, startedFrom, startedBy, start, startAfter, polled, polledBy, poll}
 use Rattle.node.specs.Frames.{send, afterSend, receive, heard, heardBy, verified}
@@ -30,7 +31,7 @@ use Rattle.node_laws.specs.Calls.{NodeCall, starting, polling, deliverin
 use Rattle.node.specs.declared.frames.Heard.{Heard}
 use Rattle.node.specs.declared.lease.Holding.{Holding}
 use Rattle.node.specs.declared.lease.Holding.the-variants as holding
-use Rattle.node.specs.declared.node.HeldOctets.{HeldOctets}
+use Rattle.held.specs.declared.octets.HeldOctets.{HeldOctets}
 use Rattle.node.specs.declared.node.Made.{Made}
 use Rattle.node.specs.declared.node.Node.{Node}
 use Rattle.node.specs.declared.timing.Polled.{Polled}

@@ -3,11 +3,11 @@ use mathlib.Core.Path.{_≡_, refl}
 use mathlib.Core.Bool.{Bool, true, _&&_}
 use Rattle.key_sets.specs.Sets as sets
 use Rattle.joining.specs.Attempt as attempt
-use Rattle.joining.specs.Lease.{addressInRange}
+use Rattle.held.specs.Lease.{addressInRange}
 use Rattle.node.specs.Node.{isBorder, clockOf}
 use Rattle.node.specs.Range.{othersFit, valid, Valid}
 use Rattle.node.specs.declared.node.Node.{Node}
-use Rattle.key_sets.proofs.Tests.{first, second, third, fourth, all-four}
+use Rattle.keys.proofs.Tests.{first, second, third, fourth, all-four}
 
 module _ (n : Node) where
   abbrev keys : Bool

@@ -15,14 +15,15 @@ use Rattle.joining.specs.Poll.{dueVerdict}
 use Rattle.joining.specs.declared.poll.Due.{Due}
 use Rattle.joining.specs.declared.poll.Due.the-variants as due
 use Rattle.node.specs.Timing.{start, startAfter, poll}
-use Rattle.node.specs.Delivery.{deliver, noReports}
+use Rattle.held.specs.Reports.{noReports}
+use Rattle.node.specs.Delivery.{deliver}
 use Rattle.node.specs.Lease.{holds, holdingVerdict}
 use Rattle.node.specs.Frames.{send, afterSend, receive, verified}
 use Rattle.node.specs.declared.delivery.Call.{Call}
-use Rattle.node.specs.declared.delivery.Reports.{Reports}
+use Rattle.held.specs.declared.reports.Reports.{Reports}
 use Rattle.node.specs.declared.lease.Holding.{Holding}
 use Rattle.node.specs.declared.lease.Holding.the-variants as holding
-use Rattle.node.specs.declared.node.HeldOctets.{HeldOctets}
+use Rattle.held.specs.declared.octets.HeldOctets.{HeldOctets}
 use Rattle.node.specs.declared.node.Node.{Node}
 
 -- the calls that a node is handed to, with their arguments

@@ -1,7 +1,7 @@
 // Starts of one node into slices of several lengths: what is answered, and what the slice holds afterwards.
 // The expected output is worked out from document 01: a refusal leaves every byte, a success changes the first bytes alone.
 use cojp::Octets;
-use node::HeldOctets;
+use held::HeldOctets;
 use node::Node;
 use notation::put_refusal;
 use refusal::Verdict;

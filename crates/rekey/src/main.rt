@@ -1,8 +1,7 @@
 // Rekeys networks of up to 16 nodes, turn by turn as standard input says, and writes after each round which nodes have switched.
 // tools/rekey.py makes the input from a network's links and an order of turns, and what is to be written from the hops alone.
 use cojp::Octets;
-use network::turn::turn;
-use node::HeldOctets;
+use held::HeldOctets;
 use node::Node;
 use refusal::Verdict;
 use text::decimal::Decimal;
@@ -12,6 +11,7 @@ use text::line::Line;
 use text::output::Buffer;
 use text::output::Output;
 use text::word::Word;
+use turns::turn;
 
 // A command and two numbers; what comes after them is not looked at.
 const FORM: Form = Form {

@@ -1,7 +1,5 @@
 // The desk tool simulate: up to 16 nodes, made and called by lines of standard input (docs/TOOLS.md).
-mod fill;
 mod nodes;
-mod order;
 mod perform;
 mod reply;
 mod show;
@@ -9,18 +7,14 @@ mod show;
 use nodes::load;
 use nodes::no_nodes;
 use nodes::obey;
-use order::Made;
-use order::Order;
-use order::Verb;
-use order::no_order;
-use order::order_of;
+use orders::order::Made;
+use orders::order::Order;
+use orders::order::order_of;
 use reply::marked;
 use reply::put_answer;
-use text::input::Input;
+use text::desk::Desk;
 use text::line::Form;
-use text::line::Line;
 use text::output::Buffer;
-use text::output::Output;
 
 // A command, two numbers, and a third or HEX.
 const FORM: Form = Form {
@@ -28,77 +22,38 @@ const FORM: Form = Form {
     is_word: true,
 };
 
-// What is kept from line to line beside the nodes, and what the last line asks for.
-struct Desk {
-    line: Line,
-    input: Input,
-    out: Output,
+// What a line asks for, and the desk after it.
+struct Ordered {
+    desk: Desk,
     order: Order,
-    open: bool,
 }
 
-fn new_desk() -> Desk {
-    Desk {
-        line: Line::new(),
-        input: Input::new(),
-        out: Output::new(),
-        order: no_order(Verb::Nothing, 0),
-        open: true,
-    }
-}
-
-// Takes one line, or what there is of it, and reads on where all was taken.
-fn advanced(
+// Reads the next line.
+fn next_order(
     desk: Desk,
     made: Made,
-    bytes: &mut [u8; 65536],
+    bytes: &mut Buffer,
     payload: &mut [u8; 257],
     buffer: &mut Buffer,
-) -> Desk {
-    let taken = desk.input.take(desk.line, bytes, FORM, payload);
-    if !taken.complete {
-        return read_on(taken.line, made, desk.out, bytes, buffer);
-    }
-    let input = taken.input;
-    let out = desk.out;
-    Desk {
-        line: Line::new(),
-        input,
-        out,
-        order: order_of(taken.line, true, made),
-        open: true,
-    }
-}
-
-// Writes what waits and reads more of the line, which is over at the input's end. The desk closes there, and where nobody reads the answers.
-fn read_on(
-    line: Line,
-    made: Made,
-    out: Output,
-    bytes: &mut [u8; 65536],
-    buffer: &mut Buffer,
-) -> Desk {
-    let out = out.flush(buffer);
-    let input = Input::new().fill(bytes);
-    let ended = input.end == 0;
-    Desk {
-        line,
-        input,
-        out,
-        order: order_of(line, ended, made),
-        open: out.open && !ended,
+) -> Ordered {
+    let asked = desk.next(FORM, bytes, payload, buffer);
+    let desk = asked.desk;
+    Ordered {
+        desk,
+        order: order_of(asked.line, made),
     }
 }
 
 // Answers line after line until the input ends or nobody reads the answers.
-fn run(bytes: &mut [u8; 65536], payload: &mut [u8; 257], buffer: &mut Buffer) {
+fn run(bytes: &mut Buffer, payload: &mut [u8; 257], buffer: &mut Buffer) {
     let mut nodes = no_nodes();
     let mut made: Made = [false; 16];
-    let mut desk = new_desk();
+    let mut desk = Desk::new();
     let mut turns = u64::MAX;
     while turns > 0 && desk.open {
-        desk = advanced(desk, made, bytes, payload, buffer);
-        let order = desk.order;
+        let ordered = next_order(desk, made, bytes, payload, buffer);
+        let order = ordered.order;
+        desk = ordered.desk;
         let done = obey(nodes, order, payload);
         let reply = done.reply;
         nodes = done.nodes;

@@ -1,14 +1,14 @@
 // The nodes of a simulation, by number.
-ghost use Prim.Native.Nat.{_<_};
-use crate::order::Order;
-use crate::order::Verb;
 use crate::perform::byte;
 use crate::perform::no_node;
 use crate::perform::perform;
 use crate::reply::Reply;
 use crate::reply::turn_reply;
-use network::turn::turn;
 use node::Node;
+use orders::order::Order;
+use orders::order::Verb;
+use orders::order::index;
+use turns::turn;
 
 // The nodes 0 to 15; one that was not made stands there too, and no order names it.
 pub type Nodes = [Node; 16];
@@ -21,13 +21,6 @@ pub struct Obeyed {
 
 pub fn no_nodes() -> Nodes {
     [no_node(); 16]
-}
-
-// The place of the node with this number; an order names no larger one.
-pub fn index(number: u64) -> usize
-    ensures { λ r. ⌜ r < 16 ⌝ }
-{
-    (number % 16) as usize
 }
 
 pub fn load(nodes: Nodes, number: u64) -> Node {

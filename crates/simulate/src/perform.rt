@@ -1,6 +1,4 @@
 // What a command does to one node, and what it is answered.
-use crate::order::Order;
-use crate::order::Verb;
 use crate::reply::MADE;
 use crate::reply::Reply;
 use crate::reply::change_reply;
@@ -9,9 +7,11 @@ use crate::reply::due_reply;
 use crate::reply::holding_reply;
 use crate::reply::start_reply;
 use cojp::Octets;
+use held::HeldOctets;
 use node::Delivered;
-use node::HeldOctets;
 use node::Node;
+use orders::order::Order;
+use orders::order::Verb;
 use refusal::Verdict;
 
 // The node as the command left it, and what it is answered.

@@ -1,22 +1,22 @@
 // What a command is answered, and how that is written.
-use crate::fill::Values;
-use crate::fill::one_value;
-use crate::fill::put;
-use crate::nodes::index;
-use crate::order::Made;
-use crate::order::Order;
-use crate::order::Verb;
 use crate::perform::byte;
 use crate::perform::first;
 use crate::show::put_node;
 use cojp::Report;
+use held::Reports;
 use joining::Due;
 use key_sets::Change;
 use key_sets::KeyAnswer;
 use network::Answer;
 use node::Holding;
 use node::Node;
-use node::Reports;
+use orders::fill::Values;
+use orders::fill::one_value;
+use orders::fill::put;
+use orders::order::Made;
+use orders::order::Order;
+use orders::order::Verb;
+use orders::order::index;
 use refusal::Refusal;
 use refusal::Verdict;
 use text::output::Buffer;
@@ -33,14 +33,6 @@ pub enum Reply {
     // a question, which is answered from the node as it stands
     Asked,
 }
-
-pub const NO_COMMAND: u64 = 1;
-
-pub const NO_NUMBER: u64 = 2;
-
-pub const NO_HEX: u64 = 3;
-
-pub const NO_NODE: u64 = 4;
 
 pub const MADE: u64 = 5;
 

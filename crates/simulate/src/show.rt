@@ -1,13 +1,13 @@
 // The command `show I`: a node on one line.
-use crate::fill::one_value;
-use crate::fill::put;
-use crate::fill::two_values;
 use cojp::ShortAddress;
-use joining::HeldAddress;
+use held::HeldAddress;
+use held::HeldOctets;
 use joining::Phase;
 use keys::KeySet;
-use node::HeldOctets;
 use node::Node;
+use orders::fill::one_value;
+use orders::fill::put;
+use orders::fill::two_values;
 use text::output::Buffer;
 use text::output::Output;
 

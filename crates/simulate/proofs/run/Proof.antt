@@ -13,14 +13,14 @@ abbrev μ-loop : tie.MeasureT-loop
 no-nodes-requires : tie.Need-no-nodes-requires Inv-loop μ-loop
 no-nodes-requires c κs = search needs
 
-new-desk-requires : tie.Need-new-desk-requires Inv-loop μ-loop
-new-desk-requires c κs = search needs
+new-requires : tie.Need-new-requires Inv-loop μ-loop
+new-requires c κs = search needs
 
 loop-holds : tie.Need-loop-holds Inv-loop μ-loop
 loop-holds c = search needs
 
-advanced-requires : tie.Need-advanced-requires Inv-loop μ-loop
-advanced-requires c κs = search needs
+next-order-requires : tie.Need-next-order-requires Inv-loop μ-loop
+next-order-requires c κs = search needs
 
 obey-requires : tie.Need-obey-requires Inv-loop μ-loop
 obey-requires c κs = search needs
@@ -35,10 +35,10 @@ put-answer-requires : tie.Need-put-answer-requires Inv-loop μ-loop
 put-answer-requires c κs = search needs
 
 sub-turns : tie.Need-sub-turns Inv-loop μ-loop
-sub-turns c = omega (arith, c .before .before .before .before .before .before .before .before .before .before .before .before .before .before .loop-test .taken)
+sub-turns c = omega (arith, c .before .before .before .before .before .before .before .before .before .before .before .before .before .before .before .loop-test .taken)
 
 loop-less : tie.Need-loop-less Inv-loop μ-loop
-loop-less c = omega (arith, c .before .before .before .before .before .before .before .before .before .before .before .before .before .before .loop-test .taken)
+loop-less c = omega (arith, c .before .before .before .before .before .before .before .before .before .before .before .before .before .before .before .loop-test .taken)
 
 loop-again : tie.Need-loop-again Inv-loop μ-loop
 loop-again c = search needs
@@ -56,9 +56,9 @@ run-spec =
     Inv-loop
     μ-loop
     no-nodes-requires
-    new-desk-requires
+    new-requires
     loop-holds
-    advanced-requires
+    next-order-requires
     obey-requires
     marked-requires
     load-requires

@@ -2,7 +2,7 @@
 use mathlib.Core.Path.{_∙_}
 use borrow.Author.Needs.{needs}
 use Rattle.node.proofs.Applied.{apply-owed, apply-clash, apply-done}
-use Rattle.key_sets.proofs.Tests.{is-false, is-true}
+use Rattle.keys.proofs.Tests.{is-false, is-true}
 use Rattle.node.proofs.node.Node.apply.Statement.{statement}
 use Rattle.node.proofs.node.Node.apply.Tie as tie
 
@@ -31,7 +31,7 @@ configured-requires : tie.Need-configured-requires
 configured-requires c κs = search needs
 
 returns-3 : tie.Need-returns-3
-returns-3 c = apply-done (c .before .before .before .before .before .before .before .args .call) (c .before .before .before .before .before .before .before .args .self) (c .before .before .before .before .before .before .before .args .time) (c .before .before .before .before .before .before .before .args .c) (is-false (c .before .before .before .before .before .owes-identifier .ensures) (c .before .before .before .before .if1 .left)) _ (c .before .before .before .placement .ensures) (c .before .before .if2 .left) _ (c .before .reports-of .ensures) _ (c .configured .ensures)
+returns-3 c = apply-done (c .before .before .before .before .before .before .before .before .args .call) (c .before .before .before .before .before .before .before .before .args .self) (c .before .before .before .before .before .before .before .before .args .time) (c .before .before .before .before .before .before .before .before .args .c) (is-false (c .before .before .before .before .before .before .owes-identifier .ensures) (c .before .before .before .before .before .if1 .left)) _ (c .before .before .before .before .placement .ensures) (c .before .before .before .if2 .left) _ (c .before .reports-of .ensures) _ (c .configured .ensures)
 
 pub apply-spec : {M : Type 1} → statement M
 apply-spec =

@@ -7,29 +7,29 @@ use Rattle.node.proofs.node.Node.configured.Tie as tie
 attempt-after-requires : tie.Need-attempt-after-requires
 attempt-after-requires c κs = search needs
 
-address-after-requires : tie.Need-address-after-requires
-address-after-requires c κs = search needs
+after-requires : tie.Need-after-requires
+after-requires c κs = search needs
 
-octets-after-requires : tie.Need-octets-after-requires
-octets-after-requires c κs = search needs
+after-requires-2 : tie.Need-after-requires-2
+after-requires-2 c κs = search needs
 
-octets-after-requires-2 : tie.Need-octets-after-requires-2
-octets-after-requires-2 c κs = search needs
+after-requires-3 : tie.Need-after-requires-3
+after-requires-3 c κs = search needs
 
-octets-after-requires-3 : tie.Need-octets-after-requires-3
-octets-after-requires-3 c κs = search needs
+after-requires-4 : tie.Need-after-requires-4
+after-requires-4 c κs = search needs
 
 returns : tie.Need-returns
 unfolding configured
-returns c = rw (c .before .before .before .before .attempt-after .ensures, c .before .before .before .address-after .ensures, c .before .before .octets-after .ensures, c .before .octets-after2 .ensures, c .octets-after3 .ensures)
+returns c = rw (c .before .before .before .before .attempt-after .ensures, c .before .before .before .after .ensures, c .before .before .after2 .ensures, c .before .after3 .ensures, c .after4 .ensures)
 
 pub configured-spec : {M : Type 1} → statement M
 configured-spec =
     tie.close
     (tie.spec
     attempt-after-requires
-    address-after-requires
-    octets-after-requires
-    octets-after-requires-2
-    octets-after-requires-3
+    after-requires
+    after-requires-2
+    after-requires-3
+    after-requires-4
     returns)

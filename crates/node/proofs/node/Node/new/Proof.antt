@@ -2,7 +2,7 @@
 use borrow.Author.Needs.{needs}
 use borrow.Author.Tests.{le-leb, lt-leb}
 use Rattle.node.specs.Node.{made}
-use Rattle.key_sets.proofs.Tests.{denied, granted}
+use Rattle.keys.proofs.Tests.{denied, granted}
 use Rattle.node.proofs.node.Node.new.Statement.{statement}
 use Rattle.node.proofs.node.Node.new.Tie as tie
 
@@ -13,25 +13,25 @@ returns : tie.Need-returns
 unfolding made
 returns c = rw (lt-leb _ _ (c .before .if1 .taken)) (c .not-made .ensures)
 
-octets-in-range-requires : tie.Need-octets-in-range-requires
-octets-in-range-requires c κs = search needs
+in-range-requires : tie.Need-in-range-requires
+in-range-requires c κs = search needs
 
 not-made-requires-2 : tie.Need-not-made-requires-2
 not-made-requires-2 c κs = search needs
 
 returns-2 : tie.Need-returns-2
 unfolding made
-returns-2 c = rw (le-leb _ _ (c .before .before .before .if1 .left), denied (c .before .before .octets-in-range .ensures) (c .before .if2 .taken)) (c .not-made2 .ensures)
+returns-2 c = rw (le-leb _ _ (c .before .before .before .if1 .left), denied (c .before .before .in-range .ensures) (c .before .if2 .taken)) (c .not-made2 .ensures)
 
-known-octets-requires : tie.Need-known-octets-requires
-known-octets-requires c κs = search needs
+known-requires : tie.Need-known-requires
+known-requires c κs = search needs
 
 fresh-node-requires : tie.Need-fresh-node-requires
 fresh-node-requires c κs = search needs
 
 returns-3 : tie.Need-returns-3
 unfolding made
-returns-3 c = rw (le-leb _ _ (c .before .before .before .before .if1 .left), granted (c .before .before .before .octets-in-range .ensures) (c .before .before .if2 .left), c .fresh-node .ensures, c .before .known-octets .ensures)
+returns-3 c = rw (le-leb _ _ (c .before .before .before .before .if1 .left), granted (c .before .before .before .in-range .ensures) (c .before .before .if2 .left), c .fresh-node .ensures, c .before .known .ensures)
 
 pub new-spec : {M : Type 1} → statement M
 new-spec =
@@ -39,9 +39,9 @@ new-spec =
     (tie.spec
     not-made-requires
     returns
-    octets-in-range-requires
+    in-range-requires
     not-made-requires-2
     returns-2
-    known-octets-requires
+    known-requires
     fresh-node-requires
     returns-3)

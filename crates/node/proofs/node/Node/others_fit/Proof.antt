@@ -4,9 +4,9 @@ use mathlib.Core.Bool.{Bool, _&&_}
 use mathlib.Core.Logic.{⊎-elim}
 use borrow.Author.Needs.{needs}
 use borrow.Author.Tests.{le-leb, lt-leb}
-use Rattle.key_sets.proofs.Tests.{and-next, and-stops}
-use Rattle.node.specs.Node.{roleInRange, octetsInRange}
-use Rattle.node.specs.Range.{jrcInRange}
+use Rattle.keys.proofs.Tests.{and-next, and-stops}
+use Rattle.held.specs.Octets.{octetsInRange, jrcInRange}
+use Rattle.node.specs.Node.{roleInRange}
 use Rattle.node.specs.declared.node.Node.{Node}
 use Rattle.node.proofs.node.Node.others_fit.Statement.{statement}
 use Rattle.node.proofs.node.Node.others_fit.Tie as tie
@@ -14,11 +14,11 @@ use Rattle.node.proofs.node.Node.others_fit.Tie as tie
 jrc-in-range-requires : tie.Need-jrc-in-range-requires
 jrc-in-range-requires c κs = search needs
 
-octets-in-range-requires : tie.Need-octets-in-range-requires
-octets-in-range-requires c κs = search needs
+in-range-requires : tie.Need-in-range-requires
+in-range-requires c κs = search needs
 
-octets-in-range-requires-2 : tie.Need-octets-in-range-requires-2
-octets-in-range-requires-2 c κs = search needs
+in-range-requires-2 : tie.Need-in-range-requires-2
+in-range-requires-2 c κs = search needs
 
 -- where the ways meet, after the second test and after the third
 abbrev two : Node → Bool
@@ -34,7 +34,7 @@ three-met c =
     ⊎-elim (λ w. and-next first (w .0 .taken) (w .1 .ensures) (w .2)) (λ w. and-stops _ first (w .0 .left) (w .1)) (c .if2 .came)
 
 returns : tie.Need-returns
-returns c = rw (sym (three-met (c .before .before)) ∙ c .before .if3 .taken) (c .octets-in-range2 .ensures)
+returns c = rw (sym (three-met (c .before .before)) ∙ c .before .if3 .taken) (c .in-range2 .ensures)
 
 returns-2 : tie.Need-returns-2
 returns-2 c = rw (sym (three-met (c .before)) ∙ c .if3 .left) (c .if3 .left)
@@ -44,7 +44,7 @@ others-fit-spec =
     tie.close
     (tie.spec
     jrc-in-range-requires
-    octets-in-range-requires
-    octets-in-range-requires-2
+    in-range-requires
+    in-range-requires-2
     returns
     returns-2)

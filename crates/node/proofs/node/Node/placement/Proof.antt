@@ -1,11 +1,10 @@
 -- `placement` meets its contract: only a set that is taken is installed.
 use mathlib.Core.Bool.{false}
-use mathlib.Core.Path.{_∙_}
+use mathlib.Core.Path.{sym, _∙_}
 use borrow.Author.Needs.{needs}
 use Rattle.key_sets.specs.Sets.{install, placed}
 use Rattle.node.specs.Node.{isBorder}
-use Rattle.node.proofs.Applied.{taken-is, untaken-is}
-use Rattle.key_sets.proofs.Tests.{is-false, is-true}
+use Rattle.cojp_range.proofs.Taken.{taken-is, taken-not}
 use Rattle.node.proofs.node.Node.placement.Statement.{statement}
 use Rattle.node.proofs.node.Node.placement.Tie as tie
 
@@ -16,10 +15,10 @@ install-requires : tie.Need-install-requires
 install-requires c κs = search needs
 
 returns : tie.Need-returns
-returns c = c .install .ensures ∙ taken-is (c .before .before .before .before .args .parameter .report) _ (placed false (c .before .before .before .before .args .self .sets)) (is-true (c .before .before .before .is-taken .ensures) (c .before .before .if1 .taken))
+returns c = c .install .ensures ∙ sym (taken-is (c .before .before .before .before .args .parameter .report) _ (placed false (c .before .before .before .before .args .self .sets)) _ (c .before .before .before .is-taken .ensures) (c .before .before .if1 .taken))
 
 returns-2 : tie.Need-returns-2
-returns-2 c = untaken-is (c .before .before .before .args .parameter .report) (install (isBorder (c .before .before .before .args .self)) (c .before .before .before .args .self .sets) (c .before .before .before .args .parameter .value)) _ (is-false (c .before .before .is-taken .ensures) (c .before .if1 .left))
+returns-2 c = sym (taken-not (c .before .before .before .args .parameter .report) (install (isBorder (c .before .before .before .args .self)) (c .before .before .before .args .self .sets) (c .before .before .before .args .parameter .value)) _ _ (c .before .before .is-taken .ensures) (c .before .if1 .left))
 
 pub placement-spec : {M : Type 1} → statement M
 placement-spec = tie.close (tie.spec is-taken-requires install-requires returns returns-2)

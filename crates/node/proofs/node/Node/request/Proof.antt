@@ -4,12 +4,12 @@ use Rattle.node.specs.Timing.{requestOf}
 use Rattle.node.proofs.node.Node.request.Statement.{statement}
 use Rattle.node.proofs.node.Node.request.Tie as tie
 
-identifier-in-requires : tie.Need-identifier-in-requires
-identifier-in-requires c κs = search needs
+parameter-requires : tie.Need-parameter-requires
+parameter-requires c κs = search needs
 
 returns : tie.Need-returns
 unfolding requestOf
-returns c = rw (c .identifier-in .ensures)
+returns c = rw (c .parameter .ensures)
 
 pub request-spec : {M : Type 1} → statement M
-request-spec = tie.close (tie.spec identifier-in-requires returns)
+request-spec = tie.close (tie.spec parameter-requires returns)

@@ -4,9 +4,9 @@ use mathlib.Core.Bool.{Bool, _&&_}
 use mathlib.Core.Logic.{⊎-elim}
 use borrow.Author.Needs.{needs}
 use Rattle.key_sets.specs.Sets as sets
-use Rattle.key_sets.proofs.Tests.{and-next, and-stops}
+use Rattle.keys.proofs.Tests.{and-next, and-stops}
 use Rattle.joining.specs.Attempt as attempt
-use Rattle.joining.specs.Lease.{addressInRange}
+use Rattle.held.specs.Lease.{addressInRange}
 use Rattle.node.specs.Node.{isBorder, clockOf}
 use Rattle.node.specs.declared.node.Node.{Node}
 use Rattle.node.specs.Range.{valid}

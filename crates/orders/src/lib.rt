@@ -1,0 +1,6 @@
+// What a line asks of simulate, and the texts that most of its answers are written by.
+pub mod fill;
+pub mod order;
+
+pub use order::Order;
+pub use order::Verb;
