@@ -1,12 +1,12 @@
 -- Each step that is taken when due falls one timeout after the last and doubles it, so the fifth comes t + 2t + 4t + 8t + 16t after the start.
-use Prim.Native.Nat.{ℕ, suc, _+_, _-_, _*_, _≤_, _<_}
+use Prim.Native.Nat.{ℕ, _+_, _-_, _*_, _<_}
 use native.Mathlib.Omega.{arith}
 use mathlib.Core.Path.{_≡_, refl, _∙_}
 use mathlib.Core.Bool.{true}
 use borrow.Author.Tests.{le-leb, lt-ltb, le-ltb}
 use lib.Dec.{leb, ltb}
-use Rattle.joining.specs.Attempt.{isWaiting, attempt, fits, waitingFrom}
-use Rattle.joining.specs.Poll.{step, stepped, poll, dueAt, GaveUpAfter, AttemptGivesUp}
+use Rattle.joining.specs.Attempt.{attempt, fits, waitingFrom}
+use Rattle.joining.specs.Poll.{step, stepped, poll, dueAt, AttemptGivesUp}
 use Rattle.joining.specs.declared.attempt.Attempt.{Attempt}
 use Rattle.joining.specs.declared.attempt.Phase.the-variants as phase
 use Rattle.joining.specs.declared.poll.Due.the-variants.{SendAgain, GaveUp}

@@ -37,7 +37,7 @@ use Rattle.node_laws.specs.Laws.{Takes}
 use Rattle.node.specs.declared.delivery.Call.the-variants.{Update}
 use Rattle.network.specs.Network.{nodeAt, withNode}
 use Rattle.network.specs.Turn.{judged, turn}
-use Rattle.network.specs.Events.{Event, turning, step, run, Come, Comes}
+use Rattle.network.specs.Events.{turning, step, run, Come, Comes}
 use Rattle.network.specs.Rounds.{Neighbours, Hops, here, hop, Linked, AllLinked, Round, Rounds, none, more}
 use Rattle.network.specs.Demand3.{Supposed, Demand3}
 use Rattle.network.specs.Witness

@@ -1,16 +1,14 @@
 -- What a node makes of a configuration, by the answers of the functions that judge and change it.
 use Prim.Native.Nat.{ℕ}
-use mathlib.Core.Path.{_≡_, refl, sym, _∙_, ap}
-use mathlib.Core.Bool.{Bool, true, false, not}
-use Rattle.refusal.specs.declared.Refusal.{Refusal}
+use mathlib.Core.Path.{_≡_, sym, _∙_, ap}
+use mathlib.Core.Bool.{true, false}
 use Rattle.refusal.specs.declared.Refusal.the-variants as refusal
-use Rattle.refusal.specs.declared.Verdict.the-variants as verdict
 use Rattle.key_sets.specs.declared.sets.Placement.{Placement}
 use Rattle.cojp.specs.declared.configuration.Configuration.{Configuration}
 use Rattle.held.specs.Reports.{reportsOf}
 use Rattle.held.specs.declared.reports.Reports.{Reports}
 use Rattle.node.specs.Node.{isBorder}
-use Rattle.node.specs.Delivery.{placementOf, configured, undelivered, delivered, owesIdentifier, apply, applyRead}
+use Rattle.node.specs.Delivery.{placementOf, configured, undelivered, delivered, owesIdentifier, apply}
 use Rattle.node.specs.declared.delivery.Call.{Call}
 use Rattle.node.specs.declared.node.Node.{Node}
 

@@ -3,8 +3,8 @@
 use Prim.Native.Nat.{ℕ, _≤_}
 use native.Mathlib.Omega.{arith}
 use mathlib.Core.Path.{_≡_, refl, sym, _∙_, ap}
-use mathlib.Core.Bool.{Bool, true, false, cond, not, _&&_, _||_}
-use mathlib.Core.List.{List, []}
+use mathlib.Core.Bool.{Bool, true, false, cond, not}
+use mathlib.Core.List.{List}
 use borrow.Author.Tests.{leb-true, le-leb, eq-eqb}
 use lib.Dec.{leb, eqb}
 use lib.ListN.{length}
@@ -12,12 +12,11 @@ use Rattle.refusal.specs.declared.Refusal.{Refusal}
 use Rattle.refusal.specs.declared.Refusal.the-variants as refusal
 use Rattle.refusal.specs.declared.Verdict.{Verdict}
 use Rattle.refusal.specs.declared.Verdict.the-variants as verdict
-use Rattle.keys.specs.KeySet.{keysOf, noKeys, allowedSet}
+use Rattle.keys.specs.KeySet.{noKeys, allowedSet}
 use Rattle.keys.specs.declared.key.Key.{Key}
 use Rattle.keys.specs.declared.key_set.KeySet.{KeySet}
 use Rattle.key_sets.specs.Sets.{twoSets, placed, install}
 use Rattle.key_sets.specs.Sets as sets
-use Rattle.key_sets.specs.declared.sets.KeySets.{KeySets}
 use Rattle.key_sets.proofs.Fits.{install-fits, border-installs}
 use Rattle.joining.specs.Attempt as attempt
 use Rattle.held.specs.Lease.{addressInRange}
@@ -36,10 +35,10 @@ use Rattle.cojp.specs.declared.report.Report.{Report}
 use Rattle.cojp.specs.declared.report.Report.the-variants.{Absent, Taken, Discarded}
 use Rattle.held.specs.Octets.{octetsInRange, jrcInRange, octetsAfter}
 use Rattle.held.specs.Reports.{noReports, discarded, reportsOf}
-use Rattle.node.specs.Node.{activeOf, isBorder, clockOf, roleInRange}
+use Rattle.node.specs.Node.{isBorder, clockOf, roleInRange}
 use Rattle.node.specs.Range.{othersFit, valid, Valid}
 use Rattle.node.specs.Delivery.{placementOf, attemptAfter, configured, undelivered, delivered, owesIdentifier, apply, belongs, deliverVerdict, applyRead, deliverBy, deliver}
-use Rattle.node_laws.specs.Laws.{setIn, Takes, Installed}
+use Rattle.node_laws.specs.Laws.{Takes, Installed}
 use Rattle.node.specs.declared.delivery.Call.{Call}
 use Rattle.node.specs.declared.delivery.Call.the-variants.{JoinAnswer, Update}
 use Rattle.node.specs.declared.delivery.Delivered.{Delivered}

@@ -1,11 +1,10 @@
 -- Keys for frames: a valid node answers as its key sets do, and a verified frame leaves the sets or switches them.
 use Prim.Native.Nat.{ℕ}
 use native.Mathlib.Omega.{arith}
-use mathlib.Core.Path.{_≡_, refl, sym, _∙_, ap}
+use mathlib.Core.Path.{_≡_, refl, _∙_}
 use mathlib.Core.Bool.{Bool, true, false, cond}
 use mathlib.Core.Logic.{_⊎_, inl, inr, ⊎-elim}
-use mathlib.Core.List.{List, [], List·Memᴰ}
-use Rattle.refusal.specs.declared.Refusal.{Refusal}
+use mathlib.Core.List.{List, List·Memᴰ}
 use Rattle.refusal.specs.declared.Refusal.the-variants as refusal
 use Rattle.refusal.specs.declared.Verdict.the-variants as verdict
 use Rattle.keys.specs.Key.{covers}

@@ -1,9 +1,8 @@
 -- Polled when due, a valid node answers as its join attempt does, which gives up 31t after its start.
 use Prim.Native.Nat.{ℕ, zero, suc}
 use native.Mathlib.Omega.{arith}
-use mathlib.Core.Path.{_≡_, refl, sym, _∙_, ap}
-use mathlib.Core.Bool.{Bool, true, false, cond}
-use mathlib.Core.List.{List, [], _∷_}
+use mathlib.Core.Path.{_≡_, refl, _∙_, ap}
+use mathlib.Core.List.{List}
 use Rattle.refusal.specs.declared.Refusal.{Refusal}
 use Rattle.refusal.specs.declared.Verdict.{Verdict}
 use Rattle.refusal.specs.declared.Verdict.the-variants as verdict
@@ -17,10 +16,9 @@ use Rattle.joining.specs.declared.attempt.Attempt.{Attempt}
 use Rattle.joining.specs.declared.poll.Due.{Due}
 use Rattle.joining.proofs.Attempts.{may-start}
 use Rattle.joining.proofs.GivesUp.{attempt-gives-up}
-use Rattle.node.specs.Node.{clockOf}
 use Rattle.node.specs.Range.{Valid}
-use Rattle.node.specs.Timing.{requestOf, startVerdict, planBy, startPlan, startedFrom, startedBy, start, polledBy, poll}
-use Rattle.node_laws.specs.Laws.{dueAt, afterDue, answersDue, GaveUpAfter, GivesUp}
+use Rattle.node.specs.Timing.{requestOf, startVerdict, planBy, startPlan, startedFrom, startedBy, start, poll}
+use Rattle.node_laws.specs.Laws.{dueAt, afterDue, answersDue, GivesUp}
 use Rattle.node.specs.declared.node.Node.{Node}
 use Rattle.node_laws.proofs.Timings.{start-passed, start-kept, poll-is, poll-kept}
 

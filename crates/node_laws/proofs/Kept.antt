@@ -2,7 +2,6 @@
 use Prim.Native.Nat.{_≤_}
 use mathlib.Core.Path.{_≡_, refl, ap}
 use mathlib.Core.Bool.{true}
-use Rattle.key_sets.specs.Sets.{activeIn, pendingIn}
 use Rattle.key_sets.specs.declared.sets.KeySets.{KeySets}
 use Rattle.joining.specs.Attempt.{fits}
 use Rattle.joining.specs.declared.attempt.Attempt.{Attempt}

@@ -1,12 +1,9 @@
 -- The laws for the layer above, one by one from the law files.
 use Prim.Native.Nat.{ℕ}
 use mathlib.Core.Path.{_≡_, refl}
-use mathlib.Core.Bool.{true}
 use mathlib.Core.Logic.{_⊎_, ⊎-elim}
 use mathlib.Core.List.{[]}
 use borrow.Author.Tests.{eq-eqb}
-use Rattle.refusal.specs.declared.Refusal.{Refusal}
-use Rattle.refusal.specs.declared.Verdict.the-variants.{Refused}
 use Rattle.keys.specs.KeySet.{Apart}
 use Rattle.keys.proofs.Keys.{same-key-self}
 use Rattle.keys.proofs.KeySets.{shares-apart}

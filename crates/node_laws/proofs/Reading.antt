@@ -3,13 +3,13 @@ use Prim.Native.Nat.{ℕ, _≤_, _+_, _-_}
 use native.Mathlib.Omega.{arith}
 use mathlib.Core.Path.{_≡_, refl}
 use mathlib.Core.Bool.{Bool, true, false, cond, _&&_}
-use mathlib.Core.List.{List, [], _∷_, _++_}
+use mathlib.Core.List.{List, [], _∷_}
 use borrow.Author.Tests.{leb-true, le-leb, eq-eqb}
 use lib.Dec.{leb, ltb, eqb}
 use lib.ListN.{length, take, replicate}
 use lib.Seq.{take-at}
 use Rattle.refusal.specs.declared.Refusal.the-variants as refusal
-use Rattle.refusal.specs.declared.Verdict.the-variants.{Accepted, Refused}
+use Rattle.refusal.specs.declared.Verdict.the-variants.{Accepted}
 use Rattle.cbor.specs.Decode.{Outcome, payload}
 use Rattle.cbor.specs.Decode as decode
 use Rattle.cbor.specs.Item.{Item, Pairs, unsigned, negative, bytes, text, array, map, tag, simple, float, empty, pair}
@@ -22,7 +22,7 @@ use Rattle.keys.specs.declared.key.Key.{Key}
 use Rattle.keys.specs.declared.key_set.KeySet.{KeySet}
 use Rattle.keys.proofs.KeySets.{allowed-few}
 use Rattle.keys.proofs.Lists.{both-left, both-right}
-use Rattle.cojp.specs.Reading.{Reading, refused, read, onward, put, Judgement, broken, unfit, good, concluded, ifTaken}
+use Rattle.cojp.specs.Reading.{Reading, refused, read, onward, put, Judgement, broken, unfit, good, concluded}
 use Rattle.cojp.specs.Octets.{octetsJudged, octetsOf, octetsParameter, noOctetsParameter}
 use Rattle.cojp.specs.Address.{isAddress, addressBy, addressIn, addressJudged, addressOf, addressParameter, noAddressParameter}
 use Rattle.cojp.specs.KeySet.{Groups, notGroups, groupsOf, groups, keysIn, keysJudged, keySetOf, keysParameter}
@@ -32,10 +32,10 @@ use Rattle.cojp.specs.Writing.{keysInRange, addressInRange, jrcInRange, octetsI
 use Rattle.cojp.specs.declared.address.ShortAddress.{ShortAddress}
 use Rattle.cojp.specs.declared.configuration.Configuration.{Configuration}
 use Rattle.cojp.specs.declared.octets.Octets.{Octets}
-use Rattle.cojp.specs.declared.report.Report.the-variants.{Absent, Taken, Discarded}
+use Rattle.cojp.specs.declared.report.Report.the-variants.{Taken, Discarded}
 use Rattle.cojp.specs.declared.walk.Standing.{Standing}
 use Rattle.cojp.specs.declared.walk.Standing.the-variants.{Unknown, Fresh, Again}
-use Rattle.keys.proofs.Tests.{both, never}
+use Rattle.keys.proofs.Tests.{both}
 
 -- what is taken is in range
 pub record InRange (c : Configuration) : Type 0 where

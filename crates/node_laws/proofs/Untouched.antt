@@ -2,10 +2,9 @@
 use Prim.Native.Nat.{ℕ, _-_}
 use native.Mathlib.Omega.{arith}
 use mathlib.Core.Path.{_≡_, refl, ap}
-use mathlib.Core.Bool.{Bool, true, false, cond, not, _&&_}
+use mathlib.Core.Bool.{Bool, true, false, cond, not}
 use mathlib.Core.List.{List, _++_}
-use mathlib.Core.Option.{Option, none, some}
-use lib.Dec.{leb, ltb, eqb}
+use lib.Dec.{leb}
 use lib.ListN.{length, drop}
 use Rattle.refusal.specs.declared.Refusal.{Refusal}
 use Rattle.refusal.specs.declared.Refusal.the-variants as refusal
@@ -34,7 +33,6 @@ use Rattle.node.specs.declared.lease.Holding.the-variants as holding
 use Rattle.held.specs.declared.octets.HeldOctets.{HeldOctets}
 use Rattle.node.specs.declared.node.Made.{Made}
 use Rattle.node.specs.declared.node.Node.{Node}
-use Rattle.node.specs.declared.timing.Polled.{Polled}
 use Rattle.node_laws.proofs.Deliveries.{deliver-leaves}
 
 accepted-not : {A : Type 0} (k : Refusal) → verdict.Accepted ≡ verdict.Refused k → A

@@ -1,6 +1,6 @@
 -- What it says that a node is valid, part by part, and back.
-use mathlib.Core.Path.{_≡_, refl}
-use mathlib.Core.Bool.{Bool, true, _&&_}
+use mathlib.Core.Path.{_≡_}
+use mathlib.Core.Bool.{Bool, true}
 use Rattle.key_sets.specs.Sets as sets
 use Rattle.joining.specs.Attempt as attempt
 use Rattle.held.specs.Lease.{addressInRange}
