@@ -31,8 +31,8 @@ use Rattle.cojp.specs.declared.report.Report.{Report}
 use Rattle.cojp.specs.declared.report.Report.the-variants.{Absent, Taken, Discarded}
 use Rattle.cojp.specs.declared.walk.Standing.the-variants.{Fresh}
 use Rattle.cojp_write.specs.Room.{addressItems}
-use Rattle.cojp_write.proofs.Limits.{Fine, octets-few}
-use Rattle.cojp_write.proofs.Maps.{map-length}
+use Rattle.octets_write.proofs.Limits.{Fine, octets-few}
+use Rattle.octets_write.proofs.Maps.{map-length}
 
 -- ---- pairs one after the other
 module _ {S : Type 0} (F : Form S) where

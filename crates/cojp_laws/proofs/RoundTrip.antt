@@ -29,8 +29,8 @@ use Rattle.cojp.specs.declared.report.Report.{Report}
 use Rattle.cojp.specs.declared.report.Report.the-variants.{Absent, Taken, Discarded}
 use Rattle.cojp.specs.declared.request.JoinRequest.{JoinRequest}
 use Rattle.cojp_write.specs.Room.{addressItems}
-use Rattle.cojp_write.proofs.Limits.{RequestFits, request-fits, fine-request, ConfigurationFits, configuration-fits, fine-configuration}
-use Rattle.cojp_write.proofs.Maps.{map-length}
+use Rattle.octets_write.proofs.Limits.{RequestFits, request-fits, fine-request, ConfigurationFits, configuration-fits, fine-configuration}
+use Rattle.octets_write.proofs.Maps.{map-length}
 use Rattle.cojp_laws.proofs.ReadBack.{then, parameter-read, payload-read, kept-if, octetsGood, octetsBack, octets-back, jrc-back, octets-same, addressGood, addressBack, address-back, address-same, keysGood, keysBack, keys-back, keys-same}
 
 -- ---- a plan that is no refusal

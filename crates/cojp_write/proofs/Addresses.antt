@@ -16,10 +16,10 @@ use Rattle.cojp.specs.declared.address.ShortAddress.{ShortAddress}
 use Rattle.cojp.specs.declared.report.Report.{Report}
 use Rattle.cojp.specs.declared.report.Report.the-variants.{Taken}
 use Rattle.cojp_write.specs.Room.{addressItems, addressLength}
-use Rattle.cojp_write.specs.Size.{ItemsSize, PairsSize}
-use Rattle.cojp_write.specs.declared.size.Size.{Size}
-use Rattle.cojp_write.proofs.Joined.{array-bytes}
-use Rattle.cojp_write.proofs.Limits.{string-length}
+use Rattle.octets_write.specs.Size.{ItemsSize, PairsSize}
+use Rattle.octets_write.specs.declared.size.Size.{Size}
+use Rattle.octets_write.proofs.Joined.{array-bytes}
+use Rattle.octets_write.proofs.Limits.{string-length}
 use Rattle.cojp_range.proofs.Taken.{taken-is}
 
 -- ---- its members: the bytes, and perhaps a lease

@@ -19,11 +19,11 @@ use Rattle.cojp.specs.Reading.{ifTaken}
 use Rattle.cojp.specs.Writing.{labelled, chain, leaseItems, usageItems, groupItems, groupsItems, keysPairs, keysInRange}
 use Rattle.cojp.specs.declared.key_set.KeysParameter.{KeysParameter}
 use Rattle.cojp_write.specs.Room.{usedItems, keyLength, setLength}
-use Rattle.cojp_write.specs.Size.{ItemsSize, PairsSize, Sum}
-use Rattle.cojp_write.specs.declared.size.Size.{Size}
-use Rattle.cojp_write.proofs.Joined.{chain-bytes, chain-count, chain-length, chain-assoc, chain-none, array-bytes, array-length}
-use Rattle.cojp_write.proofs.Limits.{string-length, fine-keys}
-use Rattle.cojp_write.proofs.Sizes.{sizes-chain}
+use Rattle.octets_write.specs.Size.{ItemsSize, PairsSize, Sum}
+use Rattle.octets_write.specs.declared.size.Size.{Size}
+use Rattle.octets_write.proofs.Joined.{chain-bytes, chain-count, chain-length, chain-assoc, chain-none, array-bytes, array-length}
+use Rattle.octets_write.proofs.Limits.{string-length, fine-keys}
+use Rattle.octets_write.proofs.Sizes.{sizes-chain}
 use Rattle.cojp_range.proofs.Taken.{taken-is}
 
 -- ---- one group

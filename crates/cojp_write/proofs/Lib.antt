@@ -1,9 +1,4 @@
-pub mod Joined
-mod Sizes
-pub mod Limits
-mod Strings
 mod Addresses
 mod KeySets
-mod Roles
-pub mod Maps
+mod Configurations
 mod Plans

@@ -1,4 +1,4 @@
--- For the contracts of private functions alone: the room that an array or an object with so many members takes, as the sum of its parts.
+-- For the contracts of private functions alone: the room that an array or a configuration with so many members takes, as the sum of its parts.
 use Prim.Native.Nat.{ℕ, _+_}
 use mathlib.Core.Bool.{not}
 use mathlib.Core.List.{List, _++_}
@@ -6,11 +6,10 @@ use lib.Dec.{eqb}
 use lib.ListN.{length}
 use Rattle.cbor.specs.Encode.{shortest, encode, encodes, encodePairs}
 use Rattle.cbor.specs.Item.{Items, Pairs, bytes, more}
-use Rattle.cojp.specs.Writing.{leaseItems, groupsItems, rolePairs, keysPairs, addressPairs, octetsPairs}
+use Rattle.cojp.specs.Writing.{leaseItems, groupsItems, keysPairs, addressPairs, octetsPairs}
 use Rattle.cojp.specs.declared.address.ShortAddress.{ShortAddress}
 use Rattle.cojp.specs.declared.configuration.Configuration.{Configuration}
 use Rattle.cojp.specs.declared.octets.OctetsParameter.{OctetsParameter}
-use Rattle.cojp.specs.declared.request.JoinRequest.{JoinRequest}
 use Rattle.keys.specs.declared.key.Key.{Key}
 
 -- ---- arrays: a label, a head, and the members
@@ -35,13 +34,9 @@ keyLength k =
 abbrev pub setLength : List Key → ℕ → ℕ
 setLength ks members = arrayLength 2 members + length (encodes (groupsItems ks))
 
--- ---- objects: a map's head, and the parameters
+-- ---- the configuration: a map's head, and the parameters
 abbrev pub pairsLength : Pairs → ℕ
 pairsLength ps = length (encodePairs ps)
-
-abbrev pub requestLength : JoinRequest → ℕ → ℕ
-requestLength q members =
-    length (shortest 5 members) + (pairsLength (rolePairs (q .role)) + pairsLength (octetsPairs 5 (q .network)))
 
 -- the byte strings of a configuration
 abbrev pub stringsBytes : OctetsParameter → OctetsParameter → OctetsParameter → List ℕ

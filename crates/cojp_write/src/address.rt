@@ -2,12 +2,12 @@
 use crate::item::put_array;
 use crate::item::put_bytes;
 use crate::item::put_optional;
-use crate::size::Size;
-use crate::size::no_size;
 use crate::size::optional_size;
 use cojp::AddressParameter;
 use cojp::ShortAddress;
 use cojp_range::is_taken;
+use octets_write::Size;
+use octets_write::no_size;
 ghost use mathlib.Core.Path.{_≡_};
 ghost use Prim.Native.Nat.{_+_, _≤_};
 ghost use lib.ListN.{length};
@@ -15,7 +15,7 @@ ghost use Rattle.cbor.specs.Answer.{Wrote};
 ghost use Rattle.cbor.specs.Encode.{encodePairs};
 ghost use Rattle.cbor.specs.Item.{array, count};
 ghost use Rattle.cojp.specs.Writing.{labelled, addressPairs};
-ghost use Rattle.cojp_write.specs.Size.{PairsSize};
+ghost use Rattle.octets_write.specs.Size.{PairsSize};
 ghost use Rattle.cojp_write.specs.Room.{addressItems, addressLength};
 
 pub(crate) fn address_size(p: AddressParameter) -> Size

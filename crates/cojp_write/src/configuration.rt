@@ -2,15 +2,16 @@
 use crate::address::address_size;
 use crate::address::put_address;
 use crate::item::put_head;
+use crate::item::put_octets;
 use crate::key_set::keys_size;
 use crate::key_set::put_keys;
-use crate::octets::octets_size;
-use crate::octets::put_octets;
-use crate::size::Size;
+use crate::size::plus;
 use cbor::Written;
 use cojp::Configuration;
 use cojp::OctetsParameter;
 use cojp_range::configuration_in_range;
+use octets_write::Size;
+use octets_write::octets_size;
 use refusal::Refusal;
 ghost use mathlib.Core.Bool.{true};
 ghost use mathlib.Core.Path.{_≡_};
@@ -19,19 +20,19 @@ ghost use lib.ListN.{length};
 ghost use Rattle.cbor.specs.Answer.{Did, Wrote, emit};
 ghost use Rattle.cbor.specs.Encode.{encode};
 ghost use Rattle.cbor.specs.Item.{map, countPairs};
-ghost use Rattle.cojp.specs.Writing.{octetsInRange, configurationPairs, configurationInRange, configurationPlan};
+ghost use Rattle.cojp.specs.Writing.{configurationPairs, configurationInRange, configurationPlan};
 ghost use Rattle.cojp_write.specs.Room.{configurationLength, stringsLength, stringsBytes};
-ghost use Rattle.cojp_write.specs.Size.{PairsSize};
+ghost use Rattle.octets_write.specs.Size.{PairsSize};
 
 fn configuration_size(c: Configuration) -> Size
     requires { ⌜ configurationInRange c ≡ true ⌝ }
-    ensures { λ r. ⌜ PairsSize (configurationPairs c) 5 231 r ⌝ }
+    ensures { λ r. ⌜ PairsSize (configurationPairs c) 5 255 r ⌝ }
 {
     let size = keys_size(c.keys);
-    let size = size.plus(address_size(c.address));
-    let size = size.plus(octets_size(4, c.jrc));
-    let size = size.plus(octets_size(5, c.network));
-    size.plus(octets_size(6, c.prefix))
+    let size = plus(size, address_size(c.address));
+    let size = plus(size, octets_size(4, c.jrc));
+    let size = plus(size, octets_size(5, c.network));
+    plus(size, octets_size(6, c.prefix))
 }
 
 // The byte strings: JRC address, network identifier, prefix.
@@ -41,7 +42,7 @@ fn put_strings(
     network: OctetsParameter,
     prefix: OctetsParameter,
 ) -> usize
-    requires { ⌜ (octetsInRange jrc ≡ true) × (octetsInRange network ≡ true) × (octetsInRange prefix ≡ true) × (stringsLength jrc network prefix ≤ length (now dst)) ⌝ }
+    requires { ⌜ stringsLength jrc network prefix ≤ length (now dst) ⌝ }
     ensures { λ r. ⌜ Wrote (stringsBytes jrc network prefix) (now (dst .entry)) r (now (dst .exit)) ⌝ }
 {
     let n1 = put_octets(dst, 4, jrc);
@@ -51,7 +52,7 @@ fn put_strings(
 
 // The map, with `members` pairs: each parameter in the part after those before it.
 fn put_configuration(dst: &mut [u8], c: Configuration, members: u64) -> usize
-    requires { ⌜ (configurationInRange c ≡ true) × (members ≡ countPairs (configurationPairs c)) × (configurationLength c members ≤ length (now dst)) ⌝ }
+    requires { ⌜ (members ≡ countPairs (configurationPairs c)) × (configurationLength c members ≤ length (now dst)) ⌝ }
     ensures { λ r. ⌜ Wrote (encode (map (configurationPairs c))) (now (dst .entry)) r (now (dst .exit)) ⌝ }
 {
     let n1 = put_head(dst, 5, members);

@@ -1,14 +1,16 @@
-// Heads and byte strings where there is room for them.
+// Heads, byte strings and parameters that are byte strings, where there is room for them.
 use cbor::Written;
 use cbor_write::write_bytes;
 use cbor_write::write_head;
+use cojp::OctetsParameter;
+use octets_write::write_octets;
 ghost use mathlib.Core.List.{_++_};
 ghost use Prim.Native.Nat.{_+_, _≤_};
 ghost use lib.ListN.{length};
 ghost use Rattle.cbor.specs.Answer.{Wrote};
 ghost use Rattle.cbor.specs.Encode.{shortest, encode, encodes, encodePairs};
-ghost use Rattle.cbor.specs.Item.{unsigned, bytes};
-ghost use Rattle.cojp.specs.Writing.{labelled, leaseItems};
+ghost use Rattle.cbor.specs.Item.{bytes};
+ghost use Rattle.cojp.specs.Writing.{leaseItems, octetsPairs};
 
 // A head.
 pub(crate) fn put_head(dst: &mut [u8], major: u8, argument: u64) -> usize
@@ -45,22 +47,16 @@ pub(crate) fn put_optional(dst: &mut [u8], given: bool, number: u64) -> usize
     0
 }
 
-// A label and a number.
-pub(crate) fn put_number(dst: &mut [u8], label: u64, number: u64) -> usize
-    requires { ⌜ length (shortest 0 label) + length (shortest 0 number) ≤ length (now dst) ⌝ }
-    ensures { λ r. ⌜ Wrote (encodePairs (labelled label (unsigned number))) (now (dst .entry)) r (now (dst .exit)) ⌝ }
+// A parameter that is a byte string, where it is taken.
+pub(crate) fn put_octets(dst: &mut [u8], label: u64, p: OctetsParameter) -> usize
+    requires { ⌜ length (encodePairs (octetsPairs label p)) ≤ length (now dst) ⌝ }
+    ensures { λ r. ⌜ Wrote (encodePairs (octetsPairs label p)) (now (dst .entry)) r (now (dst .exit)) ⌝ }
 {
-    let n = put_head(dst, 0, label);
-    n + put_head(&mut dst[n..], 0, number)
-}
-
-// A label and a byte string.
-pub(crate) fn put_string(dst: &mut [u8], label: u64, s: &[u8]) -> usize
-    requires { ⌜ length (shortest 0 label) + length (encode (bytes (now s))) ≤ length (now dst) ⌝ }
-    ensures { λ r. ⌜ Wrote (encodePairs (labelled label (bytes (now (s .entry))))) (now (dst .entry)) r (now (dst .exit)) ⌝ }
-{
-    let n = put_head(dst, 0, label);
-    n + put_bytes(&mut dst[n..], s)
+    let w = write_octets(dst, label, p);
+    match w {
+        Written::Refused(_) => 0,
+        Written::Length(n) => n,
+    }
 }
 
 // A label and the head of an array.

@@ -3,14 +3,15 @@ use crate::item::put_array;
 use crate::item::put_bytes;
 use crate::item::put_head;
 use crate::item::put_optional;
-use crate::size::Size;
-use crate::size::no_size;
 use crate::size::optional_size;
+use crate::size::plus;
 use cbor_write::head_len;
 use cojp::KeysParameter;
 use cojp_range::is_taken;
 use keys::Key;
 use keys::KeySet;
+use octets_write::Size;
+use octets_write::no_size;
 ghost use mathlib.Core.Bool.{true};
 ghost use mathlib.Core.Path.{_≡_};
 ghost use Prim.Native.Nat.{_+_, _≤_};
@@ -20,7 +21,7 @@ ghost use Rattle.cbor.specs.Encode.{encodes, encodePairs};
 ghost use Rattle.cbor.specs.Item.{array, count};
 ghost use Rattle.cojp.specs.Writing.{labelled, keysInRange, keysPairs, groupItems, groupsItems};
 ghost use Rattle.keys.specs.KeySet.{keysOf};
-ghost use Rattle.cojp_write.specs.Size.{ItemsSize, PairsSize};
+ghost use Rattle.octets_write.specs.Size.{ItemsSize, PairsSize};
 ghost use Rattle.cojp_write.specs.Room.{keyLength, setLength};
 
 // A group: identifier, usage unless it is 0, value.
@@ -44,7 +45,7 @@ fn groups_size(set: KeySet) -> Size
     let mut i = 0;
     while i < n {
         let key = set.keys[i];
-        size = size.plus(key_size(key));
+        size = plus(size, key_size(key));
         i += 1;
     }
     size

@@ -1,36 +1,19 @@
 // How much there is to write, before any of it is written.
 use cbor_write::head_len;
-ghost use mathlib.Core.List.{[]};
+use octets_write::Size;
+use octets_write::no_size;
 ghost use Prim.Native.Nat.{_+_, _≤_};
 ghost use Rattle.cojp.specs.Writing.{leaseItems};
-ghost use Rattle.cojp_write.specs.Size.{Sizes, ItemsSize, Sum};
+ghost use Rattle.octets_write.specs.Size.{ItemsSize, Sum};
 
-// How many members of a map or an array, and how many bytes they take.
-pub(crate) struct Size {
-    pub(crate) members: usize,
-    pub(crate) bytes: usize,
-}
-
-// No member.
-pub(crate) fn no_size() -> Size
-    ensures { λ r. ⌜ Sizes 0 [] 0 0 r ⌝ }
+// The one after the other.
+pub(crate) fn plus(a: Size, b: Size) -> Size
+    requires { ⌜ (a .members + b .members ≤ 1000) × (a .bytes + b .bytes ≤ 1000) ⌝ }
+    ensures { λ r. ⌜ Sum a b r ⌝ }
 {
     Size {
-        members: 0,
-        bytes: 0,
-    }
-}
-
-impl Size {
-    // The one after the other.
-    pub(crate) fn plus(self, other: Size) -> Size
-        requires { ⌜ (self .members + other .members ≤ 1000) × (self .bytes + other .bytes ≤ 1000) ⌝ }
-        ensures { λ r. ⌜ Sum self other r ⌝ }
-    {
-        Size {
-            members: self.members + other.members,
-            bytes: self.bytes + other.bytes,
-        }
+        members: a.members + b.members,
+        bytes: a.bytes + b.bytes,
     }
 }
 

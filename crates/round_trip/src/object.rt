@@ -29,7 +29,7 @@ pub fn seen(is_request: bool, payload: &[u8]) -> Reading {
 pub fn rewrite(is_request: bool, payload: &[u8], dst: &mut [u8]) -> Written {
     if is_request {
         let read = request_read::read_request(payload);
-        return cojp_write::write_request(dst, read.request);
+        return request_write::write_request(dst, read.request);
     }
     let read = cojp_read::read_configuration(payload);
     cojp_write::write_configuration(dst, read.configuration)

@@ -6,7 +6,7 @@ use Rattle.cbor.specs.Item.{array, empty}
 use Rattle.cojp.specs.Writing.{labelled}
 use Rattle.cojp_write.specs.Room.{addressItems}
 use Rattle.cojp_write.proofs.Addresses.{address-size}
-use Rattle.cojp_write.proofs.Sizes.{size-none}
+use Rattle.octets_write.proofs.Sizes.{size-none}
 use Rattle.cojp_range.proofs.Taken.{taken-not}
 use Rattle.cojp_write.proofs.address.address_size.Statement.{statement}
 use Rattle.cojp_write.proofs.address.address_size.Tie as tie

@@ -9,7 +9,7 @@ use Rattle.cbor.proofs.Writing.{wrote-none}
 use Rattle.cojp.specs.Writing.{labelled}
 use Rattle.cojp_write.specs.Room.{addressItems}
 use Rattle.cojp_write.proofs.Addresses.{address-taken, place-length}
-use Rattle.cojp_write.proofs.Joined.{wrote-same, same-room}
+use Rattle.octets_write.proofs.Joined.{wrote-same, same-room}
 use Rattle.cojp_range.proofs.Taken.{taken-not}
 use Rattle.cojp_write.proofs.address.put_address.Statement.{statement}
 use Rattle.cojp_write.proofs.address.put_address.Tie as tie

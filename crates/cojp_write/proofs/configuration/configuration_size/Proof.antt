@@ -1,9 +1,8 @@
 -- The parameters' sizes, added up in the order of writing.
-use native.Mathlib.Omega.{arith}
 use borrow.Author.Needs.{needs}
 use Rattle.cojp.specs.Writing.{join, keysPairs, addressPairs, octetsPairs}
-use Rattle.cojp_write.proofs.Limits.{configuration-fits, jrc-in-range}
-use Rattle.cojp_write.proofs.Sizes.{sizes-join}
+use Rattle.octets_write.proofs.Limits.{configuration-fits}
+use Rattle.octets_write.proofs.Sizes.{sizes-join}
 use Rattle.cojp_write.proofs.configuration.configuration_size.Statement.{statement}
 use Rattle.cojp_write.proofs.configuration.configuration_size.Tie as tie
 
@@ -17,19 +16,19 @@ plus-requires : tie.Need-plus-requires
 plus-requires c κs = search needs
 
 octets-size-requires : tie.Need-octets-size-requires
-octets-size-requires c κs = (omega arith, jrc-in-range (c .before .before .before .args .c .jrc) (configuration-fits (c .before .before .before .args .c) (c .before .before .before .pre) .jrc))
+octets-size-requires c κs = search needs
 
 plus-requires-2 : tie.Need-plus-requires-2
 plus-requires-2 c κs = search needs
 
 octets-size-requires-2 : tie.Need-octets-size-requires-2
-octets-size-requires-2 c κs = (omega arith, configuration-fits (c .before .before .before .before .before .args .c) (c .before .before .before .before .before .pre) .network)
+octets-size-requires-2 c κs = search needs
 
 plus-requires-3 : tie.Need-plus-requires-3
 plus-requires-3 c κs = search needs
 
 octets-size-requires-3 : tie.Need-octets-size-requires-3
-octets-size-requires-3 c κs = (omega arith, configuration-fits (c .before .before .before .before .before .before .before .args .c) (c .before .before .before .before .before .before .before .pre) .prefix)
+octets-size-requires-3 c κs = search needs
 
 plus-requires-4 : tie.Need-plus-requires-4
 plus-requires-4 c κs = search needs

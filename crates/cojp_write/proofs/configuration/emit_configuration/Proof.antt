@@ -2,7 +2,8 @@
 use native.Mathlib.Omega.{arith}
 use borrow.Author.Needs.{needs}
 use Rattle.cojp.specs.Writing.{configurationPairs}
-use Rattle.cojp_write.proofs.Maps.{map-room, map-fits, map-emit, configuration-length}
+use Rattle.octets_write.proofs.Maps.{map-room, map-fits, map-emit}
+use Rattle.cojp_write.proofs.Configurations.{configuration-length}
 use Rattle.cojp_write.proofs.configuration.emit_configuration.Statement.{statement}
 use Rattle.cojp_write.proofs.configuration.emit_configuration.Tie as tie
 
@@ -19,7 +20,7 @@ put-configuration-requires : tie.Need-put-configuration-requires
 put-configuration-requires c κs =
     let z = (c .before .before .before .configuration-size .ensures) in
     let f = map-fits (configurationPairs (c .before .before .before .before .before .args .c)) z (omega arith) (c .before .before .before .before .before .args .dst .now) (c .before .if1 .left) in
-    ((c .before .before .before .before .before .pre), z .members, omega (arith, f, configuration-length (c .before .before .before .before .before .args .c) (c .before .before .before .configuration-size .result .members)))
+    (z .members, omega (arith, f, configuration-length (c .before .before .before .before .before .args .c) (c .before .before .before .configuration-size .result .members)))
 
 same-length : tie.Need-same-length
 same-length c = search needs

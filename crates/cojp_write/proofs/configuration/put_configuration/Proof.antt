@@ -6,8 +6,8 @@ use lib.ListN.{length-append}
 use Rattle.cbor.specs.Encode.{shortest, encodePairs}
 use Rattle.cbor.proofs.Writing.{seam, wrote-length}
 use Rattle.cojp.specs.Writing.{keysPairs, addressPairs, configurationPairs}
-use Rattle.cojp_write.proofs.Limits.{configuration-fits, jrc-in-range}
-use Rattle.cojp_write.proofs.Maps.{map-fitting, strings-length, configuration-length, configuration-wrote}
+use Rattle.octets_write.proofs.Maps.{map-fitting}
+use Rattle.cojp_write.proofs.Configurations.{strings-length, configuration-length, configuration-wrote}
 use Rattle.cojp_write.proofs.configuration.put_configuration.Statement.{statement}
 use Rattle.cojp_write.proofs.configuration.put_configuration.Tie as tie
 
@@ -24,7 +24,7 @@ part-put-keys-end : tie.Need-part-put-keys-end
 part-put-keys-end c = omega arith
 
 put-keys-requires : tie.Need-put-keys-requires
-put-keys-requires c κs = omega (arith, c .before .before .before .before .before .before .pre .2)
+put-keys-requires c κs = omega (arith, c .before .before .before .before .before .before .pre .1)
 
 add-n2 : tie.Need-add-n2
 add-n2 c = omega arith
@@ -39,7 +39,7 @@ part-put-address-end : tie.Need-part-put-address-end
 part-put-address-end c = omega arith
 
 put-address-requires : tie.Need-put-address-requires
-put-address-requires c κs = omega (arith, c .before .before .before .before .before .before .before .before .before .before .pre .2)
+put-address-requires c κs = omega (arith, c .before .before .before .before .before .before .before .before .before .before .pre .1)
 
 add-n3 : tie.Need-add-n3
 add-n3 c = omega arith
@@ -54,32 +54,29 @@ part-put-strings-end : tie.Need-part-put-strings-end
 part-put-strings-end c = omega arith
 
 put-strings-requires : tie.Need-put-strings-requires
-put-strings-requires c κs =
-    let q = c .before .before .before .before .before .before .before .before .before .before .before .before .before .before .args .c in
-    let f = configuration-fits q (c .before .before .before .before .before .before .before .before .before .before .before .before .before .before .pre .0) in
-    (jrc-in-range (q .jrc) (f .jrc), f .network, f .prefix, omega (arith, c .before .before .before .before .before .before .before .before .before .before .before .before .before .before .pre .2))
+put-strings-requires c κs = omega (arith, c .before .before .before .before .before .before .before .before .before .before .before .before .before .before .pre .1)
 
 add-result : tie.Need-add-result
 add-result c =
     let q = c .before .before .before .before .before .before .before .before .before .before .before .before .before .before .before .before .before .args .c in
-    omega (arith, c .before .before .before .before .before .before .before .before .before .before .before .before .before .before .before .before .before .pre .2, c .before .before .before .before .before .before .before .before .before .before .before .before .before .before .put-head .ensures .many, c .before .before .before .before .before .before .before .before .before .before .put-keys .ensures .many, c .before .before .before .before .before .before .put-address .ensures .many, c .before .before .put-strings .ensures .many, strings-length (q .jrc) (q .network) (q .prefix))
+    omega (arith, c .before .before .before .before .before .before .before .before .before .before .before .before .before .before .before .before .before .pre .1, c .before .before .before .before .before .before .before .before .before .before .before .before .before .before .put-head .ensures .many, c .before .before .before .before .before .before .before .before .before .before .put-keys .ensures .many, c .before .before .before .before .before .before .put-address .ensures .many, c .before .before .put-strings .ensures .many, strings-length (q .jrc) (q .network) (q .prefix))
 
 returns : tie.Need-returns
 returns c =
     let a = c .before .before .before .before .before .before .before .before .before .before .before .before .before .before .before .before .before .args in
-    let room = c .before .before .before .before .before .before .before .before .before .before .before .before .before .before .before .before .before .pre .2 in
+    let room = c .before .before .before .before .before .before .before .before .before .before .before .before .before .before .before .before .before .pre .1 in
     let h = shortest 5 (a .members) in
     let k = encodePairs (keysPairs (a .c .keys)) in
     let b = encodePairs (addressPairs (a .c .address)) in
     let w1 = seam (omega (arith, room)) (c .before .before .before .before .before .before .before .before .before .before .before .before .before .before .put-head .ensures) (c .before .before .before .before .before .before .before .before .before .before .put-keys .ensures) in
     let w2 = seam (omega (arith, room, length-append h k)) w1 (c .before .before .before .before .before .before .put-address .ensures) in
-    configuration-wrote (a .c) (a .members) (c .before .before .before .before .before .before .before .before .before .before .before .before .before .before .before .before .before .pre .1)
+    configuration-wrote (a .c) (a .members) (c .before .before .before .before .before .before .before .before .before .before .before .before .before .before .before .before .before .pre .0)
     (seam (omega (arith, room, length-append h k, length-append (h ++ k) b, strings-length (a .c .jrc) (a .c .network) (a .c .prefix))) w2 (c .before .before .put-strings .ensures))
 
 same-length : tie.Need-same-length
 same-length c =
     let a = c .before .before .before .before .before .before .before .before .before .before .before .before .before .before .before .before .before .args in
-    wrote-length (returns c) (map-fitting (configurationPairs (a .c)) (a .members) (a .dst .now) (c .before .before .before .before .before .before .before .before .before .before .before .before .before .before .before .before .before .pre .1) (omega (arith, c .before .before .before .before .before .before .before .before .before .before .before .before .before .before .before .before .before .pre .2, configuration-length (a .c) (a .members))))
+    wrote-length (returns c) (map-fitting (configurationPairs (a .c)) (a .members) (a .dst .now) (c .before .before .before .before .before .before .before .before .before .before .before .before .before .before .before .before .before .pre .0) (omega (arith, c .before .before .before .before .before .before .before .before .before .before .before .before .before .before .before .before .before .pre .1, configuration-length (a .c) (a .members))))
 
 pub put-configuration-spec : {M : Type 1} → statement M
 put-configuration-spec =

@@ -3,7 +3,7 @@ use mathlib.Core.Path.{ap}
 use native.Mathlib.Omega.{arith}
 use borrow.Author.Needs.{needs}
 use lib.ListN.{length}
-use Rattle.cojp_write.proofs.Sizes.{optional-bytes}
+use Rattle.octets_write.proofs.Sizes.{optional-bytes}
 use Rattle.cojp_write.proofs.item.put_optional.Statement.{statement}
 use Rattle.cojp_write.proofs.item.put_optional.Tie as tie
 

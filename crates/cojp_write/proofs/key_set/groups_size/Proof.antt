@@ -6,9 +6,9 @@ use borrow.Author.Needs.{needs}
 use lib.ListN.{length, take}
 use Rattle.keys.specs.KeySet.{keysOf}
 use Rattle.cojp.specs.Writing.{groupsItems}
-use Rattle.cojp_write.specs.Size.{ItemsSize}
+use Rattle.octets_write.specs.Size.{ItemsSize}
 use Rattle.cojp_write.proofs.KeySets.{past, all-keys, sizes-step}
-use Rattle.cojp_write.proofs.Sizes.{sizes-most}
+use Rattle.octets_write.proofs.Sizes.{sizes-most}
 use Rattle.cojp_write.proofs.key_set.groups_size.Statement.{statement}
 use Rattle.cojp_write.proofs.key_set.groups_size.Tie as tie
 

@@ -6,7 +6,7 @@ use Rattle.cbor.proofs.Writing.{byte-head}
 use Rattle.keys.specs.KeySet.{keysOf}
 use Rattle.cojp.specs.Writing.{labelled, groupsItems}
 use Rattle.cojp_write.proofs.KeySets.{keys-size}
-use Rattle.cojp_write.proofs.Sizes.{size-none}
+use Rattle.octets_write.proofs.Sizes.{size-none}
 use Rattle.cojp_range.proofs.Taken.{taken-not}
 use Rattle.cojp_write.proofs.key_set.keys_size.Statement.{statement}
 use Rattle.cojp_write.proofs.key_set.keys_size.Tie as tie

@@ -6,7 +6,7 @@ use Rattle.cbor.specs.Item.{array, empty}
 use Rattle.cbor.proofs.Writing.{wrote-none}
 use Rattle.keys.specs.KeySet.{keysOf}
 use Rattle.cojp.specs.Writing.{labelled, groupsItems}
-use Rattle.cojp_write.proofs.Joined.{wrote-same, same-room}
+use Rattle.octets_write.proofs.Joined.{wrote-same, same-room}
 use Rattle.cojp_write.proofs.KeySets.{keys-taken, set-length}
 use Rattle.cojp_range.proofs.Taken.{taken-not}
 use Rattle.cojp_write.proofs.key_set.put_keys.Statement.{statement}

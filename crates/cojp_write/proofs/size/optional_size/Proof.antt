@@ -1,6 +1,6 @@
 -- A number takes the bytes of its head.
 use borrow.Author.Needs.{needs}
-use Rattle.cojp_write.proofs.Sizes.{optional-given, optional-missing}
+use Rattle.octets_write.proofs.Sizes.{optional-given, optional-missing}
 use Rattle.cojp_write.proofs.size.optional_size.Statement.{statement}
 use Rattle.cojp_write.proofs.size.optional_size.Tie as tie
 

@@ -1,0 +1,5 @@
+pub mod Joined
+pub mod Sizes
+pub mod Limits
+pub mod Strings
+pub mod Maps

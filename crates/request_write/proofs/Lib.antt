@@ -1,0 +1,3 @@
+mod Roles
+mod Plans
+mod Requests

@@ -1,0 +1,61 @@
+-- The map's head, and then each parameter in the part after what is written.
+use mathlib.Core.Path.{refl}
+use native.Mathlib.Omega.{arith}
+use borrow.Author.Needs.{needs}
+use Rattle.octets_write.proofs.Limits.{request-fits}
+use Rattle.request_write.proofs.Requests.{head-part, role-room, network-part, request-wrote}
+use Rattle.request_write.proofs.put_request.Statement.{statement}
+use Rattle.request_write.proofs.put_request.Tie as tie
+
+write-head-requires : tie.Need-write-head-requires
+write-head-requires c κs = search needs
+
+sub-put-role : tie.Need-sub-put-role
+sub-put-role c = head-part (c .before .before .before .before .before .args .q) (c .before .before .before .before .before .args .dst .now) (c .before .before .before .before .before .pre .0) (c .before .before .before .before .before .pre .2) (c .before .before .before .before .before .pre .1) (c .before .before .write-head .ensures)
+
+part-put-role-start : tie.Need-part-put-role-start
+part-put-role-start c = sub-put-role c
+
+part-put-role-end : tie.Need-part-put-role-end
+part-put-role-end c = search needs
+
+put-role-requires : tie.Need-put-role-requires
+put-role-requires c κs = (request-fits (c .before .before .before .before .before .before .args .q) (c .before .before .before .before .before .before .pre .0) .role, role-room (c .before .before .before .before .before .before .args .q) (c .before .before .before .before .before .before .args .dst .now) (c .before .before .before .before .before .before .pre .0) (c .before .before .before .before .before .before .pre .2) (c .before .before .before .before .before .before .pre .1) (c .before .before .before .write-head .ensures))
+
+add-n : tie.Need-add-n
+add-n c = omega (arith, network-part (c .before .before .before .before .before .before .before .before .before .args .q) (c .before .before .before .before .before .before .before .before .before .args .dst .now) (c .before .before .before .before .before .before .before .before .before .pre .0) (c .before .before .before .before .before .before .before .before .before .pre .2) (c .before .before .before .before .before .before .before .before .before .pre .1) (c .before .before .before .before .before .before .write-head .ensures) (c .before .before .put-role .ensures) _ refl)
+
+sub-write-octets : tie.Need-sub-write-octets
+sub-write-octets c = network-part (c .before .before .before .before .before .before .before .before .before .args .q) (c .before .before .before .before .before .before .before .before .before .args .dst .now) (c .before .before .before .before .before .before .before .before .before .pre .0) (c .before .before .before .before .before .before .before .before .before .pre .2) (c .before .before .before .before .before .before .before .before .before .pre .1) (c .before .before .before .before .before .before .write-head .ensures) (c .before .before .put-role .ensures) _ refl
+
+part-write-octets-start : tie.Need-part-write-octets-start
+part-write-octets-start c = sub-write-octets c
+
+part-write-octets-end : tie.Need-part-write-octets-end
+part-write-octets-end c = search needs
+
+write-octets-requires : tie.Need-write-octets-requires
+write-octets-requires c κs = search needs
+
+same-length : tie.Need-same-length
+same-length c = search needs
+
+returns : tie.Need-returns
+returns c = request-wrote (c .before .before .before .before .before .before .before .before .before .before .before .before .before .args .q) (c .before .before .before .before .before .before .before .before .before .before .before .before .before .args .dst .now) (c .before .before .before .before .before .before .before .before .before .before .before .before .before .pre .0) (c .before .before .before .before .before .before .before .before .before .before .before .before .before .pre .2) (c .before .before .before .before .before .before .before .before .before .before .before .before .before .pre .1) (c .before .before .before .before .before .before .before .before .before .before .write-head .ensures) (c .before .before .before .before .before .before .put-role .ensures) _ refl (c .before .before .write-octets .ensures)
+
+pub put-request-spec : {M : Type 1} → statement M
+put-request-spec =
+    tie.close
+    (tie.spec
+    write-head-requires
+    sub-put-role
+    part-put-role-start
+    part-put-role-end
+    put-role-requires
+    add-n
+    sub-write-octets
+    part-write-octets-start
+    part-write-octets-end
+    write-octets-requires
+    same-length
+    returns)

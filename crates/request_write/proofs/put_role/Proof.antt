@@ -1,0 +1,44 @@
+-- The label and the role, or nothing.
+use borrow.Author.Needs.{needs}
+use Rattle.cbor.proofs.Writing.{wrote-none}
+use Rattle.octets_write.proofs.Joined.{wrote-same}
+use Rattle.request_write.proofs.Roles.{role-none, role-part, role-wrote}
+use Rattle.request_write.proofs.put_role.Statement.{statement}
+use Rattle.request_write.proofs.put_role.Tie as tie
+
+write-head-requires : tie.Need-write-head-requires
+write-head-requires c κs = search needs
+
+sub-write-head : tie.Need-sub-write-head
+sub-write-head c = role-part (c .before .before .before .before .before .before .args .role) (c .before .before .before .before .if1 .taken) (c .before .before .before .before .before .before .pre .0) (c .before .before .before .before .before .before .pre .1) (c .before .before .write-head .ensures)
+
+part-write-head-start : tie.Need-part-write-head-start
+part-write-head-start c = sub-write-head c
+
+part-write-head-end : tie.Need-part-write-head-end
+part-write-head-end c = search needs
+
+write-head-requires-2 : tie.Need-write-head-requires-2
+write-head-requires-2 c κs = search needs
+
+same-length : tie.Need-same-length
+same-length c = search needs
+
+returns : tie.Need-returns
+returns c = role-wrote (c .before .before .before .before .before .before .before .before .before .before .args .role) (c .before .before .before .before .before .before .before .before .if1 .taken) (c .before .before .before .before .before .before .before .before .before .before .pre .0) (c .before .before .before .before .before .before .before .before .before .before .pre .1) (c .before .before .before .before .before .before .write-head .ensures) (c .before .before .write-head2 .ensures)
+
+returns-2 : tie.Need-returns-2
+returns-2 c = wrote-same (role-none (c .before .before .args .role) (c .if1 .left)) (wrote-none (c .before .before .args .dst .now))
+
+pub put-role-spec : {M : Type 1} → statement M
+put-role-spec =
+    tie.close
+    (tie.spec
+    write-head-requires
+    sub-write-head
+    part-write-head-start
+    part-write-head-end
+    write-head-requires-2
+    same-length
+    returns
+    returns-2)
