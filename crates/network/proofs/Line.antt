@@ -34,7 +34,8 @@ use Rattle.node.specs.Delivery.{configured, apply, deliverVerdict, deliver}
 use Rattle.node.specs.Frames.{send, afterSend, receive, verified}
 use Rattle.node_laws.specs.Calls.{perform}
 use Rattle.node_laws.specs.Laws.{Takes}
-use Rattle.node.specs.declared.delivery.Call.the-variants.{Update}
+use Rattle.calls.specs.Call.{mayCome}
+use Rattle.calls.specs.declared.Call.the-variants.{Update}
 use Rattle.network.specs.Network.{nodeAt, withNode}
 use Rattle.network.specs.Turn.{judged, turn}
 use Rattle.network.specs.Events.{turning, step, run, Come, Comes}
@@ -49,7 +50,7 @@ unfolding payload decodeBy heading argument next digits members pairs majorOf by
     inLimits sameKey covers allowed allowedSet
     padded octetsJudged addressIn groups owing payloadRead configurationStanding configurationTaking requestInRange requestPlan
     sets.fits install sendingKey receivingKey hears attempt.fits mayStart stepped polling.poll
-    valid requestOf startVerdict startPlan start poll reportsOf configured apply deliverVerdict deliver send afterSend receive verified perform
+    valid requestOf startVerdict startPlan start poll reportsOf configured apply mayCome deliverVerdict deliver send afterSend receive verified perform
     nodeAt withNode judged turn step run Come Comes
 computing = tt
 

@@ -16,7 +16,7 @@ use Rattle.node.specs.Node.{activeOf}
 use Rattle.node.specs.Range.{Valid}
 use Rattle.node.specs.Delivery.{deliver}
 use Rattle.node_laws.specs.Laws.{Takes, NodeLaws}
-use Rattle.node.specs.declared.delivery.Call.{Call}
+use Rattle.calls.specs.declared.Call.{Call}
 use Rattle.key_sets.specs.declared.frames.KeyAnswer.{KeyAnswer}
 use Rattle.node.specs.declared.node.Node.{Node}
 use Rattle.network.specs.Network.{Network, nodeAt}

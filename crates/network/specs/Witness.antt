@@ -17,7 +17,7 @@ use Rattle.joining.specs.declared.attempt.Phase.the-variants.{Joined}
 use Rattle.node.specs.Node.{activeOf, pendingOf}
 use Rattle.node_laws.specs.Calls.{starting, polling, delivering}
 use Rattle.node_laws.specs.Laws.{Takes}
-use Rattle.node.specs.declared.delivery.Call.the-variants.{JoinAnswer, Update}
+use Rattle.calls.specs.declared.Call.the-variants.{JoinAnswer, Update}
 use Rattle.held.specs.declared.octets.HeldOctets.{HeldOctets}
 use Rattle.node.specs.declared.node.Node.{Node}
 use Rattle.network.specs.Network.{Network, nodeAt}

@@ -9,7 +9,7 @@ use Rattle.held.specs.Reports.{reportsOf}
 use Rattle.held.specs.declared.reports.Reports.{Reports}
 use Rattle.node.specs.Node.{isBorder}
 use Rattle.node.specs.Delivery.{placementOf, configured, undelivered, delivered, owesIdentifier, apply}
-use Rattle.node.specs.declared.delivery.Call.{Call}
+use Rattle.calls.specs.declared.Call.{Call}
 use Rattle.node.specs.declared.node.Node.{Node}
 
 -- ---- applying

@@ -1,5 +1,6 @@
 // Configurations handed to a node: join answers (join responses) and parameter updates.
 use crate::node::Node;
+use calls::Call;
 use cojp::Configuration;
 use cojp::ConfigurationRead;
 use cojp::KeysParameter;
@@ -9,78 +10,19 @@ use cojp_read::read_configuration;
 use held::Reports;
 use held::reports::no_reports;
 use held::reports::reports_of;
-use joining::Attempt;
-use joining::Phase;
-use joining::attempt::is_joined;
-use joining::attempt::is_waiting;
 use key_sets::KeySets;
 use key_sets::Placement;
 use refusal::Refusal;
 use refusal::Verdict;
 ghost use mathlib.Core.Path.{_≡_};
-ghost use Rattle.node.specs.Delivery.{placementOf, phaseAfter, attemptAfter, configured, undelivered, asksIdentifier, owesIdentifier, apply, belongs, deliverVerdict, applyRead, deliver};
-ghost use Rattle.node.specs.declared.delivery.Call.the-variants as call;
-
-// A longer payload is LONG.
-const PAYLOAD_MOST: usize = 256;
-
-// What a configuration came in.
-pub enum Call {
-    JoinAnswer,
-    Update,
-}
+ghost use Rattle.node.specs.Delivery.{placementOf, configured, undelivered, owesIdentifier, apply, deliverVerdict, applyRead, deliver};
+ghost use Rattle.calls.specs.declared.Call.the-variants as call;
 
 // Beside a refusal stand the empty report and the node as it was.
 pub struct Delivered {
     pub verdict: Verdict,
     pub reports: Reports,
     pub node: Node,
-}
-
-impl Call {
-    // An accepted join answer makes the node joined.
-    fn phase_after(self, phase: Phase) -> Phase
-        ensures { λ r. ⌜ r ≡ phaseAfter self phase ⌝ }
-    {
-        match self {
-            Call::JoinAnswer => Phase::Joined,
-            Call::Update => phase,
-        }
-    }
-
-    // The join attempt after an accepted configuration: the time is its clock.
-    fn attempt_after(self, old: Attempt, time: u64) -> Attempt
-        ensures { λ r. ⌜ r ≡ attemptAfter self old time ⌝ }
-    {
-        let phase = old.phase;
-        Attempt {
-            phase: self.phase_after(phase),
-            clock: time,
-            sent: old.sent,
-            timeout: old.timeout,
-            count: old.count,
-        }
-    }
-
-    // A join answer belongs to waiting, an update to joined.
-    fn belongs(self, phase: Phase) -> bool
-        ensures { λ r. ⌜ r ≡ belongs self phase ⌝ }
-    {
-        match self {
-            Call::JoinAnswer => is_waiting(phase),
-            Call::Update => is_joined(phase),
-        }
-    }
-
-    // Only a join answer can owe a network identifier.
-    fn asks_identifier(self) -> bool
-        ensures { λ r. ⌜ r ≡ asksIdentifier self ⌝ }
-    {
-        match self {
-            Call::JoinAnswer => true,
-            Call::Update => false,
-        }
-    }
 }
 
 impl Node {
@@ -164,21 +106,10 @@ impl Node {
     fn may_deliver(self, call: Call, time: u64, len: usize) -> Verdict
         ensures { λ r. ⌜ r ≡ deliverVerdict call self time len ⌝ }
     {
-        if !self.valid() {
-            return Verdict::Refused(Refusal::Range);
+        if self.valid() {
+            return call.may_come(self.attempt, time, len);
         }
-        if PAYLOAD_MOST < len {
-            return Verdict::Refused(Refusal::Long);
-        }
-        let attempt = self.attempt;
-        if time < attempt.clock {
-            return Verdict::Refused(Refusal::Clock);
-        }
-        let phase = attempt.phase;
-        if call.belongs(phase) {
-            return Verdict::Accepted;
-        }
-        Verdict::Refused(Refusal::Phase)
+        Verdict::Refused(Refusal::Range)
     }
 
     // What was read is applied.

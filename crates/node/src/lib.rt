@@ -6,7 +6,7 @@ mod node;
 mod range;
 mod timing;
 
-pub use delivery::Call;
+pub use calls::Call;
 pub use delivery::Delivered;
 pub use frames::Heard;
 pub use lease::Holding;

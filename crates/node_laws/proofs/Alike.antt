@@ -25,9 +25,10 @@ use Rattle.held.specs.Lease.{addressAfter}
 use Rattle.held.specs.Octets.{octetsAfter}
 use Rattle.held.specs.Reports.{discarded, reportsOf}
 use Rattle.node.specs.Node.{isBorder}
-use Rattle.node.specs.Delivery.{placementOf, configured, undelivered, delivered, asksIdentifier, owesIdentifier, apply}
+use Rattle.node.specs.Delivery.{placementOf, configured, undelivered, delivered, owesIdentifier, apply}
+use Rattle.calls.specs.Call.{asksIdentifier}
 use Rattle.node_laws.specs.Same.{octetsHeld, addressHeld, SameNode, SameOutcome, AppliesAlike}
-use Rattle.node.specs.declared.delivery.Call.{Call}
+use Rattle.calls.specs.declared.Call.{Call}
 use Rattle.held.specs.declared.octets.HeldOctets.{HeldOctets}
 use Rattle.node.specs.declared.node.Node.{Node}
 

@@ -37,10 +37,11 @@ use Rattle.held.specs.Octets.{octetsInRange, jrcInRange, octetsAfter}
 use Rattle.held.specs.Reports.{noReports, discarded, reportsOf}
 use Rattle.node.specs.Node.{isBorder, clockOf, roleInRange}
 use Rattle.node.specs.Range.{othersFit, valid, Valid}
-use Rattle.node.specs.Delivery.{placementOf, attemptAfter, configured, undelivered, delivered, owesIdentifier, apply, belongs, deliverVerdict, applyRead, deliverBy, deliver}
+use Rattle.node.specs.Delivery.{placementOf, configured, undelivered, delivered, owesIdentifier, apply, deliverVerdict, applyRead, deliverBy, deliver}
+use Rattle.calls.specs.Call.{attemptAfter, belongs, mayCome}
 use Rattle.node_laws.specs.Laws.{Takes, Installed}
-use Rattle.node.specs.declared.delivery.Call.{Call}
-use Rattle.node.specs.declared.delivery.Call.the-variants.{JoinAnswer, Update}
+use Rattle.calls.specs.declared.Call.{Call}
+use Rattle.calls.specs.declared.Call.the-variants.{JoinAnswer, Update}
 use Rattle.node.specs.declared.delivery.Delivered.{Delivered}
 use Rattle.held.specs.declared.reports.Reports.{Reports}
 use Rattle.held.specs.declared.octets.HeldOctets.{HeldOctets}
@@ -115,7 +116,7 @@ accepted-by (verdict.Refused k) call n time r e = refused-not k e
 accepted-by verdict.Accepted call n time r e = refl
 
 not-early : (call : Call) (n : Node) (time len : ℕ) → deliverVerdict call n time len ≡ verdict.Accepted → leb (clockOf n) time ≡ true
-unfolding deliverVerdict
+unfolding deliverVerdict mayCome
 not-early call n time len = go (valid n) (leb len 256) (leb (clockOf n) time) (belongs call (n .attempt .phase))
   where
     go :

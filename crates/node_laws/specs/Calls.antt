@@ -19,7 +19,7 @@ use Rattle.held.specs.Reports.{noReports}
 use Rattle.node.specs.Delivery.{deliver}
 use Rattle.node.specs.Lease.{holds, holdingVerdict}
 use Rattle.node.specs.Frames.{send, afterSend, receive, verified}
-use Rattle.node.specs.declared.delivery.Call.{Call}
+use Rattle.calls.specs.declared.Call.{Call}
 use Rattle.held.specs.declared.reports.Reports.{Reports}
 use Rattle.node.specs.declared.lease.Holding.{Holding}
 use Rattle.node.specs.declared.lease.Holding.the-variants as holding

@@ -24,7 +24,7 @@ use Rattle.node.specs.Timing.{start, poll}
 use Rattle.node.specs.Delivery.{deliver}
 use Rattle.node.specs.Frames.{send, afterSend, receive, verified}
 use Rattle.node_laws.specs.Calls.{NodeCall, perform}
-use Rattle.node.specs.declared.delivery.Call.{Call}
+use Rattle.calls.specs.declared.Call.{Call}
 use Rattle.node.specs.declared.node.Node.{Node}
 
 -- ---- the words of the laws

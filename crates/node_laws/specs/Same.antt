@@ -10,7 +10,7 @@ use Rattle.cojp.specs.declared.configuration.Configuration.{Configuration}
 use Rattle.held.specs.declared.address.HeldAddress.{HeldAddress}
 use Rattle.node.specs.Node.{activeOf, pendingOf}
 use Rattle.node.specs.Delivery.{apply}
-use Rattle.node.specs.declared.delivery.Call.{Call}
+use Rattle.calls.specs.declared.Call.{Call}
 use Rattle.node.specs.declared.delivery.Delivered.{Delivered}
 use Rattle.held.specs.declared.octets.HeldOctets.{HeldOctets}
 use Rattle.node.specs.declared.node.Node.{Node}

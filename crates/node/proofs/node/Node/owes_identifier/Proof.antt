@@ -5,8 +5,8 @@ use mathlib.Core.Logic.{⊎-elim}
 use borrow.Author.Needs.{needs}
 use Rattle.keys.proofs.Tests.{and-next, and-stops}
 use Rattle.node.specs.Node.{isBorder}
-use Rattle.node.specs.Delivery.{asksIdentifier}
-use Rattle.node.specs.declared.delivery.Call.{Call}
+use Rattle.calls.specs.Call.{asksIdentifier}
+use Rattle.calls.specs.declared.Call.{Call}
 use Rattle.node.specs.declared.node.Node.{Node}
 use Rattle.node.proofs.node.Node.owes_identifier.Statement.{statement}
 use Rattle.node.proofs.node.Node.owes_identifier.Tie as tie

@@ -1,0 +1,29 @@
+-- `may_come` meets its contract: each test of the code is one of the definition's.
+use borrow.Author.Needs.{needs}
+use borrow.Author.Tests.{le-leb, lt-leb}
+use Rattle.keys.proofs.Tests.{is-false, is-true}
+use Rattle.calls.specs.Call.{mayCome}
+use Rattle.calls.proofs.Call.may_come.Statement.{statement}
+use Rattle.calls.proofs.Call.may_come.Tie as tie
+
+returns : tie.Need-returns
+unfolding mayCome
+returns c = rw (lt-leb _ _ (c .if1 .taken))
+
+returns-2 : tie.Need-returns-2
+unfolding mayCome
+returns-2 c = rw (le-leb _ _ (c .before .before .if1 .left), lt-leb _ _ (c .if2 .taken))
+
+belongs-requires : tie.Need-belongs-requires
+belongs-requires c κs = search needs
+
+returns-3 : tie.Need-returns-3
+unfolding mayCome
+returns-3 c = rw (le-leb _ _ (c .before .before .before .before .if1 .left), le-leb _ _ (c .before .before .if2 .left), is-true (c .before .belongs .ensures) (c .if3 .taken))
+
+returns-4 : tie.Need-returns-4
+unfolding mayCome
+returns-4 c = rw (le-leb _ _ (c .before .before .before .before .if1 .left), le-leb _ _ (c .before .before .if2 .left), is-false (c .before .belongs .ensures) (c .if3 .left))
+
+pub may-come-spec : {M : Type 1} → statement M
+may-come-spec = tie.close (tie.spec returns returns-2 belongs-requires returns-3 returns-4)
