@@ -17,9 +17,9 @@ use Rattle.cbor.specs.View.{Plain, number, string, other, valueAnswer}
 use Rattle.cbor.specs.declared.value.Value.{Value}
 use Rattle.cbor.specs.declared.value.Value.the-variants as vv
 use Rattle.cbor.proofs.value.Value as value
-use Rattle.keys.specs.Key.{noKey, inLimits}
+use Rattle.link_key.specs.Key.{noKey, inLimits}
 use Rattle.keys.specs.KeySet.{noKeys, allInLimits, allowed, allowedSet}
-use Rattle.keys.specs.declared.key.Key.{Key}
+use Rattle.link_key.specs.declared.Key.{Key}
 use Rattle.keys.specs.declared.key_set.KeySet.{KeySet}
 use Rattle.cojp.specs.Bytes.{valueView, membersAt, Neither, MemberAt, GroupAt, storable, overfull, addKey}
 use Rattle.cojp.specs.KeySet.{keyOf, keySetOf, Groups, notGroups, groupsOf, group, groups, keysIn, keysConcluded, keysRead}

@@ -7,8 +7,8 @@ use mathlib.Core.List.{List, [], _∷_, _++_}
 use lib.Dec.{leb, ltb, eqb}
 use lib.ListN.{length, take, drop, set, replicate}
 use Rattle.cbor.specs.View.{Plain, number, string, other, View, viewAt, plainsAt}
-use Rattle.keys.specs.Key.{noKey}
-use Rattle.keys.specs.declared.key.Key.{Key}
+use Rattle.link_key.specs.Key.{noKey}
+use Rattle.link_key.specs.declared.Key.{Key}
 use Rattle.keys.specs.declared.key_set.KeySet.{KeySet}
 use Rattle.cojp.specs.KeySet.{Groups, notGroups, group, groups}
 use Rattle.cojp.specs.declared.key_set.Group.{Group}

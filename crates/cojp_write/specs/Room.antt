@@ -11,7 +11,7 @@ use Rattle.cojp.specs.declared.address.ShortAddress.{ShortAddress}
 use Rattle.cojp.specs.declared.configuration.Configuration.{Configuration}
 use Rattle.cojp.specs.declared.octets.OctetsParameter.{OctetsParameter}
 use Rattle.cojp.specs.declared.request.JoinRequest.{JoinRequest}
-use Rattle.keys.specs.declared.key.Key.{Key}
+use Rattle.link_key.specs.declared.Key.{Key}
 
 -- ---- arrays: a label, a head, and the members
 abbrev pub arrayLength : ℕ → ℕ → ℕ

@@ -2,7 +2,7 @@
 use borrow.Author.Needs.{needs}
 use borrow.Author.Tests.{le-leb, lt-leb}
 use Rattle.node.specs.Delivery.{deliverVerdict}
-use Rattle.keys.proofs.Tests.{denied, granted, is-false, is-true}
+use Rattle.link_key.proofs.Tests.{denied, granted, is-false, is-true}
 use Rattle.node.proofs.node.Node.may_deliver.Statement.{statement}
 use Rattle.node.proofs.node.Node.may_deliver.Tie as tie
 

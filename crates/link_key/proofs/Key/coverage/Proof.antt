@@ -1,9 +1,9 @@
 -- `coverage` meets its contract: each test of the code is one of the definition's.
 use borrow.Author.Tests.{le-leb, lt-leb}
-use Rattle.keys.specs.Key.{coverageOf}
+use Rattle.link_key.specs.Key.{coverageOf}
 use borrow.Author.Needs.{needs}
-use Rattle.keys.proofs.key.Key.coverage.Statement.{statement}
-use Rattle.keys.proofs.key.Key.coverage.Tie as tie
+use Rattle.link_key.proofs.Key.coverage.Statement.{statement}
+use Rattle.link_key.proofs.Key.coverage.Tie as tie
 
 returns : tie.Need-returns
 unfolding coverageOf

@@ -6,10 +6,10 @@ use borrow.Author.Needs.{needs}
 use borrow.Author.Tests.{eq-eqb, ne-eqb}
 use lib.Dec.{eqb}
 use lib.ListN.{length, drop}
-use Rattle.keys.specs.Key.{sameValue}
-use Rattle.keys.proofs.Places.{same-turn, same-stop}
-use Rattle.keys.proofs.key.same_value.Statement.{statement}
-use Rattle.keys.proofs.key.same_value.Tie as tie
+use Rattle.link_key.specs.Key.{sameValue}
+use Rattle.link_key.proofs.Same.{same-turn, same-stop}
+use Rattle.link_key.proofs.same_value.Statement.{statement}
+use Rattle.link_key.proofs.same_value.Tie as tie
 
 abbrev Inv-loop : tie.InvT-loop
 Inv-loop a b i₀ i = sameValue a b ≡ sameValue (drop i a) (drop i b)

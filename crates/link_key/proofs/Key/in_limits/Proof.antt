@@ -6,9 +6,9 @@ use native.Mathlib.Omega.{arith}
 use borrow.Author.Needs.{needs}
 use borrow.Author.Tests.{le-leb, lt-leb, eq-eqb}
 use lib.ListN.{length}
-use Rattle.keys.specs.Key.{inLimits}
-use Rattle.keys.proofs.key.Key.in_limits.Statement.{statement}
-use Rattle.keys.proofs.key.Key.in_limits.Tie as tie
+use Rattle.link_key.specs.Key.{inLimits}
+use Rattle.link_key.proofs.Key.in_limits.Statement.{statement}
+use Rattle.link_key.proofs.Key.in_limits.Tie as tie
 
 returns : tie.Need-returns
 unfolding inLimits

@@ -7,10 +7,10 @@ use lib.Dec.{leb, eqb}
 use lib.ListN.{length, replicate}
 use Rattle.refusal.specs.Refusal.{numberOf}
 use Rattle.refusal.specs.declared.Refusal.the-variants.{Range}
-use Rattle.keys.specs.Lists.{sameBy}
+use Rattle.link_key.specs.Same.{sameBy}
 use Rattle.usage.specs.Usage.{familyOf, familyCovers, listed, knownType}
-use Rattle.keys.specs.declared.key.Key.{Key}
-use Rattle.keys.specs.declared.key.FoundKey.{FoundKey}
+use Rattle.link_key.specs.declared.Key.{Key}
+use Rattle.link_key.specs.declared.FoundKey.{FoundKey}
 use Rattle.usage.specs.declared.Coverage.{Coverage}
 use Rattle.usage.specs.declared.Coverage.the-variants as coverage
 

@@ -1,10 +1,10 @@
 -- `covers` meets its contract: an answer of the usage list tells whether the usage is listed, and its family.
 use mathlib.Core.Path.{sym, _∙_}
-use Rattle.keys.specs.Key.{covers}
+use Rattle.link_key.specs.Key.{covers}
 use Rattle.usage.proofs.Usages.{refused, known}
 use borrow.Author.Needs.{needs}
-use Rattle.keys.proofs.key.Key.covers.Statement.{statement}
-use Rattle.keys.proofs.key.Key.covers.Tie as tie
+use Rattle.link_key.proofs.Key.covers.Statement.{statement}
+use Rattle.link_key.proofs.Key.covers.Tie as tie
 
 entry-at-requires : tie.Need-entry-at-requires
 entry-at-requires c κs = search needs

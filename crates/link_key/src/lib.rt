@@ -1,10 +1,11 @@
-// A link-layer key.
+// A link-layer key: its limits, when two are equal, and which frames it covers.
 use refusal::Refusal;
 use usage::Coverage;
 use usage::Entry;
 use usage::entry_at;
 ghost use mathlib.Core.Path.{_≡_};
-ghost use Rattle.keys.specs.Key.{noKey, inLimits, sameKey, sameValue, covers, coverageOf};
+ghost use Rattle.link_key.specs.Key.{noKey, inLimits, sameKey, sameValue, covers, coverageOf};
+ghost use Rattle.link_key.specs.Laws.{SameKeyLaws};
 
 pub struct Key {
     // The key index that frames carry.
@@ -97,3 +98,8 @@ fn same_value(a: [u8; 16], b: [u8; 16]) -> bool
     }
     true
 }
+
+// What the layers above may rely on of equal keys.
+pub fn laws()
+    ensures { λ r. ⌜ SameKeyLaws ⌝ }
+{}

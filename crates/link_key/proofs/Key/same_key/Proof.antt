@@ -1,9 +1,9 @@
 -- `same_key` meets its contract: each test of the code is one of the definition's.
 use borrow.Author.Needs.{needs}
 use borrow.Author.Tests.{eq-eqb, ne-eqb}
-use Rattle.keys.specs.Key.{sameKey}
-use Rattle.keys.proofs.key.Key.same_key.Statement.{statement}
-use Rattle.keys.proofs.key.Key.same_key.Tie as tie
+use Rattle.link_key.specs.Key.{sameKey}
+use Rattle.link_key.proofs.Key.same_key.Statement.{statement}
+use Rattle.link_key.proofs.Key.same_key.Tie as tie
 
 returns : tie.Need-returns
 unfolding sameKey
