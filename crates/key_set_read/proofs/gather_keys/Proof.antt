@@ -1,11 +1,11 @@
 -- The keys so far stand before the groups that are left, and the set holds them or is overfull.
 use native.Mathlib.Omega.{arith}
 use mathlib.Core.Path.{refl, ap, _∙_}
 use Rattle.cojp.specs.KeySet.{keysAnswer}
-use Rattle.cojp.proofs.KeySets.{Gathering, gathering-none, gathering-done, gathering-broken, group-within, group-inside, gathering-more}
+use Rattle.key_set_read.proofs.KeySets.{Gathering, gathering-none, gathering-done, gathering-broken, group-within, group-inside, gathering-more}
 use borrow.Author.Needs.{needs}
-use Rattle.cojp.proofs.key_set.gather_keys.Statement.{statement}
-use Rattle.cojp.proofs.key_set.gather_keys.Tie as tie
+use Rattle.key_set_read.proofs.gather_keys.Statement.{statement}
+use Rattle.key_set_read.proofs.gather_keys.Tie as tie
 
 abbrev Inv-loop : tie.InvT-loop
 Inv-loop s from count at₀ remaining₀ set₀ at remaining set = Gathering s from count at remaining set

@@ -1,7 +1,7 @@
 -- A group is read member by member; the keys are gathered one after the other, and a set that no eight places hold is never allowed.
 use Prim.Native.Nat.{ℕ, suc, _+_, _-_, _≤_, _<_}
 use mathlib.Core.Path.{_≡_, refl, ap, sym, _∙_}
-use mathlib.Core.Bool.{Bool, true, false, cond, _&&_}
+use mathlib.Core.Bool.{Bool, true, false, cond, _&&_, and-false}
 use mathlib.Core.List.{List, [], _∷_, _++_, append-assoc, append-nil}
 use mathlib.Core.Logic.{⊎-elim}
 use native.Mathlib.Omega.{arith}
@@ -21,17 +21,20 @@ use Rattle.link_key.specs.Key.{noKey, inLimits}
 use Rattle.keys.specs.KeySet.{noKeys, allInLimits, allowed, allowedSet}
 use Rattle.link_key.specs.declared.Key.{Key}
 use Rattle.keys.specs.declared.key_set.KeySet.{KeySet}
-use Rattle.cojp.specs.Bytes.{valueView, membersAt, Neither, MemberAt, GroupAt, storable, overfull, addKey}
+use Rattle.key_set_read.specs.Groups.{GroupAt, storable, overfull, addKey}
+use Rattle.cojp.specs.Bytes.{valueView, membersAt, memberAnswer}
 use Rattle.cojp.specs.KeySet.{keyOf, keySetOf, Groups, notGroups, groupsOf, group, groups, keysIn, keysConcluded, keysRead}
-use Rattle.cojp.specs.Octets.{padded}
+use Rattle.cojp.specs.Octets.{padded, copiedFrom}
 use Rattle.cojp.specs.Reading.{Reading, refused, unfit, good}
-use Rattle.cojp.specs.declared.key_set.Group.{Group}
-use Rattle.cojp.specs.declared.key_set.Group.the-variants as gv
+use Rattle.key_set_read.specs.declared.Group.{Group}
+use Rattle.key_set_read.specs.declared.Group.the-variants as gv
 use Rattle.cojp.specs.declared.key_set.KeysParameter.{KeysParameter}
 use Rattle.cojp.specs.declared.members.Member.{Member}
 use Rattle.cojp.specs.declared.members.Member.the-variants as mv
-use Rattle.cojp.proofs.Arrays.{members-none, members-other, array-here, no-array}
+use Rattle.link_key.proofs.Tests.{both-left, both-right}
+use Rattle.cojp.proofs.Arrays.{Neither, MemberAt, members-none, members-other, member-says, array-here, no-array}
+use Rattle.cojp.proofs.Strings.{copied-inside}
 use Rattle.cojp.proofs.members.Member as member
 
 -- ---- the readers of a group
 -- the same groups, with more members left
@@ -40,39 +43,39 @@ regroup l m n gs hs gv.Broken k e w = e ∙ w
 regroup l m n gs hs (gv.Closed i u p a j) k e w = (w .0, omega (arith, w .1), e ∙ w .2)
 
 module _ (l : List ℕ) (n : ℕ) (v : Member) where
-  module _ (h : 0 < n) (w : MemberAt l 0 n v) where
+  module _ (h : 0 < n) (e : v ≡ memberAnswer l 0 n) where
     pub group-begun : (x p : ℕ) → v ≡ mv.Number x p → (r : Group) → GroupAt l (n - 1) (groups (number x ∷ membersAt (n - 1) (drop p l))) r
         → GroupAt l n (groups (membersAt n l)) r
     group-begun x p g r q =
-        let w′ : MemberAt l 0 n (mv.Number x p) = rw g at w in
-        regroup l (n - 1) n _ _ r (omega arith) (ap groups (w′ .1)) q
+        let w : MemberAt l 0 n (mv.Number x p) = rw g at (member-says l 0 n v e) in
+        regroup l (n - 1) n _ _ r (omega arith) (ap groups (w .1)) q
 
     pub group-headless : OneOf (1 ∷ 2 ∷ []) (tagOf member.the-type v) → GroupAt l n (groups (membersAt n l)) gv.Broken
     unfolding groups
-    group-headless o = go v w o
+    group-headless o = go v (member-says l 0 n v e) o
       where
         go : (v : Member) → MemberAt l 0 n v → OneOf (1 ∷ 2 ∷ []) (tagOf member.the-type v) → groups (membersAt n l) ≡ notGroups
         go (mv.Number x p) w o = absurd (⊎-elim (λ e. omega arith) (λ e. omega arith) o)
         go (mv.Bytes p a) w o = rw (w .2)
         go mv.Neither w o = rw (members-other n l h w .1)
 
-  module _ (at i : ℕ) (w : MemberAt l at n v) where
+  module _ (at i : ℕ) (e : v ≡ memberAnswer l at n) where
     pub group-used : (u p : ℕ) → v ≡ mv.Number u p → (r : Group)
         → GroupAt l (n - 1) (groups (number i ∷ number u ∷ membersAt (n - 1) (drop p l))) r
         → GroupAt l n (groups (number i ∷ membersAt n (drop at l))) r
     group-used u p g r q =
-        let w′ : MemberAt l at n (mv.Number u p) = rw g at w in
-        regroup l (n - 1) n _ _ r (omega arith) (ap (λ (ps : List Plain). groups (number i ∷ ps)) (w′ .1)) q
+        let w : MemberAt l at n (mv.Number u p) = rw g at (member-says l at n v e) in
+        regroup l (n - 1) n _ _ r (omega arith) (ap (λ (ps : List Plain). groups (number i ∷ ps)) (w .1)) q
 
     pub group-pair : (p a : ℕ) → v ≡ mv.Bytes p a → GroupAt l n (groups (number i ∷ membersAt n (drop at l))) (gv.Closed i 0 p a (n - 1))
     unfolding groups
     group-pair p a g =
-        let w′ : MemberAt l at n (mv.Bytes p a) = rw g at w in
-        (w′ .1, omega (arith, w′ .0), rw (w′ .2))
+        let w : MemberAt l at n (mv.Bytes p a) = rw g at (member-says l at n v e) in
+        (w .1, omega (arith, w .0), rw (w .2))
 
     pub group-open : v ≡ mv.Neither → GroupAt l n (groups (number i ∷ membersAt n (drop at l))) gv.Broken
     unfolding groups
-    group-open g = go (membersAt n (drop at l)) (let w′ : MemberAt l at n mv.Neither = rw g at w in w′)
+    group-open g = go (membersAt n (drop at l)) (let w : MemberAt l at n mv.Neither = rw g at (member-says l at n v e) in w)
       where
         go : (ps : List Plain) → Neither ps → groups (number i ∷ ps) ≡ notGroups
         go [] w = refl
@@ -85,13 +88,13 @@ module _ (l : List ℕ) (n : ℕ) (v : Member) where
           → GroupAt l n (groups (number i ∷ number u ∷ membersAt n (drop at l))) (gv.Closed i u p a (n - 1))
       unfolding groups
       group-triple p a g =
-          let w′ : MemberAt l at n (mv.Bytes p a) = rw g at w in
-          (w′ .1, omega (arith, w′ .0), rw (w′ .2))
+          let w : MemberAt l at n (mv.Bytes p a) = rw g at (member-says l at n v e) in
+          (w .1, omega (arith, w .0), rw (w .2))
 
       pub group-valueless : OneOf (0 ∷ 2 ∷ []) (tagOf member.the-type v)
           → GroupAt l n (groups (number i ∷ number u ∷ membersAt n (drop at l))) gv.Broken
       unfolding groups
-      group-valueless o = go v w o
+      group-valueless o = go v (member-says l at n v e) o
         where
           none : (ps : List Plain) → Neither ps → groups (number i ∷ number u ∷ ps) ≡ notGroups
           none [] w = refl
@@ -106,10 +109,6 @@ module _ (l : List ℕ) (n : ℕ) (v : Member) where
           go mv.Neither w o = none (membersAt n (drop at l)) w
 
 -- ---- a key is added, or there is no place for it
-and-false : (b : Bool) → (b && false) ≡ false
-and-false true = refl
-and-false false = refl
-
 -- a key that no place holds is outside the limits
 wide : (u : ℕ) → leb u 255 ≡ false → leb u 14 ≡ false
 wide u e = lt-leb u 14 (omega (arith, leb-false u 255 e))
@@ -207,20 +206,12 @@ after-more ks i u v notGroups = refl
 after-more ks i u v (groupsOf js) = ap groupsOf (sym (append-snoc ks (keyOf i u v) js))
 
 -- ---- the key that is added
-and-left : (a b : Bool) → (a && b) ≡ true → a ≡ true
-and-left true b e = refl
-and-left false b e = e
-
-and-right : (a b : Bool) → (a && b) ≡ true → b ≡ true
-and-right true b e = e
-and-right false b e = absurd (let z : _≡_ {A = ℕ} 0 1 = cc in omega arith)
-
 pub storable-parts : (i u n : ℕ) → storable i u n ≡ true → (i ≤ 255) × (u ≤ 255) × (n ≡ 16)
 storable-parts i u n e =
-    let f = and-left (leb i 255 && leb u 255) (eqb n 16) e in (
-      leb-true i 255 (and-left (leb i 255) (leb u 255) f),
-      leb-true u 255 (and-right (leb i 255) (leb u 255) f),
-      eqb-true n 16 (and-right (leb i 255 && leb u 255) (eqb n 16) e),
+    let f = both-left (leb i 255 && leb u 255) (eqb n 16) e in (
+      leb-true i 255 (both-left (leb i 255) (leb u 255) f),
+      leb-true u 255 (both-right (leb i 255) (leb u 255) f),
+      eqb-true n 16 (both-right (leb i 255 && leb u 255) (eqb n 16) e),
     )
 
 unpadded : (v : List ℕ) → length v ≡ 16 → padded 16 v ≡ v
@@ -242,12 +233,12 @@ module _ (s : KeySet) (i u n : ℕ) (l : List ℕ) (p : ℕ) (h : p + n ≤ leng
   unfolding addKey
   add-unstorable f = rw (whole, f, and-false (ltb (s .count) 8))
 
-  pub add-stored : s .count < 8 → storable i u n ≡ true → (b : List ℕ) → b ≡ padded 16 content
+  pub add-stored : s .count < 8 → storable i u n ≡ true → (b : List ℕ) → b ≡ copiedFrom l p n
       → _≡_ {A = KeySet} (record { count = s .count + 1; keys = set (s .keys) (s .count) (keyOf i u b) }) (addKey s (keyOf i u content))
   unfolding addKey
   add-stored f g b e =
-      let k : length content ≡ 16 = whole ∙ storable-parts i u n g .2 in
-      let w : b ≡ content = e ∙ unpadded content k in
+      let z : n ≡ 16 = storable-parts i u n g .2 in
+      let w : b ≡ content = e ∙ copied-inside l p n (omega arith) h ∙ unpadded content (whole ∙ z) in
       rw (w, whole, lt-ltb (s .count) 8 f, g)
 
 -- ---- the loop over the groups: the keys so far, the set that holds them, and the groups that are left

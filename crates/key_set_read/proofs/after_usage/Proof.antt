@@ -1,9 +1,9 @@
 -- A value closes the group; anything else breaks the pattern.
 use Rattle.cojp.proofs.Arrays.{bytes-left}
-use Rattle.cojp.proofs.KeySets.{group-triple, group-valueless}
+use Rattle.key_set_read.proofs.KeySets.{group-triple, group-valueless}
 use borrow.Author.Needs.{needs}
-use Rattle.cojp.proofs.key_set.after_usage.Statement.{statement}
-use Rattle.cojp.proofs.key_set.after_usage.Tie as tie
+use Rattle.key_set_read.proofs.after_usage.Statement.{statement}
+use Rattle.key_set_read.proofs.after_usage.Tie as tie
 
 member-at-requires : tie.Need-member-at-requires
 member-at-requires c κs = search needs

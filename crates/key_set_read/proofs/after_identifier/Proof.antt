@@ -1,9 +1,9 @@
 -- A value closes the group, a number is its usage, anything else breaks the pattern.
 use Rattle.cojp.proofs.Arrays.{number-left, bytes-left}
-use Rattle.cojp.proofs.KeySets.{group-used, group-pair, group-open}
+use Rattle.key_set_read.proofs.KeySets.{group-used, group-pair, group-open}
 use borrow.Author.Needs.{needs}
-use Rattle.cojp.proofs.key_set.after_identifier.Statement.{statement}
-use Rattle.cojp.proofs.key_set.after_identifier.Tie as tie
+use Rattle.key_set_read.proofs.after_identifier.Statement.{statement}
+use Rattle.key_set_read.proofs.after_identifier.Tie as tie
 
 member-at-requires : tie.Need-member-at-requires
 member-at-requires c κs = search needs

@@ -1,9 +1,9 @@
 -- A group begins with its identifier.
 use Rattle.cojp.proofs.Arrays.{number-left}
-use Rattle.cojp.proofs.KeySets.{group-begun, group-headless}
+use Rattle.key_set_read.proofs.KeySets.{group-begun, group-headless}
 use borrow.Author.Needs.{needs}
-use Rattle.cojp.proofs.key_set.read_group.Statement.{statement}
-use Rattle.cojp.proofs.key_set.read_group.Tie as tie
+use Rattle.key_set_read.proofs.read_group.Statement.{statement}
+use Rattle.key_set_read.proofs.read_group.Tie as tie
 
 member-at-requires : tie.Need-member-at-requires
 member-at-requires c κs = search needs

@@ -1,11 +1,11 @@
 -- A key set is an array.
 use mathlib.Core.Path.{refl, ap, _∙_}
 use Rattle.cojp.specs.KeySet.{keysAnswer}
 use Rattle.cojp.proofs.Arrays.{array-here}
-use Rattle.cojp.proofs.KeySets.{keys-array, keys-broken}
+use Rattle.key_set_read.proofs.KeySets.{keys-array, keys-broken}
 use borrow.Author.Needs.{needs}
-use Rattle.cojp.proofs.key_set.read_keys.Statement.{statement}
-use Rattle.cojp.proofs.key_set.read_keys.Tie as tie
+use Rattle.key_set_read.proofs.read_keys.Statement.{statement}
+use Rattle.key_set_read.proofs.read_keys.Tie as tie
 
 value-at-requires : tie.Need-value-at-requires
 value-at-requires c κs = search needs

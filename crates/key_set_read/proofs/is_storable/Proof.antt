@@ -1,7 +1,7 @@
 -- Each test is one of the three.
 use borrow.Author.Tests.{le-leb, lt-leb}
-use Rattle.cojp.proofs.key_set.is_storable.Statement.{statement}
-use Rattle.cojp.proofs.key_set.is_storable.Tie as tie
+use Rattle.key_set_read.proofs.is_storable.Statement.{statement}
+use Rattle.key_set_read.proofs.is_storable.Tie as tie
 
 returns : tie.Need-returns
 returns c = rw (lt-leb (c .before .args .identifier) 255 (c .if1 .taken))

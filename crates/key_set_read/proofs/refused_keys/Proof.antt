@@ -1,7 +1,7 @@
 -- The parts are as their functions promise.
 use borrow.Author.Needs.{needs}
-use Rattle.cojp.proofs.key_set.refused_keys.Statement.{statement}
-use Rattle.cojp.proofs.key_set.refused_keys.Tie as tie
+use Rattle.key_set_read.proofs.refused_keys.Statement.{statement}
+use Rattle.key_set_read.proofs.refused_keys.Tie as tie
 
 no-key-set-requires : tie.Need-no-key-set-requires
 no-key-set-requires c κs = search needs

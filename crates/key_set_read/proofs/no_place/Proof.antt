@@ -1,7 +1,7 @@
 -- The parts are as their functions promise.
 use borrow.Author.Needs.{needs}
-use Rattle.cojp.proofs.key_set.no_place.Statement.{statement}
-use Rattle.cojp.proofs.key_set.no_place.Tie as tie
+use Rattle.key_set_read.proofs.no_place.Statement.{statement}
+use Rattle.key_set_read.proofs.no_place.Tie as tie
 
 no-keys-requires : tie.Need-no-keys-requires
 no-keys-requires c κs = search needs

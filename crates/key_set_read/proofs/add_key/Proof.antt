@@ -2,10 +2,10 @@
 use native.Mathlib.Omega.{arith}
 use mathlib.Core.Path.{sym, _∙_}
 use borrow.Author.Tests.{not-true, not-false}
-use Rattle.cojp.proofs.KeySets.{storable-parts, add-full, add-unstorable, add-stored}
+use Rattle.key_set_read.proofs.KeySets.{storable-parts, add-full, add-unstorable, add-stored}
 use borrow.Author.Needs.{needs}
-use Rattle.cojp.proofs.key_set.add_key.Statement.{statement}
-use Rattle.cojp.proofs.key_set.add_key.Tie as tie
+use Rattle.key_set_read.proofs.add_key.Statement.{statement}
+use Rattle.key_set_read.proofs.add_key.Tie as tie
 
 no-place-requires : tie.Need-no-place-requires
 no-place-requires c κs = search needs
@@ -27,9 +27,7 @@ returns-2 c =
     c .no-place2 .ensures ∙ add-unstorable (a .set) (a .identifier) (a .usage) (a .len) (a .part .now) (a .start) (c .before .before .before .before .before .pre) (sym (c .before .before .is-storable .ensures) ∙ not-true (c .before .before .is-storable .result) (c .before .if2 .taken))
 
 copied-requires : tie.Need-copied-requires
-copied-requires c κs =
-    let p = storable-parts (c .before .before .before .before .args .identifier) (c .before .before .before .before .args .usage) (c .before .before .before .before .args .len) (sym (c .before .is-storable .ensures) ∙ not-false (c .before .is-storable .result) (c .if2 .left)) in
-    (omega (arith, p .2), c .before .before .before .before .pre)
+copied-requires c κs = search needs
 
 cast-t13 : tie.Need-cast-t13
 cast-t13 c =

@@ -2,8 +2,8 @@
 use mathlib.Core.Path.{sym, _∙_}
 use borrow.Author.Tests.{not-true, not-false}
 use borrow.Author.Needs.{needs}
-use Rattle.cojp.proofs.key_set.close_set.Statement.{statement}
-use Rattle.cojp.proofs.key_set.close_set.Tie as tie
+use Rattle.key_set_read.proofs.close_set.Statement.{statement}
+use Rattle.key_set_read.proofs.close_set.Tie as tie
 
 allowed-requires : tie.Need-allowed-requires
 allowed-requires c κs = search needs
