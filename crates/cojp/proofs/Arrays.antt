@@ -1,10 +1,13 @@
 -- A member of an array is what stands at its place, and the other members are what stands behind it.
 use Prim.Native.Nat.{ℕ, _+_, _-_, _≤_, _<_, suc}
-use mathlib.Core.Path.{_≡_, refl, ap, _∙_}
+use mathlib.Core.Path.{_≡_, refl, ap, sym, _∙_}
+use mathlib.Core.Bool.{Bool, true, false, cond}
 use mathlib.Core.List.{List, [], _∷_}
 use mathlib.Core.Logic.{⊎-elim}
 use native.Mathlib.Omega.{arith}
+use lib.Dec.{eqb}
 use lib.ListN.{length, take, drop}
+use borrow.Author.Tests.{eq-eqb, ne-eqb, eqb-true, eqb-false}
 use types.Run.{OneOf}
 use denote.Enum.Declared.{tagOf}
 use Rattle.cbor.specs.Decode.{Outcome, refused, got, heading, decode}
@@ -14,7 +17,7 @@ use Rattle.cbor.specs.declared.value.Value.{Value}
 use Rattle.cbor.specs.declared.value.Value.the-variants as vv
 use Rattle.cbor.proofs.value.Value as value
 use Rattle.cbor.proofs.Views.{ValueAt, value-says}
-use Rattle.cojp.specs.Bytes.{valueView, membersAt, Neither, MemberAt}
+use Rattle.cojp.specs.Bytes.{valueView, membersAt, memberOf, memberAnswer}
 use Rattle.cojp.specs.declared.members.Member.{Member}
 use Rattle.cojp.specs.declared.members.Member.the-variants as mv
 
@@ -35,6 +38,13 @@ members-some n l h = go (decode 6 l) (members-step n l h)
     go (refused k) e = (other, [], e)
     go (got i t) e = (plainAt l, membersAt (n - 1) t, e)
 
+-- neither a number nor a byte string comes next
+abbrev pub Neither : List Plain → Type 0
+Neither [] = Unit {0}
+Neither (number n ∷ ps) = ⊥
+Neither (string s ∷ ps) = ⊥
+Neither (other ∷ ps) = Unit {0}
+
 -- and if it is neither a number nor a byte string, it is something else
 pub members-other : (n : ℕ) (l : List ℕ) → 0 < n → Neither (membersAt n l) → (ps : List Plain) × (membersAt n l ≡ other ∷ ps)
 members-other n l h w = let (p, ps, e) = members-some n l h in (ps, e ∙ ap (λ (q : Plain). q ∷ ps) (go p ps (rw e at w)))
@@ -45,44 +55,61 @@ members-other n l h w = let (p, ps, e) = members-some n l h in (ps, e ∙ ap (λ
     go other ps w = refl
 
 -- ---- the returns of `member_at`
-pub member-none : (s : List ℕ) (at n : ℕ) → n ≡ 0 → MemberAt s at n mv.Neither
-member-none s at n e = rw (members-none n (drop at s) e) tt
+module _ (s : List ℕ) (at n : ℕ) where
+  pub member-none : n ≡ 0 → mv.Neither ≡ memberAnswer s at n
+  member-none h = rw (eq-eqb n 0 h)
 
-module _ (s : List ℕ) (at n : ℕ) (h : ¬ (n ≡ 0)) (v : Value) (e : v ≡ valueAnswer (length s) (heading (drop at s))) where
-  some-left : 0 < n
-  some-left = omega arith
+  module _ (h : ¬ (n ≡ 0)) (v : Value) (e : v ≡ valueAnswer (length s) (heading (drop at s))) where
+    pub member-some : (m : Member) → memberOf v ≡ m → m ≡ memberAnswer s at n
+    member-some m f = rw (ne-eqb n 0 h) (sym f ∙ ap memberOf e)
 
-  pub member-number : (x p : ℕ) → v ≡ vv.Number x p → MemberAt s at n (mv.Number x p)
-  member-number x p g =
-      let w : ValueAt 5 s at (vv.Number x p) = rw g at (value-says 5 s at v e) in
-      (some-left, members-step n (drop at s) some-left ∙ rw (w .rest .1, w .member))
+    pub member-neither : OneOf (2 ∷ 3 ∷ []) (tagOf value.the-type v) → mv.Neither ≡ memberAnswer s at n
+    member-neither o = member-some mv.Neither (go v o)
+      where
+        go : (v : Value) → OneOf (2 ∷ 3 ∷ []) (tagOf value.the-type v) → memberOf v ≡ mv.Neither
+        go (vv.Number x p) o = absurd (⊎-elim (λ e. omega arith) (λ e. omega arith) o)
+        go (vv.Bytes p a) o = absurd (⊎-elim (λ e. omega arith) (λ e. omega arith) o)
+        go (vv.Array p a) o = refl
+        go vv.Other o = refl
 
-  pub member-bytes : (p a : ℕ) → v ≡ vv.Bytes p a → MemberAt s at n (mv.Bytes p a)
-  member-bytes p a g =
-      let w : ValueAt 5 s at (vv.Bytes p a) = rw g at (value-says 5 s at v e) in
-      (some-left, w .rest .0, members-step n (drop at s) some-left ∙ rw (w .rest .1, w .member))
+-- ---- what an answer of `member_at` says of the members, n being left
+abbrev pub MemberAt : List ℕ → ℕ → ℕ → Member → Type 0
+MemberAt s at n (mv.Number x p) = (0 < n) × (membersAt n (drop at s) ≡ number x ∷ membersAt (n - 1) (drop p s))
+MemberAt s at n (mv.Bytes p a) =
+    (0 < n) × (p + a ≤ length s) × (membersAt n (drop at s) ≡ string (take a (drop p s)) ∷ membersAt (n - 1) (drop (p + a) s))
+MemberAt s at n mv.Neither = Neither (membersAt n (drop at s))
 
-  pub member-neither : OneOf (2 ∷ 3 ∷ []) (tagOf value.the-type v) → MemberAt s at n mv.Neither
-  member-neither o = rw (members-step n (drop at s) some-left) (go (decode 6 (drop at s)) (plain-other v (value-says 5 s at v e) o))
+module _ (s : List ℕ) (at n : ℕ) where
+  nothing : 0 < n → plainAt (drop at s) ≡ other → Neither (membersAt n (drop at s))
+  nothing h m = rw (members-step n (drop at s) h) (go (decode 6 (drop at s)))
     where
-      plain-other : (v : Value) → ValueAt 5 s at v → OneOf (2 ∷ 3 ∷ []) (tagOf value.the-type v) → plainAt (drop at s) ≡ other
-      plain-other (vv.Number x p) w o = absurd (⊎-elim (λ e. omega arith) (λ e. omega arith) o)
-      plain-other (vv.Bytes p a) w o = absurd (⊎-elim (λ e. omega arith) (λ e. omega arith) o)
-      plain-other (vv.Array p a) w o = w .member
-      plain-other vv.Other w o = w .member
+      go : (o : Outcome Item) → Neither (andOn (plainAt (drop at s)) o (λ t. membersAt (n - 1) t))
+      go (refused k) = tt
+      go (got i t) = rw m tt
 
-      go : (o : Outcome Item) → plainAt (drop at s) ≡ other → Neither (andOn (plainAt (drop at s)) o (λ t. membersAt (n - 1) t))
-      go (refused k) m = tt
-      go (got i t) m = rw m tt
+  value-member : 0 < n → (v : Value) → ValueAt 5 s at v → MemberAt s at n (memberOf v)
+  value-member h (vv.Number x p) w = (h, members-step n (drop at s) h ∙ rw (w .rest .1, w .member))
+  value-member h (vv.Bytes p a) w = (h, w .rest .0, members-step n (drop at s) h ∙ rw (w .rest .1, w .member))
+  value-member h (vv.Array p m) w = nothing h (w .member)
+  value-member h vv.Other w = nothing h (w .member)
 
--- ---- what an answer of `member_at` says
-module _ (s : List ℕ) (at n : ℕ) (v : Member) (w : MemberAt s at n v) where
+  pub member-says : (v : Member) → v ≡ memberAnswer s at n → MemberAt s at n v
+  member-says v e = rw e (go (eqb n 0) refl)
+    where
+      answer : Value
+      answer = valueAnswer (length s) (heading (drop at s))
+
+      go : (b : Bool) → eqb n 0 ≡ b → MemberAt s at n (cond b mv.Neither (memberOf answer))
+      go true f = rw (members-none n (drop at s) (eqb-true n 0 f)) tt
+      go false f = value-member (let z = eqb-false n 0 f in omega arith) answer (value-says 5 s at answer refl)
+
+module _ (s : List ℕ) (at n : ℕ) (v : Member) (e : v ≡ memberAnswer s at n) where
   pub number-left : (x p : ℕ) → v ≡ mv.Number x p → 1 ≤ n
-  number-left x p g = let w′ : MemberAt s at n (mv.Number x p) = rw g at w in w′ .0
+  number-left x p g = let w : MemberAt s at n (mv.Number x p) = rw g at (member-says s at n v e) in w .0
 
   module _ (p a : ℕ) (g : v ≡ mv.Bytes p a) where
     bytes-here : MemberAt s at n (mv.Bytes p a)
-    bytes-here = rw g at w
+    bytes-here = rw g at (member-says s at n v e)
 
     pub bytes-left : 1 ≤ n
     bytes-left = bytes-here .0

@@ -1,6 +1,5 @@
 mod Examples
 mod Demand1
-mod Strings
-mod Arrays
+pub mod Strings
+pub mod Arrays
 mod Addresses
-mod KeySets

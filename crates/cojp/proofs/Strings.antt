@@ -18,7 +18,7 @@ use Rattle.cbor.specs.declared.value.Value.the-variants as vv
 use Rattle.cbor.proofs.value.Value as value
 use Rattle.cbor.proofs.Views.{ValueAt, value-says}
 use Rattle.cojp.specs.Bytes.{valueView}
-use Rattle.cojp.specs.Octets.{padded, octetsParameter, noOctetsParameter, octetsJudged, octetsRead}
+use Rattle.cojp.specs.Octets.{padded, copiedFrom, octetsParameter, noOctetsParameter, octetsJudged, octetsRead}
 use Rattle.cojp.specs.Reading.{Reading, refused, read}
 use Rattle.cojp.specs.declared.octets.OctetsParameter.{OctetsParameter}
 use Rattle.cojp.specs.declared.report.Report.the-variants.{Taken, Discarded}
@@ -46,8 +46,19 @@ module _ (s : List ℕ) (at n i : ℕ) (h : i < n) (l : n ≤ 16) (f : at + n �
       (set-at (take i (drop at s)) 0 (replicate (16 - (i + 1)) 0) (getD s (at + i) 0) i front
       ∙ sym (rw (g, one-more) (append-snoc (take i (drop at s)) (getD s (at + i) 0) (replicate (16 - (i + 1)) 0))))
 
-pub pad-end : (s : List ℕ) (at n i : ℕ) (out : List ℕ) → out ≡ padded 16 (take i (drop at s)) → i ≡ n → out ≡ padded 16 (take n (drop at s))
-pad-end s at n i out e f = rw (← f) e
+module _ (s : List ℕ) (at n : ℕ) where
+  pub copied-long : 16 < n → replicate 16 0 ≡ copiedFrom s at n
+  copied-long h = rw (lt-leb n 16 h)
+
+  pub copied-past : n ≤ 16 → length s < at + n → replicate 16 0 ≡ copiedFrom s at n
+  copied-past l h = rw (le-leb n 16 l, lt-leb (at + n) (length s) h)
+
+  pub copied-inside : n ≤ 16 → at + n ≤ length s → copiedFrom s at n ≡ padded 16 (take n (drop at s))
+  copied-inside l h = rw (le-leb n 16 l, le-leb (at + n) (length s) h)
+
+pub pad-end : (s : List ℕ) (at n i : ℕ) (out : List ℕ) → out ≡ padded 16 (take i (drop at s)) → i ≡ n → n ≤ 16 → at + n ≤ length s
+    → out ≡ copiedFrom s at n
+pad-end s at n i out e f l h = sym (copied-inside s at n l h ∙ rw (← f) (sym e))
 
 -- ---- the returns of `read_octets`
 module _ (s : List ℕ) (at least : ℕ) (v : Value) (e : v ≡ valueAnswer (length s) (heading (drop at s))) where
@@ -55,7 +66,7 @@ module _ (s : List ℕ) (at least : ℕ) (v : Value) (e : v ≡ valueAnswer (len
     string-here : ValueAt 5 s at (vv.Bytes p a)
     string-here = rw g at (value-says 5 s at v e)
 
-    pub string-inside : p + a ≤ length s
+    string-inside : p + a ≤ length s
     string-inside = string-here .rest .0
 
     whole : length (take a (drop p s)) ≡ a
@@ -70,10 +81,10 @@ module _ (s : List ℕ) (at least : ℕ) (v : Value) (e : v ≡ valueAnswer (len
       unfolding octetsJudged
       octets-many l h = f ∙ rw (string-here .view, whole, le-leb least a l, lt-leb a 16 h)
 
-    pub octets-taken : (b : List ℕ) → least ≤ a → a ≤ 16 → b ≡ padded 16 (take a (drop p s))
+    pub octets-taken : (b : List ℕ) → least ≤ a → a ≤ 16 → b ≡ copiedFrom s p a
         → read (octetsParameter Taken (record { len = a; bytes = b })) ≡ octetsRead least (valueView (drop at s))
     unfolding octetsJudged
-    octets-taken b l h f = rw (string-here .view, whole, le-leb least a l, le-leb a 16 h, f)
+    octets-taken b l h f = rw (string-here .view, whole, le-leb least a l, le-leb a 16 h, f ∙ copied-inside s p a h string-inside)
 
   pub octets-broken : OneOf (0 ∷ 2 ∷ 3 ∷ []) (tagOf value.the-type v) → refused refusal.«Type» ≡ octetsRead least (valueView (drop at s))
   unfolding octetsJudged

@@ -6,9 +6,9 @@ use mathlib.Core.List.{List, [], _∷_, _++_}
 use lib.ListN.{length, replicate}
 use Rattle.refusal.specs.declared.Refusal.the-variants.{Keys}
 use Rattle.cbor.specs.View.{Plain, number, string, other, View, plain, list}
-use Rattle.keys.specs.Key.{noKey}
+use Rattle.link_key.specs.Key.{noKey}
 use Rattle.keys.specs.KeySet.{noKeys, allowed}
-use Rattle.keys.specs.declared.key.Key.{Key}
+use Rattle.link_key.specs.declared.Key.{Key}
 use Rattle.keys.specs.declared.key_set.KeySet.{KeySet}
 use Rattle.refusal.specs.declared.Verdict.the-variants as verdict
 use Rattle.cojp.specs.declared.key_set.KeysRead.{KeysRead}

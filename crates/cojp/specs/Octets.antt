@@ -1,9 +1,9 @@
 -- Network identifiers and prefixes (0 to 16 bytes) and JRC addresses (16 bytes): byte strings.
-use Prim.Native.Nat.{ℕ, _-_}
+use Prim.Native.Nat.{ℕ, _+_, _-_}
 use mathlib.Core.Bool.{cond, _&&_}
 use mathlib.Core.List.{List, _++_}
 use lib.Dec.{leb}
-use lib.ListN.{length, take, replicate}
+use lib.ListN.{length, take, drop, replicate}
 use Rattle.cbor.specs.View.{number, string, other, View, plain, list}
 use Rattle.refusal.specs.declared.Verdict.the-variants as verdict
 use Rattle.cojp.specs.declared.octets.OctetsRead.{OctetsRead}
@@ -16,6 +16,10 @@ use Rattle.cojp.specs.declared.report.Report.the-variants.{Absent, Taken
 -- the bytes, and zeros up to n of them
 unfoldable pub padded : ℕ → List ℕ → List ℕ
 padded n s = s ++ replicate (n - length s) 0
+
+-- n bytes of s from a place on, and zeros up to 16 of them; all zero where s has no such bytes or they are more than 16
+abbrev pub copiedFrom : List ℕ → ℕ → ℕ → List ℕ
+copiedFrom s at n = cond (leb n 16 && leb (at + n) (length s)) (padded 16 (take n (drop at s))) (replicate 16 0)
 
 abbrev pub octetsOf : List ℕ → Octets
 octetsOf s = record { len = length s; bytes = padded 16 s }

@@ -5,7 +5,7 @@ use mathlib.Core.Bool.{cond}
 use mathlib.Core.List.{List}
 use mathlib.Core.Option.{Option, none, some}
 use Rattle.keys.specs.KeySet.{keysOf}
-use Rattle.keys.specs.declared.key.Key.{Key}
+use Rattle.link_key.specs.declared.Key.{Key}
 use Rattle.cojp.specs.Reading.{ifTaken}
 use Rattle.cojp.specs.Octets.{bytesIn}
 use Rattle.cojp.specs.declared.address.AddressParameter.{AddressParameter}

@@ -9,7 +9,7 @@ use Rattle.cbor.specs.Answer.{Plan, refuse, emit}
 use Rattle.cbor.specs.Encode.{encode}
 use Rattle.cbor.specs.Item.{Item, Items, Pairs, unsigned, bytes, array, map, none, more, empty, pair}
 use Rattle.keys.specs.KeySet.{keysOf, allowedSet}
-use Rattle.keys.specs.declared.key.Key.{Key}
+use Rattle.link_key.specs.declared.Key.{Key}
 use Rattle.cojp.specs.Reading.{ifTaken}
 use Rattle.cojp.specs.Octets.{bytesIn}
 use Rattle.cojp.specs.Address.{isAddress}

@@ -1,15 +1,22 @@
 // Bytes are copied out of a payload.
 ghost use mathlib.Core.Path.{_≡_};
-ghost use Prim.Native.Nat.{_+_, _≤_};
-ghost use lib.ListN.{length, take, drop};
-ghost use Rattle.cojp.specs.Octets.{padded};
+ghost use Rattle.cojp.specs.Octets.{copiedFrom};
 
-// The bytes from a place on, and zeros after them.
+// `n` bytes from a place on, and zeros after them; all zero where there are no such bytes or they are more than 16.
 pub fn copied(s: &[u8], at: usize, n: usize) -> [u8; 16]
-    requires { ⌜ (n ≤ 16) × (at + n ≤ length (now s)) ⌝ }
-    ensures { λ r. ⌜ r ≡ padded 16 (take n (drop at (now (s .entry)))) ⌝ }
+    ensures { λ r. ⌜ r ≡ copiedFrom (now (s .entry)) at n ⌝ }
 {
     let mut out = [0u8; 16];
+    if 16 < n {
+        return out;
+    }
+    let len = s.len();
+    if len < at {
+        return out;
+    }
+    if len - at < n {
+        return out;
+    }
     let mut i = 0;
     while i < n {
         out[i] = s[at + i];

@@ -1,10 +1,10 @@
 // The objects of the Constrained Join Protocol (document 004, 9.3), join requests and configurations: what they are, what their payloads
-// mean, and how the value of each parameter is read.
+// mean, and how the values of their parameters are read.
 pub mod address;
 pub mod configuration;
-mod copy;
+pub mod copy;
 pub mod key_set;
-mod members;
+pub mod members;
 pub mod octets;
 pub mod report;
 pub mod request;
@@ -19,10 +19,12 @@ pub use address::read_address;
 pub use configuration::Configuration;
 pub use configuration::ConfigurationRead;
 pub use configuration::empty_configuration;
+pub use copy::copied;
 pub use key_set::KeysParameter;
 pub use key_set::KeysRead;
 pub use key_set::no_key_set;
-pub use key_set::read_keys;
+pub use members::Member;
+pub use members::member_at;
 pub use octets::Octets;
 pub use octets::OctetsParameter;
 pub use octets::OctetsRead;

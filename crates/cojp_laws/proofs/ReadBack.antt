@@ -14,7 +14,7 @@ use Rattle.cbor.specs.Item.{Item, Items, Pairs, unsigned, bytes, array, map, mo
 use Rattle.cbor.specs.View.{Plain, number, string, View, plain, list, labelOf, viewOf, plainsOf}
 use Rattle.cbor.proofs.RoundTrip.{read-payload}
 use Rattle.keys.specs.KeySet.{keysOf, allowed}
-use Rattle.keys.specs.declared.key.Key.{Key}
+use Rattle.link_key.specs.declared.Key.{Key}
 use Rattle.keys.proofs.KeySets.{set-allowed}
 use Rattle.cojp.specs.Address.{addressOf, addressParameter, noAddressParameter, addressIn, addressRead}
 use Rattle.cojp.specs.KeySet.{keyOf, keySetOf, keysParameter, noKeysParameter, groups, groupsOf, group, keysRead}

@@ -13,7 +13,7 @@ use Rattle.cbor.specs.Encode.{shortest, encode, encodes, encodePairs, extraOf}
 use Rattle.cbor.specs.Item.{Items, Pairs, unsigned, bytes, array, none, more, empty, count}
 use Rattle.cbor.proofs.Writing.{seam, length-head, short-head, byte-head}
 use Rattle.keys.specs.KeySet.{keysOf}
-use Rattle.keys.specs.declared.key.Key.{Key}
+use Rattle.link_key.specs.declared.Key.{Key}
 use Rattle.keys.specs.declared.key_set.KeySet.{KeySet}
 use Rattle.cojp.specs.Reading.{ifTaken}
 use Rattle.cojp.specs.Writing.{labelled, chain, leaseItems, usageItems, groupItems, groupsItems, keysPairs, keysInRange}

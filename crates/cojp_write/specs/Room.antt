@@ -10,7 +10,7 @@ use Rattle.cojp.specs.Writing.{leaseItems, groupsItems, keysPairs, addressPairs
 use Rattle.cojp.specs.declared.address.ShortAddress.{ShortAddress}
 use Rattle.cojp.specs.declared.configuration.Configuration.{Configuration}
 use Rattle.cojp.specs.declared.octets.OctetsParameter.{OctetsParameter}
-use Rattle.keys.specs.declared.key.Key.{Key}
+use Rattle.link_key.specs.declared.Key.{Key}
 
 -- ---- arrays: a label, a head, and the members
 abbrev pub arrayLength : ℕ → ℕ → ℕ

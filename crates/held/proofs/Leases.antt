@@ -5,11 +5,11 @@ use mathlib.Core.Path.{_≡_, refl}
 use mathlib.Core.Bool.{Bool, true, false, cond, _&&_}
 use borrow.Author.Tests.{leb-true, le-leb}
 use lib.Dec.{leb}
-use Rattle.keys.proofs.Lists.{both-left, both-right}
+use Rattle.link_key.proofs.Tests.{both-left, both-right}
 use Rattle.cojp.specs.Address.{isAddress}
 use Rattle.held.specs.Lease.{addressInRange}
 use Rattle.held.specs.declared.address.HeldAddress.{HeldAddress}
-use Rattle.keys.proofs.Tests.{both}
+use Rattle.link_key.proofs.Tests.{both}
 
 pub later : (clock time : ℕ) (a : HeldAddress) → clock ≤ time → addressInRange clock a ≡ true → addressInRange time a ≡ true
 later clock time a h e = go (a .held) e

@@ -9,14 +9,14 @@ use lib.Dec.{leb, ltb, eqb}
 use Rattle.refusal.specs.declared.Refusal.{Refusal}
 use Rattle.refusal.specs.declared.Refusal.the-variants as refusal
 use Rattle.refusal.specs.declared.Verdict.the-variants as verdict
-use Rattle.keys.proofs.Lists.{both-left, both-right}
+use Rattle.link_key.proofs.Tests.{both-left, both-right}
 use Rattle.joining.specs.Attempt.{isWaiting, attempt, firstTimeout, timeoutAfter, timeoutInRange, fits, mayStart, waitingFrom}
 use Rattle.joining.specs.Poll.{step, stepped, poll, dueVerdict}
 use Rattle.joining.specs.declared.attempt.Attempt.{Attempt}
 use Rattle.joining.specs.declared.attempt.Phase.the-variants as phase
 use Rattle.joining.specs.declared.poll.Due.the-variants.{Refused, NotYet, SendAgain, GaveUp}
 use Rattle.joining.specs.declared.poll.Step.{Step}
-use Rattle.keys.proofs.Tests.{then-so}
+use Rattle.link_key.proofs.Tests.{then-so}
 
 -- ---- what it says, part by part, and back
 module _ (a : Attempt) (e : fits a ≡ true) where

@@ -6,11 +6,11 @@ use mathlib.Core.Option.{Option, none, some}
 use Rattle.refusal.specs.declared.Refusal.{Refusal}
 use Rattle.refusal.specs.declared.Refusal.the-variants as refusal
 use Rattle.refusal.specs.declared.Verdict.the-variants as verdict
-use Rattle.keys.specs.Key.{foundKey, covers}
+use Rattle.link_key.specs.Key.{foundKey, covers}
 use Rattle.keys.specs.KeySet.{has}
-use Rattle.keys.specs.declared.key.FoundKey.{FoundKey}
-use Rattle.keys.specs.declared.key.Key.{Key}
-use Rattle.keys.proofs.Keys.{found-some, found-none}
+use Rattle.link_key.specs.declared.FoundKey.{FoundKey}
+use Rattle.link_key.specs.declared.Key.{Key}
+use Rattle.link_key.proofs.Keys.{found-some, found-none}
 use Rattle.key_sets.specs.Sets.{activeIn}
 use Rattle.key_sets.specs.Frames.{withKey, withoutKey, keyOr, ifCovers, receivingKey, switched, hearing, hears}
 use Rattle.key_sets.specs.declared.frames.Change.the-variants as change

@@ -4,14 +4,14 @@ use mathlib.Core.Bool.{Bool, true, false, cond, not, _||_, or-true}
 use mathlib.Core.List.{List, [], List·Memᴰ, List·Memᴰ·not-nil}
 use borrow.Author.Tests.{eqb-true, not-true}
 use Rattle.keys.specs.KeySet.{keysOf, noKeys, allowed, allowedSet, sameKeys, shares}
-use Rattle.keys.specs.declared.key.Key.{Key}
+use Rattle.link_key.specs.declared.Key.{Key}
 use Rattle.keys.specs.declared.key_set.KeySet.{KeySet}
 use Rattle.keys.proofs.KeySets.{apart-shares, shares-turned, set-allowed}
 use Rattle.key_sets.specs.Sets.{activeIn, pendingIn, twoSets, isNone, setInRange, fits, placed, install}
 use Rattle.key_sets.specs.Frames.{switched}
 use Rattle.key_sets.specs.declared.sets.KeySets.{KeySets}
 use Rattle.key_sets.specs.declared.sets.Placement.{Placement}
-use Rattle.keys.proofs.Tests.{never, first, second, third, fourth, all-four, then-so}
+use Rattle.link_key.proofs.Tests.{never, first, second, third, fourth, all-four, then-so}
 
 none-empty : (set : KeySet) → isNone set ≡ true → keysOf set ≡ []
 none-empty set e = rw (eqb-true (set .count) 0 e)

@@ -13,18 +13,18 @@ use Rattle.refusal.specs.declared.Refusal.{Refusal}
 use Rattle.refusal.specs.declared.Refusal.the-variants as refusal
 use Rattle.refusal.specs.declared.Verdict.{Verdict}
 use Rattle.refusal.specs.declared.Verdict.the-variants as verdict
-use Rattle.keys.specs.Key.{inLimits, covers}
+use Rattle.link_key.specs.Key.{inLimits, covers}
 use Rattle.keys.specs.KeySet.{has, Covers, firstCover, findKey}
 use Rattle.usage.specs.Usage.{knownType, listed}
-use Rattle.keys.specs.declared.key.Key.{Key}
-use Rattle.keys.proofs.Keys.{covers-known-type}
+use Rattle.link_key.specs.declared.Key.{Key}
+use Rattle.link_key.proofs.Keys.{covers-known-type}
 use Rattle.keys.proofs.KeySets.{has-none, none-has, cover-found, cover-finds, find-found, find-own, none-find, allowed-none-twice, allowed-in-limits}
 use Rattle.key_sets.specs.Sets.{activeIn, pendingIn, fits}
 use Rattle.key_sets.specs.Frames.{withKey, withoutKey, keyOr, sendingKey, orElse, ifCovers, receivingKey, switched, reported, hears}
 use Rattle.key_sets.specs.declared.frames.Change.the-variants as change
 use Rattle.key_sets.specs.declared.frames.KeyAnswer.{KeyAnswer}
 use Rattle.key_sets.specs.declared.sets.KeySets.{KeySets}
-use Rattle.keys.proofs.Tests.{first}
+use Rattle.link_key.proofs.Tests.{first}
 use Rattle.key_sets.proofs.Fits.{pending-fits, member-allowed}
 
 -- no key of the list has the identifier

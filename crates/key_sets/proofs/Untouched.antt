@@ -9,10 +9,10 @@ use Rattle.refusal.specs.declared.Refusal.{Refusal}
 use Rattle.refusal.specs.declared.Refusal.the-variants as refusal
 use Rattle.refusal.specs.declared.Verdict.{Verdict}
 use Rattle.refusal.specs.declared.Verdict.the-variants as verdict
-use Rattle.keys.specs.Key.{noKey, covers}
+use Rattle.link_key.specs.Key.{noKey, covers}
 use Rattle.keys.specs.KeySet.{has, firstCover}
 use Rattle.usage.specs.Usage.{knownType}
-use Rattle.keys.specs.declared.key.Key.{Key}
+use Rattle.link_key.specs.declared.Key.{Key}
 use Rattle.key_sets.specs.Sets.{activeIn}
 use Rattle.key_sets.specs.Frames.{withKey, withoutKey, keyOr, sendingKey, heldKey, ifCovers, receivingKey, reported, hears, changeVerdict}
 use Rattle.key_sets.specs.declared.frames.Change.the-variants as change

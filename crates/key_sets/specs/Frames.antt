@@ -8,10 +8,10 @@ use Rattle.refusal.specs.declared.Refusal.{Refusal}
 use Rattle.refusal.specs.declared.Refusal.the-variants as refusal
 use Rattle.refusal.specs.declared.Verdict.{Verdict}
 use Rattle.refusal.specs.declared.Verdict.the-variants as verdict
-use Rattle.keys.specs.Key.{noKey, covers}
+use Rattle.link_key.specs.Key.{noKey, covers}
 use Rattle.keys.specs.KeySet.{noKeys, has, firstCover, findKey}
 use Rattle.usage.specs.Usage.{knownType}
-use Rattle.keys.specs.declared.key.Key.{Key}
+use Rattle.link_key.specs.declared.Key.{Key}
 use Rattle.key_sets.specs.Sets.{activeIn, pendingIn, twoSets}
 use Rattle.key_sets.specs.declared.frames.Change.{Change}
 use Rattle.key_sets.specs.declared.frames.Change.the-variants as change

@@ -3,7 +3,7 @@ use mathlib.Core.Bool.{Bool, true, false, cond, not, _&&_, _||_}
 use mathlib.Core.List.{List}
 use lib.Dec.{eqb}
 use Rattle.keys.specs.KeySet.{keysOf, noKeys, allowedSet, sameKeys, shares}
-use Rattle.keys.specs.declared.key.Key.{Key}
+use Rattle.link_key.specs.declared.Key.{Key}
 use Rattle.keys.specs.declared.key_set.KeySet.{KeySet}
 use Rattle.key_sets.specs.declared.sets.KeySets.{KeySets}
 use Rattle.key_sets.specs.declared.sets.Placement.{Placement}

@@ -1,15 +1,15 @@
 // Keys for frames: which key to send with, which to receive with, and the radio's report of a verified frame.
 use crate::sets::KeySets;
-use keys::FoundKey;
-use keys::Key;
-use keys::key::no_key;
 use keys::key_set::no_keys;
+use link_key::FoundKey;
+use link_key::Key;
+use link_key::no_key;
 use refusal::Refusal;
 use refusal::Verdict;
 ghost use mathlib.Core.Path.{_≡_};
 ghost use mathlib.Core.Bool.{cond};
 ghost use Rattle.refusal.specs.declared.Refusal.the-variants as refusal;
-ghost use Rattle.keys.specs.Key.{foundKey};
+ghost use Rattle.link_key.specs.Key.{foundKey};
 ghost use Rattle.key_sets.specs.Frames.{withKey, withoutKey, heldKey, sendingKey, receivingKey, switched, hearing, hears};
 ghost use Rattle.key_sets.specs.declared.frames.Change.the-variants as change;
 

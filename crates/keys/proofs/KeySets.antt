@@ -8,14 +8,15 @@ use mathlib.Core.Option.{Option, none, some}
 use borrow.Author.Tests.{leb-true, eqb-true, eqb-false, eq-eqb, ne-eqb, le-leb, lt-leb, not-true}
 use lib.Dec.{leb, eqb}
 use lib.ListN.{length, length-take}
-use Rattle.keys.specs.Key.{inLimits, sameKey, covers, foundKey}
+use Rattle.link_key.specs.Key.{inLimits, sameKey, covers, foundKey}
 use Rattle.keys.specs.KeySet.{keysOf, noKeys, named, has, allowed, allowedSet, allInLimits, noneTwice, sameKeys, shares, Apart}
 use Rattle.keys.specs.KeySet.{Covers, firstCover, findKey}
-use Rattle.keys.specs.declared.key.Key.{Key}
+use Rattle.link_key.specs.declared.Key.{Key}
 use Rattle.keys.specs.declared.key_set.KeySet.{KeySet}
-use Rattle.keys.proofs.Lists.{both-left, both-right, same-self, same-equal, any-one, any-none, any-never, any-append, all-each}
-use Rattle.keys.proofs.Lists.{all-append, first-is, first-none, none-first, first-finds}
-use Rattle.keys.proofs.Keys.{same-key-self, same-key-equal}
+use Rattle.link_key.proofs.Tests.{both-left, both-right}
+use Rattle.link_key.proofs.Same.{same-self, same-equal}
+use Rattle.keys.proofs.Lists.{any-one, any-none, any-never, any-append, all-each, all-append, first-is, first-none, none-first, first-finds}
+use Rattle.link_key.proofs.Keys.{same-key-self, same-key-equal}
 
 -- ---- equal sets
 pub same-keys-self : (ks : List Key) → sameKeys ks ks ≡ true

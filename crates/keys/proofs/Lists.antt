@@ -1,47 +1,12 @@
 -- Laws of the questions about a list: what an answer says of the members, and what the members say of the answer.
-use Prim.Native.Nat.{ℕ, suc}
+use Prim.Native.Nat.{ℕ}
 use native.Mathlib.Omega.{arith}
 use mathlib.Core.Path.{_≡_, refl, ap, sym, _∙_}
-use mathlib.Core.Bool.{Bool, true, false, cond, _&&_, _||_, and-false, or-true, and-assoc, or-assoc, false≢true}
+use mathlib.Core.Bool.{Bool, true, false, cond, _&&_, _||_, or-true, and-assoc, or-assoc, false≢true}
 use mathlib.Core.List.{List, [], _∷_, _++_, List·Memᴰ, List·Memᴰ·head, List·Memᴰ·tail}
 use mathlib.Core.Option.{Option, none, some}
-use lib.ListN.{length}
-use Rattle.keys.specs.Lists.{anyOf, allOf, firstOf, sameBy}
-
-pub both-left : (a b : Bool) → (a && b) ≡ true → a ≡ true
-both-left true b e = refl
-both-left false b e = e
-
-pub both-right : (a b : Bool) → (a && b) ≡ true → b ≡ true
-both-right true b e = e
-both-right false b e = cc
-
-neither-left : (a b : Bool) → (a || b) ≡ false → a ≡ false
-neither-left true b e = e
-neither-left false b e = refl
-
-neither-right : (a b : Bool) → (a || b) ≡ false → b ≡ false
-neither-right true b e = cc
-neither-right false b e = e
-
-module _ {A : Type 0} (same : A → A → Bool) where
-  -- lists of different lengths are not the same
-  pub differ : (xs ys : List A) → (length xs ≡ length ys → ⊥) → sameBy same xs ys ≡ false
-  differ [] [] h = absurd (h refl)
-  differ [] (y ∷ ys) h = refl
-  differ (x ∷ xs) [] h = refl
-  differ (x ∷ xs) (y ∷ ys) h = rw (differ xs ys (λ e. h (ap suc e)), and-false (same x y))
-
-  pub same-self : ((x : A) → same x x ≡ true) → (xs : List A) → sameBy same xs xs ≡ true
-  same-self h [] = refl
-  same-self h (x ∷ xs) = rw (h x, same-self h xs)
-
-  pub same-equal : ((x y : A) → same x y ≡ true → x ≡ y) → (xs ys : List A) → sameBy same xs ys ≡ true → xs ≡ ys
-  same-equal h [] [] e = refl
-  same-equal h [] (y ∷ ys) e = cc
-  same-equal h (x ∷ xs) [] e = cc
-  same-equal h (x ∷ xs) (y ∷ ys) e =
-      rw (h x y (both-left (same x y) (sameBy same xs ys) e), same-equal h xs ys (both-right (same x y) (sameBy same xs ys) e))
+use Rattle.link_key.proofs.Tests.{both-left, both-right, neither-left, neither-right}
+use Rattle.keys.specs.Lists.{anyOf, allOf, firstOf}
 
 module _ {A : Type 0} (test : A → Bool) where
   pub any-one : {xs : List A} {x : A} → List·Memᴰ x xs → test x ≡ true → anyOf test xs ≡ true

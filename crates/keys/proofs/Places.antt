@@ -2,30 +2,16 @@
 -- the key at the place comes next, and after the last there is none.
 use Prim.Native.Nat.{ℕ, _+_, _≤_, _<_}
 use native.Mathlib.Omega.{arith}
-use native.Mathlib.Numerals.{add-one}
 use mathlib.Core.Path.{_≡_, ap}
-use mathlib.Core.Bool.{Bool, true, _&&_}
+use mathlib.Core.Bool.{_&&_}
 use mathlib.Core.List.{List, [], _∷_}
 use lib.ListN.{length, drop, getD, length-take, drop-of-length-le}
 use lib.Seq.{drop-cons, getD-take}
-use Rattle.keys.specs.Lists.{sameBy}
-use Rattle.keys.specs.Key.{noKey, sameKey}
+use Rattle.link_key.specs.Key.{noKey, sameKey}
 use Rattle.keys.specs.KeySet.{keysOf, sameKeys}
-use Rattle.keys.specs.declared.key.Key.{Key}
+use Rattle.link_key.specs.declared.Key.{Key}
+use Rattle.link_key.proofs.Same.{next, same-turn}
 use Rattle.keys.specs.declared.key_set.KeySet.{KeySet}
-
-next : {A : Type 0} (xs : List A) (i : ℕ) (d : A) → i < length xs → drop i xs ≡ getD xs i d ∷ drop (i + 1) xs
-next xs i d h = rw (drop-cons xs i d h, add-one i)
-
--- two lists that are compared place by place
-module _ {A : Type 0} (same : A → A → Bool) (xs ys : List A) (i : ℕ) where
-  pub same-turn :
-      (d : A) → i < length xs → i < length ys →
-      sameBy same (drop i xs) (drop i ys) ≡ (same (getD xs i d) (getD ys i d) && sameBy same (drop (i + 1) xs) (drop (i + 1) ys))
-  same-turn d h k = rw (next xs i d h, next ys i d k)
-
-  pub same-stop : length xs ≤ i → length ys ≤ i → sameBy same (drop i xs) (drop i ys) ≡ true
-  same-stop h k = rw (drop-of-length-le xs {i = i} h, drop-of-length-le ys {i = i} k)
 
 -- it does not matter what a read past the end would give
 pub read-any : {A : Type 0} (xs : List A) (i : ℕ) (d e : A) → i < length xs → getD xs i d ≡ getD xs i e

@@ -6,10 +6,10 @@ use mathlib.Core.List.{List, [], _∷_, _++_, List·Memᴰ}
 use mathlib.Core.Option.{Option, none, some}
 use lib.ListN.{length}
 use Rattle.usage.specs.Usage.{listed, knownType, usageOf, entryAt, entrySays}
-use Rattle.keys.specs.Key.{inLimits, sameKey, covers, coverageOf, coverageSays, foundKey}
+use Rattle.link_key.specs.Key.{inLimits, sameKey, covers, coverageOf, coverageSays, foundKey}
 use Rattle.keys.specs.KeySet.{keysOf, noKeys, has, allowed, allowedSet, noneTwice, allInLimits, sameKeys, shares, Apart, Covers}
 use Rattle.keys.specs.KeySet.{firstCover, findKey}
-use Rattle.keys.specs.declared.key.Key.{Key}
+use Rattle.link_key.specs.declared.Key.{Key}
 use Rattle.keys.specs.declared.key_set.KeySet.{KeySet}
 use Rattle.usage.specs.declared.Coverage.the-variants.{Covered}
 

@@ -6,9 +6,10 @@ use mathlib.Core.List.{List, [], _∷_, List·Memᴰ}
 use mathlib.Core.Option.{Option}
 use lib.Dec.{leb, eqb}
 use lib.ListN.{length, take, replicate}
-use Rattle.keys.specs.Lists.{anyOf, allOf, firstOf, sameBy}
-use Rattle.keys.specs.Key.{noKey, inLimits, sameKey, covers}
-use Rattle.keys.specs.declared.key.Key.{Key}
+use Rattle.link_key.specs.Same.{sameBy}
+use Rattle.keys.specs.Lists.{anyOf, allOf, firstOf}
+use Rattle.link_key.specs.Key.{noKey, inLimits, sameKey, covers}
+use Rattle.link_key.specs.declared.Key.{Key}
 use Rattle.keys.specs.declared.key_set.KeySet.{KeySet}
 
 -- the keys of a set

@@ -1,4 +1,3 @@
 pub mod Lists
-pub mod Key
 pub mod KeySet
 pub mod KeyLaws

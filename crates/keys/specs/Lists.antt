@@ -18,10 +18,3 @@ module _ {A : Type 0} where
   abbrev pub firstOf : (A → Bool) → List A → Option A
   firstOf test [] = none
   firstOf test (x ∷ xs) = cond (test x) (some x) (firstOf test xs)
-
-  -- two lists are the same, element by element
-  abbrev pub sameBy : (A → A → Bool) → List A → List A → Bool
-  sameBy same [] [] = true
-  sameBy same [] (y ∷ ys) = false
-  sameBy same (x ∷ xs) [] = false
-  sameBy same (x ∷ xs) (y ∷ ys) = (same x y && sameBy same xs ys)

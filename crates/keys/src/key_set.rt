@@ -1,14 +1,14 @@
 // A set of link-layer keys: the first `count` keys of eight places, in the order of the payload that held them.
-use crate::key::FoundKey;
-use crate::key::Key;
-use crate::key::no_key;
+use link_key::FoundKey;
+use link_key::Key;
+use link_key::no_key;
 ghost use mathlib.Core.Path.{_≡_};
 ghost use Prim.Native.Nat.{_≤_};
 ghost use mathlib.Core.Bool.{_&&_};
 ghost use mathlib.Core.Option.{none};
 ghost use lib.ListN.{length, drop, getD};
 ghost use Rattle.keys.specs.KeySet.{keysOf, noKeys, has, allInLimits, noneTwice, allowedSet, sameKeys, shares, findKey, firstCover};
-ghost use Rattle.keys.specs.Key.{noKey, foundKey, sameKey};
+ghost use Rattle.link_key.specs.Key.{noKey, foundKey, sameKey};
 
 pub struct KeySet {
     // How many keys the set has; 0 is no set.

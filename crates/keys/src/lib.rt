@@ -1,9 +1,6 @@
-// Link-layer keys and key sets, which the objects and the node share.
-pub mod key;
+// Sets of link-layer keys, which the objects and the node share.
 pub mod key_set;
 
-pub use key::FoundKey;
-pub use key::Key;
 pub use key_set::KeySet;
 ghost use Rattle.keys.specs.KeyLaws.{KeyLaws};
 

@@ -7,9 +7,9 @@ use mathlib.Core.List.{_++_, List·Memᴰ·not-nil, List·Memᴰ·append-cases}
 use mathlib.Core.Logic.{inl, inr, ⊎-elim}
 use lib.Dec.{lit<}
 use Rattle.refusal.specs.declared.Refusal.the-variants as refusal
-use Rattle.keys.specs.Key.{inLimits, sameKey, covers}
+use Rattle.link_key.specs.Key.{inLimits, sameKey, covers}
 use Rattle.keys.specs.KeySet.{allowed, allowedSet, Apart}
-use Rattle.keys.specs.declared.key.Key.{Key}
+use Rattle.link_key.specs.declared.Key.{Key}
 use Rattle.cbor.specs.Decode.{payload, decodeBy, heading, argument, next, digits, members, pairs, majorOf}
 use Rattle.cbor.specs.Encode.{bytesOf, infoOf, extraOf, shortest}
 use Rattle.cojp.specs.Octets.{padded, octetsJudged}

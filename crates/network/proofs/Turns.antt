@@ -8,8 +8,8 @@ use mathlib.Core.List.{List·Memᴰ}
 use Rattle.refusal.specs.declared.Verdict.{Verdict}
 use Rattle.refusal.specs.declared.Verdict.the-variants as verdict
 use Rattle.refusal.specs.declared.Verdict.the-variants.{Accepted}
-use Rattle.keys.specs.Key.{sameKey}
-use Rattle.keys.specs.declared.key.Key.{Key}
+use Rattle.link_key.specs.Key.{sameKey}
+use Rattle.link_key.specs.declared.Key.{Key}
 use Rattle.node.specs.Node.{activeOf, pendingOf}
 use Rattle.node.specs.Range.{Valid}
 use Rattle.node.specs.Frames.{send, afterSend, receive, verified}

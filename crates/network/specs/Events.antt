@@ -5,7 +5,7 @@ use mathlib.Core.List.{List, [], _∷_, List·Memᴰ}
 use lib.ListN.{length}
 use Rattle.refusal.specs.declared.Refusal.{Refusal}
 use Rattle.refusal.specs.declared.Verdict.the-variants.{Accepted, Refused}
-use Rattle.keys.specs.declared.key.Key.{Key}
+use Rattle.link_key.specs.declared.Key.{Key}
 use Rattle.node_laws.specs.Calls.{NodeCall, starting, polling, delivering, asking, sending, receiving, reporting, perform}
 use Rattle.node.specs.Frames.{send}
 use Rattle.key_sets.specs.declared.frames.KeyAnswer.{KeyAnswer}

@@ -5,7 +5,7 @@ use mathlib.Core.List.{List}
 use lib.Dec.{leb, eqb}
 use Rattle.refusal.specs.declared.Refusal.the-variants.{Range}
 use Rattle.refusal.specs.declared.Verdict.the-variants as verdict
-use Rattle.keys.specs.declared.key.Key.{Key}
+use Rattle.link_key.specs.declared.Key.{Key}
 use Rattle.key_sets.specs.Sets.{activeIn, pendingIn, noSets}
 use Rattle.key_sets.specs.declared.sets.KeySets.{KeySets}
 use Rattle.joining.specs.Attempt.{idle}

@@ -13,7 +13,7 @@ use Rattle.refusal.specs.declared.Refusal.the-variants as refusal
 use Rattle.refusal.specs.declared.Verdict.{Verdict}
 use Rattle.refusal.specs.declared.Verdict.the-variants as verdict
 use Rattle.keys.specs.KeySet.{noKeys, allowedSet}
-use Rattle.keys.specs.declared.key.Key.{Key}
+use Rattle.link_key.specs.declared.Key.{Key}
 use Rattle.keys.specs.declared.key_set.KeySet.{KeySet}
 use Rattle.key_sets.specs.Sets.{twoSets, placed, install}
 use Rattle.key_sets.specs.Sets as sets
@@ -46,7 +46,7 @@ use Rattle.node.specs.declared.delivery.Delivered.{Delivered}
 use Rattle.held.specs.declared.reports.Reports.{Reports}
 use Rattle.held.specs.declared.octets.HeldOctets.{HeldOctets}
 use Rattle.node.specs.declared.node.Node.{Node}
-use Rattle.keys.proofs.Tests.{all-four, first, second, third, fourth, both}
+use Rattle.link_key.proofs.Tests.{all-four, first, second, third, fourth, both}
 use Rattle.node_laws.proofs.Valid.{keys-fit, attempt-fits, address-fits, others-fit, valid-by}
 use Rattle.node_laws.proofs.Reading.{InRange, read-in-range}
 

@@ -7,9 +7,9 @@ use mathlib.Core.Logic.{_⊎_, inl, inr, ⊎-elim}
 use mathlib.Core.List.{List, List·Memᴰ}
 use Rattle.refusal.specs.declared.Refusal.the-variants as refusal
 use Rattle.refusal.specs.declared.Verdict.the-variants as verdict
-use Rattle.keys.specs.Key.{covers}
+use Rattle.link_key.specs.Key.{covers}
 use Rattle.keys.specs.KeySet.{Covers}
-use Rattle.keys.specs.declared.key.Key.{Key}
+use Rattle.link_key.specs.declared.Key.{Key}
 use Rattle.key_sets.specs.Frames.{withKey, withoutKey, sendingKey, receivingKey, hears, switched}
 use Rattle.key_sets.specs.declared.frames.Change.the-variants as change
 use Rattle.key_sets.specs.declared.frames.KeyAnswer.{KeyAnswer}

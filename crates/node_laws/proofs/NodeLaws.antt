@@ -5,7 +5,7 @@ use mathlib.Core.Logic.{_⊎_, ⊎-elim}
 use mathlib.Core.List.{[]}
 use borrow.Author.Tests.{eq-eqb}
 use Rattle.keys.specs.KeySet.{Apart}
-use Rattle.keys.proofs.Keys.{same-key-self}
+use Rattle.link_key.proofs.Keys.{same-key-self}
 use Rattle.keys.proofs.KeySets.{shares-apart}
 use Rattle.key_sets.proofs.Fits.{sets-apart, border-empty}
 use Rattle.node.specs.Node.{activeOf, pendingOf, isBorder}

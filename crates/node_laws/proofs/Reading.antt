@@ -16,12 +16,12 @@ use Rattle.cbor.specs.Item.{Item, Pairs, unsigned, negative, bytes, text, array
 use Rattle.cbor.specs.View.{Plain, number, string, other, View, plain, list, labelOf, viewOf}
 use Rattle.cbor.specs.declared.value.Label.{Label}
 use Rattle.cbor.specs.declared.value.Label.the-variants as label
-use Rattle.keys.specs.Key.{noKey}
+use Rattle.link_key.specs.Key.{noKey}
 use Rattle.keys.specs.KeySet.{keysOf, allowed, allowedSet}
-use Rattle.keys.specs.declared.key.Key.{Key}
+use Rattle.link_key.specs.declared.Key.{Key}
 use Rattle.keys.specs.declared.key_set.KeySet.{KeySet}
 use Rattle.keys.proofs.KeySets.{allowed-few}
-use Rattle.keys.proofs.Lists.{both-left, both-right}
+use Rattle.link_key.proofs.Tests.{both-left, both-right}
 use Rattle.cojp.specs.Reading.{Reading, refused, read, onward, put, Judgement, broken, unfit, good, concluded}
 use Rattle.cojp.specs.Octets.{octetsJudged, octetsOf, octetsParameter, noOctetsParameter}
 use Rattle.cojp.specs.Address.{isAddress, addressBy, addressIn, addressJudged, addressOf, addressParameter, noAddressParameter}
@@ -35,7 +35,7 @@ use Rattle.cojp.specs.declared.octets.Octets.{Octets}
 use Rattle.cojp.specs.declared.report.Report.the-variants.{Taken, Discarded}
 use Rattle.cojp.specs.declared.walk.Standing.{Standing}
 use Rattle.cojp.specs.declared.walk.Standing.the-variants.{Unknown, Fresh, Again}
-use Rattle.keys.proofs.Tests.{both}
+use Rattle.link_key.proofs.Tests.{both}
 
 -- what is taken is in range
 pub record InRange (c : Configuration) : Type 0 where

@@ -12,7 +12,7 @@ use Rattle.refusal.specs.declared.Verdict.{Verdict}
 use Rattle.refusal.specs.declared.Verdict.the-variants as verdict
 use Rattle.cbor.specs.Answer.{Plan, refuse, emit, answer, after}
 use Rattle.cbor.specs.declared.write.Written.the-variants as w
-use Rattle.keys.specs.Key.{noKey}
+use Rattle.link_key.specs.Key.{noKey}
 use Rattle.key_sets.specs.Frames.{withoutKey, sendingKey, receivingKey, hears, changeVerdict}
 use Rattle.key_sets.specs.declared.frames.Change.the-variants as change
 use Rattle.key_sets.specs.declared.frames.KeyAnswer.{KeyAnswer}

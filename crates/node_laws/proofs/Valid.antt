@@ -7,7 +7,7 @@ use Rattle.held.specs.Lease.{addressInRange}
 use Rattle.node.specs.Node.{isBorder, clockOf}
 use Rattle.node.specs.Range.{othersFit, valid, Valid}
 use Rattle.node.specs.declared.node.Node.{Node}
-use Rattle.keys.proofs.Tests.{first, second, third, fourth, all-four}
+use Rattle.link_key.proofs.Tests.{first, second, third, fourth, all-four}
 
 module _ (n : Node) where
   abbrev keys : Bool

@@ -5,8 +5,8 @@ use mathlib.Core.List.{List, []}
 use Rattle.refusal.specs.declared.Refusal.{Refusal}
 use Rattle.refusal.specs.declared.Verdict.{Verdict}
 use Rattle.refusal.specs.declared.Verdict.the-variants.{Refused}
-use Rattle.keys.specs.Key.{noKey}
-use Rattle.keys.specs.declared.key.Key.{Key}
+use Rattle.link_key.specs.Key.{noKey}
+use Rattle.link_key.specs.declared.Key.{Key}
 use Rattle.node.specs.Node.{emptyNode, made}
 use Rattle.key_sets.specs.Frames.{changeVerdict}
 use Rattle.key_sets.specs.declared.frames.Change.{Change}

@@ -6,9 +6,9 @@ use mathlib.Core.Logic.{_⊎_}
 use mathlib.Core.List.{List, [], _∷_, List·Memᴰ}
 use Rattle.refusal.specs.declared.Refusal.{Refusal}
 use Rattle.refusal.specs.declared.Verdict.the-variants.{Accepted, Refused}
-use Rattle.keys.specs.Key.{covers, sameKey}
+use Rattle.link_key.specs.Key.{covers, sameKey}
 use Rattle.keys.specs.KeySet.{keysOf, Apart, Covers}
-use Rattle.keys.specs.declared.key.Key.{Key}
+use Rattle.link_key.specs.declared.Key.{Key}
 use Rattle.keys.specs.declared.key_set.KeySet.{KeySet}
 use Rattle.key_sets.specs.Frames.{withKey}
 use Rattle.key_sets.specs.declared.frames.Change.the-variants as change

@@ -1,7 +1,7 @@
 // How the desk tools write refusals, byte strings, keys and key sets (docs/TOOLS.md), after CBOR's diagnostic notation.
 use cojp::Octets;
-use keys::Key;
 use keys::KeySet;
+use link_key::Key;
 use refusal::Refusal;
 use text::output::Buffer;
 use text::output::Output;

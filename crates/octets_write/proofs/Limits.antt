@@ -10,11 +10,11 @@ use lib.ListN.{length, take, length-append, length-take}
 use Rattle.cbor.specs.Encode.{shortest, encode, encodes, encodePairs, extraOf}
 use Rattle.cbor.specs.Item.{Item, Items, Pairs, unsigned, bytes, array, none, more, empty, pair, count, countPairs, depth, depths, depthPairs, Fit, Fits, FitPairs}
 use Rattle.cbor.proofs.Writing.{length-head, short-head, byte-head, extra-most, length-string}
-use Rattle.keys.specs.Key.{inLimits}
+use Rattle.link_key.specs.Key.{inLimits}
 use Rattle.keys.specs.KeySet.{keysOf, allowedSet}
 use Rattle.usage.specs.Usage.{listed}
-use Rattle.keys.specs.declared.key.Key.{Key}
-use Rattle.keys.proofs.Lists.{both-left, both-right}
+use Rattle.link_key.specs.declared.Key.{Key}
+use Rattle.link_key.proofs.Tests.{both-left, both-right}
 use Rattle.keys.proofs.KeySets.{set-allowed, allowed-few, allowed-in-limits}
 use Rattle.cojp.specs.Address.{isAddress}
 use Rattle.cojp.specs.Octets.{bytesIn}

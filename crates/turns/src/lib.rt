@@ -1,6 +1,6 @@
 // Turns carried out: one node is asked to send a frame, another hears it.
 use key_sets::Change;
-use keys::Key;
+use link_key::Key;
 use network::Answer;
 use network::Turned;
 use node::Node;

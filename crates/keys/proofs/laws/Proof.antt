@@ -1,6 +1,6 @@
 -- `laws` meets its contract: each law is one of the law files'.
-use Rattle.keys.proofs.Keys.{entry-says, coverage-says, found-some, found-none, coverage-covered, covers-known-type, covers-listed, same-key-self}
-use Rattle.keys.proofs.Keys.{same-key-equal}
+use Rattle.link_key.proofs.Keys.{entry-says, coverage-says, found-some, found-none, coverage-covered, covers-known-type, covers-listed, same-key-self}
+use Rattle.link_key.proofs.Keys.{same-key-equal}
 use Rattle.keys.proofs.KeySets.{same-keys-self, same-keys-equal, has-none, none-has, shares-apart, apart-shares, shares-turned}
 use Rattle.keys.proofs.KeySets.{has-append, limits-append, none-twice-append, one-of-a-name, cover-found, cover-finds, find-found}
 use Rattle.keys.proofs.KeySets.{find-own, find-none, none-find, allowed-none-twice, allowed-in-limits, allowed-some, allowed-few}

@@ -1,7 +1,7 @@
 -- `may_come` meets its contract: each test of the code is one of the definition's.
 use borrow.Author.Needs.{needs}
 use borrow.Author.Tests.{le-leb, lt-leb}
-use Rattle.keys.proofs.Tests.{is-false, is-true}
+use Rattle.link_key.proofs.Tests.{is-false, is-true}
 use Rattle.calls.specs.Call.{mayCome}
 use Rattle.calls.proofs.Call.may_come.Statement.{statement}
 use Rattle.calls.proofs.Call.may_come.Tie as tie

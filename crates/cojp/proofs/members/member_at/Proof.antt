@@ -1,5 +1,7 @@
--- Each arm answers as the laws of Arrays say of the value.
-use Rattle.cojp.proofs.Arrays.{member-none, member-number, member-bytes, member-neither}
+-- Each arm answers what the value is as a member.
+use mathlib.Core.Path.{ap}
+use Rattle.cojp.specs.Bytes.{memberOf}
+use Rattle.cojp.proofs.Arrays.{member-none, member-some, member-neither}
 use borrow.Author.Needs.{needs}
 use Rattle.cojp.proofs.members.member_at.Statement.{statement}
 use Rattle.cojp.proofs.members.member_at.Tie as tie
@@ -22,13 +24,13 @@ returns-2 : tie.Need-returns-2
 returns-2 c =
     let a = c .before .before .before .before .before .before .args in
     let v = c .before .before .before .value-at in
-    member-number (a .s .now) (a .at) (a .left) (c .before .before .before .before .if1 .left) (v .result) (v .ensures) (c .before .v .given .0 .0) (c .before .v .given .0 .1 .0) (c .before .v .given .1)
+    member-some (a .s .now) (a .at) (a .left) (c .before .before .before .before .if1 .left) (v .result) (v .ensures) _ (ap memberOf (c .before .v .given .1))
 
 returns-3 : tie.Need-returns-3
 returns-3 c =
     let a = c .before .before .before .before .before .before .args in
     let v = c .before .before .before .value-at in
-    member-bytes (a .s .now) (a .at) (a .left) (c .before .before .before .before .if1 .left) (v .result) (v .ensures) (c .before .v2 .given .0 .0) (c .before .v2 .given .0 .1 .0) (c .before .v2 .given .1)
+    member-some (a .s .now) (a .at) (a .left) (c .before .before .before .before .if1 .left) (v .result) (v .ensures) _ (ap memberOf (c .before .v2 .given .1))
 
 returns-4 : tie.Need-returns-4
 returns-4 c =

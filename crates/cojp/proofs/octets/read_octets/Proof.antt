@@ -1,7 +1,7 @@
 -- The length decides.
 use mathlib.Core.Path.{refl, ap, _∙_}
 use Rattle.cojp.specs.Octets.{octetsAnswer}
-use Rattle.cojp.proofs.Strings.{string-inside, octets-few, octets-many, octets-taken, octets-broken}
+use Rattle.cojp.proofs.Strings.{octets-few, octets-many, octets-taken, octets-broken}
 use borrow.Author.Needs.{needs}
 use Rattle.cojp.proofs.octets.read_octets.Statement.{statement}
 use Rattle.cojp.proofs.octets.read_octets.Tie as tie
@@ -33,11 +33,7 @@ returns-2 c =
     c .discarded2 .ensures ∙ ap octetsAnswer (octets-many (a .s .now) (a .at) (a .least) (v .result) (v .ensures) (g .0 .0) (g .0 .1 .0) (g .1) _ refl (c .before .before .if1 .left) (c .before .if2 .taken))
 
 copied-requires : tie.Need-copied-requires
-copied-requires c κs =
-    let a = c .before .before .before .before .before .before .before .args in
-    let v = c .before .before .before .before .before .value-at in
-    let g = c .before .before .before .v .given in
-    (c .if2 .left, string-inside (a .s .now) (a .at) (a .least) (v .result) (v .ensures) (g .0 .0) (g .0 .1 .0) (g .1))
+copied-requires c κs = search needs
 
 no-octets-requires : tie.Need-no-octets-requires
 no-octets-requires c κs = search needs

@@ -1,6 +1,6 @@
 -- `in_range` meets its contract: each test of the code is one of the definition's.
 use borrow.Author.Needs.{needs}
-use Rattle.keys.proofs.Tests.{is-false, is-true}
+use Rattle.link_key.proofs.Tests.{is-false, is-true}
 use Rattle.held.proofs.address.HeldAddress.in_range.Statement.{statement}
 use Rattle.held.proofs.address.HeldAddress.in_range.Tie as tie
 

@@ -2,7 +2,7 @@
 use borrow.Author.Needs.{needs}
 use borrow.Author.Tests.{le-leb, lt-leb}
 use Rattle.joining.specs.Attempt.{mayStart}
-use Rattle.keys.proofs.Tests.{is-false, is-true}
+use Rattle.link_key.proofs.Tests.{is-false, is-true}
 use Rattle.joining.proofs.attempt.Attempt.may_start.Statement.{statement}
 use Rattle.joining.proofs.attempt.Attempt.may_start.Tie as tie
 

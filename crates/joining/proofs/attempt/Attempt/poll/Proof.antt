@@ -3,7 +3,7 @@ use borrow.Author.Needs.{needs}
 use borrow.Author.Tests.{le-leb, lt-leb}
 use Rattle.joining.specs.Poll.{poll}
 use Rattle.joining.proofs.Attempts.{sent-before, timeout-small}
-use Rattle.keys.proofs.Tests.{denied, granted}
+use Rattle.link_key.proofs.Tests.{denied, granted}
 use Rattle.joining.proofs.attempt.Attempt.poll.Statement.{statement}
 use Rattle.joining.proofs.attempt.Attempt.poll.Tie as tie
 

@@ -5,7 +5,7 @@ use mathlib.Core.Logic.{⊎-elim}
 use borrow.Author.Needs.{needs}
 use Rattle.keys.specs.KeySet.{shares}
 use Rattle.key_sets.specs.Sets.{activeIn, pendingIn, setInRange, fits}
-use Rattle.keys.proofs.Tests.{and-next, and-stops}
+use Rattle.link_key.proofs.Tests.{and-next, and-stops}
 use Rattle.key_sets.proofs.sets.KeySets.fit.Statement.{statement}
 use Rattle.key_sets.proofs.sets.KeySets.fit.Tie as tie
 

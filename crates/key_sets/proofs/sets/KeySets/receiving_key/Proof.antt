@@ -8,7 +8,7 @@ use lib.Dec.{eqb}
 use Rattle.usage.specs.Usage.{knownType}
 use Rattle.key_sets.specs.Frames.{heldKey, receivingKey}
 use Rattle.key_sets.proofs.Answers.{key-covers, key-silent}
-use Rattle.keys.proofs.Tests.{is-false, is-true}
+use Rattle.link_key.proofs.Tests.{is-false, is-true}
 use Rattle.key_sets.proofs.sets.KeySets.receiving_key.Statement.{statement}
 use Rattle.key_sets.proofs.sets.KeySets.receiving_key.Tie as tie
 

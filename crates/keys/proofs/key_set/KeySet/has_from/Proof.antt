@@ -3,7 +3,7 @@ use mathlib.Core.Path.{_∙_, ap}
 use borrow.Author.Needs.{needs}
 use lib.ListN.{drop}
 use Rattle.keys.specs.KeySet.{keysOf}
-use Rattle.keys.specs.declared.key.FoundKey.{FoundKey}
+use Rattle.link_key.specs.declared.FoundKey.{FoundKey}
 use Rattle.keys.proofs.KeySets.{found-has}
 use Rattle.keys.proofs.key_set.KeySet.has_from.Statement.{statement}
 use Rattle.keys.proofs.key_set.KeySet.has_from.Tie as tie

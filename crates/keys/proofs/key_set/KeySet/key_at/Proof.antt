@@ -3,7 +3,7 @@ use mathlib.Core.Path.{_≡_, sym, _∙_}
 use native.Mathlib.Omega.{arith}
 use borrow.Author.Needs.{needs}
 use lib.ListN.{length, length-map, List·getD-eq-default}
-use Rattle.keys.specs.Key.{noKey}
+use Rattle.link_key.specs.Key.{noKey}
 use Rattle.keys.proofs.Places.{read-any}
 use Rattle.keys.proofs.key_set.KeySet.key_at.Statement.{statement}
 use Rattle.keys.proofs.key_set.KeySet.key_at.Tie as tie

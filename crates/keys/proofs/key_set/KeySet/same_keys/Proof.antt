@@ -5,10 +5,10 @@ use mathlib.Core.Path.{_≡_, refl, sym, _∙_}
 use borrow.Author.Needs.{needs}
 use borrow.Author.Tests.{not-true, not-false}
 use lib.ListN.{drop}
-use Rattle.keys.specs.Key.{sameKey}
+use Rattle.link_key.specs.Key.{sameKey}
 use Rattle.keys.specs.KeySet.{keysOf, sameKeys}
-use Rattle.keys.proofs.Lists.{differ}
-use Rattle.keys.proofs.Places.{same-keys-turn, same-stop}
+use Rattle.link_key.proofs.Same.{differ, same-stop}
+use Rattle.keys.proofs.Places.{same-keys-turn}
 use Rattle.keys.proofs.key_set.KeySet.same_keys.Statement.{statement}
 use Rattle.keys.proofs.key_set.KeySet.same_keys.Tie as tie
 

@@ -7,7 +7,7 @@ use mathlib.Core.Bool.{Bool}
 use mathlib.Core.List.{List}
 use lib.ListN.{drop}
 use Rattle.keys.specs.KeySet.{keysOf, shares}
-use Rattle.keys.specs.declared.key.Key.{Key}
+use Rattle.link_key.specs.declared.Key.{Key}
 use Rattle.keys.proofs.Places.{turn, stop}
 use Rattle.keys.proofs.key_set.KeySet.shares.Statement.{statement}
 use Rattle.keys.proofs.key_set.KeySet.shares.Tie as tie

@@ -2,7 +2,7 @@
 use mathlib.Core.Path.{_∙_}
 use borrow.Author.Needs.{needs}
 use Rattle.node.proofs.Applied.{apply-owed, apply-clash, apply-done}
-use Rattle.keys.proofs.Tests.{is-false, is-true}
+use Rattle.link_key.proofs.Tests.{is-false, is-true}
 use Rattle.node.proofs.node.Node.apply.Statement.{statement}
 use Rattle.node.proofs.node.Node.apply.Tie as tie
 

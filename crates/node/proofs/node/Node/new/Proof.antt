@@ -2,7 +2,7 @@
 use borrow.Author.Needs.{needs}
 use borrow.Author.Tests.{le-leb, lt-leb}
 use Rattle.node.specs.Node.{made}
-use Rattle.keys.proofs.Tests.{denied, granted}
+use Rattle.link_key.proofs.Tests.{denied, granted}
 use Rattle.node.proofs.node.Node.new.Statement.{statement}
 use Rattle.node.proofs.node.Node.new.Tie as tie
 

@@ -3,7 +3,7 @@ use mathlib.Core.Path.{_≡_, refl, sym, _∙_, ap}
 use mathlib.Core.Bool.{Bool, not, _&&_}
 use mathlib.Core.Logic.{⊎-elim}
 use borrow.Author.Needs.{needs}
-use Rattle.keys.proofs.Tests.{and-next, and-stops}
+use Rattle.link_key.proofs.Tests.{and-next, and-stops}
 use Rattle.node.specs.Node.{isBorder}
 use Rattle.calls.specs.Call.{asksIdentifier}
 use Rattle.calls.specs.declared.Call.{Call}

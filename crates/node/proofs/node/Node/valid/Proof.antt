@@ -4,7 +4,7 @@ use mathlib.Core.Bool.{Bool, _&&_}
 use mathlib.Core.Logic.{⊎-elim}
 use borrow.Author.Needs.{needs}
 use Rattle.key_sets.specs.Sets as sets
-use Rattle.keys.proofs.Tests.{and-next, and-stops}
+use Rattle.link_key.proofs.Tests.{and-next, and-stops}
 use Rattle.joining.specs.Attempt as attempt
 use Rattle.held.specs.Lease.{addressInRange}
 use Rattle.node.specs.Node.{isBorder, clockOf}

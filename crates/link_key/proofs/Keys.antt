@@ -1,0 +1,90 @@
+-- Laws of keys: two that agree are equal, and a key that covers a frame has a listed usage.
+use Prim.Native.Nat.{ℕ, _≤_}
+use native.Mathlib.Omega.{arith}
+use mathlib.Core.Path.{_≡_, refl}
+use mathlib.Core.Bool.{Bool, true, false, cond, _&&_}
+use mathlib.Core.List.{List}
+use mathlib.Core.Option.{Option, none, some}
+use borrow.Author.Tests.{leb-true, eqb-true, eq-eqb, le-leb}
+use lib.Dec.{eqb}
+use Rattle.refusal.specs.declared.Refusal.the-variants.{Range}
+use Rattle.usage.specs.Usage.{usageOf, familyOf, familyCovers, listed, knownType, entryAt, entrySays}
+use Rattle.link_key.specs.Key.{sameKey, sameValue, covers, coverageOf, coverageSays, foundKey}
+use Rattle.link_key.specs.declared.Key.{Key}
+use Rattle.usage.specs.declared.Coverage.the-variants.{Covered, Refused}
+use Rattle.usage.specs.declared.Entry.the-variants as entry
+use Rattle.usage.specs.declared.Usage.{Usage}
+use Rattle.usage.specs.declared.Family.{Family}
+use Rattle.usage.specs.declared.Family.the-variants.{K1K2Encrypted, K1K2, K1, K2, K2Encrypted}
+use Rattle.link_key.proofs.Tests.{both-left, both-right}
+use Rattle.link_key.proofs.Same.{same-self, same-equal}
+
+pub same-key-self : (k : Key) → sameKey k k ≡ true
+unfolding sameKey
+same-key-self k =
+    rw (eq-eqb (k .identifier) (k .identifier) refl, eq-eqb (k .usage) (k .usage) refl, same-self eqb (λ n. eq-eqb n n refl) (k .value))
+
+abbrev keyOf : ℕ → ℕ → List ℕ → Key
+keyOf i u v = record { identifier = i; usage = u; value = v }
+
+alike : {i j t u : ℕ} {v w : List ℕ} → i ≡ j → t ≡ u → v ≡ w → keyOf i t v ≡ keyOf j u w
+alike p q r = rw (p, q, r)
+
+pub same-key-equal : (k l : Key) → sameKey k l ≡ true → k ≡ l
+unfolding sameKey
+same-key-equal k l e =
+    let names = eqb (k .identifier) (l .identifier) in
+    let usages = eqb (k .usage) (l .usage) in
+    let front : (names && usages) ≡ true = both-left (names && usages) (sameValue (k .value) (l .value)) e in
+    let i : k .identifier ≡ l .identifier = eqb-true _ _ (both-left names usages front) in
+    let u : k .usage ≡ l .usage = eqb-true _ _ (both-right names usages front) in
+    let values = both-right (names && usages) (sameValue (k .value) (l .value)) e in
+    let v : k .value ≡ l .value = same-equal eqb eqb-true (k .value) (l .value) values in
+    alike i u v
+
+known-type : (f : Family) (type : ℕ) → familyCovers f type ≡ true → type ≤ 1
+known-type K1K2Encrypted type e = leb-true type 1 e
+known-type K1K2 type e = leb-true type 1 e
+known-type K1 type e = omega (arith, eqb-true type 0 e)
+known-type K2 type e = omega (arith, eqb-true type 1 e)
+known-type K2Encrypted type e = omega (arith, eqb-true type 1 e)
+
+pub covers-known-type : (k : Key) (type : ℕ) → covers k type ≡ true → type ≤ 1
+unfolding covers
+covers-known-type k type e =
+    known-type (familyOf (k .usage)) type (both-right (listed (k .usage)) (familyCovers (familyOf (k .usage)) type) e)
+
+pub covers-listed : (k : Key) (type : ℕ) → covers k type ≡ true → k .usage ≤ 14
+unfolding covers
+covers-listed k type e = leb-true _ 14 (both-left (listed (k .usage)) (familyCovers (familyOf (k .usage)) type) e)
+
+pub coverage-covered : (k : Key) (type : ℕ) → type ≤ 1 → k .usage ≤ 14 → coverageOf k type ≡ Covered (covers k type)
+unfolding coverageOf
+coverage-covered k type h u = rw (le-leb type 1 h, le-leb (k .usage) 14 u)
+
+-- the answers in document 01's terms
+choose-entry : (b : Bool) (u : Usage) → entrySays (cond b (entry.Listed u) (entry.Refused Range)) ≡ cond b (0, some u) (13, none)
+choose-entry true u = refl
+choose-entry false u = refl
+
+pub entry-says : (usage : ℕ) → entrySays (entryAt usage) ≡ cond (listed usage) (0, some (usageOf usage)) (13, none)
+unfolding entryAt
+entry-says usage = choose-entry (listed usage) (usageOf usage)
+
+choose-coverage : (b c : Bool) → coverageSays (cond b (Covered c) (Refused Range)) ≡ cond b (0, some c) (13, none)
+choose-coverage true c = refl
+choose-coverage false c = refl
+
+pub coverage-says :
+    (k : Key) (type : ℕ) → coverageSays (coverageOf k type) ≡ cond (knownType type && listed (k .usage)) (0, some (covers k type)) (13, none)
+unfolding coverageOf
+coverage-says k type = choose-coverage (knownType type && listed (k .usage)) (covers k type)
+
+-- what a search gave
+pub found-some : (o : Option Key) → foundKey o .found ≡ true → o ≡ some (foundKey o .key)
+found-some none e = cc
+found-some (some k) e = refl
+
+pub found-none : (o : Option Key) → foundKey o .found ≡ false → o ≡ none
+found-none none e = refl
+found-none (some k) e = cc

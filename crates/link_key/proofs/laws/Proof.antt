@@ -1,0 +1,10 @@
+-- `laws` meets its contract: both laws are among the laws of keys.
+use Rattle.link_key.proofs.Keys.{same-key-self, same-key-equal}
+use Rattle.link_key.proofs.laws.Statement.{statement}
+use Rattle.link_key.proofs.laws.Tie as tie
+
+returns : tie.Need-returns
+returns c = record { same-key-self = same-key-self; same-key-equal = same-key-equal }
+
+pub laws-spec : {M : Type 1} → statement M
+laws-spec = tie.close (tie.spec returns)

@@ -1,0 +1,48 @@
+-- A link-layer key: its limits, when two are equal, and which frames it covers.
+use Prim.Native.Nat.{ℕ}
+use mathlib.Core.Bool.{Bool, true, false, cond, _&&_}
+use mathlib.Core.List.{List}
+use mathlib.Core.Option.{Option, none, some}
+use lib.Dec.{leb, eqb}
+use lib.ListN.{length, replicate}
+use Rattle.refusal.specs.Refusal.{numberOf}
+use Rattle.refusal.specs.declared.Refusal.the-variants.{Range}
+use Rattle.link_key.specs.Same.{sameBy}
+use Rattle.usage.specs.Usage.{familyOf, familyCovers, listed, knownType}
+use Rattle.link_key.specs.declared.Key.{Key}
+use Rattle.link_key.specs.declared.FoundKey.{FoundKey}
+use Rattle.usage.specs.declared.Coverage.{Coverage}
+use Rattle.usage.specs.declared.Coverage.the-variants as coverage
+
+-- all zero: what stands where there is no key
+abbrev pub noKey : Key
+noKey = record { identifier = 0; usage = 0; value = replicate 16 0 }
+
+-- a key that was looked for
+abbrev pub foundKey : Option Key → FoundKey
+foundKey none = record { found = false; key = noKey }
+foundKey (some k) = record { found = true; key = k }
+
+-- identifier 1 to 255, usage 0 to 14, value 16 bytes
+unfoldable pub inLimits : Key → Bool
+inLimits k = (leb 1 (k .identifier) && leb (k .identifier) 255 && listed (k .usage) && eqb (length (k .value)) 16)
+
+-- two keys are equal when identifier, usage and value are
+abbrev pub sameValue : List ℕ → List ℕ → Bool
+sameValue a b = sameBy eqb a b
+
+unfoldable pub sameKey : Key → Key → Bool
+sameKey k l = (eqb (k .identifier) (l .identifier) && eqb (k .usage) (l .usage) && sameValue (k .value) (l .value))
+
+-- the key covers the frame type; one whose usage is not listed covers none
+unfoldable pub covers : Key → ℕ → Bool
+covers k type = (listed (k .usage) && familyCovers (familyOf (k .usage)) type)
+
+-- the answer to the question whether it does
+unfoldable pub coverageOf : Key → ℕ → Coverage
+coverageOf k type = cond (knownType type && listed (k .usage)) (coverage.Covered (covers k type)) (coverage.Refused Range)
+
+-- the answer in document 01's terms: the refusal's number, 0 where there is none, and whether it covers, none where it is refused
+abbrev pub coverageSays : Coverage → ℕ × Option Bool
+coverageSays (coverage.Refused why) = (numberOf why, none)
+coverageSays (coverage.Covered answer) = (0, some answer)

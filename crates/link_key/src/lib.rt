@@ -1,0 +1,105 @@
+// A link-layer key: its limits, when two are equal, and which frames it covers.
+use refusal::Refusal;
+use usage::Coverage;
+use usage::Entry;
+use usage::entry_at;
+ghost use mathlib.Core.Path.{_≡_};
+ghost use Rattle.link_key.specs.Key.{noKey, inLimits, sameKey, sameValue, covers, coverageOf};
+ghost use Rattle.link_key.specs.Laws.{SameKeyLaws};
+
+pub struct Key {
+    // The key index that frames carry.
+    pub identifier: u8,
+    // The number of its entry in the usage list.
+    pub usage: u8,
+    pub value: [u8; 16],
+}
+
+// What a search for a key gives. The key is all zero where none was found.
+pub struct FoundKey {
+    pub found: bool,
+    pub key: Key,
+}
+
+// The key that is all zero, which stands where there is none.
+pub fn no_key() -> Key
+    ensures { λ r. ⌜ r ≡ noKey ⌝ }
+{
+    Key {
+        identifier: 0,
+        usage: 0,
+        value: [0u8; 16],
+    }
+}
+
+impl Key {
+    // Whether identifier and usage are within document 01's limits; the value has 16 bytes by its type.
+    pub fn in_limits(self) -> bool
+        ensures { λ r. ⌜ r ≡ inLimits self ⌝ }
+    {
+        if self.identifier == 0 {
+            return false;
+        }
+        self.usage <= 14
+    }
+
+    // Whether the key covers the frame type. A key whose usage is not listed covers none.
+    pub fn covers(self, frame_type: u8) -> bool
+        ensures { λ r. ⌜ r ≡ covers self «frame_type» ⌝ }
+    {
+        match entry_at(self.usage) {
+            Entry::Refused(_) => false,
+            Entry::Listed(usage) => {
+                let family = usage.family;
+                family.covers_type(frame_type)
+            }
+        }
+    }
+
+    // The same question, with RANGE where the frame type is unknown or the key's usage is not listed.
+    pub fn coverage(self, frame_type: u8) -> Coverage
+        ensures { λ r. ⌜ r ≡ coverageOf self «frame_type» ⌝ }
+    {
+        if 1 < frame_type {
+            return Coverage::Refused(Refusal::Range);
+        }
+        if 14 < self.usage {
+            return Coverage::Refused(Refusal::Range);
+        }
+        Coverage::Covered(self.covers(frame_type))
+    }
+
+    // Whether two keys agree in identifier, usage and value.
+    pub fn same_key(self, other: Key) -> bool
+        ensures { λ r. ⌜ r ≡ sameKey self other ⌝ }
+    {
+        if self.identifier != other.identifier {
+            return false;
+        }
+        if self.usage != other.usage {
+            return false;
+        }
+        let mine = self.value;
+        let theirs = other.value;
+        same_value(mine, theirs)
+    }
+}
+
+// Whether two key values agree byte by byte.
+fn same_value(a: [u8; 16], b: [u8; 16]) -> bool
+    ensures { λ r. ⌜ r ≡ sameValue a b ⌝ }
+{
+    let mut i: usize = 0;
+    while i < 16 {
+        if a[i] != b[i] {
+            return false;
+        }
+        i += 1;
+    }
+    true
+}
+
+// What the layers above may rely on of equal keys.
+pub fn laws()
+    ensures { λ r. ⌜ SameKeyLaws ⌝ }
+{}
