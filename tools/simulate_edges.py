@@ -1,10 +1,13 @@
 #!/usr/bin/env python3
-"""Adds to crates/simulate/stdin and stdout, after the vectors, the story examples/rekey.txt with the answers that stand in it, and lines at the
-edges of the tool's rules: missing and extra words, numbers and bytes around their limits, `-`, lines far longer than any buffer.
+"""Adds to crates/simulate/stdin and stdout, after the vectors, the story examples/rekey.txt with the answers that stand in it, the networks of
+tools/rekey.py, and lines at the edges of the tool's rules: missing and extra words, numbers and bytes around their limits, `-`, lines far longer
+than any buffer.
 
 What they are answered follows from the rules of the desk tools and document 01, by hand: nothing is taken from the program.
 """
 import os
+
+from rekey import networks
 
 MARK = b"# Lines of tools/simulate_edges.py\n"
 
@@ -112,7 +115,7 @@ def main():
         vectors = f.read().split(MARK)[0]
     with open(stdout, "rb") as f:
         answers = f.read().splitlines(keepends=True)[: sum(not is_silent(line) for line in vectors.split(b"\n"))]
-    every = list(story(os.path.join(root, "examples", "rekey.txt"))) + list(edges())
+    every = [*story(os.path.join(root, "examples", "rekey.txt")), *networks(), *edges()]
     with open(stdin, "wb") as f:
         f.write(vectors + MARK + b"\n".join(line.encode() for line, _ in every))
     with open(stdout, "wb") as f:

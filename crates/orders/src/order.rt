@@ -21,6 +21,11 @@ pub fn index(number: u64) -> usize
     (number % 16) as usize
 }
 
+// The number as a byte; an order's roles, frame types and identifiers are no larger.
+pub fn byte(number: u64) -> u8 {
+    (number % 256) as u8
+}
+
 pub enum Verb {
     // an empty line or a comment
     Nothing,

@@ -1,48 +1,16 @@
 // The desk tool simulate: up to 16 nodes, made and called by lines of standard input (docs/TOOLS.md).
 mod nodes;
 mod perform;
-mod reply;
-mod show;
 
 use nodes::load;
 use nodes::no_nodes;
 use nodes::obey;
+use orders::next_order;
 use orders::order::Made;
-use orders::order::Order;
-use orders::order::order_of;
-use reply::marked;
-use reply::put_answer;
+use replies::put_answer;
+use replies::reply::marked;
 use text::desk::Desk;
-use text::line::Form;
 use text::output::Buffer;
-
-// A command, two numbers, and a third or HEX.
-const FORM: Form = Form {
-    hex_at: 3,
-    is_word: true,
-};
-
-// What a line asks for, and the desk after it.
-struct Ordered {
-    desk: Desk,
-    order: Order,
-}
-
-// Reads the next line.
-fn next_order(
-    desk: Desk,
-    made: Made,
-    bytes: &mut Buffer,
-    payload: &mut [u8; 257],
-    buffer: &mut Buffer,
-) -> Ordered {
-    let asked = desk.next(FORM, bytes, payload, buffer);
-    let desk = asked.desk;
-    Ordered {
-        desk,
-        order: order_of(asked.line, made),
-    }
-}
 
 // Answers line after line until the input ends or nobody reads the answers.
 fn run(bytes: &mut Buffer, payload: &mut [u8; 257], buffer: &mut Buffer) {

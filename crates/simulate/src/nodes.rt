@@ -1,13 +1,16 @@
 // The nodes of a simulation, by number.
-use crate::perform::byte;
 use crate::perform::no_node;
 use crate::perform::perform;
-use crate::reply::Reply;
-use crate::reply::turn_reply;
+use network::Answer;
 use node::Node;
 use orders::order::Order;
 use orders::order::Verb;
+use orders::order::byte;
 use orders::order::index;
+use replies::Reply;
+use replies::reply::FAILED;
+use replies::reply::KEPT;
+use replies::reply::SWITCHED;
 use turns::turn;
 
 // The nodes 0 to 15; one that was not made stands there too, and no order names it.
@@ -19,21 +22,25 @@ pub struct Obeyed {
     pub reply: Reply,
 }
 
+// What stands there before any is made.
 pub fn no_nodes() -> Nodes {
     [no_node(); 16]
 }
 
+// The node with this number.
 pub fn load(nodes: Nodes, number: u64) -> Node {
     let at = index(number);
     nodes[at]
 }
 
+// The nodes with another one under this number.
 fn stored(mut nodes: Nodes, number: u64, node: Node) -> Nodes {
     let at = index(number);
     nodes[at] = node;
     nodes
 }
 
+// Carries the order out. A join request that is sent is written over the payload.
 pub fn obey(nodes: Nodes, order: Order, payload: &mut [u8; 257]) -> Obeyed {
     let verb = order.verb;
     if let Verb::Turn = verb {
@@ -59,5 +66,14 @@ fn between(nodes: Nodes, order: Order) -> Obeyed {
     Obeyed {
         nodes: stored(nodes, order.second, turned.hearer),
         reply: turn_reply(answer),
+    }
+}
+
+fn turn_reply(answer: Answer) -> Reply {
+    match answer {
+        Answer::Refused(refusal) => Reply::Refused(refusal),
+        Answer::Failed => Reply::Said(FAILED),
+        Answer::Kept => Reply::Said(KEPT),
+        Answer::Switched => Reply::Said(SWITCHED),
     }
 }

@@ -1,18 +1,21 @@
 // What a command does to one node, and what it is answered.
-use crate::reply::MADE;
-use crate::reply::Reply;
-use crate::reply::change_reply;
-use crate::reply::delivery_reply;
-use crate::reply::due_reply;
-use crate::reply::holding_reply;
-use crate::reply::start_reply;
 use cojp::Octets;
 use held::HeldOctets;
+use held::octets::absent_octets;
 use node::Delivered;
 use node::Node;
 use orders::order::Order;
 use orders::order::Verb;
+use orders::order::byte;
 use refusal::Verdict;
+use replies::Reply;
+use replies::reply::MADE;
+use replies::reply::change_reply;
+use replies::reply::delivery_reply;
+use replies::reply::due_reply;
+use replies::reply::holding_reply;
+use replies::reply::start_reply;
+use text::word::Word;
 
 // The node as the command left it, and what it is answered.
 pub struct Done {
@@ -26,51 +29,46 @@ fn with_reply(node: Node, reply: Reply) -> Done {
 
 // What stands for a node that was not made.
 pub fn no_node() -> Node {
-    let made = Node::new(0, identifier(b"", true));
+    let made = Node::new(0, absent_octets());
     made.node
 }
 
-// The bytes as a network identifier, or none. One of over 16 bytes is handed on by its length, for the library to refuse.
+// The bytes as a network identifier, or none. Over 16 of them count as 17, which the library refuses.
 fn identifier(payload: &[u8], none: bool) -> HeldOctets {
-    let len = payload.len();
-    let mut bytes = [0u8; 16];
-    let mut i = 0;
-    while i < len {
-        if 16 <= i {
-            break;
-        }
-        bytes[i] = payload[i];
-        i += 1;
-    }
+    let word = Word::new().more(payload);
+    let len = word.len;
+    let bytes = word.letters;
     HeldOctets {
         held: !none,
         value: Octets { len, bytes },
     }
 }
 
-// The first bytes of the payload's place.
-pub fn first<'a>(payload: &'a [u8; 257], len: usize) -> &'a [u8] {
-    let whole = &payload[..];
-    if whole.len() < len {
-        return whole;
-    }
-    &whole[0..len]
-}
-
-// The number as a byte; an order's roles, frame types and identifiers are no larger.
-pub fn byte(number: u64) -> u8 {
-    (number % 256) as u8
-}
-
 // The node after an order that names it. A join request that it sends is written over the payload.
 pub fn perform(node: Node, order: Order, payload: &mut [u8; 257]) -> Done {
     let verb = order.verb;
+    if let Verb::Start = verb {
+        return start(node, order, payload);
+    }
+    call(node, order, text::first(payload, order.len))
+}
+
+fn start(node: Node, order: Order, request: &mut [u8; 257]) -> Done {
+    let started = node.start(request, order.second, order.third);
+    let verdict = started.verdict;
+    with_reply(started.node, start_reply(verdict, started.length))
+}
+
+// Any command but `start`; a question and a line that is no command leave the node.
+fn call(node: Node, order: Order, payload: &[u8]) -> Done {
+    let verb = order.verb;
     match verb {
-        Verb::Make => make(node, order, first(payload, order.len)),
-        Verb::Start => start(node, order, payload),
-        Verb::Answer => answer(node, order.second, first(payload, order.len)),
-        Verb::Update => update(node, order.second, first(payload, order.len)),
-        _ => call(node, order),
+        Verb::Make => make(node, order, payload),
+        Verb::Answer => delivered(node.join_answer(order.second, payload)),
+        Verb::Update => delivered(node.update(order.second, payload)),
+        Verb::Poll => poll(node, order.second),
+        Verb::Verified => verified(node, order),
+        _ => with_reply(node, left(node, order)),
     }
 }
 
@@ -84,35 +82,9 @@ fn make(node: Node, order: Order, network: &[u8]) -> Done {
     }
 }
 
-fn start(node: Node, order: Order, request: &mut [u8; 257]) -> Done {
-    let started = node.start(request, order.second, order.third);
-    let verdict = started.verdict;
-    with_reply(started.node, start_reply(verdict, started.length))
-}
-
-fn answer(node: Node, time: u64, payload: &[u8]) -> Done {
-    delivered(node.join_answer(time, payload))
-}
-
-fn update(node: Node, time: u64, payload: &[u8]) -> Done {
-    delivered(node.update(time, payload))
-}
-
 fn delivered(delivered: Delivered) -> Done {
     let verdict = delivered.verdict;
     with_reply(delivered.node, delivery_reply(verdict, delivered.reports))
-}
-
-// A command without payload, a question, or a line that is no command.
-fn call(node: Node, order: Order) -> Done {
-    let verb = order.verb;
-    match verb {
-        Verb::Poll => poll(node, order.second),
-        Verb::Verified => verified(node, byte(order.second), byte(order.third)),
-        Verb::Holds => with_reply(node, holding_reply(node.address_holds(order.second))),
-        Verb::Wrong => with_reply(node, Reply::Said(order.fault)),
-        _ => with_reply(node, Reply::Asked),
-    }
 }
 
 fn poll(node: Node, time: u64) -> Done {
@@ -121,8 +93,18 @@ fn poll(node: Node, time: u64) -> Done {
     with_reply(polled.node, due_reply(due))
 }
 
-fn verified(node: Node, frame_type: u8, identifier: u8) -> Done {
-    let heard = node.verified(frame_type, identifier);
+fn verified(node: Node, order: Order) -> Done {
+    let heard = node.verified(byte(order.second), byte(order.third));
     let change = heard.change;
     with_reply(heard.node, change_reply(change))
+}
+
+// What is answered where the node is left as it is.
+fn left(node: Node, order: Order) -> Reply {
+    let verb = order.verb;
+    match verb {
+        Verb::Holds => holding_reply(node.address_holds(order.second)),
+        Verb::Wrong => Reply::Said(order.fault),
+        _ => Reply::Asked,
+    }
 }

@@ -1,5 +1,4 @@
 // The command `show I`: a node on one line.
-use cojp::ShortAddress;
 use held::HeldAddress;
 use held::HeldOctets;
 use joining::Phase;
@@ -11,6 +10,7 @@ use orders::fill::two_values;
 use text::output::Buffer;
 use text::output::Output;
 
+// Writes what the node is and holds.
 pub fn put_node(out: Output, node: Node, buffer: &mut Buffer) -> Output {
     let out = put_timing(out, node, buffer);
     let out = put_key_set(out, 0, node.sets.active, buffer);
@@ -48,21 +48,13 @@ fn phase_number(phase: Phase) -> u64 {
     }
 }
 
-// 1 for what is there.
-fn bit(there: bool) -> u64 {
-    if there {
-        return 1;
-    }
-    0
-}
-
 // The active key set, 0, or the pending one, 1.
 fn put_key_set(out: Output, which: u64, set: KeySet, buffer: &mut Buffer) -> Output {
     let held = set.count != 0;
     let out = put(
         out,
         b" {active|pending}={none|}",
-        two_values(which, bit(held)),
+        two_values(which, held as u64),
         buffer,
     );
     if held {
@@ -76,27 +68,19 @@ fn put_address(out: Output, address: HeldAddress, buffer: &mut Buffer) -> Output
     let out = put(
         out,
         b" address={none lease=none received=none|}",
-        one_value(bit(address.held)),
+        one_value(address.held as u64),
         buffer,
     );
-    if address.held {
-        return put_held_address(out, address.value, address.received, buffer);
+    if !address.held {
+        return out;
     }
-    out
-}
-
-fn put_held_address(
-    out: Output,
-    address: ShortAddress,
-    received: u64,
-    buffer: &mut Buffer,
-) -> Output {
-    let bytes = address.bytes;
+    let value = address.value;
+    let bytes = value.bytes;
     let out = out.octets(&bytes, buffer);
     put(
         out,
         b" lease={none|#} received=#",
-        [bit(address.leased), address.lease, received, 0, 0, 0],
+        [value.leased as u64, value.lease, address.received, 0, 0, 0],
         buffer,
     )
 }
@@ -106,7 +90,7 @@ fn put_octets(out: Output, which: u64, octets: HeldOctets, buffer: &mut Buffer) 
     let out = put(
         out,
         b" {jrc|network|prefix}={none|}",
-        two_values(which, bit(octets.held)),
+        two_values(which, octets.held as u64),
         buffer,
     );
     if octets.held {
