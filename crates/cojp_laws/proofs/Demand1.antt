@@ -9,7 +9,6 @@ use lib.ListN.{length, drop}
 use Rattle.refusal.specs.declared.Refusal.{Refusal}
 use Rattle.refusal.specs.declared.Refusal.the-variants.{Room}
 use Rattle.cbor.specs.Answer.{Plan, refuse, emit}
-use Rattle.cbor.specs.declared.write.Written.{Written}
 use Rattle.cbor.specs.declared.write.Written.the-variants.{Refused, Length}
 use Rattle.cojp.specs.Laws.{Unchanged, WritersDemand1}
 use Rattle.cojp.specs.Writing.{requestPlan, configurationPlan}

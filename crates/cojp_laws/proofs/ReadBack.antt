@@ -1,29 +1,29 @@
 -- What is written of each parameter is read as that parameter, and a map's pairs one after the other.
-use Prim.Native.Nat.{ℕ, _+_, _^_, _≤_, _<_}
-use mathlib.Core.Path.{_≡_, refl, ap, sym, _∙_}
-use mathlib.Core.Bool.{Bool, true, false, cond, _&&_}
-use mathlib.Core.List.{List, [], _∷_, _++_}
+use Prim.Native.Nat.{ℕ, _≤_}
+use mathlib.Core.Path.{_≡_, refl, ap, _∙_}
+use mathlib.Core.Bool.{Bool, true, false, cond}
+use mathlib.Core.List.{List, [], _∷_}
 use mathlib.Core.Option.{Option, none, some}
 use native.Mathlib.Omega.{arith}
-use borrow.Author.Tests.{le-ltb, le-leb, eq-eqb, leb-true, eqb-true}
-use lib.Dec.{eqb, leb}
-use lib.ListN.{length, take, length-take}
+use borrow.Author.Tests.{le-ltb, le-leb, eq-eqb, eqb-true}
+use lib.Dec.{eqb}
+use lib.ListN.{length, length-take}
 use lib.Seq.{take-append-seam, length-take-le}
 use Rattle.cbor.specs.Encode.{encode}
-use Rattle.cbor.specs.Item.{Item, Items, Pairs, unsigned, bytes, array, map, more, empty, pair}
-use Rattle.cbor.specs.View.{Plain, number, string, View, plain, list, labelOf, viewOf, plainsOf}
+use Rattle.cbor.specs.Item.{Item, Pairs, bytes, array, map, more, empty, pair}
+use Rattle.cbor.specs.View.{string, View, plain, labelOf, viewOf, plainsOf}
 use Rattle.cbor.proofs.RoundTrip.{read-payload}
-use Rattle.keys.specs.KeySet.{keysOf, allowed}
+use Rattle.keys.specs.KeySet.{keysOf}
 use Rattle.link_key.specs.declared.Key.{Key}
 use Rattle.keys.proofs.KeySets.{set-allowed}
 use Rattle.cojp.specs.Address.{addressOf, addressParameter, noAddressParameter, addressIn, addressRead}
-use Rattle.cojp.specs.KeySet.{keyOf, keySetOf, keysParameter, noKeysParameter, groups, groupsOf, group, keysRead}
+use Rattle.cojp.specs.KeySet.{keyOf, keySetOf, keysParameter, noKeysParameter, groups, groupsOf, keysRead}
 use Rattle.cojp.specs.Laws.{Kept}
 use Rattle.cojp.specs.Octets.{bytesIn, padded, octetsOf, octetsParameter, noOctetsParameter, octetsJudged, octetsRead}
 use Rattle.cojp.specs.Reading.{Reading, refused, read, onward, put, ifTaken}
 use Rattle.cojp.specs.Same.{octetsTaken, leaseOf, addressTaken, keysTaken}
 use Rattle.cojp.specs.Walk.{Form, pairRead, pairsRead, payloadRead}
-use Rattle.cojp.specs.Writing.{join, chain, labelled, leaseItems, usageItems, groupItems, groupsItems, octetsInRange, jrcInRange, addressInRange, keysInRange}
+use Rattle.cojp.specs.Writing.{join, labelled, leaseItems, groupsItems, octetsInRange, jrcInRange, addressInRange, keysInRange}
 use Rattle.cojp.specs.declared.address.AddressParameter.{AddressParameter}
 use Rattle.cojp.specs.declared.key_set.KeysParameter.{KeysParameter}
 use Rattle.cojp.specs.declared.octets.OctetsParameter.{OctetsParameter}

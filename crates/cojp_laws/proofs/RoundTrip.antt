@@ -1,6 +1,6 @@
 -- What is written of an object reads back as the same object: its parameters one after the other.
-use Prim.Native.Nat.{ℕ, zero, suc, _+_, _^_, _≤_, _<_}
-use mathlib.Core.Path.{_≡_, refl, ap, sym, _∙_}
+use Prim.Native.Nat.{ℕ, zero, suc, _^_, _≤_, _<_}
+use mathlib.Core.Path.{_≡_, refl, sym, _∙_}
 use mathlib.Core.Bool.{Bool, true, false, cond, not}
 use mathlib.Core.List.{List}
 use native.Mathlib.Omega.{arith}
@@ -10,17 +10,17 @@ use Rattle.refusal.specs.declared.Refusal.{Refusal}
 use Rattle.refusal.specs.declared.Refusal.the-variants.{Range, Owed}
 use Rattle.cbor.specs.Answer.{Plan, refuse, emit}
 use Rattle.cbor.specs.Encode.{encode}
-use Rattle.cbor.specs.Item.{Pairs, bytes, array, map}
+use Rattle.cbor.specs.Item.{bytes, array, map}
 use Rattle.keys.specs.KeySet.{keysOf}
 use Rattle.cojp.specs.Address.{noAddressParameter, addressRead}
 use Rattle.cojp.specs.Configuration.{emptyConfiguration, withKeys, withAddress, withJrc, withNetwork, withPrefix, configurationForm, configurationStanding, configurationTaking, acceptConfiguration, readConfiguration}
 use Rattle.cojp.specs.KeySet.{noKeysParameter, keysRead}
-use Rattle.cojp.specs.Laws.{RequestRoundTrip, RequestBack, ConfigurationRoundTrip, ConfigurationBack, LargestConfiguration}
+use Rattle.cojp.specs.Laws.{RequestRoundTrip, ConfigurationRoundTrip, LargestConfiguration}
 use Rattle.cojp.specs.Octets.{bytesIn, noOctetsParameter, octetsRead}
-use Rattle.cojp.specs.Reading.{Reading, read, ifTaken}
+use Rattle.cojp.specs.Reading.{read, ifTaken}
 use Rattle.cojp.specs.Request.{roleJudged, gathered, nothingGathered, withNetwork as withIdentifier, requestStanding, requestTaking, requestForm, owing, acceptRequest, readRequest}
 use Rattle.cojp.specs.Walk.{pairsRead}
-use Rattle.cojp.specs.Writing.{join, labelled, rolePairs, octetsPairs, addressPairs, keysPairs, groupsItems, requestPairs, requestInRange, requestPlan, configurationPairs, configurationInRange, configurationPlan}
+use Rattle.cojp.specs.Writing.{join, rolePairs, octetsPairs, addressPairs, keysPairs, groupsItems, requestPairs, requestInRange, requestPlan, configurationPairs, configurationInRange, configurationPlan}
 use Rattle.cojp.specs.declared.address.AddressParameter.{AddressParameter}
 use Rattle.cojp.specs.declared.configuration.Configuration.{Configuration}
 use Rattle.cojp.specs.declared.key_set.KeysParameter.{KeysParameter}

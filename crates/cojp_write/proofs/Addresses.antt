@@ -13,8 +13,6 @@ use Rattle.cojp.specs.Reading.{ifTaken}
 use Rattle.cojp.specs.Writing.{labelled, leaseItems, addressPairs}
 use Rattle.cojp.specs.declared.address.AddressParameter.{AddressParameter}
 use Rattle.cojp.specs.declared.address.ShortAddress.{ShortAddress}
-use Rattle.cojp.specs.declared.report.Report.{Report}
-use Rattle.cojp.specs.declared.report.Report.the-variants.{Taken}
 use Rattle.cojp_write.specs.Room.{addressItems, addressLength}
 use Rattle.octets_write.specs.Size.{ItemsSize, PairsSize}
 use Rattle.octets_write.specs.declared.size.Size.{Size}

@@ -1,5 +1,5 @@
 -- A key set's groups, written and counted key by key.
-use Prim.Native.Nat.{ℕ, suc, _+_, _*_, _-_, _≤_, _<_}
+use Prim.Native.Nat.{ℕ, _+_, _*_, _-_, _≤_, _<_}
 use mathlib.Core.Path.{_≡_, refl, ap, sym, _∙_}
 use mathlib.Core.Bool.{Bool, true, false, cond, not}
 use mathlib.Core.List.{List, [], _∷_, _++_, append-nil}
@@ -21,7 +21,7 @@ use Rattle.cojp.specs.declared.key_set.KeysParameter.{KeysParameter}
 use Rattle.cojp_write.specs.Room.{usedItems, keyLength, setLength}
 use Rattle.octets_write.specs.Size.{ItemsSize, PairsSize, Sum}
 use Rattle.octets_write.specs.declared.size.Size.{Size}
-use Rattle.octets_write.proofs.Joined.{chain-bytes, chain-count, chain-length, chain-assoc, chain-none, array-bytes, array-length}
+use Rattle.octets_write.proofs.Joined.{chain-bytes, chain-count, chain-length, chain-assoc, chain-none, array-bytes}
 use Rattle.octets_write.proofs.Limits.{string-length, fine-keys}
 use Rattle.octets_write.proofs.Sizes.{sizes-chain}
 use Rattle.cojp_range.proofs.Taken.{taken-is}

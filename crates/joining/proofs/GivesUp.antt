@@ -4,7 +4,7 @@ use native.Mathlib.Omega.{arith}
 use mathlib.Core.Path.{_≡_, refl, _∙_}
 use mathlib.Core.Bool.{true}
 use borrow.Author.Tests.{le-leb, lt-ltb, le-ltb}
-use lib.Dec.{leb, ltb}
+use lib.Dec.{leb}
 use Rattle.joining.specs.Attempt.{attempt, fits, waitingFrom}
 use Rattle.joining.specs.Poll.{step, stepped, poll, dueAt, AttemptGivesUp}
 use Rattle.joining.specs.declared.attempt.Attempt.{Attempt}

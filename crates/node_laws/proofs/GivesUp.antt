@@ -13,7 +13,6 @@ use Rattle.cojp.specs.Writing.{requestPlan}
 use Rattle.joining.specs.Attempt.{waitingFrom}
 use Rattle.joining.specs.Poll as attempt
 use Rattle.joining.specs.declared.attempt.Attempt.{Attempt}
-use Rattle.joining.specs.declared.poll.Due.{Due}
 use Rattle.joining.proofs.Attempts.{may-start}
 use Rattle.joining.proofs.GivesUp.{attempt-gives-up}
 use Rattle.node.specs.Range.{Valid}

@@ -10,7 +10,7 @@ use Rattle.keys.proofs.KeySets.{shares-apart}
 use Rattle.key_sets.proofs.Fits.{sets-apart, border-empty}
 use Rattle.node.specs.Node.{activeOf, pendingOf, isBorder}
 use Rattle.node.specs.Range.{Valid}
-use Rattle.node.specs.Frames.{afterSend, verified}
+use Rattle.node.specs.Frames.{afterSend}
 use Rattle.node_laws.specs.Calls.{NodeCall, starting, polling, delivering, asking, sending, receiving, reporting, perform}
 use Rattle.node_laws.specs.Laws.{Kept, NodeLaws}
 use Rattle.node.specs.declared.node.Node.{Node}

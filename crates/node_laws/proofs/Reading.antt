@@ -26,7 +26,7 @@ use Rattle.cojp.specs.Reading.{Reading, refused, read, onward, put, Judgement, 
 use Rattle.cojp.specs.Octets.{octetsJudged, octetsOf, octetsParameter, noOctetsParameter}
 use Rattle.cojp.specs.Address.{isAddress, addressBy, addressIn, addressJudged, addressOf, addressParameter, noAddressParameter}
 use Rattle.cojp.specs.KeySet.{Groups, notGroups, groupsOf, groups, keysIn, keysJudged, keySetOf, keysParameter}
-use Rattle.cojp.specs.Walk.{Form, knownRead, pairRead, pairsRead, mapRead, scannedRead, payloadRead}
+use Rattle.cojp.specs.Walk.{knownRead, pairRead, pairsRead, mapRead, scannedRead, payloadRead}
 use Rattle.cojp.specs.Configuration.{emptyConfiguration, withKeys, withAddress, withJrc, withNetwork, withPrefix, withPassed, configurationStanding, configurationTaking, configurationForm, configurationAnswer, readConfiguration}
 use Rattle.cojp.specs.Writing.{keysInRange, addressInRange, jrcInRange, octetsInRange}
 use Rattle.cojp.specs.declared.address.ShortAddress.{ShortAddress}

@@ -5,16 +5,14 @@ use native.Mathlib.Numerals.{add-one}
 use native.Mathlib.Nat.{add-zero, zero-add, min-eq-left, min-eq-right, mod-eq-of-lt}
 use mathlib.Core.Path.{_≡_, refl, sym, ap, _∙_}
 use mathlib.Core.Bool.{Bool, true, false, cond, not, _&&_, _||_}
-use mathlib.Core.List.{List, [], _∷_, _++_}
+use mathlib.Core.List.{List, [], _∷_}
 use borrow.Author.Tests.{lt-ltb, le-ltb, ne-eqb, leb-true, ltb-true, ltb-false}
 use lib.Dec.{leb, ltb, eqb, eqb→eq}
 use lib.ListN.{length, getD, drop, set, length-set, drop-of-length-le}
 use lib.Seq.{drop-cons, set-out, sets}
 use Rattle.numerals.proofs.Table.{at}
-use Rattle.numerals.specs.Hex.{Sign, Digit, Space, Stray, signOf, signAt, before, digitsOf, isStray, anyStray, bytesOf, isOdd, payloadOf, fresh, withDigit, storedDigit, withCharacter, stored, readOn, writtenOn, answerOf, HexIsBytes}
+use Rattle.numerals.specs.Hex.{Sign, Digit, Space, Stray, signOf, signAt, before, digitsOf, isStray, anyStray, bytesOf, isOdd, fresh, withDigit, storedDigit, withCharacter, stored, readOn, writtenOn, HexIsBytes}
 use Rattle.numerals.specs.declared.hex.Hex.{Hex}
-use Rattle.numerals.specs.declared.hex.Payload.{Payload}
-use Rattle.numerals.specs.declared.hex.Payload.the-variants.{Bytes, Fault}
 
 -- a digit's value is below 16
 

@@ -1,6 +1,6 @@
 -- Decimal numbers as the desk tools take them: digits alone, leading zeros at will, 0 to 2 ^ 64 - 1.
 use Prim.Native.Nat.{ℕ, _+_, _-_, _*_, _^_}
-use mathlib.Core.Bool.{Bool, true, false, cond, _&&_}
+use mathlib.Core.Bool.{Bool, true, cond, _&&_}
 use mathlib.Core.List.{List, [], _∷_}
 use lib.Dec.{leb, ltb}
 use Rattle.numerals.specs.declared.decimal.Decimal.{Decimal}

@@ -1,15 +1,15 @@
 -- Pairs and items one after the other: their bytes, how many they are, and how a destination holds them.
 use Prim.Native.Nat.{ℕ, suc, _+_, _-_, _≤_}
 use mathlib.Core.Path.{_≡_, refl, ap, sym, _∙_}
-use mathlib.Core.List.{List, [], _++_, append-assoc, append-nil}
+use mathlib.Core.List.{List, _++_, append-assoc, append-nil}
 use native.Mathlib.Omega.{arith}
 use native.Mathlib.Nat.{suc-add, zero-add}
 use lib.ListN.{length, take, drop, length-append}
 use Rattle.cbor.specs.Answer.{Did, Wrote, emit}
 use Rattle.cbor.specs.declared.write.Written.{Written}
 use Rattle.cbor.specs.Encode.{shortest, encode, encodes, encodePairs}
-use Rattle.cbor.specs.Item.{Item, Items, Pairs, none, more, empty, pair, array, map, count, countPairs}
-use Rattle.cbor.proofs.Writing.{seam, length-head, short-head}
+use Rattle.cbor.specs.Item.{Item, Items, Pairs, none, more, empty, pair, array, count, countPairs}
+use Rattle.cbor.proofs.Writing.{seam}
 use Rattle.cojp.specs.Writing.{join, chain, labelled}
 
 -- ---- pairs

@@ -1,22 +1,21 @@
 -- What is in range takes few bytes and few levels, and its numbers fit their heads.
-use Prim.Native.Nat.{ℕ, suc, _+_, _*_, _^_, _≤_, _<_, max}
-use mathlib.Core.Path.{_≡_, refl, ap, sym, _∙_}
+use Prim.Native.Nat.{ℕ, _+_, _*_, _^_, _≤_, _<_}
+use mathlib.Core.Path.{_≡_, refl, ap, _∙_}
 use mathlib.Core.Bool.{Bool, true, false, cond, _&&_}
-use mathlib.Core.List.{List, [], _∷_, _++_, append-nil, List·Memᴰ, List·Memᴰ·head, List·Memᴰ·tail}
+use mathlib.Core.List.{List, [], _∷_, append-nil, List·Memᴰ, List·Memᴰ·head, List·Memᴰ·tail}
 use native.Mathlib.Omega.{arith}
 use borrow.Author.Tests.{leb-true, eqb-true}
 use lib.Dec.{leb, eqb}
-use lib.ListN.{length, take, length-append, length-take}
-use Rattle.cbor.specs.Encode.{shortest, encode, encodes, encodePairs, extraOf}
+use lib.ListN.{length, length-append, length-take}
+use Rattle.cbor.specs.Encode.{shortest, encode, encodes, encodePairs}
 use Rattle.cbor.specs.Item.{Item, Items, Pairs, unsigned, bytes, array, none, more, empty, pair, count, countPairs, depth, depths, depthPairs, Fit, Fits, FitPairs}
-use Rattle.cbor.proofs.Writing.{length-head, short-head, byte-head, extra-most, length-string}
+use Rattle.cbor.proofs.Writing.{length-head, short-head, byte-head, extra-most}
 use Rattle.link_key.specs.Key.{inLimits}
-use Rattle.keys.specs.KeySet.{keysOf, allowedSet}
+use Rattle.keys.specs.KeySet.{keysOf}
 use Rattle.usage.specs.Usage.{listed}
 use Rattle.link_key.specs.declared.Key.{Key}
 use Rattle.link_key.proofs.Tests.{both-left, both-right}
 use Rattle.keys.proofs.KeySets.{set-allowed, allowed-few, allowed-in-limits}
-use Rattle.cojp.specs.Address.{isAddress}
 use Rattle.cojp.specs.Octets.{bytesIn}
 use Rattle.cojp.specs.Reading.{ifTaken}
 use Rattle.cojp.specs.Writing.{join, chain, labelled, rolePairs, octetsPairs, leaseItems, addressPairs, usageItems, groupItems, groupsItems, keysPairs, octetsInRange, jrcInRange, addressInRange, keysInRange, requestPairs, configurationPairs, requestInRange, configurationInRange}

@@ -1,11 +1,11 @@
 -- Sizes add up as what they are the sizes of is joined.
 use Prim.Native.Nat.{ℕ, _+_, _≤_}
-use mathlib.Core.Path.{_≡_, refl, ap, sym, _∙_}
+use mathlib.Core.Path.{_≡_, refl, ap}
 use mathlib.Core.Bool.{Bool, true, false}
 use mathlib.Core.List.{List, [], _++_, append-nil}
 use native.Mathlib.Omega.{arith}
 use lib.ListN.{length, length-append}
-use Rattle.cbor.specs.Encode.{encodes, encodePairs, extraOf, shortest}
+use Rattle.cbor.specs.Encode.{encodes, extraOf, shortest}
 use Rattle.cbor.specs.Item.{Items, Pairs, empty}
 use Rattle.cbor.proofs.Writing.{length-head, extra-most}
 use Rattle.cojp.specs.Writing.{join, chain, leaseItems}

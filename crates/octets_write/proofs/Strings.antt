@@ -8,7 +8,7 @@ use lib.ListN.{length, take, drop, length-take, length-drop}
 use Rattle.refusal.specs.declared.Refusal.the-variants.{Room}
 use Rattle.cbor.specs.Answer.{Did, Wrote, emit, headPlan}
 use Rattle.cbor.specs.Encode.{shortest, encode, encodePairs, extraOf}
-use Rattle.cbor.specs.Item.{Pairs, bytes, empty}
+use Rattle.cbor.specs.Item.{bytes, empty}
 use Rattle.cbor.specs.declared.write.Written.{Written}
 use Rattle.cbor.specs.declared.write.Written.the-variants as wv
 use Rattle.cbor.proofs.Writing.{did-emit, did-kept, did-room, extra-most, head-did, length-head, length-string, wrote-as, wrote-length}

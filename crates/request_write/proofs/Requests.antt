@@ -4,7 +4,7 @@ use mathlib.Core.Path.{_≡_, refl, sym, _∙_}
 use mathlib.Core.Bool.{true}
 use mathlib.Core.List.{List, _++_}
 use native.Mathlib.Omega.{arith}
-use lib.ListN.{length, take, drop, length-append, length-take, length-drop}
+use lib.ListN.{length, take, drop, length-take, length-drop}
 use Rattle.cbor.specs.Answer.{Did, Wrote, emit, headPlan}
 use Rattle.cbor.specs.Encode.{shortest, encode, encodePairs}
 use Rattle.cbor.specs.Item.{map, countPairs}

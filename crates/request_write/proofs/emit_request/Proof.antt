@@ -18,19 +18,36 @@ add-whole-2 : tie.Need-add-whole-2
 add-whole-2 c = search needs
 
 returns : tie.Need-returns
-returns c = request-refused (c .before .before .before .before .before .before .args .q) (c .before .before .before .before .before .before .args .dst .now) (c .before .before .before .before .role-size .ensures) (c .before .before .before .octets-size .ensures) (c .if1 .taken)
+returns c =
+    let network = c .before .before .before in
+    let role = network .before in
+    let start = role .before .before in
+    request-refused (start .args .q) (start .args .dst .now) (role .role-size .ensures) (network .octets-size .ensures) (c .if1 .taken)
 
 add-members : tie.Need-add-members
 add-members c = search needs
 
 put-request-requires : tie.Need-put-request-requires
-put-request-requires c κs = (c .before .before .before .before .before .before .before .before .before .pre, request-members (c .before .before .before .before .before .before .before .before .before .args .q) (c .before .before .before .before .before .before .before .before .before .args .dst .now) (c .before .before .before .before .before .before .before .role-size .ensures) (c .before .before .before .before .before .before .octets-size .ensures), request-fits-in (c .before .before .before .before .before .before .before .before .before .args .q) (c .before .before .before .before .before .before .before .before .before .args .dst .now) (c .before .before .before .before .before .before .before .role-size .ensures) (c .before .before .before .before .before .before .octets-size .ensures) (c .before .before .before .if1 .left))
+put-request-requires c κs =
+    let test = c .before .before .before in
+    let network = test .before .before .before in
+    let role = network .before in
+    let start = role .before .before in
+    let q = start .args .q in
+    let d = start .args .dst .now in
+    (start .pre, request-members q d (role .role-size .ensures) (network .octets-size .ensures), request-fits-in q d (role .role-size .ensures) (network .octets-size .ensures) (test .if1 .left))
 
 same-length : tie.Need-same-length
 same-length c = search needs
 
 returns-2 : tie.Need-returns-2
-returns-2 c = request-done (c .before .before .before .before .before .before .before .before .before .before .before .before .args .q) (c .before .before .before .before .before .before .before .before .before .before .before .before .args .dst .now) (c .before .before .before .before .before .before .before .before .before .before .role-size .ensures) (c .before .before .before .before .before .before .before .before .before .octets-size .ensures) (c .before .before .before .before .before .before .if1 .left) (c .before .before .put-request .ensures)
+returns-2 c =
+    let put = c .before .before in
+    let test = put .before .before .before .before in
+    let network = test .before .before .before in
+    let role = network .before in
+    let start = role .before .before in
+    request-done (start .args .q) (start .args .dst .now) (role .role-size .ensures) (network .octets-size .ensures) (test .if1 .left) (put .put-request .ensures)
 
 pub emit-request-spec : {M : Type 1} → statement M
 emit-request-spec =

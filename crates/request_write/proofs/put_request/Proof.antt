@@ -11,7 +11,10 @@ write-head-requires : tie.Need-write-head-requires
 write-head-requires c κs = search needs
 
 sub-put-role : tie.Need-sub-put-role
-sub-put-role c = head-part (c .before .before .before .before .before .args .q) (c .before .before .before .before .before .args .dst .now) (c .before .before .before .before .before .pre .0) (c .before .before .before .before .before .pre .2) (c .before .before .before .before .before .pre .1) (c .before .before .write-head .ensures)
+sub-put-role c =
+    let head = c .before .before in
+    let start = head .before .before .before in
+    head-part (start .args .q) (start .args .dst .now) (start .pre .0) (start .pre .2) (start .pre .1) (head .write-head .ensures)
 
 part-put-role-start : tie.Need-part-put-role-start
 part-put-role-start c = sub-put-role c
@@ -20,13 +23,21 @@ part-put-role-end : tie.Need-part-put-role-end
 part-put-role-end c = search needs
 
 put-role-requires : tie.Need-put-role-requires
-put-role-requires c κs = (request-fits (c .before .before .before .before .before .before .args .q) (c .before .before .before .before .before .before .pre .0) .role, role-room (c .before .before .before .before .before .before .args .q) (c .before .before .before .before .before .before .args .dst .now) (c .before .before .before .before .before .before .pre .0) (c .before .before .before .before .before .before .pre .2) (c .before .before .before .before .before .before .pre .1) (c .before .before .before .write-head .ensures))
-
-add-n : tie.Need-add-n
-add-n c = omega (arith, network-part (c .before .before .before .before .before .before .before .before .before .args .q) (c .before .before .before .before .before .before .before .before .before .args .dst .now) (c .before .before .before .before .before .before .before .before .before .pre .0) (c .before .before .before .before .before .before .before .before .before .pre .2) (c .before .before .before .before .before .before .before .before .before .pre .1) (c .before .before .before .before .before .before .write-head .ensures) (c .before .before .put-role .ensures) _ refl)
+put-role-requires c κs =
+    let head = c .before .before .before in
+    let start = head .before .before .before in
+    let room = role-room (start .args .q) (start .args .dst .now) (start .pre .0) (start .pre .2) (start .pre .1) (head .write-head .ensures) in
+    (request-fits (start .args .q) (start .pre .0) .role, room)
 
 sub-write-octets : tie.Need-sub-write-octets
-sub-write-octets c = network-part (c .before .before .before .before .before .before .before .before .before .args .q) (c .before .before .before .before .before .before .before .before .before .args .dst .now) (c .before .before .before .before .before .before .before .before .before .pre .0) (c .before .before .before .before .before .before .before .before .before .pre .2) (c .before .before .before .before .before .before .before .before .before .pre .1) (c .before .before .before .before .before .before .write-head .ensures) (c .before .before .put-role .ensures) _ refl
+sub-write-octets c =
+    let role = c .before .before in
+    let head = role .before .before .before .before in
+    let start = head .before .before .before in
+    network-part (start .args .q) (start .args .dst .now) (start .pre .0) (start .pre .2) (start .pre .1) (head .write-head .ensures) (role .put-role .ensures) _ refl
+
+add-n : tie.Need-add-n
+add-n c = omega (arith, sub-write-octets c)
 
 part-write-octets-start : tie.Need-part-write-octets-start
 part-write-octets-start c = sub-write-octets c
@@ -41,7 +52,13 @@ same-length : tie.Need-same-length
 same-length c = search needs
 
 returns : tie.Need-returns
-returns c = request-wrote (c .before .before .before .before .before .before .before .before .before .before .before .before .before .args .q) (c .before .before .before .before .before .before .before .before .before .before .before .before .before .args .dst .now) (c .before .before .before .before .before .before .before .before .before .before .before .before .before .pre .0) (c .before .before .before .before .before .before .before .before .before .before .before .before .before .pre .2) (c .before .before .before .before .before .before .before .before .before .before .before .before .before .pre .1) (c .before .before .before .before .before .before .before .before .before .before .write-head .ensures) (c .before .before .before .before .before .before .put-role .ensures) _ refl (c .before .before .write-octets .ensures)
+returns c =
+    let network = c .before .before in
+    let role = network .before .before .before .before in
+    let head = role .before .before .before .before in
+    let start = head .before .before .before in
+    request-wrote (start .args .q) (start .args .dst .now) (start .pre .0) (start .pre .2) (start .pre .1) (head .write-head .ensures) (role .put-role .ensures) _ refl
+    (network .write-octets .ensures)
 
 pub put-request-spec : {M : Type 1} → statement M
 put-request-spec =

@@ -10,7 +10,11 @@ write-head-requires : tie.Need-write-head-requires
 write-head-requires c κs = search needs
 
 sub-write-head : tie.Need-sub-write-head
-sub-write-head c = role-part (c .before .before .before .before .before .before .args .role) (c .before .before .before .before .if1 .taken) (c .before .before .before .before .before .before .pre .0) (c .before .before .before .before .before .before .pre .1) (c .before .before .write-head .ensures)
+sub-write-head c =
+    let head = c .before .before in
+    let test = head .before .before in
+    let start = test .before .before in
+    role-part (start .args .role) (test .if1 .taken) (start .pre .0) (start .pre .1) (head .write-head .ensures)
 
 part-write-head-start : tie.Need-part-write-head-start
 part-write-head-start c = sub-write-head c
@@ -25,7 +29,12 @@ same-length : tie.Need-same-length
 same-length c = search needs
 
 returns : tie.Need-returns
-returns c = role-wrote (c .before .before .before .before .before .before .before .before .before .before .args .role) (c .before .before .before .before .before .before .before .before .if1 .taken) (c .before .before .before .before .before .before .before .before .before .before .pre .0) (c .before .before .before .before .before .before .before .before .before .before .pre .1) (c .before .before .before .before .before .before .write-head .ensures) (c .before .before .write-head2 .ensures)
+returns c =
+    let second = c .before .before in
+    let first = second .before .before .before .before in
+    let test = first .before .before in
+    let start = test .before .before in
+    role-wrote (start .args .role) (test .if1 .taken) (start .pre .0) (start .pre .1) (first .write-head .ensures) (second .write-head2 .ensures)
 
 returns-2 : tie.Need-returns-2
 returns-2 c = wrote-same (role-none (c .before .before .args .role) (c .if1 .left)) (wrote-none (c .before .before .args .dst .now))

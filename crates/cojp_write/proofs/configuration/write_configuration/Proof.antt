@@ -1,5 +1,5 @@
 -- RANGE, or the map.
-use mathlib.Core.Path.{_≡_, sym, _∙_}
+use mathlib.Core.Path.{sym, _∙_}
 use borrow.Author.Tests.{not-true, not-false}
 use borrow.Author.Needs.{needs}
 use Rattle.cojp_write.proofs.Plans.{configuration-range, configuration-emit}

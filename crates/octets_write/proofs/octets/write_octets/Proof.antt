@@ -27,7 +27,9 @@ array-share-prefix-bytes c =
     omega (arith, c .before .before .before .before .known-len .ensures .1)
 
 slice-aggregate-write-string : tie.Need-slice-aggregate-write-string
-slice-aggregate-write-string c = sym (length-take-le (c .before .before .before .before .before .known-len .result) (c .before .before .before .before .before .before .before .args .p .value .bytes) (array-share-prefix-bytes (c .before)))
+slice-aggregate-write-string c =
+    let known = c .before .before .before .before .before in
+    sym (length-take-le (known .known-len .result) (known .before .before .args .p .value .bytes) (array-share-prefix-bytes (c .before)))
 
 write-string-requires : tie.Need-write-string-requires
 write-string-requires c κs = search needs
@@ -36,7 +38,13 @@ same-length : tie.Need-same-length
 same-length c = search needs
 
 returns : tie.Need-returns
-returns c = did-same (octets-known (c .before .before .before .before .before .before .before .before .before .before .args .p) _ (c .before .before .before .before .before .before .is-taken .ensures) (c .before .before .before .before .before .if1 .taken) (c .before .before .before .before .before .before .before .before .before .before .args .label) (c .before .before .before .before .before .before .before .before .known-len .ensures .0)) (c .before .before .write-string .ensures)
+returns c =
+    let string = c .before .before in
+    let test = string .before .before .before in
+    let taken = test .before in
+    let known = taken .before .before in
+    let a = known .before .before .args in
+    did-same (octets-known (a .p) _ (taken .is-taken .ensures) (test .if1 .taken) (a .label) (known .known-len .ensures .0)) (string .write-string .ensures)
 
 returns-2 : tie.Need-returns-2
 returns-2 c =

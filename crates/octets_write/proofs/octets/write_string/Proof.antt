@@ -1,7 +1,7 @@
 -- The room for both, then the label's head, and the byte string in the part after it.
 use native.Mathlib.Omega.{arith}
 use borrow.Author.Needs.{needs}
-use Rattle.octets_write.proofs.Strings.{heads-most, string-refused, label-kept, string-done}
+use Rattle.octets_write.proofs.Strings.{heads-most, string-refused, string-done}
 use Rattle.octets_write.proofs.octets.write_string.Statement.{statement}
 use Rattle.octets_write.proofs.octets.write_string.Tie as tie
 
@@ -23,8 +23,10 @@ add-whole-2 c =
 
 returns : tie.Need-returns
 returns c =
-    let a = c .before .before .before .before .before .args in
-    string-refused (a .label) (a .s .now) (a .dst .now) (c .before .before .head-len .ensures) (c .before .head-len2 .ensures) (c .if1 .taken)
+    let head = c .before in
+    let label = head .before in
+    let a = label .before .before .before .args in
+    string-refused (a .label) (a .s .now) (a .dst .now) (label .head-len .ensures) (head .head-len2 .ensures) (c .if1 .taken)
 
 write-head-requires : tie.Need-write-head-requires
 write-head-requires c κs = search needs
@@ -46,8 +48,14 @@ same-length c = search needs
 
 returns-2 : tie.Need-returns-2
 returns-2 c =
-    let a = c .before .before .before .before .before .before .before .before .before .before .before .before .before .args in
-    string-done (a .label) (a .s .now) (a .dst .now) (c .before .before .before .before .before .before .before .before .before .before .head-len .ensures) (c .before .before .before .before .before .before .before .before .before .head-len2 .ensures) (c .before .before .before .before .before .before .before .before .if1 .left) (c .before .before .before .before .before .before .write-head .ensures) _ (c .before .before .write-bytes .ensures)
+    let string = c .before .before in
+    let first = string .before .before .before .before in
+    let test = first .before .before in
+    let head = test .before in
+    let label = head .before in
+    let a = label .before .before .before .args in
+    string-done (a .label) (a .s .now) (a .dst .now) (label .head-len .ensures) (head .head-len2 .ensures) (test .if1 .left) (first .write-head .ensures) _
+    (string .write-bytes .ensures)
 
 pub write-string-spec : {M : Type 1} → statement M
 write-string-spec =

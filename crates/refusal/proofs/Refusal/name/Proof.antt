@@ -1,5 +1,4 @@
 -- `Refusal::name` meets its contract: the table has the name at the number less 1.
-use native.Mathlib.Omega.{arith}
 use borrow.Author.Needs.{needs}
 use Rattle.refusal.proofs.Names.{placed}
 use Rattle.refusal.proofs.Refusal.name.Statement.{statement}
