@@ -16,16 +16,31 @@ is-owing-requires : tie.Need-is-owing-requires
 is-owing-requires c κs = search needs
 
 returns-2 : tie.Need-returns-2
-returns-2 c = request-owed (c .before .before .before .before .before .before .args .q) (sym (c .before .before .before .before .request-in-range .ensures) ∙ not-false _ (c .before .before .before .if1 .left)) _ (sym (c .before .is-owing .ensures) ∙ (c .if2 .taken))
+returns-2 c =
+    let owing = c .before in
+    let test = owing .before .before in
+    let range = test .before in
+    let start = range .before .before in
+    request-owed (start .args .q) (sym (range .request-in-range .ensures) ∙ not-false _ (test .if1 .left)) _ (sym (owing .is-owing .ensures) ∙ (c .if2 .taken))
 
 emit-request-requires : tie.Need-emit-request-requires
-emit-request-requires c κs = sym (c .before .before .before .before .before .request-in-range .ensures) ∙ not-false _ (c .before .before .before .before .if1 .left)
+emit-request-requires c κs =
+    let test = c .before .before .before .before in
+    let range = test .before in
+    sym (range .request-in-range .ensures) ∙ not-false _ (test .if1 .left)
 
 same-length : tie.Need-same-length
 same-length c = search needs
 
 returns-3 : tie.Need-returns-3
-returns-3 c = request-emit (c .before .before .before .before .before .before .before .before .before .before .args .q) (sym (c .before .before .before .before .before .before .before .before .request-in-range .ensures) ∙ not-false _ (c .before .before .before .before .before .before .before .if1 .left)) (sym (c .before .before .before .before .before .is-owing .ensures) ∙ (c .before .before .before .before .if2 .left)) (c .before .before .emit-request .ensures)
+returns-3 c =
+    let request = c .before .before in
+    let test = request .before .before in
+    let owing = test .before in
+    let test-if1 = owing .before .before in
+    let range = test-if1 .before in
+    let start = range .before .before in
+    request-emit (start .args .q) (sym (range .request-in-range .ensures) ∙ not-false _ (test-if1 .if1 .left)) (sym (owing .is-owing .ensures) ∙ (test .if2 .left)) (request .emit-request .ensures)
 
 pub write-request-spec : {M : Type 1} → statement M
 write-request-spec =

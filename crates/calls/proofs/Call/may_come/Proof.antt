@@ -19,11 +19,19 @@ belongs-requires c κs = search needs
 
 returns-3 : tie.Need-returns-3
 unfolding mayCome
-returns-3 c = rw (le-leb _ _ (c .before .before .before .before .if1 .left), le-leb _ _ (c .before .before .if2 .left), is-true (c .before .belongs .ensures) (c .if3 .taken))
+returns-3 c =
+    let at-belongs = c .before in
+    let test = at-belongs .before in
+    let test-if1 = test .before .before in
+    rw (le-leb _ _ (test-if1 .if1 .left), le-leb _ _ (test .if2 .left), is-true (at-belongs .belongs .ensures) (c .if3 .taken))
 
 returns-4 : tie.Need-returns-4
 unfolding mayCome
-returns-4 c = rw (le-leb _ _ (c .before .before .before .before .if1 .left), le-leb _ _ (c .before .before .if2 .left), is-false (c .before .belongs .ensures) (c .if3 .left))
+returns-4 c =
+    let at-belongs = c .before in
+    let test = at-belongs .before in
+    let test-if1 = test .before .before in
+    rw (le-leb _ _ (test-if1 .if1 .left), le-leb _ _ (test .if2 .left), is-false (at-belongs .belongs .ensures) (c .if3 .left))
 
 pub may-come-spec : {M : Type 1} → statement M
 may-come-spec = tie.close (tie.spec returns returns-2 belongs-requires returns-3 returns-4)

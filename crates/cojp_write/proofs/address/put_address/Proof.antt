@@ -34,7 +34,12 @@ same-length : tie.Need-same-length
 same-length c = search needs
 
 returns : tie.Need-returns
-returns c = wrote-same (address-taken (c .before .before .before .before .before .before .before .before .before .args .p) _ (c .before .before .before .before .before .before .before .is-taken .ensures) (c .before .before .before .before .before .before .if1 .taken)) (c .before .before .put-place .ensures)
+returns c =
+    let place = c .before .before in
+    let test = place .before .before .before .before in
+    let at-is-taken = test .before in
+    let start = at-is-taken .before .before in
+    wrote-same (address-taken (start .args .p) _ (at-is-taken .is-taken .ensures) (test .if1 .taken)) (place .put-place .ensures)
 
 returns-2 : tie.Need-returns-2
 returns-2 c =

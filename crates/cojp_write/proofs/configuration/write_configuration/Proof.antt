@@ -19,7 +19,12 @@ same-length : tie.Need-same-length
 same-length c = search needs
 
 returns-2 : tie.Need-returns-2
-returns-2 c = configuration-emit (c .before .before .before .before .before .before .before .args .c) (sym (c .before .before .before .before .before .configuration-in-range .ensures) ∙ not-false _ (c .before .before .before .before .if1 .left)) (c .before .before .emit-configuration .ensures)
+returns-2 c =
+    let at-emit-configuration = c .before .before in
+    let test = at-emit-configuration .before .before in
+    let range = test .before in
+    let start = range .before .before in
+    configuration-emit (start .args .c) (sym (range .configuration-in-range .ensures) ∙ not-false _ (test .if1 .left)) (at-emit-configuration .emit-configuration .ensures)
 
 pub write-configuration-spec : {M : Type 1} → statement M
 write-configuration-spec =

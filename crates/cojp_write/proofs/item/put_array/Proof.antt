@@ -27,7 +27,11 @@ same-length : tie.Need-same-length
 same-length c = search needs
 
 returns : tie.Need-returns
-returns c = seam (c .before .before .before .before .before .before .before .before .before .pre) (c .before .before .before .before .before .before .put-head .ensures) (c .before .before .put-head2 .ensures)
+returns c =
+    let head = c .before .before in
+    let at-put-head = head .before .before .before .before in
+    let start = at-put-head .before .before .before in
+    seam (start .pre) (at-put-head .put-head .ensures) (head .put-head2 .ensures)
 
 pub put-array-spec : {M : Type 1} → statement M
 put-array-spec =

@@ -17,13 +17,20 @@ same-length : tie.Need-same-length
 same-length c = search needs
 
 returns : tie.Need-returns
-returns c = absurd (did-never _ _ _ _ _ (c .before .before .before .before .before .before .before .before .pre) (c .before .before .before .before .write-bytes .ensures) (c .enum-told .given .1))
+returns c =
+    let bytes = c .before .before .before .before in
+    let start = bytes .before .before .before .before in
+    absurd (did-never _ _ _ _ _ (start .pre) (bytes .write-bytes .ensures) (c .enum-told .given .1))
 
 same-length-2 : tie.Need-same-length-2
 same-length-2 c = search needs
 
 returns-2 : tie.Need-returns-2
-returns-2 c = did-done _ _ _ _ _ (c .before .before .before .before .before .before .before .before .before .pre) (c .before .before .before .before .before .write-bytes .ensures) (c .before .w .given .1)
+returns-2 c =
+    let at-w = c .before in
+    let bytes = at-w .before .before .before .before in
+    let start = bytes .before .before .before .before in
+    did-done _ _ _ _ _ (start .pre) (bytes .write-bytes .ensures) (at-w .w .given .1)
 
 pub put-bytes-spec : {M : Type 1} → statement M
 put-bytes-spec =

@@ -17,13 +17,20 @@ same-length : tie.Need-same-length
 same-length c = search needs
 
 returns : tie.Need-returns
-returns c = absurd (did-never _ _ _ _ _ (c .before .before .before .before .before .before .before .pre .1) (head-did _ _ _ _ _ (c .before .before .before .before .before .before .before .pre .0) (c .before .before .before .before .write-head .ensures)) (c .enum-told .given .1))
+returns c =
+    let head = c .before .before .before .before in
+    let start = head .before .before .before in
+    absurd (did-never _ _ _ _ _ (start .pre .1) (head-did _ _ _ _ _ (start .pre .0) (head .write-head .ensures)) (c .enum-told .given .1))
 
 same-length-2 : tie.Need-same-length-2
 same-length-2 c = search needs
 
 returns-2 : tie.Need-returns-2
-returns-2 c = did-done _ _ _ _ _ (c .before .before .before .before .before .before .before .before .pre .1) (head-did _ _ _ _ _ (c .before .before .before .before .before .before .before .before .pre .0) (c .before .before .before .before .before .write-head .ensures)) (c .before .w .given .1)
+returns-2 c =
+    let at-w = c .before in
+    let head = at-w .before .before .before .before in
+    let start = head .before .before .before in
+    did-done _ _ _ _ _ (start .pre .1) (head-did _ _ _ _ _ (start .pre .0) (head .write-head .ensures)) (at-w .w .given .1)
 
 pub put-head-spec : {M : Type 1} → statement M
 put-head-spec =

@@ -17,13 +17,20 @@ same-length : tie.Need-same-length
 same-length c = search needs
 
 returns : tie.Need-returns
-returns c = absurd (did-never _ _ _ _ _ (c .before .before .before .before .before .before .before .pre) (c .before .before .before .before .write-octets .ensures) (c .enum-told .given .1))
+returns c =
+    let octets = c .before .before .before .before in
+    let start = octets .before .before .before in
+    absurd (did-never _ _ _ _ _ (start .pre) (octets .write-octets .ensures) (c .enum-told .given .1))
 
 same-length-2 : tie.Need-same-length-2
 same-length-2 c = search needs
 
 returns-2 : tie.Need-returns-2
-returns-2 c = did-done _ _ _ _ _ (c .before .before .before .before .before .before .before .before .pre) (c .before .before .before .before .before .write-octets .ensures) (c .before .w .given .1)
+returns-2 c =
+    let at-w = c .before in
+    let octets = at-w .before .before .before .before in
+    let start = octets .before .before .before in
+    did-done _ _ _ _ _ (start .pre) (octets .write-octets .ensures) (at-w .w .given .1)
 
 pub put-octets-spec : {M : Type 1} → statement M
 put-octets-spec =

@@ -14,7 +14,11 @@ same-length : tie.Need-same-length
 same-length c = search needs
 
 returns : tie.Need-returns
-returns c = let a = (c .before .before .before .before .before .before .args) in rw (optional-bytes (a .given) (a .number) (c .before .before .before .before .if1 .taken)) (c .before .before .put-head .ensures)
+returns c =
+    let head = c .before .before in
+    let test = head .before .before in
+    let start = test .before .before in
+    let a = (start .args) in rw (optional-bytes (a .given) (a .number) (test .if1 .taken)) (head .put-head .ensures)
 
 returns-2 : tie.Need-returns-2
 returns-2 c = search needs

@@ -27,7 +27,13 @@ add-t9 : tie.Need-add-t9
 add-t9 c = omega (arith, byte-head (c .before .before .groups-size .result .members) (omega (arith, (c .before .before .groups-size .ensures .few))), (c .before .head-len .ensures), (c .before .before .groups-size .ensures .small))
 
 returns : tie.Need-returns
-returns c = keys-size (c .before .before .before .before .before .args .p) _ (c .before .before .before .before .is-taken .ensures) (c .before .before .before .if1 .taken) (c .before .before .before .before .before .pre) (c .before .head-len .ensures) (c .before .before .groups-size .ensures)
+returns c =
+    let len = c .before in
+    let size = len .before in
+    let test = size .before in
+    let at-is-taken = test .before in
+    let start = at-is-taken .before in
+    keys-size (start .args .p) _ (at-is-taken .is-taken .ensures) (test .if1 .taken) (start .pre) (len .head-len .ensures) (size .groups-size .ensures)
 
 no-size-requires : tie.Need-no-size-requires
 no-size-requires c κs = search needs

@@ -29,7 +29,12 @@ same-length : tie.Need-same-length
 same-length c = search needs
 
 returns : tie.Need-returns
-returns c = wrote-same (keys-taken (c .before .before .before .before .before .before .before .before .args .p) _ (c .before .before .before .before .before .before .is-taken .ensures) (c .before .before .before .before .before .if1 .taken)) (c .before .before .put-set .ensures)
+returns c =
+    let set = c .before .before in
+    let test = set .before .before .before in
+    let at-is-taken = test .before in
+    let start = at-is-taken .before .before in
+    wrote-same (keys-taken (start .args .p) _ (at-is-taken .is-taken .ensures) (test .if1 .taken)) (set .put-set .ensures)
 
 returns-2 : tie.Need-returns-2
 returns-2 c =

@@ -30,7 +30,11 @@ same-length : tie.Need-same-length
 same-length c = search needs
 
 returns : tie.Need-returns
-returns c = set-seam (keysOf (c .before .before .before .before .before .before .before .before .before .args .set)) (c .before .before .before .before .before .before .before .before .before .args .members) (c .before .before .before .before .before .before .before .before .before .pre .0) (c .before .before .before .before .before .before .before .before .before .pre .1) (c .before .before .before .before .before .before .put-array .ensures) (c .before .before .put-groups .ensures)
+returns c =
+    let groups = c .before .before in
+    let array = groups .before .before .before .before in
+    let start = array .before .before .before in
+    set-seam (keysOf (start .args .set)) (start .args .members) (start .pre .0) (start .pre .1) (array .put-array .ensures) (groups .put-groups .ensures)
 
 pub put-set-spec : {M : Type 1} → statement M
 put-set-spec =

@@ -22,13 +22,27 @@ enum-known-opened-2 : tie.Need-enum-known-opened-2
 enum-known-opened-2 c = search needs
 
 returns-2 : tie.Need-returns-2
-returns-2 c = start-opened (c .before .before .before .before .before .before .args .payload .now) (c .before .before .before .before .if1 .left) (c .before .before .before .open-map .result) (c .before .before .before .open-map .ensures) (ov.Refused (c .before .opened .given .0 .0)) (c .before .opened .given .1)
+returns-2 c =
+    let at-opened = c .before in
+    let map = at-opened .before .before in
+    let test = map .before in
+    let start = test .before .before in
+    start-opened (start .args .payload .now) (test .if1 .left) (map .open-map .result) (map .open-map .ensures) (ov.Refused (at-opened .opened .given .0 .0)) (at-opened .opened .given .1)
 
 returns-3 : tie.Need-returns-3
-returns-3 c = start-opened (c .before .before .before .before .before .args .payload .now) (c .before .before .before .if1 .left) (c .before .before .open-map .result) (c .before .before .open-map .ensures) ov.NoMap (c .enum-told .given .1)
+returns-3 c =
+    let map = c .before .before in
+    let test = map .before in
+    let start = test .before .before in
+    start-opened (start .args .payload .now) (test .if1 .left) (map .open-map .result) (map .open-map .ensures) ov.NoMap (c .enum-told .given .1)
 
 returns-4 : tie.Need-returns-4
-returns-4 c = start-opened (c .before .before .before .before .before .before .args .payload .now) (c .before .before .before .before .if1 .left) (c .before .before .before .open-map .result) (c .before .before .before .open-map .ensures) (ov.Map (c .before .opened2 .given .0 .0) (c .before .opened2 .given .0 .1 .0)) (c .before .opened2 .given .1)
+returns-4 c =
+    let at-opened = c .before in
+    let map = at-opened .before .before in
+    let test = map .before in
+    let start = test .before .before in
+    start-opened (start .args .payload .now) (test .if1 .left) (map .open-map .result) (map .open-map .ensures) (ov.Map (at-opened .opened2 .given .0 .0) (at-opened .opened2 .given .0 .1 .0)) (at-opened .opened2 .given .1)
 
 pub open-payload-spec : {M : Type 1} → statement M
 open-payload-spec =

@@ -35,13 +35,30 @@ labelled-pair-requires : tie.Need-labelled-pair-requires
 labelled-pair-requires c κs = search needs
 
 returns : tie.Need-returns
-returns c = pair-unlabelled (c .before .before .before .before .before .before .args .s .now) (c .before .before .before .before .before .before .args .at) (c .before .before .before .before .skip-item .result) (c .before .before .before .before .skip-item .ensures) (c .before .before .key .given .0 .0) (c .before .before .key .given .1) (c .refused-pair .result) (c .refused-pair .ensures)
+returns c =
+    let at-key = c .before .before in
+    let item = at-key .before .before in
+    let start = item .before .before in
+    pair-unlabelled (start .args .s .now) (start .args .at) (item .skip-item .result) (item .skip-item .ensures) (at-key .key .given .0 .0) (at-key .key .given .1) (c .refused-pair .result) (c .refused-pair .ensures)
 
 returns-2 : tie.Need-returns-2
-returns-2 c = pair-unvalued (c .before .before .before .before .before .before .before .before .before .before .args .s .now) (c .before .before .before .before .before .before .before .before .before .before .args .at) (c .before .before .before .before .before .before .before .before .skip-item .result) (c .before .before .before .before .before .before .before .before .skip-item .ensures) (c .before .before .before .before .before .before .key2 .given .0 .0) (c .before .before .before .before .before .before .key2 .given .1) (c .before .before .before .before .skip-item2 .result) (c .before .before .before .before .skip-item2 .ensures) (c .before .before .passed .given .0 .0) (c .before .before .passed .given .1) (c .refused-pair2 .result) (c .refused-pair2 .ensures)
+returns-2 c =
+    let at-passed = c .before .before in
+    let item = at-passed .before .before in
+    let at-key = item .before .before in
+    let at-skip-item = at-key .before .before in
+    let start = at-skip-item .before .before in
+    pair-unvalued (start .args .s .now) (start .args .at) (at-skip-item .skip-item .result) (at-skip-item .skip-item .ensures) (at-key .key2 .given .0 .0) (at-key .key2 .given .1) (item .skip-item2 .result) (item .skip-item2 .ensures) (at-passed .passed .given .0 .0) (at-passed .passed .given .1) (c .refused-pair2 .result) (c .refused-pair2 .ensures)
 
 returns-3 : tie.Need-returns-3
-returns-3 c = pair-found (c .before .before .before .before .before .before .before .before .before .before .before .args .s .now) (c .before .before .before .before .before .before .before .before .before .before .before .args .at) (c .before .before .before .before .before .before .before .before .before .skip-item .result) (c .before .before .before .before .before .before .before .before .before .skip-item .ensures) (c .before .before .before .before .before .before .before .key2 .given .0 .0) (c .before .before .before .before .before .before .before .key2 .given .1) (c .before .before .before .before .before .skip-item2 .result) (c .before .before .before .before .before .skip-item2 .ensures) (c .before .before .before .passed2 .given .0 .0) (c .before .before .before .passed2 .given .1) (c .before .label-at .result) (c .before .label-at .ensures) (c .labelled-pair .result) (c .labelled-pair .ensures)
+returns-3 c =
+    let at-label-at = c .before in
+    let at-passed = at-label-at .before .before in
+    let item = at-passed .before .before in
+    let at-key = item .before .before in
+    let at-skip-item = at-key .before .before in
+    let start = at-skip-item .before .before in
+    pair-found (start .args .s .now) (start .args .at) (at-skip-item .skip-item .result) (at-skip-item .skip-item .ensures) (at-key .key2 .given .0 .0) (at-key .key2 .given .1) (item .skip-item2 .result) (item .skip-item2 .ensures) (at-passed .passed2 .given .0 .0) (at-passed .passed2 .given .1) (at-label-at .label-at .result) (at-label-at .label-at .ensures) (c .labelled-pair .result) (c .labelled-pair .ensures)
 
 pub pair-at-spec : {M : Type 1} → statement M
 pair-at-spec =

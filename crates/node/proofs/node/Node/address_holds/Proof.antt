@@ -15,18 +15,31 @@ returns c = rw (denied (c .before .valid .ensures) (c .if1 .taken))
 
 returns-2 : tie.Need-returns-2
 unfolding holds
-returns-2 c = rw (granted (c .before .before .before .before .valid .ensures) (c .before .before .before .if1 .left), lt-leb _ _ (c .if2 .taken))
+returns-2 c =
+    let test = c .before .before .before in
+    let at-valid = test .before in
+    rw (granted (at-valid .valid .ensures) (test .if1 .left), lt-leb _ _ (c .if2 .taken))
 
 holds-at-requires : tie.Need-holds-at-requires
 holds-at-requires c κs = search needs
 
 returns-3 : tie.Need-returns-3
 unfolding holds
-returns-3 c = rw (granted (c .before .before .before .before .before .before .valid .ensures) (c .before .before .before .before .before .if1 .left), le-leb _ _ (c .before .before .if2 .left), is-true (c .before .holds-at .ensures) (c .if3 .taken))
+returns-3 c =
+    let at = c .before in
+    let test = at .before in
+    let test-if1 = test .before .before .before in
+    let at-valid = test-if1 .before in
+    rw (granted (at-valid .valid .ensures) (test-if1 .if1 .left), le-leb _ _ (test .if2 .left), is-true (at .holds-at .ensures) (c .if3 .taken))
 
 returns-4 : tie.Need-returns-4
 unfolding holds
-returns-4 c = rw (granted (c .before .before .before .before .before .before .valid .ensures) (c .before .before .before .before .before .if1 .left), le-leb _ _ (c .before .before .if2 .left), is-false (c .before .holds-at .ensures) (c .if3 .left))
+returns-4 c =
+    let at = c .before in
+    let test = at .before in
+    let test-if1 = test .before .before .before in
+    let at-valid = test-if1 .before in
+    rw (granted (at-valid .valid .ensures) (test-if1 .if1 .left), le-leb _ _ (test .if2 .left), is-false (at .holds-at .ensures) (c .if3 .left))
 
 pub address-holds-spec : {M : Type 1} → statement M
 address-holds-spec =

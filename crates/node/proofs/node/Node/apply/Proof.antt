@@ -13,7 +13,11 @@ undelivered-requires : tie.Need-undelivered-requires
 undelivered-requires c κs = search needs
 
 returns : tie.Need-returns
-returns c = c .undelivered .ensures ∙ apply-owed (c .before .before .before .before .args .call) (c .before .before .before .before .args .self) (c .before .before .before .before .args .time) (c .before .before .before .before .args .c) (is-true (c .before .before .owes-identifier .ensures) (c .before .if1 .taken))
+returns c =
+    let test = c .before in
+    let identifier = test .before in
+    let start = identifier .before .before in
+    c .undelivered .ensures ∙ apply-owed (start .args .call) (start .args .self) (start .args .time) (start .args .c) (is-true (identifier .owes-identifier .ensures) (test .if1 .taken))
 
 placement-requires : tie.Need-placement-requires
 placement-requires c κs = search needs
@@ -22,7 +26,13 @@ undelivered-requires-2 : tie.Need-undelivered-requires-2
 undelivered-requires-2 c κs = search needs
 
 returns-2 : tie.Need-returns-2
-returns-2 c = c .undelivered2 .ensures ∙ apply-clash (c .before .before .before .before .before .before .args .call) (c .before .before .before .before .before .before .args .self) (c .before .before .before .before .before .before .args .time) (c .before .before .before .before .before .before .args .c) (is-false (c .before .before .before .before .owes-identifier .ensures) (c .before .before .before .if1 .left)) _ (c .before .before .placement .ensures) (c .before .if2 .taken)
+returns-2 c =
+    let test = c .before in
+    let at-placement = test .before in
+    let test-if1 = at-placement .before in
+    let identifier = test-if1 .before in
+    let start = identifier .before .before in
+    c .undelivered2 .ensures ∙ apply-clash (start .args .call) (start .args .self) (start .args .time) (start .args .c) (is-false (identifier .owes-identifier .ensures) (test-if1 .if1 .left)) _ (at-placement .placement .ensures) (test .if2 .taken)
 
 reports-of-requires : tie.Need-reports-of-requires
 reports-of-requires c κs = search needs
@@ -31,7 +41,14 @@ configured-requires : tie.Need-configured-requires
 configured-requires c κs = search needs
 
 returns-3 : tie.Need-returns-3
-returns-3 c = apply-done (c .before .before .before .before .before .before .before .before .args .call) (c .before .before .before .before .before .before .before .before .args .self) (c .before .before .before .before .before .before .before .before .args .time) (c .before .before .before .before .before .before .before .before .args .c) (is-false (c .before .before .before .before .before .before .owes-identifier .ensures) (c .before .before .before .before .before .if1 .left)) _ (c .before .before .before .before .placement .ensures) (c .before .before .before .if2 .left) _ (c .before .reports-of .ensures) _ (c .configured .ensures)
+returns-3 c =
+    let at-reports-of = c .before in
+    let test = at-reports-of .before .before in
+    let at-placement = test .before in
+    let test-if1 = at-placement .before in
+    let identifier = test-if1 .before in
+    let start = identifier .before .before in
+    apply-done (start .args .call) (start .args .self) (start .args .time) (start .args .c) (is-false (identifier .owes-identifier .ensures) (test-if1 .if1 .left)) _ (at-placement .placement .ensures) (test .if2 .left) _ (at-reports-of .reports-of .ensures) _ (c .configured .ensures)
 
 pub apply-spec : {M : Type 1} → statement M
 apply-spec =

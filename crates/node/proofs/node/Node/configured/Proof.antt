@@ -21,7 +21,12 @@ after-requires-4 c κs = search needs
 
 returns : tie.Need-returns
 unfolding configured
-returns c = rw (c .before .before .before .before .attempt-after .ensures, c .before .before .before .after .ensures, c .before .before .after2 .ensures, c .before .after3 .ensures, c .after4 .ensures)
+returns c =
+    let at-after = c .before in
+    let at-after2 = at-after .before in
+    let at3 = at-after2 .before in
+    let at-attempt-after = at3 .before in
+    rw (at-attempt-after .attempt-after .ensures, at3 .after .ensures, at-after2 .after2 .ensures, at-after .after3 .ensures, c .after4 .ensures)
 
 pub configured-spec : {M : Type 1} → statement M
 configured-spec =

@@ -29,7 +29,11 @@ returns c = rw (sym (c .before .before .before .before .may-deliver .ensures) �
 
 returns-2 : tie.Need-returns-2
 unfolding deliver
-returns-2 c = rw (sym (c .before .before .before .before .may-deliver .ensures) ∙ c .before .before .enum-told .given .1, ← c .before .read-configuration .ensures) (c .apply-read .ensures)
+returns-2 c =
+    let configuration = c .before in
+    let at-enum-told = configuration .before in
+    let at-may-deliver = at-enum-told .before .before in
+    rw (sym (at-may-deliver .may-deliver .ensures) ∙ at-enum-told .enum-told .given .1, ← configuration .read-configuration .ensures) (c .apply-read .ensures)
 
 pub deliver-spec : {M : Type 1} → statement M
 deliver-spec =

@@ -31,7 +31,12 @@ fresh-node-requires c κs = search needs
 
 returns-3 : tie.Need-returns-3
 unfolding made
-returns-3 c = rw (le-leb _ _ (c .before .before .before .before .if1 .left), granted (c .before .before .before .in-range .ensures) (c .before .before .if2 .left), c .fresh-node .ensures, c .before .known .ensures)
+returns-3 c =
+    let at-known = c .before in
+    let test = at-known .before in
+    let range = test .before in
+    let test-if1 = range .before in
+    rw (le-leb _ _ (test-if1 .if1 .left), granted (range .in-range .ensures) (test .if2 .left), c .fresh-node .ensures, at-known .known .ensures)
 
 pub new-spec : {M : Type 1} → statement M
 new-spec =

@@ -15,7 +15,11 @@ install-requires : tie.Need-install-requires
 install-requires c κs = search needs
 
 returns : tie.Need-returns
-returns c = c .install .ensures ∙ sym (taken-is (c .before .before .before .before .args .parameter .report) _ (placed false (c .before .before .before .before .args .self .sets)) _ (c .before .before .before .is-taken .ensures) (c .before .before .if1 .taken))
+returns c =
+    let test = c .before .before in
+    let at-is-taken = test .before in
+    let start = at-is-taken .before in
+    c .install .ensures ∙ sym (taken-is (start .args .parameter .report) _ (placed false (start .args .self .sets)) _ (at-is-taken .is-taken .ensures) (test .if1 .taken))
 
 returns-2 : tie.Need-returns-2
 returns-2 c = sym (taken-not (c .before .before .before .args .parameter .report) (install (isBorder (c .before .before .before .args .self)) (c .before .before .before .args .self .sets) (c .before .before .before .args .parameter .value)) _ _ (c .before .before .is-taken .ensures) (c .before .if1 .left))

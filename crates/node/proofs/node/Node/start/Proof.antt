@@ -26,13 +26,23 @@ started-requires : tie.Need-started-requires
 started-requires c κs = search needs
 
 returns : tie.Need-returns
-returns c = rw (c .unstarted .ensures) (start-refused (c .before .before .before .before .before .before .args .self) (c .before .before .before .before .before .before .args .time) (c .before .before .before .before .before .before .args .timeout) _ _ (c .before .before .before .before .may-start .ensures) (c .before .before .why .given .1))
+returns c =
+    let at-why = c .before .before in
+    let at-may-start = at-why .before .before in
+    let entry = at-may-start .before .before in
+    rw (c .unstarted .ensures) (start-refused (entry .args .self) (entry .args .time) (entry .args .timeout) _ _ (at-may-start .may-start .ensures) (at-why .why .given .1))
 
 same-length : tie.Need-same-length
 same-length c = search needs
 
 returns-2 : tie.Need-returns-2
-returns-2 c = rw (c .started .ensures) (start-written (c .before .before .before .before .before .before .before .before .before .before .args .self) (c .before .before .before .before .before .before .before .before .before .before .args .time) (c .before .before .before .before .before .before .before .before .before .before .args .timeout) _ _ (c .before .before .before .before .before .before .before .before .may-start .ensures) (c .before .before .before .before .before .before .enum-told .given .1) _ _ _ (c .before .before .before .before .request .ensures) (c .before .before .before .write-request .ensures))
+returns-2 c =
+    let at-write-request = c .before .before .before in
+    let at-request = at-write-request .before in
+    let at-enum-told = at-request .before .before in
+    let at-may-start = at-enum-told .before .before in
+    let entry = at-may-start .before .before in
+    rw (c .started .ensures) (start-written (entry .args .self) (entry .args .time) (entry .args .timeout) _ _ (at-may-start .may-start .ensures) (at-enum-told .enum-told .given .1) _ _ _ (at-request .request .ensures) (at-write-request .write-request .ensures))
 
 pub start-spec : {M : Type 1} → statement M
 start-spec =
