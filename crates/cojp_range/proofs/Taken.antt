@@ -15,7 +15,3 @@ module _ {A : Type 0} where
   taken-not Absent a b t e h = refl
   taken-not Taken a b t e h = absurd (false≢true (sym h ∙ e))
   taken-not Discarded a b t e h = refl
-
--- what is judged where it is taken
-pub taken-good : (r : Report) (b t : Bool) → t ≡ ifTaken r true false → t ≡ true → ifTaken r b true ≡ true → b ≡ true
-taken-good r b t e h g = sym (taken-is r b true t e h) ∙ g

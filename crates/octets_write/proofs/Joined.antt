@@ -81,9 +81,6 @@ module _ (h : List ℕ) (a b : Pairs) (d : List ℕ) (fits : length (h ++ encode
   room : length (h ++ encodePairs a) + length (encodePairs b) ≤ length d
   room = omega (arith, ap length both, length-append (h ++ encodePairs a) (encodePairs b))
 
-  pub shorter : length (h ++ encodePairs a) ≤ length d
-  shorter = omega (arith, room)
-
   pub join-seam : {d′ e : List ℕ} {n m : ℕ} → Wrote (h ++ encodePairs a) d n d′ → Wrote (encodePairs b) (take (length d′ - n) (drop n d′)) m e
       → Wrote (h ++ encodePairs (join a b)) d (n + m) (take n d′ ++ (e ++ drop (length d′ - n) (drop n d′)))
   join-seam w v = rw both (seam room w v)

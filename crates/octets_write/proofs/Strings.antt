@@ -45,7 +45,7 @@ module _ (label : ℕ) (s d : List ℕ) {l h : ℕ} (e : l ≡ extraOf label + 1
         let k = did-kept (shortest 0 label) d r d′ (omega (arith, length-head 0 label)) (head-did 0 label d r d′ (omega arith) w) in
         wrote-as l (omega (arith, length-head 0 label)) k
 
-    pub label-kept : length d′ ≡ length d
+    label-kept : length d′ ≡ length d
     label-kept = wrote-length label-wrote (omega (arith, length-head 0 label))
 
     -- the byte string was written to the part after the label, which now is p
