@@ -4,3 +4,4 @@ mod Places
 mod Flood
 mod Rekey
 mod Line
+mod Answers

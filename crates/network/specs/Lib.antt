@@ -4,3 +4,4 @@ pub mod Events
 pub mod Rounds
 pub mod Demand3
 pub mod Witness
+pub mod Answers

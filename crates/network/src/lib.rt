@@ -3,6 +3,7 @@ pub mod turn;
 
 pub use turn::Answer;
 pub use turn::Turned;
+ghost use Rattle.network.specs.Answers.{EveryTurnSays};
 ghost use Rattle.network.specs.Demand3.{Demand3};
 ghost use Rattle.network.specs.Witness.{Witness};
 
@@ -20,3 +21,8 @@ pub fn rekey_of_a_line()
 {
     rekey_reaches_all();
 }
+
+// A turn's answer in document 01's numbers and values.
+pub fn turns_say()
+    ensures { λ r. ⌜ EveryTurnSays ⌝ }
+{}

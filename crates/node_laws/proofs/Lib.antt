@@ -8,3 +8,4 @@ mod FrameKeys
 mod Untouched
 mod GivesUp
 mod NodeLaws
+mod Answers

@@ -1,4 +1,5 @@
 // What holds of a node's calls: demand 1, what the layer above may rely on, when a join attempt gives up, and that the same objects do the same.
+ghost use Rattle.node_laws.specs.Answers.{AnswersSay};
 ghost use Rattle.node_laws.specs.Calls.{Demand1};
 ghost use Rattle.node_laws.specs.Laws.{NodeLaws, GivesUp};
 ghost use Rattle.node_laws.specs.Same.{AppliesAlike};
@@ -21,4 +22,9 @@ pub fn gives_up()
 // Applied to the same node, the same configurations give the same verdict and the same node.
 pub fn applies_alike()
     ensures { λ r. ⌜ AppliesAlike ⌝ }
+{}
+
+// The answers of the calls in document 01's numbers and values.
+pub fn answers_say()
+    ensures { λ r. ⌜ AnswersSay ⌝ }
 {}
