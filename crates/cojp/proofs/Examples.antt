@@ -1,7 +1,7 @@
 -- The marked examples are computed.
 use mathlib.Core.Path.{refl}
 use Rattle.cbor.specs.Decode.{payload, decodeBy, heading, argument, next, digits, members, pairs, majorOf}
-use Rattle.keys.specs.KeySet.{allowed}
+use Rattle.link_key_set.specs.KeySet.{allowed}
 use Rattle.cojp.specs.Octets.{padded, octetsJudged}
 use Rattle.cojp.specs.Address.{addressIn}
 use Rattle.cojp.specs.KeySet.{groups}

@@ -7,9 +7,9 @@ use lib.ListN.{length, replicate}
 use Rattle.refusal.specs.declared.Refusal.the-variants.{Keys}
 use Rattle.cbor.specs.View.{Plain, number, string, other, View, plain, list}
 use Rattle.link_key.specs.Key.{noKey}
-use Rattle.keys.specs.KeySet.{noKeys, allowed}
+use Rattle.link_key_set.specs.KeySet.{noKeys, allowed}
 use Rattle.link_key.specs.declared.Key.{Key}
-use Rattle.keys.specs.declared.key_set.KeySet.{KeySet}
+use Rattle.link_key_set.specs.declared.key_set.KeySet.{KeySet}
 use Rattle.refusal.specs.declared.Verdict.the-variants as verdict
 use Rattle.cojp.specs.declared.key_set.KeysRead.{KeysRead}
 use Rattle.cojp.specs.Reading.{Reading, refused, read, Judgement, broken, unfit, good, concluded}

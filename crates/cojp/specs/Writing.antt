@@ -8,7 +8,7 @@ use Rattle.refusal.specs.declared.Refusal.the-variants.{Range, Owed}
 use Rattle.cbor.specs.Answer.{Plan, refuse, emit}
 use Rattle.cbor.specs.Encode.{encode}
 use Rattle.cbor.specs.Item.{Item, Items, Pairs, unsigned, bytes, array, map, none, more, empty, pair}
-use Rattle.keys.specs.KeySet.{keysOf, allowedSet}
+use Rattle.link_key_set.specs.KeySet.{keysOf, allowedSet}
 use Rattle.link_key.specs.declared.Key.{Key}
 use Rattle.cojp.specs.Reading.{ifTaken}
 use Rattle.cojp.specs.Octets.{bytesIn}

@@ -13,9 +13,9 @@ use Rattle.cbor.specs.Encode.{encode}
 use Rattle.cbor.specs.Item.{Item, Pairs, bytes, array, map, more, empty, pair}
 use Rattle.cbor.specs.View.{string, View, plain, labelOf, viewOf, plainsOf}
 use Rattle.cbor.proofs.RoundTrip.{read-payload}
-use Rattle.keys.specs.KeySet.{keysOf}
+use Rattle.link_key_set.specs.KeySet.{keysOf}
 use Rattle.link_key.specs.declared.Key.{Key}
-use Rattle.keys.proofs.KeySets.{set-allowed}
+use Rattle.link_key_set.proofs.KeySets.{set-allowed}
 use Rattle.cojp.specs.Address.{addressOf, addressParameter, noAddressParameter, addressIn, addressRead}
 use Rattle.cojp.specs.KeySet.{keyOf, keySetOf, keysParameter, noKeysParameter, groups, groupsOf, keysRead}
 use Rattle.cojp.specs.Laws.{Kept}
@@ -30,9 +30,9 @@ use Rattle.cojp.specs.declared.octets.OctetsParameter.{OctetsParameter}
 use Rattle.cojp.specs.declared.report.Report.{Report}
 use Rattle.cojp.specs.declared.report.Report.the-variants.{Absent, Taken, Discarded}
 use Rattle.cojp.specs.declared.walk.Standing.the-variants.{Fresh}
-use Rattle.cojp_write.specs.Room.{addressItems}
-use Rattle.octets_write.proofs.Limits.{Fine, octets-few}
-use Rattle.octets_write.proofs.Maps.{map-length}
+use Rattle.cojp_configuration_write.specs.Room.{addressItems}
+use Rattle.cojp_octets_write.proofs.Limits.{Fine, octets-few}
+use Rattle.cojp_octets_write.proofs.Maps.{map-length}
 
 -- ---- pairs one after the other
 module _ {S : Type 0} (F : Form S) where

@@ -11,7 +11,7 @@ use Rattle.refusal.specs.declared.Refusal.the-variants.{Range, Owed}
 use Rattle.cbor.specs.Answer.{Plan, refuse, emit}
 use Rattle.cbor.specs.Encode.{encode}
 use Rattle.cbor.specs.Item.{bytes, array, map}
-use Rattle.keys.specs.KeySet.{keysOf}
+use Rattle.link_key_set.specs.KeySet.{keysOf}
 use Rattle.cojp.specs.Address.{noAddressParameter, addressRead}
 use Rattle.cojp.specs.Configuration.{emptyConfiguration, withKeys, withAddress, withJrc, withNetwork, withPrefix, configurationForm, configurationStanding, configurationTaking, acceptConfiguration, readConfiguration}
 use Rattle.cojp.specs.KeySet.{noKeysParameter, keysRead}
@@ -28,9 +28,9 @@ use Rattle.cojp.specs.declared.octets.OctetsParameter.{OctetsParameter}
 use Rattle.cojp.specs.declared.report.Report.{Report}
 use Rattle.cojp.specs.declared.report.Report.the-variants.{Absent, Taken, Discarded}
 use Rattle.cojp.specs.declared.request.JoinRequest.{JoinRequest}
-use Rattle.cojp_write.specs.Room.{addressItems}
-use Rattle.octets_write.proofs.Limits.{RequestFits, request-fits, fine-request, ConfigurationFits, configuration-fits, fine-configuration}
-use Rattle.octets_write.proofs.Maps.{map-length}
+use Rattle.cojp_configuration_write.specs.Room.{addressItems}
+use Rattle.cojp_octets_write.proofs.Limits.{RequestFits, request-fits, fine-request, ConfigurationFits, configuration-fits, fine-configuration}
+use Rattle.cojp_octets_write.proofs.Maps.{map-length}
 use Rattle.cojp_laws.proofs.ReadBack.{then, parameter-read, payload-read, kept-if, octetsGood, octetsBack, octets-back, jrc-back, octets-same, addressGood, addressBack, address-back, address-same, keysGood, keysBack, keys-back, keys-same}
 
 -- ---- a plan that is no refusal

@@ -7,15 +7,15 @@ use cojp::KeysParameter;
 use cojp::Report;
 use cojp::ShortAddress;
 use refusal::Verdict;
-use text::output::Buffer;
-use text::output::Output;
+use tool_text::output::Buffer;
+use tool_text::output::Output;
 
 pub fn answer(payload: &[u8], out: Output, buffer: &mut Buffer) -> Output {
-    let read = cojp_read::read_configuration(payload);
+    let read = cojp_configuration_read::read_configuration(payload);
     let verdict = read.verdict;
     match verdict {
         Verdict::Accepted => put_configuration(out, read.configuration, buffer),
-        Verdict::Refused(refusal) => notation::put_refusal(out, refusal, buffer),
+        Verdict::Refused(refusal) => tool_notation::put_refusal(out, refusal, buffer),
     }
 }
 
@@ -36,7 +36,7 @@ fn put_keys(out: Output, keys: KeysParameter, buffer: &mut Buffer) -> Output {
     let Report::Taken = report else {
         return out;
     };
-    notation::put_key_set(out, keys.value, buffer)
+    tool_notation::put_key_set(out, keys.value, buffer)
 }
 
 // The short address and its lease, which is absent or discarded as the address is.

@@ -3,13 +3,13 @@ mod configuration;
 mod parameter;
 mod request;
 
-use text::desk::Desk;
-use text::hex::Hex;
-use text::hex::Payload;
-use text::line::Form;
-use text::output::Buffer;
-use text::output::Output;
-use text::word::Word;
+use tool_text::desk::Desk;
+use tool_text::hex::Hex;
+use tool_text::hex::Payload;
+use tool_text::line::Form;
+use tool_text::output::Buffer;
+use tool_text::output::Output;
+use tool_text::word::Word;
 
 // A command and HEX.
 const FORM: Form = Form {
@@ -25,7 +25,7 @@ fn answer(command: Word, hex: Hex, payload: &[u8], out: Output, buffer: &mut Buf
     let Payload::Bytes(len) = hex.payload() else {
         return out.text(b"error hex", buffer);
     };
-    answer_object(is_request, text::first(payload, len), out, buffer)
+    answer_object(is_request, tool_text::first(payload, len), out, buffer)
 }
 
 // A payload is read as a join request, or else as a configuration.

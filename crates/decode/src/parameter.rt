@@ -1,8 +1,8 @@
 // A parameter of an object: absent, discarded, or what was taken.
 use cojp::OctetsParameter;
 use cojp::Report;
-use text::output::Buffer;
-use text::output::Output;
+use tool_text::output::Buffer;
+use tool_text::output::Output;
 
 // The word for a parameter that was not taken; nothing for one that was.
 pub fn put_report(out: Output, report: Report, buffer: &mut Buffer) -> Output {
@@ -26,5 +26,5 @@ pub fn put_octets(
     let Report::Taken = report else {
         return out;
     };
-    notation::put_octets(out, parameter.value, buffer)
+    tool_notation::put_octets(out, parameter.value, buffer)
 }

@@ -2,15 +2,15 @@
 use crate::parameter::put_octets;
 use cojp::JoinRequest;
 use refusal::Verdict;
-use text::output::Buffer;
-use text::output::Output;
+use tool_text::output::Buffer;
+use tool_text::output::Output;
 
 pub fn answer(payload: &[u8], out: Output, buffer: &mut Buffer) -> Output {
-    let read = request_read::read_request(payload);
+    let read = cojp_request_read::read_request(payload);
     let verdict = read.verdict;
     match verdict {
         Verdict::Accepted => put_request(out, read.request, buffer),
-        Verdict::Refused(refusal) => notation::put_refusal(out, refusal, buffer),
+        Verdict::Refused(refusal) => tool_notation::put_refusal(out, refusal, buffer),
     }
 }
 

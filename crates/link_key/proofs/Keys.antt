@@ -8,14 +8,14 @@ use mathlib.Core.Option.{Option, none, some}
 use borrow.Author.Tests.{leb-true, eqb-true, eq-eqb, le-leb}
 use lib.Dec.{eqb}
 use Rattle.refusal.specs.declared.Refusal.the-variants.{Range}
-use Rattle.usage.specs.Usage.{usageOf, familyOf, familyCovers, listed, knownType, entryAt, entrySays}
+use Rattle.link_key_usage.specs.Usage.{usageOf, familyOf, familyCovers, listed, knownType, entryAt, entrySays}
 use Rattle.link_key.specs.Key.{sameKey, sameValue, covers, coverageOf, coverageSays, foundKey}
 use Rattle.link_key.specs.declared.Key.{Key}
-use Rattle.usage.specs.declared.Coverage.the-variants.{Covered, Refused}
-use Rattle.usage.specs.declared.Entry.the-variants as entry
-use Rattle.usage.specs.declared.Usage.{Usage}
-use Rattle.usage.specs.declared.Family.{Family}
-use Rattle.usage.specs.declared.Family.the-variants.{K1K2Encrypted, K1K2, K1, K2, K2Encrypted}
+use Rattle.link_key_usage.specs.declared.Coverage.the-variants.{Covered, Refused}
+use Rattle.link_key_usage.specs.declared.Entry.the-variants as entry
+use Rattle.link_key_usage.specs.declared.Usage.{Usage}
+use Rattle.link_key_usage.specs.declared.Family.{Family}
+use Rattle.link_key_usage.specs.declared.Family.the-variants.{K1K2Encrypted, K1K2, K1, K2, K2Encrypted}
 use Rattle.link_key.proofs.Tests.{both-left, both-right}
 use Rattle.link_key.proofs.Same.{same-self, same-equal}
 

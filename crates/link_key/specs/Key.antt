@@ -8,11 +8,11 @@ use lib.ListN.{length, replicate}
 use Rattle.refusal.specs.Refusal.{numberOf}
 use Rattle.refusal.specs.declared.Refusal.the-variants.{Range}
 use Rattle.link_key.specs.Same.{sameBy}
-use Rattle.usage.specs.Usage.{familyOf, familyCovers, listed, knownType}
+use Rattle.link_key_usage.specs.Usage.{familyOf, familyCovers, listed, knownType}
 use Rattle.link_key.specs.declared.Key.{Key}
 use Rattle.link_key.specs.declared.FoundKey.{FoundKey}
-use Rattle.usage.specs.declared.Coverage.{Coverage}
-use Rattle.usage.specs.declared.Coverage.the-variants as coverage
+use Rattle.link_key_usage.specs.declared.Coverage.{Coverage}
+use Rattle.link_key_usage.specs.declared.Coverage.the-variants as coverage
 
 -- all zero: what stands where there is no key
 abbrev pub noKey : Key

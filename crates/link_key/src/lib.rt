@@ -1,8 +1,8 @@
 // A link-layer key: its limits, when two are equal, and which frames it covers.
+use link_key_usage::Coverage;
+use link_key_usage::Entry;
+use link_key_usage::entry_at;
 use refusal::Refusal;
-use usage::Coverage;
-use usage::Entry;
-use usage::entry_at;
 ghost use mathlib.Core.Path.{_≡_};
 ghost use Rattle.link_key.specs.Key.{noKey, inLimits, sameKey, sameValue, covers, coverageOf};
 ghost use Rattle.link_key.specs.Laws.{SameKeyLaws};

@@ -8,7 +8,7 @@ use mathlib.Core.Logic.{inl, inr, ⊎-elim}
 use lib.Dec.{lit<}
 use Rattle.refusal.specs.declared.Refusal.the-variants as refusal
 use Rattle.link_key.specs.Key.{inLimits, sameKey, covers}
-use Rattle.keys.specs.KeySet.{allowed, allowedSet, Apart}
+use Rattle.link_key_set.specs.KeySet.{allowed, allowedSet, Apart}
 use Rattle.link_key.specs.declared.Key.{Key}
 use Rattle.cbor.specs.Decode.{payload, decodeBy, heading, argument, next, digits, members, pairs, majorOf}
 use Rattle.cbor.specs.Encode.{bytesOf, infoOf, extraOf, shortest}
@@ -19,14 +19,14 @@ use Rattle.cojp.specs.Request.{owing}
 use Rattle.cojp.specs.Walk.{payloadRead}
 use Rattle.cojp.specs.Configuration.{configurationStanding, configurationTaking}
 use Rattle.cojp.specs.Writing.{requestInRange, requestPlan}
-use Rattle.key_sets.specs.Sets as sets
-use Rattle.key_sets.specs.Sets.{install}
-use Rattle.key_sets.specs.Frames.{sendingKey, receivingKey, hears}
-use Rattle.joining.specs.Attempt as attempt
-use Rattle.joining.specs.Attempt.{mayStart}
-use Rattle.joining.specs.Poll as polling
-use Rattle.joining.specs.Poll.{stepped}
-use Rattle.held.specs.Reports.{reportsOf}
+use Rattle.node_key_sets.specs.Sets as sets
+use Rattle.node_key_sets.specs.Sets.{install}
+use Rattle.node_key_sets.specs.Frames.{sendingKey, receivingKey, hears}
+use Rattle.node_attempt.specs.Attempt as attempt
+use Rattle.node_attempt.specs.Attempt.{mayStart}
+use Rattle.node_attempt.specs.Poll as polling
+use Rattle.node_attempt.specs.Poll.{stepped}
+use Rattle.node_parameters.specs.Reports.{reportsOf}
 use Rattle.node.specs.Node.{activeOf, pendingOf}
 use Rattle.node.specs.Range.{valid, Valid}
 use Rattle.node.specs.Timing.{requestOf, startVerdict, startPlan, start, poll}
@@ -34,8 +34,8 @@ use Rattle.node.specs.Delivery.{configured, apply, deliverVerdict, deliver}
 use Rattle.node.specs.Frames.{send, afterSend, receive, verified}
 use Rattle.node_laws.specs.Calls.{perform}
 use Rattle.node_laws.specs.Laws.{Takes}
-use Rattle.calls.specs.Call.{mayCome}
-use Rattle.calls.specs.declared.Call.the-variants.{Update}
+use Rattle.node_delivery.specs.Call.{mayCome}
+use Rattle.node_delivery.specs.declared.Call.the-variants.{Update}
 use Rattle.network.specs.Network.{nodeAt, withNode}
 use Rattle.network.specs.Turn.{judged, turn}
 use Rattle.network.specs.Events.{turning, step, run, Come, Comes}

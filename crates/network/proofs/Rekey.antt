@@ -10,14 +10,14 @@ use mathlib.Core.List.{List·Memᴰ·append-cases}
 use lib.Dec.{eqb}
 use borrow.Author.Tests.{eq-eqb, ne-eqb}
 use lib.ListN.{length}
-use Rattle.keys.specs.KeySet.{Covers}
+use Rattle.link_key_set.specs.KeySet.{Covers}
 use Rattle.link_key.specs.declared.Key.{Key}
 use Rattle.node.specs.Node.{activeOf}
 use Rattle.node.specs.Range.{Valid}
 use Rattle.node.specs.Delivery.{deliver}
 use Rattle.node_laws.specs.Laws.{Takes, NodeLaws}
-use Rattle.calls.specs.declared.Call.{Call}
-use Rattle.key_sets.specs.declared.frames.KeyAnswer.{KeyAnswer}
+use Rattle.node_delivery.specs.declared.Call.{Call}
+use Rattle.node_key_sets.specs.declared.frames.KeyAnswer.{KeyAnswer}
 use Rattle.node.specs.declared.node.Node.{Node}
 use Rattle.network.specs.Network.{Network, nodeAt}
 use Rattle.network.specs.Events.{Event, turning, calling, step, run, Comes, Come, answers, Under}

@@ -7,10 +7,10 @@ use Rattle.refusal.specs.declared.Verdict.the-variants as verdict
 use Rattle.link_key.specs.Key.{sameKey}
 use Rattle.link_key.specs.declared.Key.{Key}
 use Rattle.node.specs.Frames.{send, afterSend, receive, verified}
-use Rattle.key_sets.specs.declared.frames.Change.{Change}
-use Rattle.key_sets.specs.declared.frames.Change.the-variants as change
+use Rattle.node_key_sets.specs.declared.frames.Change.{Change}
+use Rattle.node_key_sets.specs.declared.frames.Change.the-variants as change
 use Rattle.node.specs.declared.frames.Heard.{Heard}
-use Rattle.key_sets.specs.declared.frames.KeyAnswer.{KeyAnswer}
+use Rattle.node_key_sets.specs.declared.frames.KeyAnswer.{KeyAnswer}
 use Rattle.node.specs.declared.node.Node.{Node}
 use Rattle.network.specs.declared.turn.Answer.{Answer}
 use Rattle.network.specs.declared.turn.Answer.the-variants.{Refused, Failed, Kept, Switched}

@@ -4,21 +4,21 @@ use mathlib.Core.Path.{_≡_}
 use mathlib.Core.Bool.{true}
 use mathlib.Core.List.{List, [], _∷_, _++_}
 use lib.ListN.{replicate}
-use Rattle.keys.specs.KeySet.{noKeys}
+use Rattle.link_key_set.specs.KeySet.{noKeys}
 use Rattle.link_key.specs.declared.Key.{Key}
-use Rattle.keys.specs.declared.key_set.KeySet.{KeySet}
+use Rattle.link_key_set.specs.declared.key_set.KeySet.{KeySet}
 use Rattle.cojp.specs.KeySet.{keyOf, keySetOf}
 use Rattle.cojp.specs.Octets.{octetsOf}
-use Rattle.key_sets.specs.Sets.{twoSets}
-use Rattle.joining.specs.Attempt.{attempt}
-use Rattle.held.specs.Lease.{absentAddress}
-use Rattle.held.specs.Octets.{absentOctets}
-use Rattle.joining.specs.declared.attempt.Phase.the-variants.{Joined}
+use Rattle.node_key_sets.specs.Sets.{twoSets}
+use Rattle.node_attempt.specs.Attempt.{attempt}
+use Rattle.node_parameters.specs.Lease.{absentAddress}
+use Rattle.node_parameters.specs.Octets.{absentOctets}
+use Rattle.node_attempt.specs.declared.attempt.Phase.the-variants.{Joined}
 use Rattle.node.specs.Node.{activeOf, pendingOf}
 use Rattle.node_laws.specs.Calls.{starting, polling, delivering}
 use Rattle.node_laws.specs.Laws.{Takes}
-use Rattle.calls.specs.declared.Call.the-variants.{JoinAnswer, Update}
-use Rattle.held.specs.declared.octets.HeldOctets.{HeldOctets}
+use Rattle.node_delivery.specs.declared.Call.the-variants.{JoinAnswer, Update}
+use Rattle.node_parameters.specs.declared.octets.HeldOctets.{HeldOctets}
 use Rattle.node.specs.declared.node.Node.{Node}
 use Rattle.network.specs.Network.{Network, nodeAt}
 use Rattle.network.specs.Events.{Event, turning, calling, run, Come}

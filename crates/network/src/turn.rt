@@ -1,4 +1,4 @@
-// How a turn ends: one node is asked to send a frame, another hears it. The definition is carried out in `turns`.
+// How a turn ends: one node is asked to send a frame, another hears it. The definition is carried out in `network_turn`.
 use node::Node;
 use refusal::Refusal;
 

@@ -3,13 +3,13 @@ use Prim.Native.Nat.{ℕ}
 use mathlib.Core.Path.{_≡_, sym, _∙_, ap}
 use mathlib.Core.Bool.{true, false}
 use Rattle.refusal.specs.declared.Refusal.the-variants as refusal
-use Rattle.key_sets.specs.declared.sets.Placement.{Placement}
+use Rattle.node_key_sets.specs.declared.sets.Placement.{Placement}
 use Rattle.cojp.specs.declared.configuration.Configuration.{Configuration}
-use Rattle.held.specs.Reports.{reportsOf}
-use Rattle.held.specs.declared.reports.Reports.{Reports}
+use Rattle.node_parameters.specs.Reports.{reportsOf}
+use Rattle.node_parameters.specs.declared.reports.Reports.{Reports}
 use Rattle.node.specs.Node.{isBorder}
 use Rattle.node.specs.Delivery.{placementOf, configured, undelivered, delivered, owesIdentifier, apply}
-use Rattle.calls.specs.declared.Call.{Call}
+use Rattle.node_delivery.specs.declared.Call.{Call}
 use Rattle.node.specs.declared.node.Node.{Node}
 
 -- ---- applying

@@ -7,21 +7,21 @@ use Rattle.refusal.specs.declared.Refusal.{Refusal}
 use Rattle.refusal.specs.declared.Refusal.the-variants as refusal
 use Rattle.refusal.specs.declared.Verdict.{Verdict}
 use Rattle.refusal.specs.declared.Verdict.the-variants as verdict
-use Rattle.key_sets.specs.Sets.{placed, install}
-use Rattle.key_sets.specs.declared.sets.KeySets.{KeySets}
-use Rattle.key_sets.specs.declared.sets.Placement.{Placement}
-use Rattle.calls.specs.Call.{attemptAfter, asksIdentifier, mayCome}
-use Rattle.calls.specs.declared.Call.{Call}
+use Rattle.node_key_sets.specs.Sets.{placed, install}
+use Rattle.node_key_sets.specs.declared.sets.KeySets.{KeySets}
+use Rattle.node_key_sets.specs.declared.sets.Placement.{Placement}
+use Rattle.node_delivery.specs.Call.{attemptAfter, asksIdentifier, mayCome}
+use Rattle.node_delivery.specs.declared.Call.{Call}
 use Rattle.cojp.specs.Reading.{ifTaken}
 use Rattle.cojp.specs.Configuration.{readConfiguration}
 use Rattle.cojp.specs.declared.configuration.Configuration.{Configuration}
 use Rattle.cojp.specs.declared.configuration.ConfigurationRead.{ConfigurationRead}
 use Rattle.cojp.specs.declared.key_set.KeysParameter.{KeysParameter}
 use Rattle.cojp.specs.declared.report.Report.{Report}
-use Rattle.held.specs.Lease.{addressAfter}
-use Rattle.held.specs.Octets.{octetsAfter}
-use Rattle.held.specs.Reports.{noReports, reportsOf}
-use Rattle.held.specs.declared.reports.Reports.{Reports}
+use Rattle.node_parameters.specs.Lease.{addressAfter}
+use Rattle.node_parameters.specs.Octets.{octetsAfter}
+use Rattle.node_parameters.specs.Reports.{noReports, reportsOf}
+use Rattle.node_parameters.specs.declared.reports.Reports.{Reports}
 use Rattle.node.specs.Node.{isBorder}
 use Rattle.node.specs.Range.{valid}
 use Rattle.node.specs.declared.delivery.Delivered.{Delivered}

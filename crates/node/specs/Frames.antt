@@ -2,11 +2,11 @@
 use Prim.Native.Nat.{ℕ}
 use mathlib.Core.Bool.{cond}
 use Rattle.refusal.specs.declared.Refusal.the-variants as refusal
-use Rattle.key_sets.specs.Frames.{withoutKey, sendingKey, receivingKey, hears}
-use Rattle.key_sets.specs.declared.frames.Change.{Change}
-use Rattle.key_sets.specs.declared.frames.Change.the-variants as change
-use Rattle.key_sets.specs.declared.frames.Hearing.{Hearing}
-use Rattle.key_sets.specs.declared.frames.KeyAnswer.{KeyAnswer}
+use Rattle.node_key_sets.specs.Frames.{withoutKey, sendingKey, receivingKey, hears}
+use Rattle.node_key_sets.specs.declared.frames.Change.{Change}
+use Rattle.node_key_sets.specs.declared.frames.Change.the-variants as change
+use Rattle.node_key_sets.specs.declared.frames.Hearing.{Hearing}
+use Rattle.node_key_sets.specs.declared.frames.KeyAnswer.{KeyAnswer}
 use Rattle.node.specs.Node.{keyed}
 use Rattle.node.specs.Range.{valid}
 use Rattle.node.specs.declared.frames.Heard.{Heard}

@@ -6,7 +6,7 @@ use Rattle.refusal.specs.Refusal.{numberOf}
 use Rattle.refusal.specs.declared.Refusal.the-variants as refusal
 use Rattle.refusal.specs.declared.Verdict.{Verdict}
 use Rattle.refusal.specs.declared.Verdict.the-variants as verdict
-use Rattle.held.specs.Lease.{holdsAt}
+use Rattle.node_parameters.specs.Lease.{holdsAt}
 use Rattle.node.specs.Node.{clockOf}
 use Rattle.node.specs.Range.{valid}
 use Rattle.node.specs.declared.lease.Holding.{Holding}

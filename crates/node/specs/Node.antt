@@ -6,13 +6,13 @@ use lib.Dec.{leb, eqb}
 use Rattle.refusal.specs.declared.Refusal.the-variants.{Range}
 use Rattle.refusal.specs.declared.Verdict.the-variants as verdict
 use Rattle.link_key.specs.declared.Key.{Key}
-use Rattle.key_sets.specs.Sets.{activeIn, pendingIn, noSets}
-use Rattle.key_sets.specs.declared.sets.KeySets.{KeySets}
-use Rattle.joining.specs.Attempt.{idle}
-use Rattle.joining.specs.declared.attempt.Attempt.{Attempt}
-use Rattle.held.specs.Lease.{absentAddress}
-use Rattle.held.specs.Octets.{absentOctets, knownOctets, octetsInRange}
-use Rattle.held.specs.declared.octets.HeldOctets.{HeldOctets}
+use Rattle.node_key_sets.specs.Sets.{activeIn, pendingIn, noSets}
+use Rattle.node_key_sets.specs.declared.sets.KeySets.{KeySets}
+use Rattle.node_attempt.specs.Attempt.{idle}
+use Rattle.node_attempt.specs.declared.attempt.Attempt.{Attempt}
+use Rattle.node_parameters.specs.Lease.{absentAddress}
+use Rattle.node_parameters.specs.Octets.{absentOctets, knownOctets, octetsInRange}
+use Rattle.node_parameters.specs.declared.octets.HeldOctets.{HeldOctets}
 use Rattle.node.specs.declared.node.Made.{Made}
 use Rattle.node.specs.declared.node.Node.{Node}
 

@@ -1,10 +1,10 @@
 -- Which nodes may be handed in: a node answers RANGE before all else exactly where `valid` is false of it.
 use mathlib.Core.Path.{_≡_}
 use mathlib.Core.Bool.{Bool, true, _&&_}
-use Rattle.key_sets.specs.Sets as sets
-use Rattle.joining.specs.Attempt as attempt
-use Rattle.held.specs.Lease.{addressInRange}
-use Rattle.held.specs.Octets.{octetsInRange, jrcInRange}
+use Rattle.node_key_sets.specs.Sets as sets
+use Rattle.node_attempt.specs.Attempt as attempt
+use Rattle.node_parameters.specs.Lease.{addressInRange}
+use Rattle.node_parameters.specs.Octets.{octetsInRange, jrcInRange}
 use Rattle.node.specs.Node.{isBorder, clockOf, roleInRange}
 use Rattle.node.specs.declared.node.Node.{Node}
 

@@ -12,12 +12,12 @@ use Rattle.cbor.specs.declared.write.Written.{Written}
 use Rattle.cbor.specs.declared.write.Written.the-variants as written
 use Rattle.cojp.specs.Writing.{requestPlan}
 use Rattle.cojp.specs.declared.request.JoinRequest.{JoinRequest}
-use Rattle.joining.specs.Attempt.{mayStart, waitingFrom}
-use Rattle.joining.specs.Poll as attempt
-use Rattle.joining.specs.declared.poll.Due.{Due}
-use Rattle.joining.specs.declared.poll.Due.the-variants as due
-use Rattle.joining.specs.declared.poll.Step.{Step}
-use Rattle.held.specs.Octets.{identifierIn}
+use Rattle.node_attempt.specs.Attempt.{mayStart, waitingFrom}
+use Rattle.node_attempt.specs.Poll as attempt
+use Rattle.node_attempt.specs.declared.poll.Due.{Due}
+use Rattle.node_attempt.specs.declared.poll.Due.the-variants as due
+use Rattle.node_attempt.specs.declared.poll.Step.{Step}
+use Rattle.node_parameters.specs.Octets.{identifierIn}
 use Rattle.node.specs.Node.{attempting}
 use Rattle.node.specs.Range.{valid}
 use Rattle.node.specs.declared.node.Node.{Node}

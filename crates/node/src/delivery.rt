@@ -1,22 +1,22 @@
 // Configurations handed to a node: join answers (join responses) and parameter updates.
 use crate::node::Node;
-use calls::Call;
 use cojp::Configuration;
 use cojp::ConfigurationRead;
 use cojp::KeysParameter;
 use cojp::Report;
+use cojp_configuration_read::read_configuration;
 use cojp_range::is_taken;
-use cojp_read::read_configuration;
-use held::Reports;
-use held::reports::no_reports;
-use held::reports::reports_of;
-use key_sets::KeySets;
-use key_sets::Placement;
+use node_delivery::Call;
+use node_key_sets::KeySets;
+use node_key_sets::Placement;
+use node_parameters::Reports;
+use node_parameters::reports::no_reports;
+use node_parameters::reports::reports_of;
 use refusal::Refusal;
 use refusal::Verdict;
 ghost use mathlib.Core.Path.{_≡_};
 ghost use Rattle.node.specs.Delivery.{placementOf, configured, undelivered, owesIdentifier, apply, deliverVerdict, applyRead, deliver};
-ghost use Rattle.calls.specs.declared.Call.the-variants as call;
+ghost use Rattle.node_delivery.specs.declared.Call.the-variants as call;
 
 // Beside a refusal stand the empty report and the node as it was.
 pub struct Delivered {

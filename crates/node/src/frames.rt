@@ -1,8 +1,8 @@
 // Keys for frames: which key to send with, which to receive with, and the radio's report of a verified frame.
 use crate::node::Node;
-use key_sets::Change;
-use key_sets::KeyAnswer;
-use key_sets::frames::without_key;
+use node_key_sets::Change;
+use node_key_sets::KeyAnswer;
+use node_key_sets::frames::without_key;
 use refusal::Refusal;
 ghost use mathlib.Core.Path.{_≡_};
 ghost use Rattle.node.specs.Frames.{send, receive, verified};

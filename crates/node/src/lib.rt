@@ -6,11 +6,11 @@ mod node;
 mod range;
 mod timing;
 
-pub use calls::Call;
 pub use delivery::Delivered;
 pub use frames::Heard;
 pub use lease::Holding;
 pub use node::Made;
 pub use node::Node;
+pub use node_delivery::Call;
 pub use timing::Polled;
 pub use timing::Started;

@@ -1,12 +1,12 @@
 // One node's state, and how a node is made.
-use held::HeldAddress;
-use held::HeldOctets;
-use held::address::absent_address;
-use held::octets::absent_octets;
-use joining::Attempt;
-use joining::attempt::idle;
-use key_sets::KeySets;
-use key_sets::sets::no_sets;
+use node_attempt::Attempt;
+use node_attempt::attempt::idle;
+use node_key_sets::KeySets;
+use node_key_sets::sets::no_sets;
+use node_parameters::HeldAddress;
+use node_parameters::HeldOctets;
+use node_parameters::address::absent_address;
+use node_parameters::octets::absent_octets;
 use refusal::Refusal;
 use refusal::Verdict;
 ghost use mathlib.Core.Path.{_≡_};

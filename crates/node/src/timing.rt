@@ -2,11 +2,11 @@
 use crate::node::Node;
 use cbor::Written;
 use cojp::JoinRequest;
-use joining::Due;
-use joining::attempt::waiting_from;
+use cojp_request_write::write_request;
+use node_attempt::Due;
+use node_attempt::attempt::waiting_from;
 use refusal::Refusal;
 use refusal::Verdict;
-use request_write::write_request;
 ghost use mathlib.Core.Path.{_≡_};
 ghost use Rattle.node.specs.Timing.{requestOf, startVerdict, startedFrom, startedBy, unstarted, StartDid, poll};
 

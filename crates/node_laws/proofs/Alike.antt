@@ -6,12 +6,12 @@ use mathlib.Core.Bool.{Bool, true, false, cond, not, _&&_}
 use mathlib.Core.List.{List}
 use mathlib.Core.Option.{Option, none, some}
 use Rattle.refusal.specs.declared.Refusal.the-variants as refusal
-use Rattle.keys.specs.KeySet.{keysOf}
-use Rattle.keys.specs.declared.key_set.KeySet.{KeySet}
-use Rattle.key_sets.specs.Sets.{activeIn, pendingIn, placed, install}
-use Rattle.key_sets.specs.declared.sets.Placement.{Placement}
-use Rattle.key_sets.proofs.Alike.{install-alike}
-use Rattle.held.specs.declared.address.HeldAddress.{HeldAddress}
+use Rattle.link_key_set.specs.KeySet.{keysOf}
+use Rattle.link_key_set.specs.declared.key_set.KeySet.{KeySet}
+use Rattle.node_key_sets.specs.Sets.{activeIn, pendingIn, placed, install}
+use Rattle.node_key_sets.specs.declared.sets.Placement.{Placement}
+use Rattle.node_key_sets.proofs.Alike.{install-alike}
+use Rattle.node_parameters.specs.declared.address.HeldAddress.{HeldAddress}
 use Rattle.cojp.specs.Reading.{ifTaken}
 use Rattle.cojp.specs.Octets.{bytesIn}
 use Rattle.cojp.specs.Same.{leaseOf, addressTaken, SameConfiguration}
@@ -21,15 +21,15 @@ use Rattle.cojp.specs.declared.configuration.Configuration.{Configuration}
 use Rattle.cojp.specs.declared.octets.Octets.{Octets}
 use Rattle.cojp.specs.declared.report.Report.{Report}
 use Rattle.cojp.specs.declared.report.Report.the-variants.{Absent, Taken, Discarded}
-use Rattle.held.specs.Lease.{addressAfter}
-use Rattle.held.specs.Octets.{octetsAfter}
-use Rattle.held.specs.Reports.{discarded, reportsOf}
+use Rattle.node_parameters.specs.Lease.{addressAfter}
+use Rattle.node_parameters.specs.Octets.{octetsAfter}
+use Rattle.node_parameters.specs.Reports.{discarded, reportsOf}
 use Rattle.node.specs.Node.{isBorder}
 use Rattle.node.specs.Delivery.{placementOf, configured, undelivered, delivered, owesIdentifier, apply}
-use Rattle.calls.specs.Call.{asksIdentifier}
+use Rattle.node_delivery.specs.Call.{asksIdentifier}
 use Rattle.node_laws.specs.Same.{octetsHeld, addressHeld, SameNode, SameOutcome, AppliesAlike}
-use Rattle.calls.specs.declared.Call.{Call}
-use Rattle.held.specs.declared.octets.HeldOctets.{HeldOctets}
+use Rattle.node_delivery.specs.declared.Call.{Call}
+use Rattle.node_parameters.specs.declared.octets.HeldOctets.{HeldOctets}
 use Rattle.node.specs.declared.node.Node.{Node}
 
 -- ---- two parameters that agree in what is taken

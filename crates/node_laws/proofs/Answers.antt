@@ -4,17 +4,17 @@ use mathlib.Core.Path.{_≡_, refl, ap, _∙_}
 use mathlib.Core.Bool.{Bool, true, false, cond, not, _&&_}
 use lib.Dec.{leb, ltb}
 use Rattle.refusal.specs.declared.Refusal.the-variants as refusal
-use Rattle.key_sets.specs.Frames.{changeVerdict, changeNumber}
-use Rattle.key_sets.specs.declared.frames.Change.{Change}
-use Rattle.key_sets.specs.declared.frames.Change.the-variants as change
-use Rattle.joining.specs.Attempt.{isWaiting, fits, attempt}
-use Rattle.joining.specs.Poll.{dueVerdict, dueNumber, sendsAgain, givesUp, step, stepped}
-use Rattle.joining.specs.Poll as joining
-use Rattle.joining.specs.declared.attempt.Attempt.{Attempt}
-use Rattle.joining.specs.declared.attempt.Phase.the-variants as phase
-use Rattle.joining.specs.declared.poll.Due.{Due}
-use Rattle.joining.specs.declared.poll.Due.the-variants as due
-use Rattle.held.specs.Lease.{holdsAt}
+use Rattle.node_key_sets.specs.Frames.{changeVerdict, changeNumber}
+use Rattle.node_key_sets.specs.declared.frames.Change.{Change}
+use Rattle.node_key_sets.specs.declared.frames.Change.the-variants as change
+use Rattle.node_attempt.specs.Attempt.{isWaiting, fits, attempt}
+use Rattle.node_attempt.specs.Poll.{dueVerdict, dueNumber, sendsAgain, givesUp, step, stepped}
+use Rattle.node_attempt.specs.Poll as joining
+use Rattle.node_attempt.specs.declared.attempt.Attempt.{Attempt}
+use Rattle.node_attempt.specs.declared.attempt.Phase.the-variants as phase
+use Rattle.node_attempt.specs.declared.poll.Due.{Due}
+use Rattle.node_attempt.specs.declared.poll.Due.the-variants as due
+use Rattle.node_parameters.specs.Lease.{holdsAt}
 use Rattle.node.specs.Frames.{verified}
 use Rattle.node.specs.Lease.{holds, holdingVerdict, holdingNumber, holdsNow}
 use Rattle.node.specs.Node.{clockOf}

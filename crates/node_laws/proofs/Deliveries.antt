@@ -12,18 +12,18 @@ use Rattle.refusal.specs.declared.Refusal.{Refusal}
 use Rattle.refusal.specs.declared.Refusal.the-variants as refusal
 use Rattle.refusal.specs.declared.Verdict.{Verdict}
 use Rattle.refusal.specs.declared.Verdict.the-variants as verdict
-use Rattle.keys.specs.KeySet.{noKeys, allowedSet}
+use Rattle.link_key_set.specs.KeySet.{noKeys, allowedSet}
 use Rattle.link_key.specs.declared.Key.{Key}
-use Rattle.keys.specs.declared.key_set.KeySet.{KeySet}
-use Rattle.key_sets.specs.Sets.{twoSets, placed, install}
-use Rattle.key_sets.specs.Sets as sets
-use Rattle.key_sets.proofs.Fits.{install-fits, border-installs}
-use Rattle.joining.specs.Attempt as attempt
-use Rattle.held.specs.Lease.{addressInRange}
-use Rattle.joining.specs.declared.attempt.Attempt.{Attempt}
-use Rattle.held.specs.declared.address.HeldAddress.{HeldAddress}
-use Rattle.joining.proofs.Attempts.{moved-fits, joined-fits}
-use Rattle.held.proofs.Leases.{later}
+use Rattle.link_key_set.specs.declared.key_set.KeySet.{KeySet}
+use Rattle.node_key_sets.specs.Sets.{twoSets, placed, install}
+use Rattle.node_key_sets.specs.Sets as sets
+use Rattle.node_key_sets.proofs.Fits.{install-fits, border-installs}
+use Rattle.node_attempt.specs.Attempt as attempt
+use Rattle.node_parameters.specs.Lease.{addressInRange}
+use Rattle.node_attempt.specs.declared.attempt.Attempt.{Attempt}
+use Rattle.node_parameters.specs.declared.address.HeldAddress.{HeldAddress}
+use Rattle.node_attempt.proofs.Attempts.{moved-fits, joined-fits}
+use Rattle.node_parameters.proofs.Leases.{later}
 use Rattle.cojp.specs.Reading.{ifTaken}
 use Rattle.cojp.specs.Address.{isAddress}
 use Rattle.cojp.specs.Configuration.{readConfiguration}
@@ -33,18 +33,18 @@ use Rattle.cojp.specs.declared.configuration.ConfigurationRead.{ConfigurationRe
 use Rattle.cojp.specs.declared.octets.Octets.{Octets}
 use Rattle.cojp.specs.declared.report.Report.{Report}
 use Rattle.cojp.specs.declared.report.Report.the-variants.{Absent, Taken, Discarded}
-use Rattle.held.specs.Octets.{octetsInRange, jrcInRange, octetsAfter}
-use Rattle.held.specs.Reports.{noReports, discarded, reportsOf}
+use Rattle.node_parameters.specs.Octets.{octetsInRange, jrcInRange, octetsAfter}
+use Rattle.node_parameters.specs.Reports.{noReports, discarded, reportsOf}
 use Rattle.node.specs.Node.{isBorder, clockOf, roleInRange}
 use Rattle.node.specs.Range.{othersFit, valid, Valid}
 use Rattle.node.specs.Delivery.{placementOf, configured, undelivered, delivered, owesIdentifier, apply, deliverVerdict, applyRead, deliverBy, deliver}
-use Rattle.calls.specs.Call.{attemptAfter, belongs, mayCome}
+use Rattle.node_delivery.specs.Call.{attemptAfter, belongs, mayCome}
 use Rattle.node_laws.specs.Laws.{Takes, Installed}
-use Rattle.calls.specs.declared.Call.{Call}
-use Rattle.calls.specs.declared.Call.the-variants.{JoinAnswer, Update}
+use Rattle.node_delivery.specs.declared.Call.{Call}
+use Rattle.node_delivery.specs.declared.Call.the-variants.{JoinAnswer, Update}
 use Rattle.node.specs.declared.delivery.Delivered.{Delivered}
-use Rattle.held.specs.declared.reports.Reports.{Reports}
-use Rattle.held.specs.declared.octets.HeldOctets.{HeldOctets}
+use Rattle.node_parameters.specs.declared.reports.Reports.{Reports}
+use Rattle.node_parameters.specs.declared.octets.HeldOctets.{HeldOctets}
 use Rattle.node.specs.declared.node.Node.{Node}
 use Rattle.link_key.proofs.Tests.{all-four, first, second, third, fourth, both}
 use Rattle.node_laws.proofs.Valid.{keys-fit, attempt-fits, address-fits, others-fit, valid-by}

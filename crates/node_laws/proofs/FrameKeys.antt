@@ -8,14 +8,14 @@ use mathlib.Core.List.{List·Memᴰ}
 use Rattle.refusal.specs.declared.Refusal.the-variants as refusal
 use Rattle.refusal.specs.declared.Verdict.the-variants as verdict
 use Rattle.link_key.specs.Key.{covers}
-use Rattle.keys.specs.KeySet.{Covers}
+use Rattle.link_key_set.specs.KeySet.{Covers}
 use Rattle.link_key.specs.declared.Key.{Key}
-use Rattle.key_sets.specs.Frames.{withKey, withoutKey, sendingKey, receivingKey, hears, switched}
-use Rattle.key_sets.specs.declared.frames.Change.the-variants as change
-use Rattle.key_sets.specs.declared.frames.KeyAnswer.{KeyAnswer}
-use Rattle.key_sets.specs.declared.sets.KeySets.{KeySets}
-use Rattle.key_sets.proofs.Fits.{switched-fits}
-use Rattle.key_sets.proofs.FrameKeys as sets
+use Rattle.node_key_sets.specs.Frames.{withKey, withoutKey, sendingKey, receivingKey, hears, switched}
+use Rattle.node_key_sets.specs.declared.frames.Change.the-variants as change
+use Rattle.node_key_sets.specs.declared.frames.KeyAnswer.{KeyAnswer}
+use Rattle.node_key_sets.specs.declared.sets.KeySets.{KeySets}
+use Rattle.node_key_sets.proofs.Fits.{switched-fits}
+use Rattle.node_key_sets.proofs.FrameKeys as sets
 use Rattle.node.specs.Node.{activeOf, pendingOf, isBorder, keyed}
 use Rattle.node.specs.Range.{valid, Valid}
 use Rattle.node.specs.Frames.{send, receive, heard, heardBy, verified}

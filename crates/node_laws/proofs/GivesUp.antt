@@ -10,11 +10,11 @@ use Rattle.cbor.specs.Answer.{Plan, answer}
 use Rattle.cbor.specs.declared.write.Written.{Written}
 use Rattle.cbor.specs.declared.write.Written.the-variants as written
 use Rattle.cojp.specs.Writing.{requestPlan}
-use Rattle.joining.specs.Attempt.{waitingFrom}
-use Rattle.joining.specs.Poll as attempt
-use Rattle.joining.specs.declared.attempt.Attempt.{Attempt}
-use Rattle.joining.proofs.Attempts.{may-start}
-use Rattle.joining.proofs.GivesUp.{attempt-gives-up}
+use Rattle.node_attempt.specs.Attempt.{waitingFrom}
+use Rattle.node_attempt.specs.Poll as attempt
+use Rattle.node_attempt.specs.declared.attempt.Attempt.{Attempt}
+use Rattle.node_attempt.proofs.Attempts.{may-start}
+use Rattle.node_attempt.proofs.GivesUp.{attempt-gives-up}
 use Rattle.node.specs.Range.{Valid}
 use Rattle.node.specs.Timing.{requestOf, startVerdict, planBy, startPlan, startedFrom, startedBy, start, poll}
 use Rattle.node_laws.specs.Laws.{dueAt, afterDue, answersDue, GivesUp}

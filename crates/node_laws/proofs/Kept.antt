@@ -2,10 +2,10 @@
 use Prim.Native.Nat.{_≤_}
 use mathlib.Core.Path.{_≡_, refl, ap}
 use mathlib.Core.Bool.{true}
-use Rattle.key_sets.specs.declared.sets.KeySets.{KeySets}
-use Rattle.joining.specs.Attempt.{fits}
-use Rattle.joining.specs.declared.attempt.Attempt.{Attempt}
-use Rattle.held.proofs.Leases.{later}
+use Rattle.node_key_sets.specs.declared.sets.KeySets.{KeySets}
+use Rattle.node_attempt.specs.Attempt.{fits}
+use Rattle.node_attempt.specs.declared.attempt.Attempt.{Attempt}
+use Rattle.node_parameters.proofs.Leases.{later}
 use Rattle.node.specs.Node.{attempting, keyed, clockOf}
 use Rattle.node.specs.Range.{Valid}
 use Rattle.node_laws.specs.Laws.{Kept}

@@ -4,10 +4,10 @@ use mathlib.Core.Path.{_≡_, refl}
 use mathlib.Core.Logic.{_⊎_, ⊎-elim}
 use mathlib.Core.List.{[]}
 use borrow.Author.Tests.{eq-eqb}
-use Rattle.keys.specs.KeySet.{Apart}
+use Rattle.link_key_set.specs.KeySet.{Apart}
 use Rattle.link_key.proofs.Keys.{same-key-self}
-use Rattle.keys.proofs.KeySets.{shares-apart}
-use Rattle.key_sets.proofs.Fits.{sets-apart, border-empty}
+use Rattle.link_key_set.proofs.KeySets.{shares-apart}
+use Rattle.node_key_sets.proofs.Fits.{sets-apart, border-empty}
 use Rattle.node.specs.Node.{activeOf, pendingOf, isBorder}
 use Rattle.node.specs.Range.{Valid}
 use Rattle.node.specs.Frames.{afterSend}

@@ -17,10 +17,10 @@ use Rattle.cbor.specs.View.{Plain, number, string, other, View, plain, list, la
 use Rattle.cbor.specs.declared.value.Label.{Label}
 use Rattle.cbor.specs.declared.value.Label.the-variants as label
 use Rattle.link_key.specs.Key.{noKey}
-use Rattle.keys.specs.KeySet.{keysOf, allowed, allowedSet}
+use Rattle.link_key_set.specs.KeySet.{keysOf, allowed, allowedSet}
 use Rattle.link_key.specs.declared.Key.{Key}
-use Rattle.keys.specs.declared.key_set.KeySet.{KeySet}
-use Rattle.keys.proofs.KeySets.{allowed-few}
+use Rattle.link_key_set.specs.declared.key_set.KeySet.{KeySet}
+use Rattle.link_key_set.proofs.KeySets.{allowed-few}
 use Rattle.link_key.proofs.Tests.{both-left, both-right}
 use Rattle.cojp.specs.Reading.{Reading, refused, read, onward, put, Judgement, broken, unfit, good, concluded}
 use Rattle.cojp.specs.Octets.{octetsJudged, octetsOf, octetsParameter, noOctetsParameter}

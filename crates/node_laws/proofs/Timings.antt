@@ -13,11 +13,11 @@ use Rattle.cbor.specs.Answer.{Plan, answer}
 use Rattle.cbor.specs.declared.write.Written.{Written}
 use Rattle.cbor.specs.declared.write.Written.the-variants as written
 use Rattle.cojp.specs.Writing.{requestPlan}
-use Rattle.joining.specs.Attempt.{mayStart, waitingFrom}
-use Rattle.joining.specs.Poll as attempt
-use Rattle.joining.specs.declared.poll.Due.the-variants as due
-use Rattle.joining.specs.declared.poll.Step.{Step}
-use Rattle.joining.proofs.Attempts.{waiting-fits, may-start, poll-fits, poll-later}
+use Rattle.node_attempt.specs.Attempt.{mayStart, waitingFrom}
+use Rattle.node_attempt.specs.Poll as attempt
+use Rattle.node_attempt.specs.declared.poll.Due.the-variants as due
+use Rattle.node_attempt.specs.declared.poll.Step.{Step}
+use Rattle.node_attempt.proofs.Attempts.{waiting-fits, may-start, poll-fits, poll-later}
 use Rattle.node.specs.Node.{attempting}
 use Rattle.node.specs.Range.{valid, Valid}
 use Rattle.node.specs.Timing.{requestOf, startVerdict, planBy, startPlan, startedFrom, startedBy, start, polled, polledBy, poll}

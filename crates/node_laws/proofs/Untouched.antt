@@ -12,14 +12,14 @@ use Rattle.refusal.specs.declared.Verdict.the-variants as verdict
 use Rattle.cbor.specs.Answer.{Plan, refuse, emit, answer, after}
 use Rattle.cbor.specs.declared.write.Written.the-variants as w
 use Rattle.link_key.specs.Key.{noKey}
-use Rattle.key_sets.specs.Frames.{withoutKey, sendingKey, receivingKey, hears, changeVerdict}
-use Rattle.key_sets.specs.declared.frames.Change.the-variants as change
-use Rattle.key_sets.specs.declared.frames.KeyAnswer.{KeyAnswer}
-use Rattle.key_sets.proofs.Untouched as sets
-use Rattle.joining.specs.Poll as attempt
-use Rattle.joining.specs.declared.poll.Due.the-variants as due
-use Rattle.joining.proofs.Attempts.{poll-untouched}
-use Rattle.held.specs.Octets.{octetsInRange}
+use Rattle.node_key_sets.specs.Frames.{withoutKey, sendingKey, receivingKey, hears, changeVerdict}
+use Rattle.node_key_sets.specs.declared.frames.Change.the-variants as change
+use Rattle.node_key_sets.specs.declared.frames.KeyAnswer.{KeyAnswer}
+use Rattle.node_key_sets.proofs.Untouched as sets
+use Rattle.node_attempt.specs.Poll as attempt
+use Rattle.node_attempt.specs.declared.poll.Due.the-variants as due
+use Rattle.node_attempt.proofs.Attempts.{poll-untouched}
+use Rattle.node_parameters.specs.Octets.{octetsInRange}
 use Rattle.node.specs.Node.{emptyNode, roleInRange, attempting, keyed, made}
 use Rattle.node.specs.Range.{valid}
 use Rattle.node.specs.Timing.{startPlan, startedFrom, startedBy, start, startAfter, polled, polledBy, poll}
@@ -29,7 +29,7 @@ use Rattle.node_laws.specs.Calls.{NodeCall, starting, polling, deliverin
 use Rattle.node.specs.declared.frames.Heard.{Heard}
 use Rattle.node.specs.declared.lease.Holding.{Holding}
 use Rattle.node.specs.declared.lease.Holding.the-variants as holding
-use Rattle.held.specs.declared.octets.HeldOctets.{HeldOctets}
+use Rattle.node_parameters.specs.declared.octets.HeldOctets.{HeldOctets}
 use Rattle.node.specs.declared.node.Made.{Made}
 use Rattle.node.specs.declared.node.Node.{Node}
 use Rattle.node_laws.proofs.Deliveries.{deliver-leaves}

@@ -1,9 +1,9 @@
 -- What it says that a node is valid, part by part, and back.
 use mathlib.Core.Path.{_≡_}
 use mathlib.Core.Bool.{Bool, true}
-use Rattle.key_sets.specs.Sets as sets
-use Rattle.joining.specs.Attempt as attempt
-use Rattle.held.specs.Lease.{addressInRange}
+use Rattle.node_key_sets.specs.Sets as sets
+use Rattle.node_attempt.specs.Attempt as attempt
+use Rattle.node_parameters.specs.Lease.{addressInRange}
 use Rattle.node.specs.Node.{isBorder, clockOf}
 use Rattle.node.specs.Range.{othersFit, valid, Valid}
 use Rattle.node.specs.declared.node.Node.{Node}

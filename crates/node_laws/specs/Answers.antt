@@ -6,10 +6,10 @@ use lib.Dec.{leb, ltb}
 use Rattle.refusal.specs.Refusal.{numberOf}
 use Rattle.refusal.specs.declared.Verdict.{Verdict}
 use Rattle.refusal.specs.declared.Verdict.the-variants.{Refused, Accepted}
-use Rattle.key_sets.specs.Frames.{changeNumber}
-use Rattle.joining.specs.Attempt.{isWaiting, fits}
-use Rattle.joining.specs.Poll.{dueNumber, sendsAgain, givesUp}
-use Rattle.held.specs.Lease.{holdsAt}
+use Rattle.node_key_sets.specs.Frames.{changeNumber}
+use Rattle.node_attempt.specs.Attempt.{isWaiting, fits}
+use Rattle.node_attempt.specs.Poll.{dueNumber, sendsAgain, givesUp}
+use Rattle.node_parameters.specs.Lease.{holdsAt}
 use Rattle.node.specs.Frames.{verified}
 use Rattle.node.specs.Lease.{holds, holdingNumber, holdsNow}
 use Rattle.node.specs.Node.{clockOf}

@@ -8,22 +8,22 @@ use Rattle.refusal.specs.declared.Verdict.the-variants.{Refused}
 use Rattle.link_key.specs.Key.{noKey}
 use Rattle.link_key.specs.declared.Key.{Key}
 use Rattle.node.specs.Node.{emptyNode, made}
-use Rattle.key_sets.specs.Frames.{changeVerdict}
-use Rattle.key_sets.specs.declared.frames.Change.{Change}
-use Rattle.key_sets.specs.declared.frames.Change.the-variants as change
-use Rattle.joining.specs.Poll.{dueVerdict}
-use Rattle.joining.specs.declared.poll.Due.{Due}
-use Rattle.joining.specs.declared.poll.Due.the-variants as due
+use Rattle.node_key_sets.specs.Frames.{changeVerdict}
+use Rattle.node_key_sets.specs.declared.frames.Change.{Change}
+use Rattle.node_key_sets.specs.declared.frames.Change.the-variants as change
+use Rattle.node_attempt.specs.Poll.{dueVerdict}
+use Rattle.node_attempt.specs.declared.poll.Due.{Due}
+use Rattle.node_attempt.specs.declared.poll.Due.the-variants as due
 use Rattle.node.specs.Timing.{start, startAfter, poll}
-use Rattle.held.specs.Reports.{noReports}
+use Rattle.node_parameters.specs.Reports.{noReports}
 use Rattle.node.specs.Delivery.{deliver}
 use Rattle.node.specs.Lease.{holds, holdingVerdict}
 use Rattle.node.specs.Frames.{send, afterSend, receive, verified}
-use Rattle.calls.specs.declared.Call.{Call}
-use Rattle.held.specs.declared.reports.Reports.{Reports}
+use Rattle.node_delivery.specs.declared.Call.{Call}
+use Rattle.node_parameters.specs.declared.reports.Reports.{Reports}
 use Rattle.node.specs.declared.lease.Holding.{Holding}
 use Rattle.node.specs.declared.lease.Holding.the-variants as holding
-use Rattle.held.specs.declared.octets.HeldOctets.{HeldOctets}
+use Rattle.node_parameters.specs.declared.octets.HeldOctets.{HeldOctets}
 use Rattle.node.specs.declared.node.Node.{Node}
 
 -- the calls that a node is handed to, with their arguments

@@ -7,15 +7,15 @@ use mathlib.Core.List.{List, [], _∷_, List·Memᴰ}
 use Rattle.refusal.specs.declared.Refusal.{Refusal}
 use Rattle.refusal.specs.declared.Verdict.the-variants.{Accepted, Refused}
 use Rattle.link_key.specs.Key.{covers, sameKey}
-use Rattle.keys.specs.KeySet.{keysOf, Apart, Covers}
+use Rattle.link_key_set.specs.KeySet.{keysOf, Apart, Covers}
 use Rattle.link_key.specs.declared.Key.{Key}
-use Rattle.keys.specs.declared.key_set.KeySet.{KeySet}
-use Rattle.key_sets.specs.Frames.{withKey}
-use Rattle.key_sets.specs.declared.frames.Change.the-variants as change
-use Rattle.joining.specs.Poll as attempt
-use Rattle.joining.specs.declared.attempt.Phase.the-variants as phase
-use Rattle.joining.specs.declared.poll.Due.{Due}
-use Rattle.joining.specs.declared.poll.Due.the-variants.{SendAgain, GaveUp}
+use Rattle.link_key_set.specs.declared.key_set.KeySet.{KeySet}
+use Rattle.node_key_sets.specs.Frames.{withKey}
+use Rattle.node_key_sets.specs.declared.frames.Change.the-variants as change
+use Rattle.node_attempt.specs.Poll as attempt
+use Rattle.node_attempt.specs.declared.attempt.Phase.the-variants as phase
+use Rattle.node_attempt.specs.declared.poll.Due.{Due}
+use Rattle.node_attempt.specs.declared.poll.Due.the-variants.{SendAgain, GaveUp}
 use Rattle.cojp.specs.Configuration.{readConfiguration}
 use Rattle.cojp.specs.declared.report.Report.the-variants.{Taken}
 use Rattle.node.specs.Node.{activeOf, pendingOf, clockOf}
@@ -24,7 +24,7 @@ use Rattle.node.specs.Timing.{start, poll}
 use Rattle.node.specs.Delivery.{deliver}
 use Rattle.node.specs.Frames.{send, afterSend, receive, verified}
 use Rattle.node_laws.specs.Calls.{NodeCall, perform}
-use Rattle.calls.specs.declared.Call.{Call}
+use Rattle.node_delivery.specs.declared.Call.{Call}
 use Rattle.node.specs.declared.node.Node.{Node}
 
 -- ---- the words of the laws

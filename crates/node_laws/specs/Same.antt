@@ -7,12 +7,12 @@ use mathlib.Core.Option.{Option, none, some}
 use Rattle.cojp.specs.Octets.{bytesIn}
 use Rattle.cojp.specs.Same.{leaseOf, SameConfiguration}
 use Rattle.cojp.specs.declared.configuration.Configuration.{Configuration}
-use Rattle.held.specs.declared.address.HeldAddress.{HeldAddress}
+use Rattle.node_parameters.specs.declared.address.HeldAddress.{HeldAddress}
 use Rattle.node.specs.Node.{activeOf, pendingOf}
 use Rattle.node.specs.Delivery.{apply}
-use Rattle.calls.specs.declared.Call.{Call}
+use Rattle.node_delivery.specs.declared.Call.{Call}
 use Rattle.node.specs.declared.delivery.Delivered.{Delivered}
-use Rattle.held.specs.declared.octets.HeldOctets.{HeldOctets}
+use Rattle.node_parameters.specs.declared.octets.HeldOctets.{HeldOctets}
 use Rattle.node.specs.declared.node.Node.{Node}
 
 -- ---- what is held

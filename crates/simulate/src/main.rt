@@ -5,12 +5,12 @@ mod perform;
 use nodes::load;
 use nodes::no_nodes;
 use nodes::obey;
-use orders::next_order;
-use orders::order::Made;
-use replies::put_answer;
-use replies::reply::marked;
-use text::desk::Desk;
-use text::output::Buffer;
+use simulate_answers::put_answer;
+use simulate_answers::reply::marked;
+use simulate_commands::next_order;
+use simulate_commands::order::Made;
+use tool_text::desk::Desk;
+use tool_text::output::Buffer;
 
 // Answers line after line until the input ends or nobody reads the answers.
 fn run(bytes: &mut Buffer, payload: &mut [u8; 257], buffer: &mut Buffer) {

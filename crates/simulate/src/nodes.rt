@@ -2,16 +2,16 @@
 use crate::perform::no_node;
 use crate::perform::perform;
 use network::Answer;
+use network_turn::turn;
 use node::Node;
-use orders::order::Order;
-use orders::order::Verb;
-use orders::order::byte;
-use orders::order::index;
-use replies::Reply;
-use replies::reply::FAILED;
-use replies::reply::KEPT;
-use replies::reply::SWITCHED;
-use turns::turn;
+use simulate_answers::Reply;
+use simulate_answers::reply::FAILED;
+use simulate_answers::reply::KEPT;
+use simulate_answers::reply::SWITCHED;
+use simulate_commands::order::Order;
+use simulate_commands::order::Verb;
+use simulate_commands::order::byte;
+use simulate_commands::order::index;
 
 // The nodes 0 to 15; one that was not made stands there too, and no order names it.
 pub type Nodes = [Node; 16];

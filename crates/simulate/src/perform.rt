@@ -1,21 +1,21 @@
 // What a command does to one node, and what it is answered.
 use cojp::Octets;
-use held::HeldOctets;
-use held::octets::absent_octets;
 use node::Delivered;
 use node::Node;
-use orders::order::Order;
-use orders::order::Verb;
-use orders::order::byte;
+use node_parameters::HeldOctets;
+use node_parameters::octets::absent_octets;
 use refusal::Verdict;
-use replies::Reply;
-use replies::reply::MADE;
-use replies::reply::change_reply;
-use replies::reply::delivery_reply;
-use replies::reply::due_reply;
-use replies::reply::holding_reply;
-use replies::reply::start_reply;
-use text::word::Word;
+use simulate_answers::Reply;
+use simulate_answers::reply::MADE;
+use simulate_answers::reply::change_reply;
+use simulate_answers::reply::delivery_reply;
+use simulate_answers::reply::due_reply;
+use simulate_answers::reply::holding_reply;
+use simulate_answers::reply::start_reply;
+use simulate_commands::order::Order;
+use simulate_commands::order::Verb;
+use simulate_commands::order::byte;
+use tool_text::word::Word;
 
 // The node as the command left it, and what it is answered.
 pub struct Done {
@@ -50,7 +50,7 @@ pub fn perform(node: Node, order: Order, payload: &mut [u8; 257]) -> Done {
     if let Verb::Start = verb {
         return start(node, order, payload);
     }
-    call(node, order, text::first(payload, order.len))
+    call(node, order, tool_text::first(payload, order.len))
 }
 
 fn start(node: Node, order: Order, request: &mut [u8; 257]) -> Done {

@@ -5,7 +5,7 @@ use mathlib.Core.Logic.{⊎-elim}
 use borrow.Author.Needs.{needs}
 use borrow.Author.Tests.{le-leb, lt-leb}
 use Rattle.link_key.proofs.Tests.{and-next, and-stops}
-use Rattle.held.specs.Octets.{octetsInRange, jrcInRange}
+use Rattle.node_parameters.specs.Octets.{octetsInRange, jrcInRange}
 use Rattle.node.specs.Node.{roleInRange}
 use Rattle.node.specs.declared.node.Node.{Node}
 use Rattle.node.proofs.node.Node.others_fit.Statement.{statement}

@@ -5,8 +5,8 @@ use mathlib.Core.Logic.{⊎-elim}
 use borrow.Author.Needs.{needs}
 use Rattle.link_key.proofs.Tests.{and-next, and-stops}
 use Rattle.node.specs.Node.{isBorder}
-use Rattle.calls.specs.Call.{asksIdentifier}
-use Rattle.calls.specs.declared.Call.{Call}
+use Rattle.node_delivery.specs.Call.{asksIdentifier}
+use Rattle.node_delivery.specs.declared.Call.{Call}
 use Rattle.node.specs.declared.node.Node.{Node}
 use Rattle.node.proofs.node.Node.owes_identifier.Statement.{statement}
 use Rattle.node.proofs.node.Node.owes_identifier.Tie as tie

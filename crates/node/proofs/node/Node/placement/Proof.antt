@@ -2,7 +2,7 @@
 use mathlib.Core.Bool.{false}
 use mathlib.Core.Path.{sym, _∙_}
 use borrow.Author.Needs.{needs}
-use Rattle.key_sets.specs.Sets.{install, placed}
+use Rattle.node_key_sets.specs.Sets.{install, placed}
 use Rattle.node.specs.Node.{isBorder}
 use Rattle.cojp_range.proofs.Taken.{taken-is, taken-not}
 use Rattle.node.proofs.node.Node.placement.Statement.{statement}

@@ -3,10 +3,10 @@ use mathlib.Core.Path.{_≡_, sym, _∙_}
 use mathlib.Core.Bool.{Bool, _&&_}
 use mathlib.Core.Logic.{⊎-elim}
 use borrow.Author.Needs.{needs}
-use Rattle.key_sets.specs.Sets as sets
+use Rattle.node_key_sets.specs.Sets as sets
 use Rattle.link_key.proofs.Tests.{and-next, and-stops}
-use Rattle.joining.specs.Attempt as attempt
-use Rattle.held.specs.Lease.{addressInRange}
+use Rattle.node_attempt.specs.Attempt as attempt
+use Rattle.node_parameters.specs.Lease.{addressInRange}
 use Rattle.node.specs.Node.{isBorder, clockOf}
 use Rattle.node.specs.declared.node.Node.{Node}
 use Rattle.node.specs.Range.{valid}

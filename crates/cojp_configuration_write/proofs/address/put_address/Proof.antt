@@ -1,0 +1,60 @@
+-- An address where it is taken, nothing else.
+use Prim.Native.Nat.{_+_}
+use mathlib.Core.Path.{_≡_}
+use native.Mathlib.Omega.{arith}
+use borrow.Author.Needs.{needs}
+use lib.ListN.{length}
+use Rattle.cbor.specs.Item.{array, empty, count}
+use Rattle.cbor.proofs.Writing.{wrote-none}
+use Rattle.cojp.specs.Writing.{labelled}
+use Rattle.cojp_configuration_write.specs.Room.{addressItems}
+use Rattle.cojp_configuration_write.proofs.Addresses.{address-taken, place-length}
+use Rattle.cojp_octets_write.proofs.Joined.{wrote-same, same-room}
+use Rattle.cojp_range.proofs.Taken.{taken-not}
+use Rattle.cojp_configuration_write.proofs.address.put_address.Statement.{statement}
+use Rattle.cojp_configuration_write.proofs.address.put_address.Tie as tie
+
+is-taken-requires : tie.Need-is-taken-requires
+is-taken-requires c κs = search needs
+
+optional-size-requires : tie.Need-optional-size-requires
+optional-size-requires c κs = search needs
+
+add-members : tie.Need-add-members
+add-members c = omega arith
+
+put-place-requires : tie.Need-put-place-requires
+put-place-requires c κs =
+    let p = (c .before .before .before .before .before .before .args .p) in
+    let m : 1 + (c .before .before .optional-size .result .members) ≡ count (addressItems (p .value)) = omega (arith, (c .before .before .optional-size .ensures .members)) in
+    let e = address-taken p _ (c .before .before .before .before .is-taken .ensures) (c .before .before .before .if1 .taken) in
+    (m, omega (arith, same-room (length (c .before .before .before .before .before .before .args .dst .now)) e (c .before .before .before .before .before .before .pre), place-length (p .value) _ m))
+
+same-length : tie.Need-same-length
+same-length c = search needs
+
+returns : tie.Need-returns
+returns c =
+    let place = c .before .before in
+    let test = place .before .before .before .before in
+    let at-is-taken = test .before in
+    let start = at-is-taken .before .before in
+    wrote-same (address-taken (start .args .p) _ (at-is-taken .is-taken .ensures) (test .if1 .taken)) (place .put-place .ensures)
+
+returns-2 : tie.Need-returns-2
+returns-2 c =
+    let p = (c .before .before .before .args .p) in
+    let i = labelled 3 (array (addressItems (p .value))) in
+    wrote-same (taken-not (p .report) i empty _ (c .before .is-taken .ensures) (c .if1 .left)) (wrote-none (c .before .before .before .args .dst .now))
+
+pub put-address-spec : {M : Type 1} → statement M
+put-address-spec =
+    tie.close
+    (tie.spec
+    is-taken-requires
+    optional-size-requires
+    add-members
+    put-place-requires
+    same-length
+    returns
+    returns-2)

@@ -1,0 +1,70 @@
+-- Heads, bytes and lease, each in the part after what is written.
+use native.Mathlib.Omega.{arith}
+use borrow.Author.Needs.{needs}
+use lib.ListN.{length-append}
+use Rattle.cbor.specs.Encode.{shortest}
+use Rattle.cbor.proofs.Writing.{seam, wrote-length}
+use Rattle.cojp_configuration_write.proofs.Addresses.{place-length, place-seam}
+use Rattle.cojp_configuration_write.proofs.address.put_place.Statement.{statement}
+use Rattle.cojp_configuration_write.proofs.address.put_place.Tie as tie
+
+put-array-requires : tie.Need-put-array-requires
+put-array-requires c κs = omega (arith, length-append (shortest 0 3) (shortest 4 (c .before .before .before .args .members)), (c .before .before .before .pre .1))
+
+sub-put-bytes : tie.Need-sub-put-bytes
+sub-put-bytes c = omega arith
+
+part-put-bytes-start : tie.Need-part-put-bytes-start
+part-put-bytes-start c = omega arith
+
+part-put-bytes-end : tie.Need-part-put-bytes-end
+part-put-bytes-end c = omega arith
+
+slice-aggregate-put-bytes : tie.Need-slice-aggregate-put-bytes
+slice-aggregate-put-bytes c = search needs
+
+put-bytes-requires : tie.Need-put-bytes-requires
+put-bytes-requires c κs = omega arith
+
+add-n2 : tie.Need-add-n2
+add-n2 c = omega arith
+
+sub-put-optional : tie.Need-sub-put-optional
+sub-put-optional c = omega arith
+
+part-put-optional-start : tie.Need-part-put-optional-start
+part-put-optional-start c = omega arith
+
+part-put-optional-end : tie.Need-part-put-optional-end
+part-put-optional-end c = omega arith
+
+put-optional-requires : tie.Need-put-optional-requires
+put-optional-requires c κs = omega arith
+
+add-result : tie.Need-add-result
+add-result c = omega arith
+
+returns : tie.Need-returns
+returns c = place-seam (c .before .before .before .before .before .before .before .before .before .before .before .before .before .before .before .args .a) (c .before .before .before .before .before .before .before .before .before .before .before .before .before .before .before .args .members) (c .before .before .before .before .before .before .before .before .before .before .before .before .before .before .before .pre .0) (c .before .before .before .before .before .before .before .before .before .before .before .before .before .before .before .pre .1) (seam (omega (arith, (c .before .before .before .before .before .before .before .before .before .before .before .before .before .before .before .pre .1))) (c .before .before .before .before .before .before .before .before .before .before .before .put-array .ensures) (c .before .before .before .before .before .before .put-bytes .ensures)) (c .before .before .put-optional .ensures)
+
+same-length : tie.Need-same-length
+same-length c = wrote-length (returns c) (omega (arith, c .before .before .before .before .before .before .before .before .before .before .before .before .before .before .before .pre .1, place-length (c .before .before .before .before .before .before .before .before .before .before .before .before .before .before .before .args .a) (c .before .before .before .before .before .before .before .before .before .before .before .before .before .before .before .args .members) (c .before .before .before .before .before .before .before .before .before .before .before .before .before .before .before .pre .0)))
+
+pub put-place-spec : {M : Type 1} → statement M
+put-place-spec =
+    tie.close
+    (tie.spec
+    put-array-requires
+    sub-put-bytes
+    part-put-bytes-start
+    part-put-bytes-end
+    slice-aggregate-put-bytes
+    put-bytes-requires
+    add-n2
+    sub-put-optional
+    part-put-optional-start
+    part-put-optional-end
+    put-optional-requires
+    add-result
+    same-length
+    returns)

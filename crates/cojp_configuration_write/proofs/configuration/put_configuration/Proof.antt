@@ -1,0 +1,102 @@
+-- The map's head, and then each parameter in the part after what is written.
+use native.Mathlib.Omega.{arith}
+use mathlib.Core.List.{_++_}
+use borrow.Author.Needs.{needs}
+use lib.ListN.{length-append}
+use Rattle.cbor.specs.Encode.{shortest, encodePairs}
+use Rattle.cbor.proofs.Writing.{seam, wrote-length}
+use Rattle.cojp.specs.Writing.{keysPairs, addressPairs, configurationPairs}
+use Rattle.cojp_octets_write.proofs.Maps.{map-fitting}
+use Rattle.cojp_configuration_write.proofs.Configurations.{strings-length, configuration-length, configuration-wrote}
+use Rattle.cojp_configuration_write.proofs.configuration.put_configuration.Statement.{statement}
+use Rattle.cojp_configuration_write.proofs.configuration.put_configuration.Tie as tie
+
+put-head-requires : tie.Need-put-head-requires
+put-head-requires c κs = search needs
+
+sub-put-keys : tie.Need-sub-put-keys
+sub-put-keys c = omega arith
+
+part-put-keys-start : tie.Need-part-put-keys-start
+part-put-keys-start c = omega arith
+
+part-put-keys-end : tie.Need-part-put-keys-end
+part-put-keys-end c = omega arith
+
+put-keys-requires : tie.Need-put-keys-requires
+put-keys-requires c κs = omega (arith, c .before .before .before .before .before .before .pre .1)
+
+add-n2 : tie.Need-add-n2
+add-n2 c = omega arith
+
+sub-put-address : tie.Need-sub-put-address
+sub-put-address c = omega arith
+
+part-put-address-start : tie.Need-part-put-address-start
+part-put-address-start c = omega arith
+
+part-put-address-end : tie.Need-part-put-address-end
+part-put-address-end c = omega arith
+
+put-address-requires : tie.Need-put-address-requires
+put-address-requires c κs = omega (arith, c .before .before .before .before .before .before .before .before .before .before .pre .1)
+
+add-n3 : tie.Need-add-n3
+add-n3 c = omega arith
+
+sub-put-strings : tie.Need-sub-put-strings
+sub-put-strings c = omega arith
+
+part-put-strings-start : tie.Need-part-put-strings-start
+part-put-strings-start c = omega arith
+
+part-put-strings-end : tie.Need-part-put-strings-end
+part-put-strings-end c = omega arith
+
+put-strings-requires : tie.Need-put-strings-requires
+put-strings-requires c κs = omega (arith, c .before .before .before .before .before .before .before .before .before .before .before .before .before .before .pre .1)
+
+add-result : tie.Need-add-result
+add-result c =
+    let q = c .before .before .before .before .before .before .before .before .before .before .before .before .before .before .before .before .before .args .c in
+    omega (arith, c .before .before .before .before .before .before .before .before .before .before .before .before .before .before .before .before .before .pre .1, c .before .before .before .before .before .before .before .before .before .before .before .before .before .before .put-head .ensures .many, c .before .before .before .before .before .before .before .before .before .before .put-keys .ensures .many, c .before .before .before .before .before .before .put-address .ensures .many, c .before .before .put-strings .ensures .many, strings-length (q .jrc) (q .network) (q .prefix))
+
+returns : tie.Need-returns
+returns c =
+    let a = c .before .before .before .before .before .before .before .before .before .before .before .before .before .before .before .before .before .args in
+    let room = c .before .before .before .before .before .before .before .before .before .before .before .before .before .before .before .before .before .pre .1 in
+    let h = shortest 5 (a .members) in
+    let k = encodePairs (keysPairs (a .c .keys)) in
+    let b = encodePairs (addressPairs (a .c .address)) in
+    let w1 = seam (omega (arith, room)) (c .before .before .before .before .before .before .before .before .before .before .before .before .before .before .put-head .ensures) (c .before .before .before .before .before .before .before .before .before .before .put-keys .ensures) in
+    let w2 = seam (omega (arith, room, length-append h k)) w1 (c .before .before .before .before .before .before .put-address .ensures) in
+    configuration-wrote (a .c) (a .members) (c .before .before .before .before .before .before .before .before .before .before .before .before .before .before .before .before .before .pre .0)
+    (seam (omega (arith, room, length-append h k, length-append (h ++ k) b, strings-length (a .c .jrc) (a .c .network) (a .c .prefix))) w2 (c .before .before .put-strings .ensures))
+
+same-length : tie.Need-same-length
+same-length c =
+    let a = c .before .before .before .before .before .before .before .before .before .before .before .before .before .before .before .before .before .args in
+    wrote-length (returns c) (map-fitting (configurationPairs (a .c)) (a .members) (a .dst .now) (c .before .before .before .before .before .before .before .before .before .before .before .before .before .before .before .before .before .pre .0) (omega (arith, c .before .before .before .before .before .before .before .before .before .before .before .before .before .before .before .before .before .pre .1, configuration-length (a .c) (a .members))))
+
+pub put-configuration-spec : {M : Type 1} → statement M
+put-configuration-spec =
+    tie.close
+    (tie.spec
+    put-head-requires
+    sub-put-keys
+    part-put-keys-start
+    part-put-keys-end
+    put-keys-requires
+    add-n2
+    sub-put-address
+    part-put-address-start
+    part-put-address-end
+    put-address-requires
+    add-n3
+    sub-put-strings
+    part-put-strings-start
+    part-put-strings-end
+    put-strings-requires
+    add-result
+    same-length
+    returns)

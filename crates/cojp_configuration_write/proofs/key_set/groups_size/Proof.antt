@@ -1,0 +1,77 @@
+-- The invariant: the size of the groups of the keys passed.
+use Prim.Native.Nat.{_*_, _-_, _≤_}
+use native.Mathlib.Omega.{arith}
+use borrow.Author.Needs.{needs}
+use lib.ListN.{take}
+use Rattle.link_key_set.specs.KeySet.{keysOf}
+use Rattle.cojp.specs.Writing.{groupsItems}
+use Rattle.cojp_octets_write.specs.Size.{ItemsSize}
+use Rattle.cojp_configuration_write.proofs.KeySets.{past, all-keys, sizes-step}
+use Rattle.cojp_octets_write.proofs.Sizes.{sizes-most}
+use Rattle.cojp_configuration_write.proofs.key_set.groups_size.Statement.{statement}
+use Rattle.cojp_configuration_write.proofs.key_set.groups_size.Tie as tie
+
+abbrev Inv-loop : tie.InvT-loop
+Inv-loop set n size₀ i₀ size i = (i ≤ n) × ItemsSize (groupsItems (take i (keysOf set))) (3 * i) (28 * i) size
+
+abbrev μ-loop : tie.MeasureT-loop
+μ-loop set n size₀ i₀ size i = n - i
+
+len-requires : tie.Need-len-requires Inv-loop μ-loop
+len-requires c κs = search needs
+
+no-size-requires : tie.Need-no-size-requires Inv-loop μ-loop
+no-size-requires c κs = search needs
+
+loop-holds : tie.Need-loop-holds Inv-loop μ-loop
+loop-holds c = (omega arith, (c .no-size .ensures))
+
+mul-key : tie.Need-mul-key Inv-loop μ-loop
+mul-key c = search needs
+
+element-copy-out-key : tie.Need-element-copy-out-key Inv-loop μ-loop
+element-copy-out-key c = search needs
+
+key-size-requires : tie.Need-key-size-requires Inv-loop μ-loop
+key-size-requires c κs = search needs
+
+plus-requires : tie.Need-plus-requires Inv-loop μ-loop
+plus-requires c κs =
+    let l = (c .before .before .before .loop) in
+    let k = (c .key-size .ensures) in
+    (omega (arith, l .inv .1 .few, k .few, (c .before .before .before .before .before .len .ensures .1)), omega (arith, l .inv .1 .small, k .small, (c .before .before .before .before .before .len .ensures .1)))
+
+add-i : tie.Need-add-i Inv-loop μ-loop
+add-i c = search needs
+
+loop-less : tie.Need-loop-less Inv-loop μ-loop
+loop-less c = search needs
+
+loop-again : tie.Need-loop-again Inv-loop μ-loop
+loop-again c =
+    let l = (c .before .before .before .before .loop) in
+    (omega arith, sizes-step (c .before .before .before .before .before .before .before .args .t1) (l .i) past (omega (arith, (c .before .before .before .before .before .before .len .ensures .0))) (l .inv .1) (c .before .key-size .ensures) (c .plus .ensures))
+
+returns : tie.Need-returns Inv-loop μ-loop
+returns c =
+    let l = (c .before .loop) in
+    let z = rw (all-keys (keysOf (c .before .before .before .before .args .t1)) (l .i) (omega (arith, (c .before .before .before .len .ensures .0)))) at (l .inv .1) in
+    sizes-most 24 224 (omega (arith, (c .before .before .before .len .ensures .1))) (omega (arith, (c .before .before .before .len .ensures .1))) z
+
+pub groups-size-spec : {M : Type 1} → statement M
+groups-size-spec =
+    tie.close
+    (tie.spec
+    Inv-loop
+    μ-loop
+    len-requires
+    no-size-requires
+    loop-holds
+    mul-key
+    element-copy-out-key
+    key-size-requires
+    plus-requires
+    add-i
+    loop-less
+    loop-again
+    returns)

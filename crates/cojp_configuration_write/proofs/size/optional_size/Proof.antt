@@ -1,0 +1,20 @@
+-- A number takes the bytes of its head.
+use borrow.Author.Needs.{needs}
+use Rattle.cojp_octets_write.proofs.Sizes.{optional-given, optional-missing}
+use Rattle.cojp_configuration_write.proofs.size.optional_size.Statement.{statement}
+use Rattle.cojp_configuration_write.proofs.size.optional_size.Tie as tie
+
+head-len-requires : tie.Need-head-len-requires
+head-len-requires c κs = search needs
+
+returns : tie.Need-returns
+returns c = optional-given (c .before .before .args .given) (c .before .before .args .number) _ (c .before .if1 .taken) (c .head-len .ensures)
+
+no-size-requires : tie.Need-no-size-requires
+no-size-requires c κs = search needs
+
+returns-2 : tie.Need-returns-2
+returns-2 c = optional-missing (c .before .before .args .given) (c .before .before .args .number) (c .before .if1 .left) (c .no-size .ensures)
+
+pub optional-size-spec : {M : Type 1} → statement M
+optional-size-spec = tie.close (tie.spec head-len-requires returns no-size-requires returns-2)

@@ -1,0 +1,116 @@
+// Link-layer key sets: one flat array of groups.
+use crate::item::put_array;
+use crate::item::put_bytes;
+use crate::item::put_head;
+use crate::item::put_optional;
+use crate::size::optional_size;
+use crate::size::plus;
+use cbor_write::head_len;
+use cojp::KeysParameter;
+use cojp_octets_write::Size;
+use cojp_octets_write::no_size;
+use cojp_range::is_taken;
+use link_key::Key;
+use link_key_set::KeySet;
+ghost use mathlib.Core.Bool.{true};
+ghost use mathlib.Core.Path.{_≡_};
+ghost use Prim.Native.Nat.{_+_, _≤_};
+ghost use lib.ListN.{length};
+ghost use Rattle.cbor.specs.Answer.{Wrote};
+ghost use Rattle.cbor.specs.Encode.{encodes, encodePairs};
+ghost use Rattle.cbor.specs.Item.{array, count};
+ghost use Rattle.cojp.specs.Writing.{labelled, keysInRange, keysPairs, groupItems, groupsItems};
+ghost use Rattle.link_key_set.specs.KeySet.{keysOf};
+ghost use Rattle.cojp_octets_write.specs.Size.{ItemsSize, PairsSize};
+ghost use Rattle.cojp_configuration_write.specs.Room.{keyLength, setLength};
+
+// A group: identifier, usage unless it is 0, value.
+fn key_size(k: Key) -> Size
+    ensures { λ r. ⌜ ItemsSize (groupItems k) 3 28 r ⌝ }
+{
+    let name = head_len(k.identifier as u64);
+    let usage = k.usage;
+    let used = optional_size(usage != 0, usage as u64);
+    Size {
+        members: 2 + used.members,
+        bytes: name + used.bytes + 17,
+    }
+}
+
+fn groups_size(set: KeySet) -> Size
+    ensures { λ r. ⌜ ItemsSize (groupsItems (keysOf set)) 24 224 r ⌝ }
+{
+    let n = set.len();
+    let mut size = no_size();
+    let mut i = 0;
+    while i < n {
+        let key = set.keys[i];
+        size = plus(size, key_size(key));
+        i += 1;
+    }
+    size
+}
+
+pub(crate) fn keys_size(p: KeysParameter) -> Size
+    requires { ⌜ keysInRange p ≡ true ⌝ }
+    ensures { λ r. ⌜ PairsSize (keysPairs p) 1 163 r ⌝ }
+{
+    let report = p.report;
+    if is_taken(report) {
+        let groups = groups_size(p.value);
+        let members = groups.members;
+        return Size {
+            members: 1,
+            bytes: 1 + head_len(members as u64) + groups.bytes,
+        };
+    }
+    no_size()
+}
+
+fn put_key(dst: &mut [u8], k: Key) -> usize
+    requires { ⌜ keyLength k ≤ length (now dst) ⌝ }
+    ensures { λ r. ⌜ Wrote (encodes (groupItems k)) (now (dst .entry)) r (now (dst .exit)) ⌝ }
+{
+    let usage = k.usage;
+    let value = k.value;
+    let n1 = put_head(dst, 0, k.identifier as u64);
+    let n2 = n1 + put_optional(&mut dst[n1..], usage != 0, usage as u64);
+    n2 + put_bytes(&mut dst[n2..], &value)
+}
+
+fn put_groups(dst: &mut [u8], set: KeySet) -> usize
+    requires { ⌜ length (encodes (groupsItems (keysOf set))) ≤ length (now dst) ⌝ }
+    ensures { λ r. ⌜ Wrote (encodes (groupsItems (keysOf set))) (now (dst .entry)) r (now (dst .exit)) ⌝ }
+{
+    let n = set.len();
+    let mut at = 0;
+    let mut i = 0;
+    while i < n {
+        let key = set.keys[i];
+        at += put_key(&mut dst[at..], key);
+        i += 1;
+    }
+    at
+}
+
+// A key set, label and all; `members` are those of all groups.
+fn put_set(dst: &mut [u8], set: KeySet, members: u64) -> usize
+    requires { ⌜ (members ≡ count (groupsItems (keysOf set))) × (setLength (keysOf set) members ≤ length (now dst)) ⌝ }
+    ensures { λ r. ⌜ Wrote (encodePairs (labelled 2 (array (groupsItems (keysOf set))))) (now (dst .entry)) r (now (dst .exit)) ⌝ }
+{
+    let n = put_array(dst, 2, members);
+    n + put_groups(&mut dst[n..], set)
+}
+
+pub(crate) fn put_keys(dst: &mut [u8], p: KeysParameter) -> usize
+    requires { ⌜ length (encodePairs (keysPairs p)) ≤ length (now dst) ⌝ }
+    ensures { λ r. ⌜ Wrote (encodePairs (keysPairs p)) (now (dst .entry)) r (now (dst .exit)) ⌝ }
+{
+    let report = p.report;
+    if is_taken(report) {
+        let groups = groups_size(p.value);
+        let members = groups.members;
+        return put_set(dst, p.value, members as u64);
+    }
+    0
+}

@@ -1,0 +1,68 @@
+-- A value closes the group, a number is its usage, anything else breaks the pattern.
+use Rattle.cojp.proofs.Arrays.{number-left, bytes-left}
+use Rattle.cojp_key_set_read.proofs.KeySets.{group-used, group-pair, group-open}
+use borrow.Author.Needs.{needs}
+use Rattle.cojp_key_set_read.proofs.after_identifier.Statement.{statement}
+use Rattle.cojp_key_set_read.proofs.after_identifier.Tie as tie
+
+member-at-requires : tie.Need-member-at-requires
+member-at-requires c κs = search needs
+
+enum-known-second : tie.Need-enum-known-second
+enum-known-second c = search needs
+
+sub-after-usage : tie.Need-sub-after-usage
+sub-after-usage c =
+    let a = c .before .before .before .before .before .args in
+    let g = c .before .second .given in
+    number-left (a .part .now) (a .at) (a .left) (c .before .before .before .member-at .result) (c .before .before .before .member-at .ensures) (g .0 .0) (g .0 .1 .0) (g .1)
+
+after-usage-requires : tie.Need-after-usage-requires
+after-usage-requires c κs = search needs
+
+enum-known-second-2 : tie.Need-enum-known-second-2
+enum-known-second-2 c = search needs
+
+sub-t12 : tie.Need-sub-t12
+sub-t12 c =
+    let a = c .before .before .before .before .before .args in
+    let g = c .before .second2 .given in
+    bytes-left (a .part .now) (a .at) (a .left) (c .before .before .before .member-at .result) (c .before .before .before .member-at .ensures) (g .0 .0) (g .0 .1 .0) (g .1)
+
+enum-told : tie.Need-enum-told
+enum-told c = search needs
+
+returns : tie.Need-returns
+returns c =
+    let a = c .before .before .before .before .before .before .args in
+    let m = c .before .before .before .before .member-at in
+    let g = c .before .before .second .given in
+    group-used (a .part .now) (a .left) (m .result) (a .at) (a .identifier) (m .ensures) (g .0 .0) (g .0 .1 .0) (g .1) (c .after-usage .result) (c .after-usage .ensures)
+
+returns-2 : tie.Need-returns-2
+returns-2 c =
+    let a = c .before .before .before .before .before .args in
+    let m = c .before .before .before .member-at in
+    let g = c .before .second2 .given in
+    group-pair (a .part .now) (a .left) (m .result) (a .at) (a .identifier) (m .ensures) (g .0 .0) (g .0 .1 .0) (g .1)
+
+returns-3 : tie.Need-returns-3
+returns-3 c =
+    let a = c .before .before .before .before .args in
+    let m = c .before .before .member-at in
+    group-open (a .part .now) (a .left) (m .result) (a .at) (a .identifier) (m .ensures) (c .enum-told .given .1)
+
+pub after-identifier-spec : {M : Type 1} → statement M
+after-identifier-spec =
+    tie.close
+    (tie.spec
+    member-at-requires
+    enum-known-second
+    sub-after-usage
+    after-usage-requires
+    enum-known-second-2
+    sub-t12
+    enum-told
+    returns
+    returns-2
+    returns-3)

@@ -1,0 +1,34 @@
+-- A value closes the group; anything else breaks the pattern.
+use Rattle.cojp.proofs.Arrays.{bytes-left}
+use Rattle.cojp_key_set_read.proofs.KeySets.{group-triple, group-valueless}
+use borrow.Author.Needs.{needs}
+use Rattle.cojp_key_set_read.proofs.after_usage.Statement.{statement}
+use Rattle.cojp_key_set_read.proofs.after_usage.Tie as tie
+
+member-at-requires : tie.Need-member-at-requires
+member-at-requires c κs = search needs
+
+enum-known-third : tie.Need-enum-known-third
+enum-known-third c = search needs
+
+sub-t10 : tie.Need-sub-t10
+sub-t10 c =
+    let a = c .before .before .before .before .before .args in
+    bytes-left (a .part .now) (a .at) (a .left) (c .before .before .before .member-at .result) (c .before .before .before .member-at .ensures) (c .before .third .given .0 .0) (c .before .third .given .0 .1 .0) (c .before .third .given .1)
+
+returns : tie.Need-returns
+returns c =
+    let a = c .before .before .before .before .before .args in
+    let m = c .before .before .before .member-at in
+    let g = c .before .third .given in
+    group-triple (a .part .now) (a .left) (m .result) (a .at) (a .identifier) (m .ensures) (a .usage) (g .0 .0) (g .0 .1 .0) (g .1)
+
+returns-2 : tie.Need-returns-2
+returns-2 c =
+    let a = c .before .before .before .args in
+    let m = c .before .member-at in
+    group-valueless (a .part .now) (a .left) (m .result) (a .at) (a .identifier) (m .ensures) (a .usage) (c .match .keys2)
+
+pub after-usage-spec : {M : Type 1} → statement M
+after-usage-spec =
+    tie.close (tie.spec member-at-requires enum-known-third sub-t10 returns returns-2)

@@ -1,0 +1,45 @@
+-- A group begins with its identifier.
+use Rattle.cojp.proofs.Arrays.{number-left}
+use Rattle.cojp_key_set_read.proofs.KeySets.{group-begun, group-headless}
+use borrow.Author.Needs.{needs}
+use Rattle.cojp_key_set_read.proofs.read_group.Statement.{statement}
+use Rattle.cojp_key_set_read.proofs.read_group.Tie as tie
+
+member-at-requires : tie.Need-member-at-requires
+member-at-requires c κs = search needs
+
+enum-known-first : tie.Need-enum-known-first
+enum-known-first c = search needs
+
+sub-after-identifier : tie.Need-sub-after-identifier
+sub-after-identifier c =
+    let a = c .before .before .before .before .before .args in
+    let g = c .before .first .given in
+    number-left (a .part .now) 0 (a .left) (c .before .before .before .member-at .result) (c .before .before .before .member-at .ensures) (g .0 .0) (g .0 .1 .0) (g .1)
+
+after-identifier-requires : tie.Need-after-identifier-requires
+after-identifier-requires c κs = search needs
+
+returns : tie.Need-returns
+returns c =
+    let a = c .before .before .before .before .before .before .args in
+    let m = c .before .before .before .before .member-at in
+    let g = c .before .before .first .given in
+    group-begun (a .part .now) (a .left) (m .result) (c .before .before .before .before .before .before .pre) (m .ensures) (g .0 .0) (g .0 .1 .0) (g .1) (c .after-identifier .result) (c .after-identifier .ensures)
+
+returns-2 : tie.Need-returns-2
+returns-2 c =
+    let a = c .before .before .before .args in
+    let m = c .before .member-at in
+    group-headless (a .part .now) (a .left) (m .result) (c .before .before .before .pre) (m .ensures) (c .match .keys2)
+
+pub read-group-spec : {M : Type 1} → statement M
+read-group-spec =
+    tie.close
+    (tie.spec
+    member-at-requires
+    enum-known-first
+    sub-after-identifier
+    after-identifier-requires
+    returns
+    returns-2)

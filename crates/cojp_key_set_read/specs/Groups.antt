@@ -1,0 +1,39 @@
+-- For the contracts of the functions that read a key set: its groups as they stand in the bytes, and the set that is gathered of them.
+use Prim.Native.Nat.{ℕ, _+_, _≤_, _<_}
+use mathlib.Core.Path.{_≡_}
+use mathlib.Core.Bool.{Bool, cond, _&&_}
+use mathlib.Core.List.{List, _++_}
+use lib.Dec.{leb, ltb, eqb}
+use lib.ListN.{length, take, drop, set, replicate}
+use Rattle.cbor.specs.View.{Plain}
+use Rattle.link_key.specs.Key.{noKey}
+use Rattle.link_key.specs.declared.Key.{Key}
+use Rattle.link_key_set.specs.declared.key_set.KeySet.{KeySet}
+use Rattle.cojp.specs.Bytes.{membersAt}
+use Rattle.cojp.specs.KeySet.{Groups, notGroups, group, groups}
+use Rattle.cojp_key_set_read.specs.declared.Group.{Group}
+use Rattle.cojp_key_set_read.specs.declared.Group.the-variants as gv
+
+-- what an answer of a group's reader says of these groups, n members being left
+abbrev pub GroupAt : List ℕ → ℕ → Groups → Group → Type 0
+GroupAt s n gs gv.Broken = gs ≡ notGroups
+GroupAt s n gs (gv.Closed i u p a m) =
+    (p + a ≤ length s) × (m < n) × (gs ≡ group i u (take a (drop p s)) (groups (membersAt m (drop (p + a) s))))
+
+-- the same of the groups whose first members have been read, the others standing at a place
+abbrev pub GroupAfter : List Plain → List ℕ → ℕ → ℕ → Group → Type 0
+GroupAfter read s at n r = GroupAt s n (groups (read ++ membersAt n (drop at s))) r
+
+-- a place of a set can hold the key
+abbrev pub storable : ℕ → ℕ → ℕ → Bool
+storable identifier usage len = (leb identifier 255 && leb usage 255 && eqb len 16)
+
+-- a set that is outside the limits whatever comes after
+abbrev pub overfull : KeySet
+overfull = record { count = 9; keys = replicate 8 noKey }
+
+unfoldable pub addKey : KeySet → Key → KeySet
+addKey s k =
+    cond (ltb (s .count) 8 && storable (k .identifier) (k .usage) (length (k .value)))
+    (record { count = s .count + 1; keys = set (s .keys) (s .count) k })
+    overfull

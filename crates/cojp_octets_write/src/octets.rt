@@ -1,0 +1,73 @@
+// Parameters that are byte strings: the network identifier, the prefix, the JRC address.
+use crate::size::Size;
+use crate::size::no_size;
+use cbor::Written;
+use cbor_write::head_len;
+use cbor_write::write_bytes;
+use cbor_write::write_head;
+use cojp::Octets;
+use cojp::OctetsParameter;
+use cojp_range::is_taken;
+use refusal::Refusal;
+ghost use mathlib.Core.Path.{_≡_};
+ghost use Prim.Native.Nat.{_≤_};
+ghost use lib.ListN.{length};
+ghost use Rattle.cbor.specs.Answer.{Did, emit};
+ghost use Rattle.cbor.specs.Encode.{encodePairs};
+ghost use Rattle.cbor.specs.Item.{bytes};
+ghost use Rattle.cojp.specs.Octets.{bytesIn};
+ghost use Rattle.cojp.specs.Writing.{labelled, octetsPairs};
+ghost use Rattle.cojp_octets_write.specs.Size.{PairsSize};
+
+// How many bytes a byte string has: its length, and 16 where that is over 16.
+fn known_len(value: Octets) -> usize
+    ensures exact { λ r. ⌜ r ≡ length (bytesIn value) ⌝ }
+    ensures few { λ r. ⌜ r ≤ 16 ⌝ }
+{
+    if value.len <= 16 {
+        return value.len;
+    }
+    16
+}
+
+// How much there is to write of a parameter under a label.
+pub fn octets_size(label: u64, p: OctetsParameter) -> Size
+    ensures { λ r. ⌜ PairsSize (octetsPairs label p) 1 26 r ⌝ }
+{
+    let report = p.report;
+    if is_taken(report) {
+        return Size {
+            members: 1,
+            bytes: head_len(label) + 1 + known_len(p.value),
+        };
+    }
+    no_size()
+}
+
+// Writes a label and a byte string: ROOM, or the length written.
+fn write_string(dst: &mut [u8], label: u64, s: &[u8]) -> Written
+    ensures { λ r. ⌜ Did (emit (encodePairs (labelled label (bytes (now (s .entry)))))) (now (dst .entry)) r (now (dst .exit)) ⌝ }
+{
+    let n = s.len();
+    let l = head_len(label);
+    let whole = l + head_len(n as u64) + n;
+    if dst.len() < whole {
+        return Written::Refused(Refusal::Room);
+    }
+    write_head(dst, 0, label);
+    write_bytes(&mut dst[l..], s);
+    Written::Length(whole)
+}
+
+// Writes a parameter under a label, where it is taken: ROOM, or the length written.
+pub fn write_octets(dst: &mut [u8], label: u64, p: OctetsParameter) -> Written
+    ensures { λ r. ⌜ Did (emit (encodePairs (octetsPairs label p))) (now (dst .entry)) r (now (dst .exit)) ⌝ }
+{
+    let len = known_len(p.value);
+    let bytes = p.value.bytes;
+    let report = p.report;
+    if is_taken(report) {
+        return write_string(dst, label, &bytes[..len]);
+    }
+    Written::Length(0)
+}

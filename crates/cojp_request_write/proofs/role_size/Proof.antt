@@ -1,0 +1,18 @@
+-- One pair, or none.
+use borrow.Author.Needs.{needs}
+use Rattle.cojp_request_write.proofs.Roles.{role-none, role-size}
+use Rattle.cojp_octets_write.proofs.Sizes.{size-none}
+use Rattle.cojp_request_write.proofs.role_size.Statement.{statement}
+use Rattle.cojp_request_write.proofs.role_size.Tie as tie
+
+no-size-requires : tie.Need-no-size-requires
+no-size-requires c κs = search needs
+
+returns : tie.Need-returns
+returns c = size-none 1 2 (role-none (c .before .before .args .role) (c .before .if1 .taken)) (c .no-size .ensures)
+
+returns-2 : tie.Need-returns-2
+returns-2 c = role-size (c .before .args .role) (c .if1 .left) (c .before .pre)
+
+pub role-size-spec : {M : Type 1} → statement M
+role-size-spec = tie.close (tie.spec no-size-requires returns returns-2)

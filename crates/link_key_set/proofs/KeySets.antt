@@ -1,0 +1,176 @@
+-- Laws of key sets: what the tests say of the keys in them, and what the searches find.
+use Prim.Native.Nat.{ℕ, _≤_, _<_}
+use native.Mathlib.Omega.{arith}
+use mathlib.Core.Path.{_≡_, refl, sym}
+use mathlib.Core.Bool.{Bool, true, false, cond, not, _&&_, _||_, and-false}
+use mathlib.Core.List.{List, [], _∷_, _++_, List·Memᴰ, List·Memᴰ·head, List·Memᴰ·tail}
+use mathlib.Core.Option.{Option, none, some}
+use borrow.Author.Tests.{leb-true, eqb-true, eqb-false, eq-eqb, ne-eqb, le-leb, lt-leb, not-true}
+use lib.Dec.{leb, eqb}
+use lib.ListN.{length, length-take}
+use Rattle.link_key.specs.Key.{inLimits, sameKey, covers, foundKey}
+use Rattle.link_key_set.specs.KeySet.{keysOf, noKeys, named, has, allowed, allowedSet, allInLimits, noneTwice, sameKeys, shares, Apart}
+use Rattle.link_key_set.specs.KeySet.{Covers, firstCover, findKey}
+use Rattle.link_key.specs.declared.Key.{Key}
+use Rattle.link_key_set.specs.declared.key_set.KeySet.{KeySet}
+use Rattle.link_key.proofs.Tests.{both-left, both-right}
+use Rattle.link_key.proofs.Same.{same-self, same-equal}
+use Rattle.link_key_set.proofs.Lists.{any-one, any-none, any-never, any-append, all-each, all-append, first-is, first-none, none-first, first-finds}
+use Rattle.link_key.proofs.Keys.{same-key-self, same-key-equal}
+
+-- ---- equal sets
+pub same-keys-self : (ks : List Key) → sameKeys ks ks ≡ true
+same-keys-self ks = same-self sameKey same-key-self ks
+
+pub same-keys-equal : (xs ys : List Key) → sameKeys xs ys ≡ true → xs ≡ ys
+same-keys-equal xs ys e = same-equal sameKey same-key-equal xs ys e
+
+-- ---- identifiers
+pub has-none : (identifier : ℕ) (ks : List Key) → has identifier ks ≡ false → (k : Key) → List·Memᴰ k ks → k .identifier ≡ identifier → ⊥
+has-none identifier ks e k m p = eqb-false (k .identifier) identifier (any-none (named identifier) m e) p
+
+pub none-has : (identifier : ℕ) (ks : List Key) → ((k : Key) → List·Memᴰ k ks → k .identifier ≡ identifier → ⊥) → has identifier ks ≡ false
+none-has identifier ks h = any-never (named identifier) ks (λ k m. ne-eqb (k .identifier) identifier (h k m))
+
+abbrev hasOf : List Key → Key → Bool
+hasOf ys k = has (k .identifier) ys
+
+pub shares-apart : (xs ys : List Key) → shares xs ys ≡ false → Apart xs ys
+shares-apart xs ys e k l m n p = has-none (k .identifier) ys (any-none (hasOf ys) m e) l n (sym p)
+
+pub apart-shares : (xs ys : List Key) → Apart xs ys → shares xs ys ≡ false
+apart-shares xs ys h = any-never (hasOf ys) xs (λ k m. none-has (k .identifier) ys (λ l n p. h k l m n (sym p)))
+
+turned : (xs ys : List Key) → Apart xs ys → Apart ys xs
+turned xs ys h k l m n p = h l k n m (sym p)
+
+together : (a b : Bool) → (a ≡ false → b ≡ false) → (b ≡ false → a ≡ false) → a ≡ b
+together true true f g = refl
+together true false f g = g refl
+together false true f g = sym (f refl)
+together false false f g = refl
+
+pub shares-turned : (xs ys : List Key) → shares xs ys ≡ shares ys xs
+shares-turned xs ys =
+    together (shares xs ys) (shares ys xs) (λ e. apart-shares ys xs (turned xs ys (shares-apart xs ys e)))
+    (λ e. apart-shares xs ys (turned ys xs (shares-apart ys xs e)))
+
+-- ---- a list of keys, and one key more
+same-number : (m n : ℕ) → eqb m n ≡ eqb n m
+same-number m n =
+    together (eqb m n) (eqb n m) (λ e. ne-eqb n m (λ p. eqb-false m n e (sym p))) (λ e. ne-eqb m n (λ p. eqb-false n m e (sym p)))
+
+-- p: an identifier is in the list, q: it is the new key's, r: none comes twice in the list, s: the new key's is in the list
+one-more : (p q r s : Bool) → (not (p || (q || false)) && (r && not s)) ≡ (not p && r && not (q || s))
+one-more true q r s = refl
+one-more false true r s = sym (and-false r)
+one-more false false r s = refl
+
+pub none-twice-append : (ks : List Key) (k : Key) → noneTwice (ks ++ (k ∷ [])) ≡ (noneTwice ks && not (has (k .identifier) ks))
+none-twice-append [] k = refl
+none-twice-append (l ∷ ks) k =
+    rw (any-append (named (l .identifier)) ks (k ∷ []), none-twice-append ks k, same-number (k .identifier) (l .identifier))
+    (one-more (has (l .identifier) ks) (eqb (l .identifier) (k .identifier)) (noneTwice ks) (has (k .identifier) ks))
+
+pub has-append : (identifier : ℕ) (xs ys : List Key) → has identifier (xs ++ ys) ≡ (has identifier xs || has identifier ys)
+has-append identifier xs ys = any-append (named identifier) xs ys
+
+pub limits-append : (xs ys : List Key) → allInLimits (xs ++ ys) ≡ (allInLimits xs && allInLimits ys)
+limits-append xs ys = all-append inLimits xs ys
+
+-- ---- searches
+pub cover-found : (type : ℕ) (ks : List Key) (k : Key) → firstCover type ks ≡ some k → List·Memᴰ k ks × (covers k type ≡ true)
+cover-found type ks k e = first-is (λ (l : Key). covers l type) ks k e
+
+pub cover-finds : (type : ℕ) (ks : List Key) → Covers ks type → (k : Key) × (firstCover type ks ≡ some k)
+cover-finds type ks h = first-finds (λ (l : Key). covers l type) ks (any-one (λ (l : Key). covers l type) (h .member) (h .covering))
+
+pub find-found : (identifier : ℕ) (ks : List Key) (k : Key) → findKey identifier ks ≡ some k → List·Memᴰ k ks × (k .identifier ≡ identifier)
+find-found identifier ks k e =
+    let both = first-is (named identifier) ks k e in
+    (both .0, eqb-true (k .identifier) identifier (both .1))
+
+pub find-none : (identifier : ℕ) (ks : List Key) → findKey identifier ks ≡ none → has identifier ks ≡ false
+find-none identifier ks e = first-none (named identifier) ks e
+
+-- a key is found where one has the identifier
+found-step : (b c : Bool) (k : Key) (o : Option Key) → foundKey o .found ≡ c → foundKey (cond b (some k) o) .found ≡ (b || c)
+found-step true c k o e = refl
+found-step false c k o e = e
+
+pub found-has : (identifier : ℕ) (ks : List Key) → foundKey (findKey identifier ks) .found ≡ has identifier ks
+found-has identifier [] = refl
+found-has identifier (k ∷ ks) =
+    found-step (named identifier k) (has identifier ks) k (findKey identifier ks) (found-has identifier ks)
+
+pub none-find : (identifier : ℕ) (ks : List Key) → has identifier ks ≡ false → findKey identifier ks ≡ none
+none-find identifier ks e = none-first (named identifier) ks e
+
+-- where no identifier comes twice, a key is found by its identifier
+pub find-own : {ks : List Key} {k : Key} → List·Memᴰ k ks → noneTwice ks ≡ true → findKey (k .identifier) ks ≡ some k
+find-own {k = k} (List·Memᴰ·head {x = l} p) e = rw (p, eq-eqb (l .identifier) (l .identifier) refl)
+find-own {k = k} (List·Memᴰ·tail {x = l} {xs = ks} m) e =
+    let apart = not-true (has (l .identifier) ks) (both-left (not (has (l .identifier) ks)) (noneTwice ks) e) in
+    let other : eqb (l .identifier) (k .identifier) ≡ false = ne-eqb _ _ (λ p. has-none (l .identifier) ks apart k m (sym p)) in
+    rw (other, find-own m (both-right (not (has (l .identifier) ks)) (noneTwice ks) e))
+
+pub one-of-a-name :
+    (ks : List Key) (k l : Key) → noneTwice ks ≡ true → List·Memᴰ k ks → List·Memᴰ l ks → k .identifier ≡ l .identifier → k ≡ l
+one-of-a-name ks k l e m n p =
+    let a = find-own m e in
+    let b = find-own n e in
+    cc
+
+-- ---- limits
+-- every key is in its limits, and no identifier comes twice
+abbrev pub keysAllowed : List Key → Bool
+keysAllowed ks = (allInLimits ks && noneTwice ks)
+
+pub not-twice : (k : Key) (ks : List Key) → has (k .identifier) ks ≡ true → keysAllowed (k ∷ ks) ≡ false
+not-twice k ks h = rw h (and-false (inLimits k && allInLimits ks))
+
+module _ (ks : List Key) (ok : allowed ks ≡ true) where
+  pub allowed-none-twice : noneTwice ks ≡ true
+  unfolding allowed
+  allowed-none-twice = both-right (leb 1 (length ks) && leb (length ks) 8 && allInLimits ks) (noneTwice ks) ok
+
+  front : (leb 1 (length ks) && leb (length ks) 8 && allInLimits ks) ≡ true
+  unfolding allowed
+  front = both-left (leb 1 (length ks) && leb (length ks) 8 && allInLimits ks) (noneTwice ks) ok
+
+  pub allowed-in-limits : (k : Key) → List·Memᴰ k ks → inLimits k ≡ true
+  allowed-in-limits k m = all-each inLimits m (both-right (leb 1 (length ks) && leb (length ks) 8) (allInLimits ks) front)
+
+  sizes : (leb 1 (length ks) && leb (length ks) 8) ≡ true
+  sizes = both-left (leb 1 (length ks) && leb (length ks) 8) (allInLimits ks) front
+
+  pub allowed-some : 1 ≤ length ks
+  allowed-some = leb-true 1 (length ks) (both-left (leb 1 (length ks)) (leb (length ks) 8) sizes)
+
+  pub allowed-few : length ks ≤ 8
+  allowed-few = leb-true (length ks) 8 (both-right (leb 1 (length ks)) (leb (length ks) 8) sizes)
+
+pub keys-of-none : keysOf noKeys ≡ []
+keys-of-none = refl
+
+pub set-allowed : (set : KeySet) → allowedSet set ≡ true → (set .count ≤ 8) × (allowed (keysOf set) ≡ true)
+unfolding allowedSet
+set-allowed set e =
+    let few = leb (set .count) 8 in
+    (leb-true (set .count) 8 (both-left few (allowed (keysOf set)) e), both-right few (allowed (keysOf set)) e)
+
+-- a set is outside its limits, or they are those of its keys
+pub set-over : (set : KeySet) → 8 < set .count → allowedSet set ≡ false
+unfolding allowedSet
+set-over set h = rw (lt-leb (set .count) 8 h)
+
+pub set-none : (set : KeySet) → set .count ≡ 0 → allowedSet set ≡ false
+unfolding allowedSet allowed
+set-none set e = rw e
+
+pub set-limits :
+    (set : KeySet) → length (set .keys) ≡ 8 → (set .count ≡ 0 → ⊥) → set .count ≤ 8 → allowedSet set ≡ keysAllowed (keysOf set)
+unfolding allowedSet allowed
+set-limits set places held few =
+    let size = length-take (set .count) (set .keys) in
+    rw (le-leb (set .count) 8 few, le-leb 1 (length (keysOf set)) (omega (arith, held)), le-leb (length (keysOf set)) 8 (omega arith))

@@ -1,0 +1,49 @@
+-- `laws` meets its contract: each law is one of the law files'.
+use Rattle.link_key.proofs.Keys.{entry-says, coverage-says, found-some, found-none, coverage-covered, covers-known-type, covers-listed, same-key-self}
+use Rattle.link_key.proofs.Keys.{same-key-equal}
+use Rattle.link_key_set.proofs.KeySets.{same-keys-self, same-keys-equal, has-none, none-has, shares-apart, apart-shares, shares-turned}
+use Rattle.link_key_set.proofs.KeySets.{has-append, limits-append, none-twice-append, one-of-a-name, cover-found, cover-finds, find-found}
+use Rattle.link_key_set.proofs.KeySets.{find-own, find-none, none-find, allowed-none-twice, allowed-in-limits, allowed-some, allowed-few}
+use Rattle.link_key_set.proofs.KeySets.{set-allowed, keys-of-none}
+use Rattle.link_key_set.proofs.laws.Statement.{statement}
+use Rattle.link_key_set.proofs.laws.Tie as tie
+
+returns : tie.Need-returns
+returns c =
+    record {
+      entry-says = entry-says;
+      coverage-says = coverage-says;
+      coverage-covered = coverage-covered;
+      covers-known-type = covers-known-type;
+      covers-listed = covers-listed;
+      same-key-self = same-key-self;
+      same-key-equal = same-key-equal;
+      same-keys-self = same-keys-self;
+      same-keys-equal = same-keys-equal;
+      has-none = has-none;
+      none-has = none-has;
+      shares-apart = shares-apart;
+      apart-shares = apart-shares;
+      shares-turned = shares-turned;
+      has-append = has-append;
+      limits-append = limits-append;
+      none-twice-append = none-twice-append;
+      found-some = found-some;
+      found-none = found-none;
+      cover-found = cover-found;
+      cover-finds = cover-finds;
+      find-found = find-found;
+      find-own = λ ks k m e. find-own m e;
+      one-of-a-name = one-of-a-name;
+      find-none = find-none;
+      none-find = none-find;
+      allowed-none-twice = allowed-none-twice;
+      allowed-in-limits = allowed-in-limits;
+      allowed-some = allowed-some;
+      allowed-few = allowed-few;
+      set-allowed = set-allowed;
+      keys-of-none = keys-of-none;
+    }
+
+pub laws-spec : {M : Type 1} → statement M
+laws-spec = tie.close (tie.spec returns)

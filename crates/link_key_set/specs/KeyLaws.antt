@@ -1,0 +1,59 @@
+-- What the layers above may rely on of keys and key sets, whatever their definitions are.
+use Prim.Native.Nat.{ℕ, _≤_}
+use mathlib.Core.Path.{_≡_}
+use mathlib.Core.Bool.{true, false, not, cond, _&&_, _||_}
+use mathlib.Core.List.{List, [], _∷_, _++_, List·Memᴰ}
+use mathlib.Core.Option.{Option, none, some}
+use lib.ListN.{length}
+use Rattle.link_key_usage.specs.Usage.{listed, knownType, usageOf, entryAt, entrySays}
+use Rattle.link_key.specs.Key.{inLimits, sameKey, covers, coverageOf, coverageSays, foundKey}
+use Rattle.link_key_set.specs.KeySet.{keysOf, noKeys, has, allowed, allowedSet, noneTwice, allInLimits, sameKeys, shares, Apart, Covers}
+use Rattle.link_key_set.specs.KeySet.{firstCover, findKey}
+use Rattle.link_key.specs.declared.Key.{Key}
+use Rattle.link_key_set.specs.declared.key_set.KeySet.{KeySet}
+use Rattle.link_key_usage.specs.declared.Coverage.the-variants.{Covered}
+
+pub record KeyLaws : Type 0 where
+  -- the usage list and what a key covers; 13 is RANGE
+  pub entry-says : (usage : ℕ) → entrySays (entryAt usage) ≡ cond (listed usage) (0, some (usageOf usage)) (13, none)
+  pub coverage-says :
+      (k : Key) (type : ℕ) → coverageSays (coverageOf k type) ≡ cond (knownType type && listed (k .usage)) (0, some (covers k type)) (13, none)
+  pub coverage-covered : (k : Key) (type : ℕ) → type ≤ 1 → k .usage ≤ 14 → coverageOf k type ≡ Covered (covers k type)
+  pub covers-known-type : (k : Key) (type : ℕ) → covers k type ≡ true → type ≤ 1
+  pub covers-listed : (k : Key) (type : ℕ) → covers k type ≡ true → k .usage ≤ 14
+  -- equal keys and sets
+  pub same-key-self : (k : Key) → sameKey k k ≡ true
+  pub same-key-equal : (k l : Key) → sameKey k l ≡ true → k ≡ l
+  pub same-keys-self : (ks : List Key) → sameKeys ks ks ≡ true
+  pub same-keys-equal : (xs ys : List Key) → sameKeys xs ys ≡ true → xs ≡ ys
+  -- identifiers
+  pub has-none :
+      (identifier : ℕ) (ks : List Key) → has identifier ks ≡ false → (k : Key) → List·Memᴰ k ks → k .identifier ≡ identifier → ⊥
+  pub none-has :
+      (identifier : ℕ) (ks : List Key) → ((k : Key) → List·Memᴰ k ks → k .identifier ≡ identifier → ⊥) → has identifier ks ≡ false
+  pub shares-apart : (xs ys : List Key) → shares xs ys ≡ false → Apart xs ys
+  pub apart-shares : (xs ys : List Key) → Apart xs ys → shares xs ys ≡ false
+  pub shares-turned : (xs ys : List Key) → shares xs ys ≡ shares ys xs
+  -- a list of keys, and more keys after it
+  pub has-append : (identifier : ℕ) (xs ys : List Key) → has identifier (xs ++ ys) ≡ (has identifier xs || has identifier ys)
+  pub limits-append : (xs ys : List Key) → allInLimits (xs ++ ys) ≡ (allInLimits xs && allInLimits ys)
+  pub none-twice-append : (ks : List Key) (k : Key) → noneTwice (ks ++ (k ∷ [])) ≡ (noneTwice ks && not (has (k .identifier) ks))
+  -- searches
+  pub found-some : (o : Option Key) → foundKey o .found ≡ true → o ≡ some (foundKey o .key)
+  pub found-none : (o : Option Key) → foundKey o .found ≡ false → o ≡ none
+  pub cover-found : (type : ℕ) (ks : List Key) (k : Key) → firstCover type ks ≡ some k → List·Memᴰ k ks × (covers k type ≡ true)
+  pub cover-finds : (type : ℕ) (ks : List Key) → Covers ks type → (k : Key) × (firstCover type ks ≡ some k)
+  pub find-found :
+      (identifier : ℕ) (ks : List Key) (k : Key) → findKey identifier ks ≡ some k → List·Memᴰ k ks × (k .identifier ≡ identifier)
+  pub find-own : (ks : List Key) (k : Key) → List·Memᴰ k ks → noneTwice ks ≡ true → findKey (k .identifier) ks ≡ some k
+  pub one-of-a-name :
+      (ks : List Key) (k l : Key) → noneTwice ks ≡ true → List·Memᴰ k ks → List·Memᴰ l ks → k .identifier ≡ l .identifier → k ≡ l
+  pub find-none : (identifier : ℕ) (ks : List Key) → findKey identifier ks ≡ none → has identifier ks ≡ false
+  pub none-find : (identifier : ℕ) (ks : List Key) → has identifier ks ≡ false → findKey identifier ks ≡ none
+  -- limits
+  pub allowed-none-twice : (ks : List Key) → allowed ks ≡ true → noneTwice ks ≡ true
+  pub allowed-in-limits : (ks : List Key) → allowed ks ≡ true → (k : Key) → List·Memᴰ k ks → inLimits k ≡ true
+  pub allowed-some : (ks : List Key) → allowed ks ≡ true → 1 ≤ length ks
+  pub allowed-few : (ks : List Key) → allowed ks ≡ true → length ks ≤ 8
+  pub set-allowed : (set : KeySet) → allowedSet set ≡ true → (set .count ≤ 8) × (allowed (keysOf set) ≡ true)
+  pub keys-of-none : keysOf noKeys ≡ []

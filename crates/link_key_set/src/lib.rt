@@ -1,0 +1,10 @@
+// Sets of link-layer keys, which the objects and the node share.
+pub mod key_set;
+
+pub use key_set::KeySet;
+ghost use Rattle.link_key_set.specs.KeyLaws.{KeyLaws};
+
+// What the layers above may rely on of the definitions.
+pub fn laws()
+    ensures { λ r. ⌜ KeyLaws ⌝ }
+{}

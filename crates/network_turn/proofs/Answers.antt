@@ -1,0 +1,57 @@
+-- What the code of a turn answers at each of its ends is what the definition says: one law for each end.
+use Prim.Native.Nat.{ℕ}
+use mathlib.Core.Path.{_≡_, sym}
+use mathlib.Core.Bool.{Bool, true, false}
+use Rattle.refusal.specs.declared.Refusal.{Refusal}
+use Rattle.refusal.specs.declared.Verdict.the-variants as verdict
+use Rattle.link_key.specs.Key.{sameKey}
+use Rattle.link_key.specs.declared.Key.{Key}
+use Rattle.node.specs.Frames.{send, afterSend, receive, verified}
+use Rattle.node_key_sets.specs.declared.frames.Change.{Change}
+use Rattle.node_key_sets.specs.declared.frames.Change.the-variants as change
+use Rattle.node.specs.declared.frames.Heard.{Heard}
+use Rattle.node_key_sets.specs.declared.frames.KeyAnswer.{KeyAnswer}
+use Rattle.node.specs.declared.node.Node.{Node}
+use Rattle.network.specs.Turn.{turned, answerOf, judged, receives, turn}
+use Rattle.network.specs.declared.turn.Answer.{Answer}
+use Rattle.network.specs.declared.turn.Answer.the-variants.{Refused, Failed}
+use Rattle.network.specs.declared.turn.Turned.{Turned}
+
+pub answer-refused : (x : Change) (why : Refusal) → x ≡ change.Refused why → Refused why ≡ answerOf x
+answer-refused x why e = rw e
+
+module _ (a b : Node) (type : ℕ) where
+  -- the radio: `same` is what comparing the keys answered
+  pub radio-failed : (k l : Key) (same : Bool) → same ≡ sameKey k l → same ≡ false → turned a b Failed ≡ judged a b type k l
+  unfolding judged
+  radio-failed k l same e t = rw (sym e, t)
+
+  pub radio-verified :
+      (k l : Key) (same : Bool) (h : Heard) (x : Answer) → same ≡ sameKey k l → same ≡ true → h ≡ verified b type (k .identifier) →
+      x ≡ answerOf (h .change) → turned a (h .node) x ≡ judged a b type k l
+  unfolding judged
+  radio-verified k l same h x e t v w = rw (sym e, t, sym v, w)
+
+  -- the hearer, which answered `found`
+  module _ (key : Key) (found : KeyAnswer) (e : found ≡ receive b type (key .identifier)) where
+    pub hearer-refuses :
+        (why : Refusal) → found .verdict ≡ verdict.Refused why →
+        turned a b (Refused why) ≡ receives a b type key (receive b type (key .identifier))
+    hearer-refuses why v = rw (sym e, v)
+
+    pub hearer-finds :
+        (t : Turned) → found .verdict ≡ verdict.Accepted → t ≡ judged a b type key (found .key) →
+        t ≡ receives a b type key (receive b type (key .identifier))
+    hearer-finds t v w = rw (sym e, v) w
+
+  -- the sender, which answered `sent`
+  module _ (sent : KeyAnswer) (e : sent ≡ send a type) where
+    pub sender-refuses : (why : Refusal) → sent .verdict ≡ verdict.Refused why → turned a b (Refused why) ≡ turn a b type
+    unfolding turn afterSend
+    sender-refuses why v = rw (sym e, v)
+
+    pub sender-finds :
+        (t : Turned) → sent .verdict ≡ verdict.Accepted →
+        t ≡ receives a b type (sent .key) (receive b type (sent .key .identifier)) → t ≡ turn a b type
+    unfolding turn afterSend
+    sender-finds t v w = rw (sym e, v) w

@@ -1,0 +1,40 @@
+-- What a configuration comes in: when one may be handed over, and what it does to the join attempt.
+use Prim.Native.Nat.{ℕ}
+use mathlib.Core.Bool.{Bool, true, false, cond}
+use lib.Dec.{leb}
+use Rattle.refusal.specs.declared.Refusal.the-variants as refusal
+use Rattle.refusal.specs.declared.Verdict.{Verdict}
+use Rattle.refusal.specs.declared.Verdict.the-variants as verdict
+use Rattle.node_attempt.specs.Attempt.{isWaiting, isJoined, attempt}
+use Rattle.node_attempt.specs.declared.attempt.Attempt.{Attempt}
+use Rattle.node_attempt.specs.declared.attempt.Phase.{Phase}
+use Rattle.node_attempt.specs.declared.attempt.Phase.the-variants as phase
+use Rattle.node_delivery.specs.declared.Call.{Call}
+use Rattle.node_delivery.specs.declared.Call.the-variants.{JoinAnswer, Update}
+
+-- the time is the new clock, and an accepted join answer makes the node joined
+abbrev pub phaseAfter : Call → Phase → Phase
+phaseAfter JoinAnswer p = phase.Joined
+phaseAfter Update p = p
+
+abbrev pub attemptAfter : Call → Attempt → ℕ → Attempt
+attemptAfter call a time = attempt (phaseAfter call (a .phase)) time (a .sent) (a .timeout) (a .count)
+
+-- a join answer belongs to waiting, an update to joined
+abbrev pub belongs : Call → Phase → Bool
+belongs JoinAnswer p = isWaiting p
+belongs Update p = isJoined p
+
+-- only a join answer can owe a network identifier
+abbrev pub asksIdentifier : Call → Bool
+asksIdentifier JoinAnswer = true
+asksIdentifier Update = false
+
+-- whether a payload of so many bytes may be handed over: LONG, CLOCK, PHASE
+unfoldable pub mayCome : Call → Attempt → ℕ → ℕ → Verdict
+mayCome call a time len =
+    cond (leb len 256)
+    (cond (leb (a .clock) time)
+    (cond (belongs call (a .phase)) verdict.Accepted (verdict.Refused refusal.Phase))
+    (verdict.Refused refusal.Clock))
+    (verdict.Refused refusal.Long)

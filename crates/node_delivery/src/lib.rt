@@ -1,0 +1,81 @@
+// What a configuration comes in, a join answer (join response) or a parameter update: when one may be handed over, and what it does to the
+// join attempt.
+use node_attempt::Attempt;
+use node_attempt::Phase;
+use node_attempt::attempt::is_joined;
+use node_attempt::attempt::is_waiting;
+use refusal::Refusal;
+use refusal::Verdict;
+ghost use mathlib.Core.Path.{_≡_};
+ghost use Rattle.node_delivery.specs.Call.{phaseAfter, attemptAfter, belongs, asksIdentifier, mayCome};
+
+// A longer payload is LONG.
+const PAYLOAD_MOST: usize = 256;
+
+pub enum Call {
+    JoinAnswer,
+    Update,
+}
+
+impl Call {
+    // An accepted join answer makes the node joined.
+    fn phase_after(self, phase: Phase) -> Phase
+        ensures { λ r. ⌜ r ≡ phaseAfter self phase ⌝ }
+    {
+        match self {
+            Call::JoinAnswer => Phase::Joined,
+            Call::Update => phase,
+        }
+    }
+
+    // The join attempt after an accepted configuration: the time is its clock.
+    pub fn attempt_after(self, old: Attempt, time: u64) -> Attempt
+        ensures { λ r. ⌜ r ≡ attemptAfter self old time ⌝ }
+    {
+        let phase = old.phase;
+        Attempt {
+            phase: self.phase_after(phase),
+            clock: time,
+            sent: old.sent,
+            timeout: old.timeout,
+            count: old.count,
+        }
+    }
+
+    // A join answer belongs to waiting, an update to joined.
+    fn belongs(self, phase: Phase) -> bool
+        ensures { λ r. ⌜ r ≡ belongs self phase ⌝ }
+    {
+        match self {
+            Call::JoinAnswer => is_waiting(phase),
+            Call::Update => is_joined(phase),
+        }
+    }
+
+    // Only a join answer can owe a network identifier.
+    pub fn asks_identifier(self) -> bool
+        ensures { λ r. ⌜ r ≡ asksIdentifier self ⌝ }
+    {
+        match self {
+            Call::JoinAnswer => true,
+            Call::Update => false,
+        }
+    }
+
+    // Whether a payload of so many bytes may be handed over. LONG, CLOCK, PHASE.
+    pub fn may_come(self, attempt: Attempt, time: u64, len: usize) -> Verdict
+        ensures { λ r. ⌜ r ≡ mayCome self attempt time len ⌝ }
+    {
+        if PAYLOAD_MOST < len {
+            return Verdict::Refused(Refusal::Long);
+        }
+        if time < attempt.clock {
+            return Verdict::Refused(Refusal::Clock);
+        }
+        let phase = attempt.phase;
+        if self.belongs(phase) {
+            return Verdict::Accepted;
+        }
+        Verdict::Refused(Refusal::Phase)
+    }
+}

@@ -1,0 +1,66 @@
+-- What a search for a key found, and what the verified report makes of the receiving key's answer.
+use Prim.Native.Nat.{ℕ}
+use mathlib.Core.Path.{_≡_, refl}
+use mathlib.Core.Bool.{true, false, cond}
+use mathlib.Core.Option.{Option, none, some}
+use Rattle.refusal.specs.declared.Refusal.{Refusal}
+use Rattle.refusal.specs.declared.Refusal.the-variants as refusal
+use Rattle.refusal.specs.declared.Verdict.the-variants as verdict
+use Rattle.link_key.specs.Key.{foundKey, covers}
+use Rattle.link_key_set.specs.KeySet.{has}
+use Rattle.link_key.specs.declared.FoundKey.{FoundKey}
+use Rattle.link_key.specs.declared.Key.{Key}
+use Rattle.link_key.proofs.Keys.{found-some, found-none}
+use Rattle.node_key_sets.specs.Sets.{activeIn}
+use Rattle.node_key_sets.specs.Frames.{withKey, withoutKey, keyOr, ifCovers, receivingKey, switched, hearing, hears}
+use Rattle.node_key_sets.specs.declared.frames.Change.the-variants as change
+use Rattle.node_key_sets.specs.declared.frames.KeyAnswer.{KeyAnswer}
+use Rattle.node_key_sets.specs.declared.sets.KeySets.{KeySets}
+
+-- ---- a key that was looked for
+-- the answer where it was found, and SILENT where not
+abbrev pub answerOf : FoundKey → KeyAnswer
+answerOf x = cond (x .found) (withKey (x .key)) (withoutKey refusal.Silent)
+
+first-case : (o : Option Key) → answerOf (foundKey o) ≡ keyOr refusal.Silent o
+first-case none = refl
+first-case (some k) = refl
+
+covers-case : (type : ℕ) (o : Option Key) → covers (foundKey o .key) type ≡ true → answerOf (foundKey o) ≡ ifCovers type o
+covers-case type none c = refl
+covers-case type (some k) c = rw c
+
+silent-case : (type : ℕ) (o : Option Key) → covers (foundKey o .key) type ≡ false → withoutKey refusal.Silent ≡ ifCovers type o
+silent-case type none c = refl
+silent-case type (some k) c = rw c
+
+module _ (o : Option Key) (x : FoundKey) (e : x ≡ foundKey o) where
+  pub was-found : x .found ≡ true → o ≡ some (x .key)
+  was-found h = rw e (found-some o (rw e at h))
+
+  pub not-found : x .found ≡ false → o ≡ none
+  not-found h = found-none o (rw e at h)
+
+  pub first-answer : answerOf x ≡ keyOr refusal.Silent o
+  first-answer = rw e (first-case o)
+
+  pub key-covers : (type : ℕ) → covers (x .key) type ≡ true → answerOf x ≡ ifCovers type o
+  key-covers type c = rw e (covers-case type o (rw e at c))
+
+  pub key-silent : (type : ℕ) → covers (x .key) type ≡ false → withoutKey refusal.Silent ≡ ifCovers type o
+  key-silent type c = silent-case type o (rw e at c)
+
+-- ---- the verified report
+module _ (s : KeySets) (type identifier : ℕ) (x : KeyAnswer) (e : x ≡ receivingKey s type identifier) where
+  pub report-refused : (k : Refusal) → x .verdict ≡ verdict.Refused k → hearing (change.Refused k) s ≡ hears s type identifier
+  unfolding hears
+  report-refused k r = rw (← e, r)
+
+  pub report-kept : x .verdict ≡ verdict.Accepted → has identifier (activeIn s) ≡ true → hearing change.Kept s ≡ hears s type identifier
+  unfolding hears
+  report-kept r h = rw (← e, r, h)
+
+  pub report-switched :
+      x .verdict ≡ verdict.Accepted → has identifier (activeIn s) ≡ false → hearing change.Switched (switched s) ≡ hears s type identifier
+  unfolding hears
+  report-switched r h = rw (← e, r, h)

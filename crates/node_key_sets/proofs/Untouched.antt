@@ -1,0 +1,69 @@
+-- A refusal leaves the key sets, and stands beside the key that is all zero.
+use Prim.Native.Nat.{ℕ}
+use native.Mathlib.Omega.{arith}
+use mathlib.Core.Path.{_≡_, refl, ap}
+use mathlib.Core.Bool.{Bool, true, false, cond, not, _&&_}
+use mathlib.Core.Option.{Option, none, some}
+use lib.Dec.{eqb}
+use Rattle.refusal.specs.declared.Refusal.{Refusal}
+use Rattle.refusal.specs.declared.Refusal.the-variants as refusal
+use Rattle.refusal.specs.declared.Verdict.{Verdict}
+use Rattle.refusal.specs.declared.Verdict.the-variants as verdict
+use Rattle.link_key.specs.Key.{noKey, covers}
+use Rattle.link_key_set.specs.KeySet.{has, firstCover}
+use Rattle.link_key_usage.specs.Usage.{knownType}
+use Rattle.link_key.specs.declared.Key.{Key}
+use Rattle.node_key_sets.specs.Sets.{activeIn}
+use Rattle.node_key_sets.specs.Frames.{withKey, withoutKey, keyOr, sendingKey, heldKey, ifCovers, receivingKey, reported, hears, changeVerdict}
+use Rattle.node_key_sets.specs.declared.frames.Change.the-variants as change
+use Rattle.node_key_sets.specs.declared.frames.KeyAnswer.{KeyAnswer}
+use Rattle.node_key_sets.specs.declared.sets.KeySets.{KeySets}
+
+accepted-not : {A : Type 0} (k : Refusal) → verdict.Accepted ≡ verdict.Refused k → A
+accepted-not k e = absurd (let z : _≡_ {A = ℕ} 0 1 = cc in omega arith)
+
+-- ---- keys
+abbrev pub Unanswered : KeyAnswer → Type 0
+Unanswered x = (k : Refusal) → x .verdict ≡ verdict.Refused k → x .key ≡ noKey
+
+with-key : (l : Key) → Unanswered (withKey l)
+with-key l k e = accepted-not k e
+
+without-key : (j : Refusal) → Unanswered (withoutKey j)
+without-key j k e = refl
+
+pub cond-unanswered : (b : Bool) (x y : KeyAnswer) → Unanswered x → Unanswered y → Unanswered (cond b x y)
+cond-unanswered true x y p q = p
+cond-unanswered false x y p q = q
+
+key-or : (j : Refusal) (o : Option Key) → Unanswered (keyOr j o)
+key-or j none = without-key j
+key-or j (some l) = with-key l
+
+if-covers : (type : ℕ) (o : Option Key) → Unanswered (ifCovers type o)
+if-covers type none = without-key refusal.Silent
+if-covers type (some l) = cond-unanswered (covers l type) _ _ (with-key l) (without-key refusal.Silent)
+
+pub send-untouched : (s : KeySets) (type : ℕ) → Unanswered (sendingKey s type)
+unfolding sendingKey
+send-untouched s type =
+    cond-unanswered (knownType type) _ _ (key-or refusal.Silent (firstCover type (activeIn s))) (without-key refusal.Range)
+
+pub receive-untouched : (s : KeySets) (type identifier : ℕ) → Unanswered (receivingKey s type identifier)
+unfolding receivingKey
+receive-untouched s type identifier =
+    cond-unanswered (knownType type && not (eqb identifier 0)) _ _ (if-covers type (heldKey s identifier)) (without-key refusal.Range)
+
+-- ---- the verified report
+report-untouched :
+    (s : KeySets) (w : Verdict) (b : Bool) (k : Refusal) → changeVerdict (reported w b s .change) ≡ verdict.Refused k →
+    (reported w b s .sets ≡ s) × (reported w b s .change ≡ change.Refused k)
+report-untouched s (verdict.Refused j) b k e = (refl, ap change.Refused (cc))
+report-untouched s verdict.Accepted true k e = accepted-not k e
+report-untouched s verdict.Accepted false k e = accepted-not k e
+
+pub hears-untouched :
+    (s : KeySets) (type identifier : ℕ) (k : Refusal) → changeVerdict (hears s type identifier .change) ≡ verdict.Refused k →
+    (hears s type identifier .sets ≡ s) × (hears s type identifier .change ≡ change.Refused k)
+unfolding hears
+hears-untouched s type identifier k e = report-untouched s (receivingKey s type identifier .verdict) (has identifier (activeIn s)) k e

@@ -1,0 +1,82 @@
+-- Which key a frame is sent and received with, and what a verified frame does to the two key sets.
+use Prim.Native.Nat.{ℕ}
+use mathlib.Core.Bool.{Bool, true, false, cond, not, _&&_}
+use mathlib.Core.Option.{Option, none, some}
+use lib.Dec.{eqb}
+use Rattle.refusal.specs.Refusal.{numberOf}
+use Rattle.refusal.specs.declared.Refusal.{Refusal}
+use Rattle.refusal.specs.declared.Refusal.the-variants as refusal
+use Rattle.refusal.specs.declared.Verdict.{Verdict}
+use Rattle.refusal.specs.declared.Verdict.the-variants as verdict
+use Rattle.link_key.specs.Key.{noKey, covers}
+use Rattle.link_key_set.specs.KeySet.{noKeys, has, firstCover, findKey}
+use Rattle.link_key_usage.specs.Usage.{knownType}
+use Rattle.link_key.specs.declared.Key.{Key}
+use Rattle.node_key_sets.specs.Sets.{activeIn, pendingIn, twoSets}
+use Rattle.node_key_sets.specs.declared.frames.Change.{Change}
+use Rattle.node_key_sets.specs.declared.frames.Change.the-variants as change
+use Rattle.node_key_sets.specs.declared.frames.Hearing.{Hearing}
+use Rattle.node_key_sets.specs.declared.frames.KeyAnswer.{KeyAnswer}
+use Rattle.node_key_sets.specs.declared.sets.KeySets.{KeySets}
+
+abbrev pub withKey : Key → KeyAnswer
+withKey k = record { verdict = verdict.Accepted; key = k }
+
+abbrev pub withoutKey : Refusal → KeyAnswer
+withoutKey k = record { verdict = verdict.Refused k; key = noKey }
+
+-- ---- sending: the first active key that covers the type; RANGE: the type; SILENT
+abbrev pub keyOr : Refusal → Option Key → KeyAnswer
+keyOr r none = withoutKey r
+keyOr r (some k) = withKey k
+
+unfoldable pub sendingKey : KeySets → ℕ → KeyAnswer
+sendingKey s type = cond (knownType type) (keyOr refusal.Silent (firstCover type (activeIn s))) (withoutKey refusal.Range)
+
+-- ---- receiving: the key with the identifier, active or else pending, which must cover the type; RANGE: the type, identifier 0; SILENT
+abbrev pub orElse : Option Key → Option Key → Option Key
+orElse none o = o
+orElse (some k) o = some k
+
+abbrev pub heldKey : KeySets → ℕ → Option Key
+heldKey s identifier = orElse (findKey identifier (activeIn s)) (findKey identifier (pendingIn s))
+
+abbrev pub ifCovers : ℕ → Option Key → KeyAnswer
+ifCovers type none = withoutKey refusal.Silent
+ifCovers type (some k) = cond (covers k type) (withKey k) (withoutKey refusal.Silent)
+
+unfoldable pub receivingKey : KeySets → ℕ → ℕ → KeyAnswer
+receivingKey s type identifier =
+    cond (knownType type && not (eqb identifier 0)) (ifCovers type (heldKey s identifier)) (withoutKey refusal.Range)
+
+-- ---- the radio reports such a frame verified: where its key was pending, the pending set becomes active and the old one is gone
+abbrev pub switched : KeySets → KeySets
+switched s = twoSets (s .pending) noKeys
+
+abbrev pub hearing : Change → KeySets → Hearing
+hearing change s = record { change = change; sets = s }
+
+abbrev pub reported : Verdict → Bool → KeySets → Hearing
+reported (verdict.Refused k) active s = hearing (change.Refused k) s
+reported verdict.Accepted true s = hearing change.Kept s
+reported verdict.Accepted false s = hearing change.Switched (switched s)
+
+unfoldable pub hears : KeySets → ℕ → ℕ → Hearing
+hears s type identifier = reported (receivingKey s type identifier .verdict) (has identifier (activeIn s)) s
+
+-- the answer in document 01's terms
+abbrev pub changeVerdict : Change → Verdict
+changeVerdict (change.Refused k) = verdict.Refused k
+changeVerdict change.Switched = verdict.Accepted
+changeVerdict change.Kept = verdict.Accepted
+
+abbrev pub changeNumber : Change → ℕ
+changeNumber (change.Refused k) = numberOf k
+changeNumber change.Switched = 0
+changeNumber change.Kept = 0
+
+-- the pending set became active
+abbrev pub hasSwitched : Change → Bool
+hasSwitched (change.Refused k) = false
+hasSwitched change.Switched = true
+hasSwitched change.Kept = false

@@ -1,0 +1,49 @@
+-- A node's two key sets: which may stand together, and where a new set goes.
+use mathlib.Core.Bool.{Bool, true, false, cond, not, _&&_, _||_}
+use mathlib.Core.List.{List}
+use lib.Dec.{eqb}
+use Rattle.link_key_set.specs.KeySet.{keysOf, noKeys, allowedSet, sameKeys, shares}
+use Rattle.link_key.specs.declared.Key.{Key}
+use Rattle.link_key_set.specs.declared.key_set.KeySet.{KeySet}
+use Rattle.node_key_sets.specs.declared.sets.KeySets.{KeySets}
+use Rattle.node_key_sets.specs.declared.sets.Placement.{Placement}
+
+-- the keys of the two, in order; no keys are no set
+abbrev pub activeIn : KeySets → List Key
+activeIn s = keysOf (s .active)
+
+abbrev pub pendingIn : KeySets → List Key
+pendingIn s = keysOf (s .pending)
+
+abbrev pub twoSets : KeySet → KeySet → KeySets
+twoSets active pending = record { active = active; pending = pending }
+
+abbrev pub noSets : KeySets
+noSets = twoSets noKeys noKeys
+
+-- ---- which may stand together
+-- a set within the limits of KEYS, or none
+abbrev pub isNone : KeySet → Bool
+isNone set = eqb (set .count) 0
+
+abbrev pub setInRange : KeySet → Bool
+setInRange set = (isNone set || allowedSet set)
+
+-- both are in range, they share no identifier, and a border node has no pending one
+unfoldable pub fits : Bool → KeySets → Bool
+fits border s =
+    (setInRange (s .active) && setInRange (s .pending) && not (shares (activeIn s) (pendingIn s)) && (not border || isNone (s .pending)))
+
+-- ---- where a new set goes
+abbrev pub placed : Bool → KeySets → Placement
+placed clash s = record { clash = clash; sets = s }
+
+-- a border node's new set replaces its active set at once; at an ordinary node a set equal to the active one empties the pending place,
+-- one that otherwise shares an identifier with the active one clashes, and any other replaces what is pending
+unfoldable pub install : Bool → KeySets → KeySet → Placement
+install border s set =
+    cond border
+    (placed false (twoSets set noKeys))
+    (cond (sameKeys (keysOf set) (activeIn s))
+    (placed false (twoSets (s .active) noKeys))
+    (cond (shares (keysOf set) (activeIn s)) (placed true s) (placed false (twoSets (s .active) set))))

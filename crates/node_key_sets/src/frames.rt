@@ -1,0 +1,129 @@
+// Keys for frames: which key to send with, which to receive with, and the radio's report of a verified frame.
+use crate::sets::KeySets;
+use link_key::FoundKey;
+use link_key::Key;
+use link_key::no_key;
+use link_key_set::key_set::no_keys;
+use refusal::Refusal;
+use refusal::Verdict;
+ghost use mathlib.Core.Path.{_≡_};
+ghost use mathlib.Core.Bool.{cond};
+ghost use Rattle.refusal.specs.declared.Refusal.the-variants as refusal;
+ghost use Rattle.link_key.specs.Key.{foundKey};
+ghost use Rattle.node_key_sets.specs.Frames.{withKey, withoutKey, heldKey, sendingKey, receivingKey, switched, hearing, hears};
+ghost use Rattle.node_key_sets.specs.declared.frames.Change.the-variants as change;
+
+// Beside a refusal stands the key that is all zero.
+pub struct KeyAnswer {
+    pub verdict: Verdict,
+    pub key: Key,
+}
+
+// What a verified frame did to the key sets.
+pub enum Change {
+    Refused(Refusal),
+    Switched,
+    Kept,
+}
+
+// The sets after a verified frame, and what it did.
+pub struct Hearing {
+    pub change: Change,
+    pub sets: KeySets,
+}
+
+pub fn without_key(why: Refusal) -> KeyAnswer
+    ensures { λ r. ⌜ r ≡ withoutKey why ⌝ }
+{
+    let none = no_key();
+    KeyAnswer {
+        verdict: Verdict::Refused(why),
+        key: none,
+    }
+}
+
+// The key, where it is held; SILENT.
+fn answer(held: bool, key: Key) -> KeyAnswer
+    ensures { λ r. ⌜ r ≡ cond held (withKey key) (withoutKey refusal.Silent) ⌝ }
+{
+    if held {
+        return KeyAnswer {
+            verdict: Verdict::Accepted,
+            key,
+        };
+    }
+    without_key(Refusal::Silent)
+}
+
+impl KeySets {
+    // The key to send a frame of this type with: the first active one that covers it. RANGE: the type; SILENT.
+    pub fn sending_key(self, frame_type: u8) -> KeyAnswer
+        ensures { λ r. ⌜ r ≡ sendingKey self «frame_type» ⌝ }
+    {
+        if 1 < frame_type {
+            return without_key(Refusal::Range);
+        }
+        let first = self.active.first_cover(frame_type);
+        answer(first.found, first.key)
+    }
+
+    // The key with the identifier, active or else pending.
+    fn held_key(self, identifier: u8) -> FoundKey
+        ensures { λ r. ⌜ r ≡ foundKey (heldKey self identifier) ⌝ }
+    {
+        let found = self.active.find_key(identifier);
+        if found.found {
+            return found;
+        }
+        self.pending.find_key(identifier)
+    }
+
+    // The key to receive a frame of this type and key identifier with. RANGE: the type, identifier 0; SILENT.
+    pub fn receiving_key(self, frame_type: u8, identifier: u8) -> KeyAnswer
+        ensures { λ r. ⌜ r ≡ receivingKey self «frame_type» identifier ⌝ }
+    {
+        if 1 < frame_type || identifier == 0 {
+            return without_key(Refusal::Range);
+        }
+        let held = self.held_key(identifier);
+        if held.key.covers(frame_type) {
+            return answer(held.found, held.key);
+        }
+        without_key(Refusal::Silent)
+    }
+
+    // The pending set becomes active, and the old one is gone.
+    fn switched(self) -> Hearing
+        ensures { λ r. ⌜ r ≡ hearing change.Switched (switched self) ⌝ }
+    {
+        let active = self.pending;
+        let pending = no_keys();
+        Hearing {
+            change: Change::Switched,
+            sets: KeySets { active, pending },
+        }
+    }
+
+    // The radio reports a frame of this type and key identifier verified. Refused as `receiving_key` is.
+    pub fn verified(self, frame_type: u8, identifier: u8) -> Hearing
+        ensures { λ r. ⌜ r ≡ hears self «frame_type» identifier ⌝ }
+    {
+        let answer = self.receiving_key(frame_type, identifier);
+        let verdict = answer.verdict;
+        match verdict {
+            Verdict::Refused(why) => Hearing {
+                change: Change::Refused(why),
+                sets: self,
+            },
+            Verdict::Accepted => {
+                if self.active.has(identifier) {
+                    return Hearing {
+                        change: Change::Kept,
+                        sets: self,
+                    };
+                }
+                self.switched()
+            }
+        }
+    }
+}

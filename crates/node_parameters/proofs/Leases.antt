@@ -1,0 +1,24 @@
+-- An address is in range at a later clock too.
+use Prim.Native.Nat.{ℕ, _≤_}
+use native.Mathlib.Omega.{arith}
+use mathlib.Core.Path.{_≡_, refl}
+use mathlib.Core.Bool.{Bool, true, false, cond, _&&_}
+use borrow.Author.Tests.{leb-true, le-leb}
+use lib.Dec.{leb}
+use Rattle.link_key.proofs.Tests.{both-left, both-right}
+use Rattle.cojp.specs.Address.{isAddress}
+use Rattle.node_parameters.specs.Lease.{addressInRange}
+use Rattle.node_parameters.specs.declared.address.HeldAddress.{HeldAddress}
+use Rattle.link_key.proofs.Tests.{both}
+
+pub later : (clock time : ℕ) (a : HeldAddress) → clock ≤ time → addressInRange clock a ≡ true → addressInRange time a ≡ true
+later clock time a h e = go (a .held) e
+  where
+    go :
+        (b : Bool) → cond b (isAddress (a .value .bytes) && leb (a .received) clock) true ≡ true →
+        cond b (isAddress (a .value .bytes) && leb (a .received) time) true ≡ true
+    go false p = refl
+    go true p =
+        both (isAddress (a .value .bytes)) (leb (a .received) time) (both-left (isAddress (a .value .bytes)) (leb (a .received) clock) p)
+        (le-leb (a .received) time
+        (omega (arith, leb-true (a .received) clock (both-right (isAddress (a .value .bytes)) (leb (a .received) clock) p))))

@@ -1,0 +1,31 @@
+-- A node's short address, when it was received, and whether its lease still lasts.
+use Prim.Native.Nat.{ℕ, _-_, _/_}
+use mathlib.Core.Bool.{Bool, true, false, cond, _&&_}
+use lib.Dec.{leb, ltb}
+use Rattle.cojp.specs.Address.{noAddress, isAddress}
+use Rattle.cojp.specs.Reading.{ifTaken}
+use Rattle.cojp.specs.declared.address.AddressParameter.{AddressParameter}
+use Rattle.node_parameters.specs.declared.address.HeldAddress.{HeldAddress}
+
+abbrev pub absentAddress : HeldAddress
+absentAddress = record { held = false; value = noAddress; received = 0 }
+
+-- an address, received not after the clock; the lease may be any number
+abbrev pub addressInRange : ℕ → HeldAddress → Bool
+addressInRange clock a = cond (a .held) (isAddress (a .value .bytes) && leb (a .received) clock) true
+
+-- a lease counts seconds: its unit in milliseconds
+abbrev pub leaseUnit : ℕ
+leaseUnit = 1000
+
+-- whole units elapsed since the receipt are fewer than the lease; without a lease there is no end
+abbrev pub lasts : HeldAddress → ℕ → Bool
+lasts a time = cond (a .value .leased) (ltb ((time - a .received) / leaseUnit) (a .value .lease)) true
+
+-- without an address none holds
+unfoldable pub holdsAt : HeldAddress → ℕ → Bool
+holdsAt a time = cond (a .held) (lasts a time) false
+
+-- after a configuration: the one taken at this time, else the old one
+abbrev pub addressAfter : ℕ → AddressParameter → HeldAddress → HeldAddress
+addressAfter time p old = ifTaken (p .report) (record { held = true; value = p .value; received = time }) old

@@ -1,0 +1,82 @@
+// JRC address, network identifier and prefix.
+use cojp::Octets;
+use cojp::OctetsParameter;
+use cojp::Report;
+use cojp::no_octets;
+use cojp_range::is_taken;
+ghost use mathlib.Core.Path.{_≡_};
+ghost use Rattle.node_parameters.specs.Octets.{absentOctets, knownOctets, octetsInRange, jrcInRange, identifierIn, octetsAfter};
+
+// Without one the value does not count. An empty one is not an absent one.
+pub struct HeldOctets {
+    pub held: bool,
+    pub value: Octets,
+}
+
+// No byte string; it is how a node is told that there is no network identifier.
+pub fn absent_octets() -> HeldOctets
+    ensures { λ r. ⌜ r ≡ absentOctets ⌝ }
+{
+    let none = no_octets(Report::Absent);
+    let value = none.value;
+    HeldOctets { held: false, value }
+}
+
+impl HeldOctets {
+    // The byte string where there is one, with nothing beside it where there is none.
+    pub fn known(self) -> HeldOctets
+        ensures { λ r. ⌜ r ≡ knownOctets self ⌝ }
+    {
+        if self.held {
+            return self;
+        }
+        absent_octets()
+    }
+
+    // Whether it may be a network identifier or a prefix.
+    pub fn in_range(self) -> bool
+        ensures { λ r. ⌜ r ≡ octetsInRange self ⌝ }
+    {
+        if self.held {
+            let value = self.value;
+            return value.len <= 16;
+        }
+        true
+    }
+
+    // Whether it may be a JRC address.
+    pub fn jrc_in_range(self) -> bool
+        ensures { λ r. ⌜ r ≡ jrcInRange self ⌝ }
+    {
+        if self.held {
+            let value = self.value;
+            return value.len == 16;
+        }
+        true
+    }
+
+    // It as a join request's network identifier.
+    pub fn parameter(self) -> OctetsParameter
+        ensures { λ r. ⌜ r ≡ identifierIn self ⌝ }
+    {
+        if self.held {
+            let value = self.value;
+            return OctetsParameter {
+                report: Report::Taken,
+                value,
+            };
+        }
+        no_octets(Report::Absent)
+    }
+
+    // The byte string after a configuration, by the node's report of the parameter: the one taken, else this one.
+    pub fn after(self, report: Report, parameter: OctetsParameter) -> HeldOctets
+        ensures { λ r. ⌜ r ≡ octetsAfter report (parameter .value) self ⌝ }
+    {
+        if is_taken(report) {
+            let value = parameter.value;
+            return HeldOctets { held: true, value };
+        }
+        self
+    }
+}

@@ -1,0 +1,83 @@
+// A payload's object, written and read and written again.
+use crate::object::rewrite;
+use crate::object::seen;
+use cbor::Written;
+use refusal::Verdict;
+use tool_text::output::Buffer;
+use tool_text::output::Output;
+
+pub fn answer(is_request: bool, payload: &[u8], out: Output, buffer: &mut Buffer) -> Output {
+    let verdict = seen(is_request, payload).verdict;
+    match verdict {
+        Verdict::Accepted => put_twice(is_request, payload, out, buffer),
+        Verdict::Refused(refusal) => tool_notation::put_refusal(out, refusal, buffer),
+    }
+}
+
+// Written with room to spare, which tells the length; then into so many bytes, and into one less; then read and written again.
+fn put_twice(is_request: bool, payload: &[u8], out: Output, buffer: &mut Buffer) -> Output {
+    let mut dst = [0u8; 256];
+    let len = length_of(rewrite(is_request, payload, &mut dst));
+    let out = out.text(b"wrote ", buffer);
+    let out = put_attempt(is_request, payload, len, out, buffer);
+    let out = out.text(b" short ", buffer);
+    let out = put_attempt(is_request, payload, less(len), out, buffer);
+    put_again(is_request, tool_text::first(&dst, len), out, buffer)
+}
+
+// Into a lent part of `room` bytes, each 0xee before: the refusal, if there is one, and the part.
+fn put_attempt(
+    is_request: bool,
+    payload: &[u8],
+    room: usize,
+    out: Output,
+    buffer: &mut Buffer,
+) -> Output {
+    let mut dst = [0xeeu8; 256];
+    let written = rewrite_within(is_request, payload, room, &mut dst);
+    let out = put_refused(written, out, buffer);
+    out.octets(tool_text::first(&dst, room), buffer)
+}
+
+// Reads what was written, and writes that.
+fn put_again(is_request: bool, payload: &[u8], out: Output, buffer: &mut Buffer) -> Output {
+    let mut dst = [0u8; 256];
+    let written = rewrite(is_request, payload, &mut dst);
+    let out = out.text(b" again ", buffer);
+    let out = put_refused(written, out, buffer);
+    let out = out.octets(tool_text::first(&dst, length_of(written)), buffer);
+    let out = out.text(b" passed ", buffer);
+    out.number(seen(is_request, payload).passed, buffer)
+}
+
+fn rewrite_within(is_request: bool, payload: &[u8], room: usize, dst: &mut [u8]) -> Written {
+    if dst.len() < room {
+        return rewrite(is_request, payload, dst);
+    }
+    rewrite(is_request, payload, &mut dst[0..room])
+}
+
+fn put_refused(written: Written, out: Output, buffer: &mut Buffer) -> Output {
+    match written {
+        Written::Refused(refusal) => {
+            tool_notation::put_refusal(out, refusal, buffer).byte(b' ', buffer)
+        }
+        Written::Length(_) => out,
+    }
+}
+
+// How many bytes were written: none, where writing was refused.
+fn length_of(written: Written) -> usize {
+    match written {
+        Written::Refused(_) => 0,
+        Written::Length(len) => len,
+    }
+}
+
+// One byte less, where there is one.
+fn less(len: usize) -> usize {
+    if len == 0 {
+        return 0;
+    }
+    len - 1
+}

@@ -1,0 +1,94 @@
+// Runs the crate text over lines of standard input, and writes what it makes of each: how many words, the command's letters, the
+// numbers, and HEX from word 3 on. vectors.py makes the input and what is to be written, by itself.
+use tool_text::decimal::Decimal;
+use tool_text::desk::Desk;
+use tool_text::hex::Hex;
+use tool_text::hex::Payload;
+use tool_text::line::Form;
+use tool_text::line::Head;
+use tool_text::line::Line;
+use tool_text::line::Tail;
+use tool_text::output::Buffer;
+use tool_text::output::Output;
+use tool_text::word::Word;
+
+// A command, two numbers, and a third or HEX.
+const FORM: Form = Form {
+    hex_at: 3,
+    is_word: true,
+};
+
+fn put_number(out: Output, number: Decimal, buffer: &mut Buffer) -> Output {
+    let out = out.byte(b' ', buffer);
+    match number {
+        Decimal::Empty => out.text(b"empty", buffer),
+        Decimal::Number(value) => out.number(value, buffer),
+        Decimal::Fault => out.text(b"fault", buffer),
+    }
+}
+
+fn put_word(out: Output, word: Word, buffer: &mut Buffer) -> Output {
+    let letters = word.letters;
+    let out = out.byte(b' ', buffer).number(word.len as u64, buffer);
+    out.octets(&letters, buffer)
+}
+
+fn put_hex(out: Output, hex: Hex, payload: &[u8], buffer: &mut Buffer) -> Output {
+    let out = out.byte(b' ', buffer);
+    let Payload::Bytes(n) = hex.payload() else {
+        return out.text(b"fault", buffer);
+    };
+    out.octets(tool_text::first(payload, n), buffer)
+}
+
+fn put_head(out: Output, head: Head, buffer: &mut Buffer) -> Output {
+    let first = head.first;
+    let second = head.second;
+    let out = put_word(out, head.command, buffer);
+    let out = put_number(out, first, buffer);
+    put_number(out, second, buffer)
+}
+
+fn put_tail(out: Output, tail: Tail, payload: &[u8], buffer: &mut Buffer) -> Output {
+    let number = tail.number;
+    let out = put_number(out, number, buffer);
+    let out = put_word(out, tail.word, buffer);
+    put_hex(out, tail.hex, payload, buffer)
+}
+
+// What the line has.
+fn answer(line: Line, payload: &[u8], out: Output, buffer: &mut Buffer) -> Output {
+    let out = out.number(line.words() as u64, buffer);
+    let out = put_head(out, line.head, buffer);
+    let out = put_tail(out, line.tail, payload, buffer);
+    out.byte(b'\n', buffer)
+}
+
+// Answers the next line; an empty one and a comment are not answered.
+fn turn(desk: Desk, bytes: &mut Buffer, payload: &mut [u8; 257], buffer: &mut Buffer) -> Desk {
+    let asked = desk.next(FORM, bytes, payload, buffer);
+    let line = asked.line;
+    let mut desk = asked.desk;
+    if !line.is_silent() {
+        desk.out = answer(line, payload, desk.out, buffer);
+    }
+    desk
+}
+
+// Answers line after line until the input ends or nobody reads the answers.
+fn run(bytes: &mut Buffer, payload: &mut [u8; 257], buffer: &mut Buffer) {
+    let mut desk = Desk::new();
+    let mut turns = u64::MAX;
+    while turns > 0 && desk.open {
+        desk = turn(desk, bytes, payload, buffer);
+        turns -= 1;
+    }
+    desk.out.flush(buffer);
+}
+
+fn main() {
+    let mut bytes = io::large_buffer();
+    let mut payload = [0u8; 257];
+    let mut buffer = io::large_buffer();
+    run(&mut bytes, &mut payload, &mut buffer);
+}

@@ -1,0 +1,10 @@
+-- The law of the numbers' file.
+use Rattle.tool_numerals.proofs.Numbers.{word-is-number}
+use Rattle.tool_numerals.proofs.decimal.words_are_numbers.Statement.{statement}
+use Rattle.tool_numerals.proofs.decimal.words_are_numbers.Tie as tie
+
+returns : tie.Need-returns
+returns c = word-is-number
+
+pub words-are-numbers-spec : {M : Type 1} → statement M
+words-are-numbers-spec = tie.close (tie.spec returns)

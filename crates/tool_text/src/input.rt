@@ -1,0 +1,112 @@
+// Standard input, read through a buffer and taken line by line.
+ghost use Prim.Native.Nat.{_≤_};
+ghost use Rattle.tool_text.specs.Line.{Within};
+ghost use lib.ListN.{length};
+use crate::line::Form;
+use crate::line::Line;
+use libc::STDIN_FILENO;
+
+// Which bytes of the buffer were read and not yet taken.
+pub struct Input {
+    pub at: usize,
+    pub end: usize,
+}
+
+// A line with what was taken of the input for it, and whether that ends it.
+pub struct Taken {
+    pub line: Line,
+    pub input: Input,
+    pub complete: bool,
+}
+
+// What the buffer has of a line: from where to where, where the input goes on, and whether the line ends there.
+struct Part {
+    from: usize,
+    to: usize,
+    next: usize,
+    complete: bool,
+}
+
+impl Input {
+    pub fn new() -> Input {
+        Input { at: 0, end: 0 }
+    }
+
+    // Reads on, where all was taken but perhaps a carriage return, which then stands before what comes. Nothing comes at the input's end,
+    // or where it cannot be read.
+    pub fn fill(self, bytes: &mut [u8]) -> Input {
+        if bytes.len() == 0 {
+            return Input::new();
+        }
+        let got = libc::read(STDIN_FILENO, &mut bytes[1..]);
+        let got = io::count(got, bytes);
+        if got == 0 {
+            return Input::new();
+        }
+        bytes[0] = b'\r';
+        Input {
+            at: (self.end <= self.at) as usize,
+            end: got + 1,
+        }
+    }
+
+    // The line with what the buffer has of it; HEX goes to the payload.
+    pub fn take(self, line: Line, bytes: &[u8], form: Form, payload: &mut [u8]) -> Taken {
+        let part = self.part(bytes);
+        let from = part.from;
+        let to = part.to;
+        Taken {
+            line: line.more(&bytes[from..to], form, payload),
+            input: Input {
+                at: part.next,
+                end: self.end,
+            },
+            complete: part.complete,
+        }
+    }
+
+    // A carriage return before the line's end is passed over; one at the end of what was read waits, since more of the line may come.
+    fn part(self, bytes: &[u8]) -> Part
+        ensures { λ r. ⌜ Within (length (now (bytes .entry))) r ⌝ }
+    {
+        let end = least(self.end, bytes.len());
+        let at = least(self.at, end);
+        let stop = bytes::scan::find(bytes, at, end, b'\n');
+        let to = before_return(bytes, at, stop);
+        if stop < end {
+            return Part {
+                from: at,
+                to,
+                next: stop + 1,
+                complete: true,
+            };
+        }
+        Part {
+            from: at,
+            to,
+            next: to,
+            complete: false,
+        }
+    }
+}
+
+// The end of a part of the bytes without the carriage return that may stand there.
+fn before_return(bytes: &[u8], from: usize, to: usize) -> usize
+    requires { ⌜ from ≤ to ⌝ }
+    requires { ⌜ to ≤ length (now bytes) ⌝ }
+    ensures { λ r. ⌜ (from ≤ r) × (r ≤ to) ⌝ }
+{
+    if from < to && bytes[to - 1] == b'\r' {
+        return to - 1;
+    }
+    to
+}
+
+pub(crate) fn least(a: usize, b: usize) -> usize
+    ensures { λ r. ⌜ r ≤ b ⌝ }
+{
+    if a < b {
+        return a;
+    }
+    b
+}

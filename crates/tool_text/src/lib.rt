@@ -1,0 +1,18 @@
+// Text for the desk tools: lines of words, numbers and HEX, read in as many parts as they come in, and answers written into a buffer.
+// What is read is kept in small values, so a line may have any length.
+pub use tool_numerals::decimal;
+pub use tool_numerals::hex;
+
+pub mod desk;
+pub mod input;
+pub mod line;
+pub mod output;
+pub mod word;
+
+// The first `len` of the bytes, or all where there are fewer.
+pub fn first<'a>(bytes: &'a [u8], len: usize) -> &'a [u8] {
+    if bytes.len() < len {
+        return bytes;
+    }
+    &bytes[0..len]
+}

@@ -1,0 +1,209 @@
+// A line of a tool's input: a command word, numbers, and HEX to the line's end, read in as many parts as it comes in.
+ghost use Prim.Native.Nat.{_≤_};
+ghost use lib.ListN.{length};
+use crate::word::Word;
+use tool_numerals::decimal::Decimal;
+use tool_numerals::hex::Hex;
+
+// The words before the one at which HEX begins.
+pub struct Head {
+    // how many have begun
+    pub words: usize,
+    // whether the last of them may go on
+    pub inside: bool,
+    // whether HEX has begun
+    pub full: bool,
+    pub command: Word,
+    // the first and the second word after the command, as numbers
+    pub first: Decimal,
+    pub second: Decimal,
+}
+
+// The line from the word on at which HEX begins.
+pub struct Tail {
+    // that word by itself: its letters, its number, whether it has ended, and whether another comes after it
+    pub word: Word,
+    pub number: Decimal,
+    pub ended: bool,
+    pub extra: bool,
+    // all of it as HEX
+    pub hex: Hex,
+}
+
+// What the lines of a tool look like.
+pub struct Form {
+    // the word at which HEX begins, the command being word 0
+    pub hex_at: usize,
+    // whether that word may be a number, or stand for something by itself
+    pub is_word: bool,
+}
+
+pub struct Line {
+    pub head: Head,
+    pub tail: Tail,
+}
+
+// The head after a part, and where in the part HEX begins, or goes on: at its end, where it does not.
+struct HeadRead {
+    head: Head,
+    at: usize,
+}
+
+impl Head {
+    fn new() -> Head {
+        Head {
+            words: 0,
+            inside: false,
+            full: false,
+            command: Word::new(),
+            first: Decimal::Empty,
+            second: Decimal::Empty,
+        }
+    }
+
+    // The head with a part of the line; HEX begins at word `rest`.
+    fn more(self, part: &[u8], rest: usize) -> HeadRead
+        ensures { λ r. ⌜ r .at ≤ length (now (part .entry)) ⌝ }
+    {
+        let mut head = self;
+        let mut at = 0;
+        while at < part.len() {
+            let end = bytes::scan::find(part, at, part.len(), b' ');
+            head = head.next(&part[at..end], end < part.len(), rest);
+            if head.full {
+                return HeadRead { head, at };
+            }
+            at = end + 1;
+        }
+        HeadRead {
+            head,
+            at: part.len(),
+        }
+    }
+
+    // The head with what stands before a space, if it is one that comes then: a word, the rest of one, or nothing.
+    fn next(mut self, part: &[u8], space: bool, rest: usize) -> Head {
+        if !self.inside {
+            if part.len() == 0 {
+                return self;
+            }
+            if rest <= self.words {
+                self.full = true;
+                return self;
+            }
+            self.words += 1;
+        }
+        self.inside = !space;
+        self.word(part)
+    }
+
+    // The head with a part of its last word.
+    fn word(self, part: &[u8]) -> Head {
+        let mut command = self.command;
+        let mut first = self.first;
+        let mut second = self.second;
+        let words = self.words;
+        match words {
+            1 => command = command.more(part),
+            2 => first = first.more(part),
+            3 => second = second.more(part),
+            _ => {}
+        }
+        Head {
+            words,
+            inside: self.inside,
+            full: self.full,
+            command,
+            first,
+            second,
+        }
+    }
+}
+
+impl Tail {
+    fn new() -> Tail {
+        Tail {
+            word: Word::new(),
+            number: Decimal::Empty,
+            ended: false,
+            extra: false,
+            hex: Hex::new(),
+        }
+    }
+
+    // The tail with a part of the line.
+    fn more(self, part: &[u8], is_word: bool, buffer: &mut [u8]) -> Tail {
+        let hex = self.hex.more(part, buffer);
+        let end = word_end(part, is_word & !self.ended);
+        self.with(&part[0..end], &part[end..], hex)
+    }
+
+    // The tail with a part of the word by itself, what comes after it, and HEX.
+    fn with(self, part: &[u8], after: &[u8], hex: Hex) -> Tail {
+        let number = self.number;
+        Tail {
+            word: self.word.more(part),
+            number: number.more(part),
+            ended: self.ended | (0 < after.len()),
+            extra: self.extra | has_word(after),
+            hex,
+        }
+    }
+}
+
+impl Line {
+    pub fn new() -> Line {
+        Line {
+            head: Head::new(),
+            tail: Tail::new(),
+        }
+    }
+
+    // The line with its next part; HEX goes to the buffer.
+    pub fn more(self, part: &[u8], form: Form, buffer: &mut [u8]) -> Line {
+        let read = self.head.more(part, form.hex_at);
+        let head = read.head;
+        let at = read.at;
+        Line {
+            head,
+            tail: self.tail.more(&part[at..], form.is_word, buffer),
+        }
+    }
+
+    // Whether it holds no command: it is empty, or a comment.
+    pub fn is_silent(self) -> bool {
+        let command = self.head.command;
+        command.len == 0 || command.letters[0] == b'#'
+    }
+
+    // How many words it has, counted no further than one after the word at which HEX begins.
+    pub fn words(self) -> usize {
+        let words = self.head.words;
+        if 16 < words || !self.head.full {
+            return words;
+        }
+        if self.tail.extra {
+            return words + 2;
+        }
+        words + 1
+    }
+}
+
+// Where the word ends that goes on at the part's start, if one does: at the next space, or with the part.
+fn word_end(part: &[u8], goes_on: bool) -> usize
+    ensures { λ r. ⌜ r ≤ length (now (part .entry)) ⌝ }
+{
+    if goes_on {
+        return bytes::scan::find(part, 0, part.len(), b' ');
+    }
+    0
+}
+
+// Whether there is anything but spaces.
+fn has_word(part: &[u8]) -> bool {
+    let mut i = 0;
+    while i < part.len() && part[i] == b' ' {
+        i += 1;
+    }
+    i < part.len()
+}
