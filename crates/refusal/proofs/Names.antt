@@ -6,14 +6,14 @@ use mathlib.Core.List.{List, [], _∷_, map}
 use lib.ListN.{getD}
 use Rattle.refusal.specs.Refusal.{numberOf, nameOf}
 use Rattle.refusal.specs.declared.Refusal.{Refusal}
-use Rattle.refusal.specs.declared.Refusal.the-variants.{Cut, Form, Deep, Extra, «Type», Twice, Keys, Role, Owed, Clash, Clock, Room, Range, Silent, Long, Phase}
+use Rattle.refusal.specs.declared.Refusal.the-variants.{Cut, Form, Deep, Extra, «Type», Twice, Keys, Role, Owed, Clash, Clock, Room, Range, Silent, Long, Phase, Full, Unknown, Loose, Seal, Spent, Stale}
 
 abbrev every : List Refusal
-every = Cut ∷ Form ∷ Deep ∷ Extra ∷ «Type» ∷ Twice ∷ Keys ∷ Role ∷ Owed ∷ Clash ∷ Clock ∷ Room ∷ Range ∷ Silent ∷ Long ∷ Phase ∷ []
+every = Cut ∷ Form ∷ Deep ∷ Extra ∷ «Type» ∷ Twice ∷ Keys ∷ Role ∷ Owed ∷ Clash ∷ Clock ∷ Room ∷ Range ∷ Silent ∷ Long ∷ Phase ∷ Full ∷ Unknown ∷ Loose ∷ Seal ∷ Spent ∷ Stale ∷ []
 
 pub record Placed (r : Refusal) : Type 0 where
   pub low : 1 ≤ numberOf r
-  pub high : numberOf r - 1 < 16
+  pub high : numberOf r - 1 < 22
   pub name : getD (map nameOf every) (numberOf r - 1) [] ≡ nameOf r
 
 pub placed : (r : Refusal) → Placed r
@@ -33,3 +33,9 @@ placed Range = record { low = omega arith; high = omega arith; name = refl }
 placed Silent = record { low = omega arith; high = omega arith; name = refl }
 placed Long = record { low = omega arith; high = omega arith; name = refl }
 placed Phase = record { low = omega arith; high = omega arith; name = refl }
+placed Full = record { low = omega arith; high = omega arith; name = refl }
+placed Unknown = record { low = omega arith; high = omega arith; name = refl }
+placed Loose = record { low = omega arith; high = omega arith; name = refl }
+placed Seal = record { low = omega arith; high = omega arith; name = refl }
+placed Spent = record { low = omega arith; high = omega arith; name = refl }
+placed Stale = record { low = omega arith; high = omega arith; name = refl }

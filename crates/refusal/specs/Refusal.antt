@@ -1,11 +1,11 @@
--- Document 01's table of refusals: the number and the name of each.
+-- The table of refusals, document 01's sixteen and the six that document 02 adds: the number and the name of each.
 use Prim.Native.Nat.{ℕ, zero, suc, _-_}
 use mathlib.Core.List.{List, [], _∷_, _++_}
 use lib.ListN.{length}
 use Rattle.refusal.specs.declared.Refusal.{Refusal}
-use Rattle.refusal.specs.declared.Refusal.the-variants.{Cut, Form, Deep, Extra, «Type», Twice, Keys, Role, Owed, Clash, Clock, Room, Range, Silent, Long, Phase}
+use Rattle.refusal.specs.declared.Refusal.the-variants.{Cut, Form, Deep, Extra, «Type», Twice, Keys, Role, Owed, Clash, Clock, Room, Range, Silent, Long, Phase, Full, Unknown, Loose, Seal, Spent, Stale}
 
--- the number, 1 to 16
+-- the number, 1 to 22
 abbrev pub numberOf : Refusal → ℕ
 numberOf Cut = 1
 numberOf Form = 2
@@ -23,6 +23,12 @@ numberOf Range = 13
 numberOf Silent = 14
 numberOf Long = 15
 numberOf Phase = 16
+numberOf Full = 17
+numberOf Unknown = 18
+numberOf Loose = 19
+numberOf Seal = 20
+numberOf Spent = 21
+numberOf Stale = 22
 
 -- the letters of the name, in ASCII
 abbrev pub lettersOf : Refusal → List ℕ
@@ -42,6 +48,12 @@ lettersOf Range = 0x52 ∷ 0x41 ∷ 0x4e ∷ 0x47 ∷ 0x45 ∷ []  -- RANGE
 lettersOf Silent = 0x53 ∷ 0x49 ∷ 0x4c ∷ 0x45 ∷ 0x4e ∷ 0x54 ∷ []  -- SILENT
 lettersOf Long = 0x4c ∷ 0x4f ∷ 0x4e ∷ 0x47 ∷ []  -- LONG
 lettersOf Phase = 0x50 ∷ 0x48 ∷ 0x41 ∷ 0x53 ∷ 0x45 ∷ []  -- PHASE
+lettersOf Full = 0x46 ∷ 0x55 ∷ 0x4c ∷ 0x4c ∷ []  -- FULL
+lettersOf Unknown = 0x55 ∷ 0x4e ∷ 0x4b ∷ 0x4e ∷ 0x4f ∷ 0x57 ∷ 0x4e ∷ []  -- UNKNOWN
+lettersOf Loose = 0x4c ∷ 0x4f ∷ 0x4f ∷ 0x53 ∷ 0x45 ∷ []  -- LOOSE
+lettersOf Seal = 0x53 ∷ 0x45 ∷ 0x41 ∷ 0x4c ∷ []  -- SEAL
+lettersOf Spent = 0x53 ∷ 0x50 ∷ 0x45 ∷ 0x4e ∷ 0x54 ∷ []  -- SPENT
+lettersOf Stale = 0x53 ∷ 0x54 ∷ 0x41 ∷ 0x4c ∷ 0x45 ∷ []  -- STALE
 
 -- so many zeros
 abbrev pub zeros : ℕ → List ℕ

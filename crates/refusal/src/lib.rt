@@ -1,9 +1,9 @@
-// The refusals of document 01: why a call gives no object, with the number and the name of each.
+// The refusals of documents 01 (1 to 16) and 02 (17 to 22): why a call gives no object, with the number and the name of each.
 // Only this crate goes by their cases, so that a new refusal is added here and nowhere else.
 ghost use mathlib.Core.Path.{_≡_};
 ghost use Rattle.refusal.specs.Refusal.{numberOf, nameOf};
 
-// Why a call was refused, in the order of document 01's numbers.
+// Why a call was refused, in the order of the documents' numbers.
 pub enum Refusal {
     Cut,
     Form,
@@ -21,6 +21,12 @@ pub enum Refusal {
     Silent,
     Long,
     Phase,
+    Full,
+    Unknown,
+    Loose,
+    Seal,
+    Spent,
+    Stale,
 }
 
 // What a call that hands back an object beside it answers.
@@ -30,7 +36,7 @@ pub enum Verdict {
 }
 
 // The names in the order of their numbers, each filled up with zeros.
-const NAMES: [[u8; 8]; 16] = [
+const NAMES: [[u8; 8]; 22] = [
     *b"CUT\0\0\0\0\0",
     *b"FORM\0\0\0\0",
     *b"DEEP\0\0\0\0",
@@ -47,10 +53,16 @@ const NAMES: [[u8; 8]; 16] = [
     *b"SILENT\0\0",
     *b"LONG\0\0\0\0",
     *b"PHASE\0\0\0",
+    *b"FULL\0\0\0\0",
+    *b"UNKNOWN\0",
+    *b"LOOSE\0\0\0",
+    *b"SEAL\0\0\0\0",
+    *b"SPENT\0\0\0",
+    *b"STALE\0\0\0",
 ];
 
 impl Refusal {
-    // The number that document 01 gives the refusal.
+    // The number that document 01 or 02 gives the refusal.
     pub fn number(self) -> u8
         ensures { λ r. ⌜ r ≡ numberOf self ⌝ }
     {
@@ -71,10 +83,16 @@ impl Refusal {
             Refusal::Silent => 14,
             Refusal::Long => 15,
             Refusal::Phase => 16,
+            Refusal::Full => 17,
+            Refusal::Unknown => 18,
+            Refusal::Loose => 19,
+            Refusal::Seal => 20,
+            Refusal::Spent => 21,
+            Refusal::Stale => 22,
         }
     }
 
-    // The name that document 01 gives the refusal, in ASCII, and zeros after it.
+    // The name that document 01 or 02 gives the refusal, in ASCII, and zeros after it.
     pub fn name(self) -> [u8; 8]
         ensures { λ r. ⌜ r ≡ nameOf self ⌝ }
     {
