@@ -29,7 +29,7 @@ use Rattle.node.specs.declared.node.Node.{Node}
 
 -- ---- key sets: one that is absent or discarded leaves both
 abbrev pub placementOf : Node → KeysParameter → Placement
-placementOf n p = ifTaken (p .report) (install (isBorder n) (n .sets) (p .value)) (placed false (n .sets))
+placementOf n p = ifTaken (p .report) (install (isBorder n) (n .sets) (p .value)) (placed (n .sets))
 
 -- ---- the node afterwards: a parameter absent or discarded leaves what it holds
 unfoldable pub configured : Call → Node → ℕ → Configuration → KeySets → Reports → Node
@@ -54,14 +54,18 @@ delivered reports n = record { verdict = verdict.Accepted; reports = reports; no
 abbrev pub owesIdentifier : Call → Node → Report → Bool
 owesIdentifier call n r = (asksIdentifier call && isBorder n && not (n .network .held) && not (ifTaken r true false))
 
--- a configuration is applied: OWED, CLASH, the change
+-- the key sets are placed, and all else is changed with them
+abbrev pub placedBy : Verdict → Call → Node → ℕ → Configuration → KeySets → Delivered
+placedBy (verdict.Refused k) call n time c sets = undelivered k n
+placedBy verdict.Accepted call n time c sets =
+    delivered (reportsOf (isBorder n) c) (configured call n time c sets (reportsOf (isBorder n) c))
+
+-- a configuration is applied: OWED, CLASH (RANGE, where its key set is outside the limits: none that was read is), the change
 unfoldable pub apply : Call → Node → ℕ → Configuration → Delivered
 apply call n time c =
     cond (owesIdentifier call n (c .network .report))
     (undelivered refusal.Owed n)
-    (cond (placementOf n (c .keys) .clash)
-    (undelivered refusal.Clash n)
-    (delivered (reportsOf (isBorder n) c) (configured call n time c (placementOf n (c .keys) .sets) (reportsOf (isBorder n) c))))
+    (placedBy (placementOf n (c .keys) .verdict) call n time c (placementOf n (c .keys) .sets))
 
 -- whether a payload of so many bytes may be handed over: RANGE: the node; LONG, CLOCK, PHASE
 unfoldable pub deliverVerdict : Call → Node → ℕ → ℕ → Verdict

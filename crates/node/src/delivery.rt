@@ -15,8 +15,9 @@ use node_parameters::reports::reports_of;
 use refusal::Refusal;
 use refusal::Verdict;
 ghost use mathlib.Core.Path.{_≡_};
-ghost use Rattle.node.specs.Delivery.{placementOf, configured, undelivered, owesIdentifier, apply, deliverVerdict, applyRead, deliver};
+ghost use Rattle.node.specs.Delivery.{placementOf, configured, undelivered, owesIdentifier, placedBy, apply, deliverVerdict, applyRead, deliver};
 ghost use Rattle.node_delivery.specs.declared.Call.the-variants as call;
+ghost use Rattle.refusal.specs.declared.Verdict.the-variants as verdict;
 
 // Beside a refusal stand the empty report and the node as it was.
 pub struct Delivered {
@@ -45,7 +46,10 @@ impl Node {
             return self.sets.install(self.role == 1, parameter.value);
         }
         let sets = self.sets;
-        Placement { clash: false, sets }
+        Placement {
+            verdict: Verdict::Accepted,
+            sets,
+        }
     }
 
     // The node after a configuration that is not refused.
@@ -73,6 +77,18 @@ impl Node {
         }
     }
 
+    // The answer to a configuration that is not refused, with the key sets placed.
+    fn changed(self, call: Call, time: u64, c: Configuration, sets: KeySets) -> Delivered
+        ensures { λ r. ⌜ r ≡ placedBy verdict.Accepted call self time c sets ⌝ }
+    {
+        let reports = reports_of(self.role == 1, c);
+        Delivered {
+            verdict: Verdict::Accepted,
+            reports,
+            node: self.configured(call, time, c, sets, reports),
+        }
+    }
+
     // A border node's join answer owes a network identifier that neither the request nor the answer had.
     fn owes_identifier(self, call: Call, report: Report) -> bool
         ensures { λ r. ⌜ r ≡ owesIdentifier call self report ⌝ }
@@ -91,14 +107,10 @@ impl Node {
             return self.undelivered(Refusal::Owed);
         }
         let placed = self.placement(c.keys);
-        if placed.clash {
-            return self.undelivered(Refusal::Clash);
-        }
-        let reports = reports_of(self.role == 1, c);
-        Delivered {
-            verdict: Verdict::Accepted,
-            reports,
-            node: self.configured(call, time, c, placed.sets, reports),
+        let verdict = placed.verdict;
+        match verdict {
+            Verdict::Refused(why) => self.undelivered(why),
+            Verdict::Accepted => self.changed(call, time, c, placed.sets),
         }
     }
 

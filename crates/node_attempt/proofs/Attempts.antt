@@ -55,16 +55,17 @@ not-both k e = absurd (let z : _≡_ {A = ℕ} 0 1 = cc in omega arith)
 
 module _ (a : Attempt) (time timeout : ℕ) (e : mayStart a time timeout ≡ verdict.Accepted) where
   started-by :
-      (c w f : Bool) → leb (a .clock) time ≡ c → isWaiting (a .phase) ≡ w → firstTimeout timeout ≡ f →
+      (v c w f : Bool) → fits a ≡ v → leb (a .clock) time ≡ c → isWaiting (a .phase) ≡ w → firstTimeout timeout ≡ f →
       (c ≡ true) × (w ≡ false) × (f ≡ true)
   unfolding mayStart
-  started-by false w f p q r = not-both refusal.Clock (rw p at e)
-  started-by true true f p q r = not-both refusal.Phase (rw (p, q) at e)
-  started-by true false false p q r = not-both refusal.Range (rw (p, q, r) at e)
-  started-by true false true p q r = (refl, refl, refl)
+  started-by false c w f o p q r = not-both refusal.Range (rw o at e)
+  started-by true false w f o p q r = not-both refusal.Clock (rw (o, p) at e)
+  started-by true true true f o p q r = not-both refusal.Phase (rw (o, p, q) at e)
+  started-by true true false false o p q r = not-both refusal.Range (rw (o, p, q, r) at e)
+  started-by true true false true o p q r = (refl, refl, refl)
 
   pub may-start : (leb (a .clock) time ≡ true) × (isWaiting (a .phase) ≡ false) × (firstTimeout timeout ≡ true)
-  may-start = started-by (leb (a .clock) time) (isWaiting (a .phase)) (firstTimeout timeout) refl refl refl
+  may-start = started-by (fits a) (leb (a .clock) time) (isWaiting (a .phase)) (firstTimeout timeout) refl refl refl refl
 
 pub waiting-fits : (time timeout : ℕ) → firstTimeout timeout ≡ true → fits (waitingFrom time timeout) ≡ true
 waiting-fits time timeout f = fits-by (waitingFrom time timeout) (omega arith) (omega arith) f

@@ -47,14 +47,16 @@ timeoutInRange a = (not (isWaiting (a .phase)) || timeoutAfter (a .count) (a .ti
 unfoldable pub fits : Attempt → Bool
 fits a = (leb (a .count) 4 && leb (a .sent) (a .clock) && timeoutInRange a)
 
--- ---- starting: CLOCK, PHASE, RANGE: the timeout
+-- ---- starting: RANGE: the attempt; CLOCK, PHASE; RANGE: the timeout
 unfoldable pub mayStart : Attempt → ℕ → ℕ → Verdict
 mayStart a time timeout =
-    cond (leb (a .clock) time)
+    cond (fits a)
+    (cond (leb (a .clock) time)
     (cond (isWaiting (a .phase))
     (verdict.Refused refusal.Phase)
     (cond (firstTimeout timeout) verdict.Accepted (verdict.Refused refusal.Range)))
-    (verdict.Refused refusal.Clock)
+    (verdict.Refused refusal.Clock))
+    (verdict.Refused refusal.Range)
 
 -- the attempt that starts: waiting, the counter 0
 abbrev pub waitingFrom : ℕ → ℕ → Attempt

@@ -114,10 +114,13 @@ impl Attempt {
         true
     }
 
-    // Whether an attempt with this first timeout may start. CLOCK, PHASE; RANGE: the timeout.
+    // Whether an attempt with this first timeout may start. RANGE: the attempt; CLOCK, PHASE; RANGE: the timeout.
     pub fn may_start(self, time: u64, timeout: u64) -> Verdict
         ensures { λ r. ⌜ r ≡ mayStart self time timeout ⌝ }
     {
+        if !self.fit() {
+            return Verdict::Refused(Refusal::Range);
+        }
         if time < self.clock {
             return Verdict::Refused(Refusal::Clock);
         }

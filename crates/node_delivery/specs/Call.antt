@@ -5,7 +5,7 @@ use lib.Dec.{leb}
 use Rattle.refusal.specs.declared.Refusal.the-variants as refusal
 use Rattle.refusal.specs.declared.Verdict.{Verdict}
 use Rattle.refusal.specs.declared.Verdict.the-variants as verdict
-use Rattle.node_attempt.specs.Attempt.{isWaiting, isJoined, attempt}
+use Rattle.node_attempt.specs.Attempt.{isWaiting, isJoined, attempt, fits}
 use Rattle.node_attempt.specs.declared.attempt.Attempt.{Attempt}
 use Rattle.node_attempt.specs.declared.attempt.Phase.{Phase}
 use Rattle.node_attempt.specs.declared.attempt.Phase.the-variants as phase
@@ -30,11 +30,13 @@ abbrev pub asksIdentifier : Call → Bool
 asksIdentifier JoinAnswer = true
 asksIdentifier Update = false
 
--- whether a payload of so many bytes may be handed over: LONG, CLOCK, PHASE
+-- whether a payload of so many bytes may be handed over: RANGE: the attempt; LONG, CLOCK, PHASE
 unfoldable pub mayCome : Call → Attempt → ℕ → ℕ → Verdict
 mayCome call a time len =
-    cond (leb len 256)
+    cond (fits a)
+    (cond (leb len 256)
     (cond (leb (a .clock) time)
     (cond (belongs call (a .phase)) verdict.Accepted (verdict.Refused refusal.Phase))
     (verdict.Refused refusal.Clock))
-    (verdict.Refused refusal.Long)
+    (verdict.Refused refusal.Long))
+    (verdict.Refused refusal.Range)

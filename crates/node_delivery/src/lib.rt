@@ -62,10 +62,13 @@ impl Call {
         }
     }
 
-    // Whether a payload of so many bytes may be handed over. LONG, CLOCK, PHASE.
+    // Whether a payload of so many bytes may be handed over. RANGE: the attempt; LONG, CLOCK, PHASE.
     pub fn may_come(self, attempt: Attempt, time: u64, len: usize) -> Verdict
         ensures { λ r. ⌜ r ≡ mayCome self attempt time len ⌝ }
     {
+        if !attempt.fit() {
+            return Verdict::Refused(Refusal::Range);
+        }
         if PAYLOAD_MOST < len {
             return Verdict::Refused(Refusal::Long);
         }

@@ -1,17 +1,21 @@
 -- What it says that two key sets fit, part by part, and back; a switch and a new set that does not clash leave sets that fit.
+use Prim.Native.Nat.{ℕ}
+use native.Mathlib.Omega.{arith}
 use mathlib.Core.Path.{_≡_, refl, _∙_}
 use mathlib.Core.Bool.{Bool, true, false, cond, not, _||_, or-true}
 use mathlib.Core.List.{List, [], List·Memᴰ, List·Memᴰ·not-nil}
 use borrow.Author.Tests.{eqb-true, not-true}
+use Rattle.refusal.specs.declared.Refusal.the-variants as refusal
+use Rattle.refusal.specs.declared.Verdict.the-variants as verdict
 use Rattle.link_key_set.specs.KeySet.{keysOf, noKeys, allowed, allowedSet, sameKeys, shares}
 use Rattle.link_key.specs.declared.Key.{Key}
 use Rattle.link_key_set.specs.declared.key_set.KeySet.{KeySet}
 use Rattle.link_key_set.proofs.KeySets.{apart-shares, shares-turned, set-allowed}
-use Rattle.node_key_sets.specs.Sets.{activeIn, pendingIn, twoSets, isNone, setInRange, fits, placed, install}
+use Rattle.node_key_sets.specs.Sets.{activeIn, pendingIn, twoSets, isNone, setInRange, fits, placed, unplaced, install}
 use Rattle.node_key_sets.specs.Frames.{switched}
 use Rattle.node_key_sets.specs.declared.sets.KeySets.{KeySets}
 use Rattle.node_key_sets.specs.declared.sets.Placement.{Placement}
-use Rattle.link_key.proofs.Tests.{never, first, second, third, fourth, all-four, then-so}
+use Rattle.link_key.proofs.Tests.{first, second, third, fourth, all-four, then-so}
 
 none-empty : (set : KeySet) → isNone set ≡ true → keysOf set ≡ []
 none-empty set e = rw (eqb-true (set .count) 0 e)
@@ -67,32 +71,40 @@ member-allowed set k e m = go (isNone set) refl
     go false p = let q : allowedSet set ≡ true = rw p at e in set-allowed set q .1
 
 -- ---- a new set
--- where it goes, by the answers to the tests: is the node a border node, are the keys the active ones, is an identifier shared
-abbrev pub place : KeySets → KeySet → Bool → Bool → Bool → Placement
-place s set border same shared =
-    cond border (placed false (twoSets set noKeys))
-    (cond same (placed false (twoSets (s .active) noKeys)) (cond shared (placed true s) (placed false (twoSets (s .active) set))))
+-- where it goes, by the answers to the tests: is it within its limits, is the node a border node, are its keys the active ones, is an
+-- identifier shared
+abbrev pub placeBy : KeySets → KeySet → Bool → Bool → Bool → Bool → Placement
+placeBy s set ok border same shared =
+    cond ok
+    (cond border (placed (twoSets set noKeys))
+    (cond same (placed (twoSets (s .active) noKeys)) (cond shared (unplaced refusal.Clash s) (placed (twoSets (s .active) set)))))
+    (unplaced refusal.Range s)
 
 module _ (s : KeySets) (set : KeySet) where
   set-fits : allowedSet set ≡ true → setInRange set ≡ true
   set-fits ok = rw (ok, or-true (isNone set))
 
   place-fits :
-      (border same shared : Bool) → fits border s ≡ true → allowedSet set ≡ true → shares (keysOf set) (activeIn s) ≡ shared →
-      place s set border same shared .clash ≡ false → fits border (place s set border same shared .sets) ≡ true
-  place-fits true same shared e ok h c = alone-fits true set (set-fits ok)
-  place-fits false true shared e ok h c = alone-fits false (s .active) (active-fits false s e)
-  place-fits false false true e ok h c = never true refl c
-  place-fits false false false e ok h c =
+      (ok border same shared : Bool) → fits border s ≡ true → allowedSet set ≡ ok → shares (keysOf set) (activeIn s) ≡ shared →
+      fits border (placeBy s set ok border same shared .sets) ≡ true
+  place-fits false border same shared e ok h = e
+  place-fits true true same shared e ok h = alone-fits true set (set-fits ok)
+  place-fits true false true shared e ok h = alone-fits false (s .active) (active-fits false s e)
+  place-fits true false false true e ok h = e
+  place-fits true false false false e ok h =
       fits-by false (twoSets (s .active) set) (active-fits false s e) (set-fits ok) (shares-turned (activeIn s) (keysOf set) ∙ h) refl
 
 pub install-fits :
-    (border : Bool) (s : KeySets) (set : KeySet) → fits border s ≡ true → allowedSet set ≡ true → install border s set .clash ≡ false →
-    fits border (install border s set .sets) ≡ true
+    (border : Bool) (s : KeySets) (set : KeySet) → fits border s ≡ true → fits border (install border s set .sets) ≡ true
 unfolding install
-install-fits border s set e ok c =
-    place-fits s set border (sameKeys (keysOf set) (activeIn s)) (shares (keysOf set) (activeIn s)) e ok refl c
+install-fits border s set e =
+    place-fits s set (allowedSet set) border (sameKeys (keysOf set) (activeIn s)) (shares (keysOf set) (activeIn s)) e refl refl
 
-pub border-installs : (s : KeySets) (set : KeySet) → install true s set ≡ placed false (twoSets set noKeys)
+pub border-installs :
+    (s : KeySets) (set : KeySet) → install true s set .verdict ≡ verdict.Accepted → install true s set .sets ≡ twoSets set noKeys
 unfolding install
-border-installs s set = refl
+border-installs s set = go (allowedSet set)
+  where
+    go : (ok : Bool) → placeBy s set ok true false false .verdict ≡ verdict.Accepted → placeBy s set ok true false false .sets ≡ twoSets set noKeys
+    go true e = refl
+    go false e = absurd (let z : _≡_ {A = ℕ} 0 1 = cc in omega arith)

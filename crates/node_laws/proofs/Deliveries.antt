@@ -12,11 +12,12 @@ use Rattle.refusal.specs.declared.Refusal.{Refusal}
 use Rattle.refusal.specs.declared.Refusal.the-variants as refusal
 use Rattle.refusal.specs.declared.Verdict.{Verdict}
 use Rattle.refusal.specs.declared.Verdict.the-variants as verdict
-use Rattle.link_key_set.specs.KeySet.{noKeys, allowedSet}
+use Rattle.link_key_set.specs.KeySet.{noKeys}
 use Rattle.link_key.specs.declared.Key.{Key}
 use Rattle.link_key_set.specs.declared.key_set.KeySet.{KeySet}
 use Rattle.node_key_sets.specs.Sets.{twoSets, placed, install}
 use Rattle.node_key_sets.specs.Sets as sets
+use Rattle.node_key_sets.specs.declared.sets.KeySets.{KeySets}
 use Rattle.node_key_sets.proofs.Fits.{install-fits, border-installs}
 use Rattle.node_attempt.specs.Attempt as attempt
 use Rattle.node_parameters.specs.Lease.{addressInRange}
@@ -37,7 +38,7 @@ use Rattle.node_parameters.specs.Octets.{octetsInRange, jrcInRange, octetsAfter
 use Rattle.node_parameters.specs.Reports.{noReports, discarded, reportsOf}
 use Rattle.node.specs.Node.{isBorder, clockOf, roleInRange}
 use Rattle.node.specs.Range.{othersFit, valid, Valid}
-use Rattle.node.specs.Delivery.{placementOf, configured, undelivered, delivered, owesIdentifier, apply, deliverVerdict, applyRead, deliverBy, deliver}
+use Rattle.node.specs.Delivery.{placementOf, configured, undelivered, delivered, owesIdentifier, placedBy, apply, deliverVerdict, applyRead, deliverBy, deliver}
 use Rattle.node_delivery.specs.Call.{attemptAfter, belongs, mayCome}
 use Rattle.node_laws.specs.Laws.{Takes, Installed}
 use Rattle.node_delivery.specs.declared.Call.{Call}
@@ -66,12 +67,15 @@ module _ (n : Node) where
   cond-leaves true x y p q = p
   cond-leaves false x y p q = q
 
+  placed-leaves : (v : Verdict) (call : Call) (time : ℕ) (c : Configuration) (s : KeySets) → Leaves n (placedBy v call n time c s)
+  placed-leaves (verdict.Refused k) call time c s = no-leaves k
+  placed-leaves verdict.Accepted call time c s = yes-leaves (reportsOf (isBorder n) c) (configured call n time c s (reportsOf (isBorder n) c))
+
   apply-leaves : (call : Call) (time : ℕ) (c : Configuration) → Leaves n (apply call n time c)
   unfolding apply
   apply-leaves call time c =
       cond-leaves (owesIdentifier call n (c .network .report)) _ _ (no-leaves refusal.Owed)
-      (cond-leaves (placementOf n (c .keys) .clash) _ _ (no-leaves refusal.Clash)
-      (yes-leaves (reportsOf (isBorder n) c) (configured call n time c (placementOf n (c .keys) .sets) (reportsOf (isBorder n) c))))
+      (placed-leaves (placementOf n (c .keys) .verdict) call time c (placementOf n (c .keys) .sets))
 
   read-leaves : (v : Verdict) (call : Call) (time : ℕ) (c : Configuration) → Leaves n (applyRead v call n time c)
   read-leaves (verdict.Refused k) call time c = no-leaves k
@@ -90,7 +94,7 @@ module _ (n : Node) where
 record Passed (call : Call) (n : Node) (time : ℕ) (payload : List ℕ) : Type 0 where
   later : clockOf n ≤ time
   read : readConfiguration payload .verdict ≡ verdict.Accepted
-  placed : placementOf n (readConfiguration payload .configuration .keys) .clash ≡ false
+  placed : placementOf n (readConfiguration payload .configuration .keys) .verdict ≡ verdict.Accepted
   is :
       deliver call n time payload
       ≡ delivered (reportsOf (isBorder n) (readConfiguration payload .configuration))
@@ -105,6 +109,12 @@ failed : (b : Bool) (x : Delivered) (k : Refusal) (n : Node) → cond b (undeliv
 failed true x k n e = refused-not k e
 failed false x k n e = refl
 
+accepted-placed :
+    (v : Verdict) (call : Call) (n : Node) (time : ℕ) (c : Configuration) (s : KeySets) →
+    placedBy v call n time c s .verdict ≡ verdict.Accepted → v ≡ verdict.Accepted
+accepted-placed (verdict.Refused k) call n time c s e = refused-not k e
+accepted-placed verdict.Accepted call n time c s e = refl
+
 accepted-read :
     (v : Verdict) (call : Call) (n : Node) (time : ℕ) (c : Configuration) → applyRead v call n time c .verdict ≡ verdict.Accepted → v ≡ verdict.Accepted
 accepted-read (verdict.Refused k) call n time c e = refused-not k e
@@ -117,16 +127,21 @@ accepted-by verdict.Accepted call n time r e = refl
 
 not-early : (call : Call) (n : Node) (time len : ℕ) → deliverVerdict call n time len ≡ verdict.Accepted → leb (clockOf n) time ≡ true
 unfolding deliverVerdict mayCome
-not-early call n time len = go (valid n) (leb len 256) (leb (clockOf n) time) (belongs call (n .attempt .phase))
+not-early call n time len = go (valid n) (attempt.fits (n .attempt)) (leb len 256) (leb (clockOf n) time) (belongs call (n .attempt .phase))
   where
     go :
-        (v l t b : Bool) →
-        cond v (cond l (cond t (cond b verdict.Accepted (verdict.Refused refusal.Phase)) (verdict.Refused refusal.Clock)) (verdict.Refused refusal.Long)) (verdict.Refused refusal.Range)
+        (v f l t b : Bool) →
+        cond v
+        (cond f
+        (cond l (cond t (cond b verdict.Accepted (verdict.Refused refusal.Phase)) (verdict.Refused refusal.Clock)) (verdict.Refused refusal.Long))
+        (verdict.Refused refusal.Range))
+        (verdict.Refused refusal.Range)
         ≡ verdict.Accepted → t ≡ true
-    go false l t b e = refused-not refusal.Range e
-    go true false t b e = refused-not refusal.Long e
-    go true true false b e = refused-not refusal.Clock e
-    go true true true b e = refl
+    go false f l t b e = refused-not refusal.Range e
+    go true false l t b e = refused-not refusal.Range e
+    go true true false t b e = refused-not refusal.Long e
+    go true true true false b e = refused-not refusal.Clock e
+    go true true true true b e = refl
 
 module _ (call : Call) (n : Node) (time : ℕ) (payload : List ℕ) where
   abbrev c : Configuration
@@ -141,17 +156,16 @@ module _ (call : Call) (n : Node) (time : ℕ) (payload : List ℕ) where
       let e2 = rw r at e1 in
       let o = failed (owesIdentifier call n (c .network .report)) _ refusal.Owed n e2 in
       let e3 = rw o at e2 in
-      let p = failed (placementOf n (c .keys) .clash) _ refusal.Clash n e3 in
+      let p = accepted-placed (placementOf n (c .keys) .verdict) call n time c (placementOf n (c .keys) .sets) e3 in
       record { later = leb-true (clockOf n) time (not-early call n time (length payload) v); read = r; placed = p; is = rw (v, r, o, p) }
 
 -- ---- key sets
 placement-fits :
-    (n : Node) (r : Report) (set : KeySet) → sets.fits (isBorder n) (n .sets) ≡ true → ifTaken r (allowedSet set) true ≡ true →
-    ifTaken r (install (isBorder n) (n .sets) set) (placed false (n .sets)) .clash ≡ false →
-    sets.fits (isBorder n) (ifTaken r (install (isBorder n) (n .sets) set) (placed false (n .sets)) .sets) ≡ true
-placement-fits n Absent set fits ok e = fits
-placement-fits n Discarded set fits ok e = fits
-placement-fits n Taken set fits ok e = install-fits (isBorder n) (n .sets) set fits ok e
+    (n : Node) (r : Report) (set : KeySet) → sets.fits (isBorder n) (n .sets) ≡ true →
+    sets.fits (isBorder n) (ifTaken r (install (isBorder n) (n .sets) set) (placed (n .sets)) .sets) ≡ true
+placement-fits n Absent set fits = fits
+placement-fits n Discarded set fits = fits
+placement-fits n Taken set fits = install-fits (isBorder n) (n .sets) set fits
 
 -- ---- the other parameters
 address-after :
@@ -184,8 +198,7 @@ attempt-after JoinAnswer a time h e = joined-fits a time h e
 attempt-after Update a time h e = moved-fits a time h e
 
 -- ---- the node stays valid
-module _ (call : Call) (n : Node) (time : ℕ) (c : Configuration) (v : Valid n) (h : clockOf n ≤ time) (r : InRange c)
-    (p : placementOf n (c .keys) .clash ≡ false) where
+module _ (call : Call) (n : Node) (time : ℕ) (c : Configuration) (v : Valid n) (h : clockOf n ≤ time) (r : InRange c) where
   abbrev after : Node
   after = configured call n time c (placementOf n (c .keys) .sets) (reportsOf (isBorder n) c)
 
@@ -206,7 +219,7 @@ module _ (call : Call) (n : Node) (time : ℕ) (c : Configuration) (v : Valid n)
   configured-valid : Valid after
   configured-valid =
       valid-by after
-      (unfold configured in placement-fits n (c .keys .report) (c .keys .value) (keys-fit n v) (r .keys) p)
+      (unfold configured in placement-fits n (c .keys .report) (c .keys .value) (keys-fit n v))
       (unfold configured in attempt-after call (n .attempt) time h (attempt-fits n v))
       (unfold configured in address-after (clockOf n) time (c .address .report) (c .address .value) (n .address) h (r .address) (address-fits n v))
       others-after
@@ -219,7 +232,7 @@ deliver-valid call n time payload v = go (deliver call n time payload .verdict) 
     go verdict.Accepted e =
         let p = accepted-passed call n time payload e in
         rw (p .is)
-        (configured-valid call n time (readConfiguration payload .configuration) v (p .later) (read-in-range payload (p .read)) (p .placed))
+        (configured-valid call n time (readConfiguration payload .configuration) v (p .later) (read-in-range payload (p .read)))
 
 pub deliver-role : (call : Call) (n : Node) (time : ℕ) (payload : List ℕ) → deliver call n time payload .node .role ≡ n .role
 deliver-role call n time payload = go (deliver call n time payload .verdict) refl
@@ -231,8 +244,11 @@ deliver-role call n time payload = go (deliver call n time payload .verdict) ref
 -- ---- a border node that takes a set
 border-place :
     (n : Node) (r : Report) (set : KeySet) → n .role ≡ 1 → r ≡ Taken →
-    ifTaken r (install (isBorder n) (n .sets) set) (placed false (n .sets)) ≡ placed false (twoSets set noKeys)
-border-place n r set b e = rw (e, eq-eqb (n .role) 1 b) (border-installs (n .sets) set)
+    ifTaken r (install (isBorder n) (n .sets) set) (placed (n .sets)) .verdict ≡ verdict.Accepted →
+    ifTaken r (install (isBorder n) (n .sets) set) (placed (n .sets)) .sets ≡ twoSets set noKeys
+border-place n r set b e a =
+    let border = eq-eqb (n .role) 1 b in
+    rw (e, border) (border-installs (n .sets) set (rw (e, border) at a))
 
 pub border-takes :
     (call : Call) (n : Node) (time : ℕ) (payload : List ℕ) (ks : List Key) → Valid n → n .role ≡ 1 → Takes call n time payload ks →
@@ -242,7 +258,7 @@ border-takes call n time payload ks v b h =
     let p = accepted-passed call n time payload (h .accepted) in
     let c = readConfiguration payload .configuration in
     let taken : c .keys .report ≡ Taken = sym (ap (λ (m : Delivered). m .reports .keys) (p .is)) ∙ h .taken in
-    let place = border-place n (c .keys .report) (c .keys .value) b taken in
+    let place = border-place n (c .keys .report) (c .keys .value) b taken (p .placed) in
     record {
       active = rw (p .is) (rw place (h .set));
       pending = rw (p .is) (rw place);

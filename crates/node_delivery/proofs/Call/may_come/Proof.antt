@@ -1,37 +1,47 @@
 -- `may_come` meets its contract: each test of the code is one of the definition's.
 use borrow.Author.Needs.{needs}
 use borrow.Author.Tests.{le-leb, lt-leb}
-use Rattle.link_key.proofs.Tests.{is-false, is-true}
+use Rattle.link_key.proofs.Tests.{denied, granted, is-false, is-true}
 use Rattle.node_delivery.specs.Call.{mayCome}
 use Rattle.node_delivery.proofs.Call.may_come.Statement.{statement}
 use Rattle.node_delivery.proofs.Call.may_come.Tie as tie
 
+fit-requires : tie.Need-fit-requires
+fit-requires c κs = search needs
+
 returns : tie.Need-returns
 unfolding mayCome
-returns c = rw (lt-leb _ _ (c .if1 .taken))
+returns c = rw (denied (c .before .fit .ensures) (c .if1 .taken))
 
 returns-2 : tie.Need-returns-2
 unfolding mayCome
-returns-2 c = rw (le-leb _ _ (c .before .before .if1 .left), lt-leb _ _ (c .if2 .taken))
-
-belongs-requires : tie.Need-belongs-requires
-belongs-requires c κs = search needs
+returns-2 c = rw (granted (c .before .before .fit .ensures) (c .before .if1 .left), lt-leb _ _ (c .if2 .taken))
 
 returns-3 : tie.Need-returns-3
 unfolding mayCome
 returns-3 c =
-    let at-belongs = c .before in
-    let test = at-belongs .before in
-    let test-if1 = test .before .before in
-    rw (le-leb _ _ (test-if1 .if1 .left), le-leb _ _ (test .if2 .left), is-true (at-belongs .belongs .ensures) (c .if3 .taken))
+    let size = c .before .before in
+    let fit = granted (size .before .before .fit .ensures) (size .before .if1 .left) in
+    rw (fit, le-leb _ _ (size .if2 .left), lt-leb _ _ (c .if3 .taken))
+
+belongs-requires : tie.Need-belongs-requires
+belongs-requires c κs = search needs
 
 returns-4 : tie.Need-returns-4
 unfolding mayCome
 returns-4 c =
-    let at-belongs = c .before in
-    let test = at-belongs .before in
-    let test-if1 = test .before .before in
-    rw (le-leb _ _ (test-if1 .if1 .left), le-leb _ _ (test .if2 .left), is-false (at-belongs .belongs .ensures) (c .if3 .left))
+    let clock = c .before .before in
+    let size = clock .before .before in
+    let fit = granted (size .before .before .fit .ensures) (size .before .if1 .left) in
+    rw (fit, le-leb _ _ (size .if2 .left), le-leb _ _ (clock .if3 .left), is-true (c .before .belongs .ensures) (c .if4 .taken))
+
+returns-5 : tie.Need-returns-5
+unfolding mayCome
+returns-5 c =
+    let clock = c .before .before in
+    let size = clock .before .before in
+    let fit = granted (size .before .before .fit .ensures) (size .before .if1 .left) in
+    rw (fit, le-leb _ _ (size .if2 .left), le-leb _ _ (clock .if3 .left), is-false (c .before .belongs .ensures) (c .if4 .left))
 
 pub may-come-spec : {M : Type 1} → statement M
-may-come-spec = tie.close (tie.spec returns returns-2 belongs-requires returns-3 returns-4)
+may-come-spec = tie.close (tie.spec fit-requires returns returns-2 returns-3 belongs-requires returns-4 returns-5)
