@@ -68,7 +68,7 @@ impl Node {
         if 1 < role {
             return not_made();
         }
-        if !network.in_range() {
+        if !network.valid() {
             return not_made();
         }
         Made {

@@ -8,7 +8,7 @@ use Rattle.link_key_set.specs.declared.key_set.KeySet.{KeySet}
 use Rattle.node_key_sets.specs.Sets.{activeIn, pendingIn, install}
 use Rattle.node_key_sets.specs.declared.sets.KeySets.{KeySets}
 use Rattle.node_key_sets.specs.declared.sets.Placement.{Placement}
-use Rattle.node_key_sets.proofs.Fits.{placeBy}
+use Rattle.node_key_sets.proofs.Valid.{placeBy}
 
 -- two placements that differ at most in places that are never looked at
 abbrev SamePlace : Placement → Placement → Type 0

@@ -29,13 +29,13 @@ noSets = twoSets noKeys noKeys
 abbrev pub isNone : KeySet → Bool
 isNone set = eqb (set .count) 0
 
-abbrev pub setInRange : KeySet → Bool
-setInRange set = (isNone set || allowedSet set)
+abbrev pub noneOrValid : KeySet → Bool
+noneOrValid set = (isNone set || allowedSet set)
 
 -- both are in range, they share no identifier, and a border node has no pending one
-unfoldable pub fits : Bool → KeySets → Bool
-fits border s =
-    (setInRange (s .active) && setInRange (s .pending) && not (shares (activeIn s) (pendingIn s)) && (not border || isNone (s .pending)))
+unfoldable pub valid : Bool → KeySets → Bool
+valid border s =
+    (noneOrValid (s .active) && noneOrValid (s .pending) && not (shares (activeIn s) (pendingIn s)) && (not border || isNone (s .pending)))
 
 -- ---- where a new set goes
 abbrev pub placed : KeySets → Placement

@@ -4,7 +4,7 @@ use link_key_set::key_set::no_keys;
 use refusal::Refusal;
 use refusal::Verdict;
 ghost use mathlib.Core.Path.{_≡_};
-ghost use Rattle.node_key_sets.specs.Sets.{noSets, setInRange, fits, twoSets, placed, unplaced, install};
+ghost use Rattle.node_key_sets.specs.Sets.{noSets, noneOrValid, valid, twoSets, placed, unplaced, install};
 
 // A set whose count is 0 stands for no set.
 pub struct KeySets {
@@ -29,8 +29,8 @@ pub fn no_sets() -> KeySets
 }
 
 // A set within the limits of KEYS, or none.
-fn set_in_range(set: KeySet) -> bool
-    ensures { λ r. ⌜ r ≡ setInRange set ⌝ }
+fn none_or_valid(set: KeySet) -> bool
+    ensures { λ r. ⌜ r ≡ noneOrValid set ⌝ }
 {
     set.count == 0 || set.allowed()
 }
@@ -47,11 +47,11 @@ fn placed(active: KeySet, pending: KeySet) -> Placement
 
 impl KeySets {
     // Whether a node may hold the two: each in range, no identifier in both, none pending at a border node.
-    pub fn fit(self, border: bool) -> bool
-        ensures { λ r. ⌜ r ≡ fits border self ⌝ }
+    pub fn valid(self, border: bool) -> bool
+        ensures { λ r. ⌜ r ≡ valid border self ⌝ }
     {
-        set_in_range(self.active)
-            && set_in_range(self.pending)
+        none_or_valid(self.active)
+            && none_or_valid(self.pending)
             && !self.active.shares(self.pending)
             && (!border || self.pending.count == 0)
     }

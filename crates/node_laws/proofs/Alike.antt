@@ -29,9 +29,9 @@ use Rattle.node_parameters.specs.Octets.{octetsAfter}
 use Rattle.node_parameters.specs.Reports.{discarded, reportsOf}
 use Rattle.node.specs.Node.{isBorder}
 use Rattle.node.specs.Delivery.{placementOf, configured, undelivered, owesIdentifier, placedBy, apply}
-use Rattle.node_delivery.specs.Call.{asksIdentifier}
+use Rattle.node_delivery.specs.Delivery.{asksIdentifier}
 use Rattle.node_laws.specs.Same.{octetsHeld, addressHeld, SameNode, SameOutcome, AppliesAlike}
-use Rattle.node_delivery.specs.declared.Call.{Call}
+use Rattle.node_delivery.specs.declared.Delivery.{Delivery}
 use Rattle.node_parameters.specs.declared.octets.HeldOctets.{HeldOctets}
 use Rattle.node.specs.declared.node.Node.{Node}
 
@@ -109,13 +109,13 @@ same-self n = record {
   prefix = refl;
 }
 
-module _ (call : Call) (n : Node) (time : ℕ) (c d : Configuration) (fit : keysInRange (c .keys) ≡ true) (fits : keysInRange (d .keys) ≡ true)
-    (h : SameConfiguration c d) where
+module _ (delivery : Delivery) (n : Node) (time : ℕ) (c d : Configuration)
+    (p : keysInRange (c .keys) ≡ true) (q : keysInRange (d .keys) ≡ true) (h : SameConfiguration c d) where
   places : SamePlace (placementOf n (c .keys)) (placementOf n (d .keys))
   places =
       alike SamePlace (c .keys .report) (d .keys .report) (keysOf (c .keys .value)) (keysOf (d .keys .value))
       (install (isBorder n) (n .sets) (c .keys .value)) (install (isBorder n) (n .sets) (d .keys .value)) (placed (n .sets)) (h .keys)
-      (λ p q. install-same n (c .keys .value) (d .keys .value) (rw p at fit) (rw q at fits))
+      (λ e f. install-same n (c .keys .value) (d .keys .value) (rw e at p) (rw f at q))
       (record { verdict = refl; active = refl; pending = refl })
 
   owing : ifTaken (c .network .report) true false ≡ ifTaken (d .network .report) true false
@@ -123,11 +123,11 @@ module _ (call : Call) (n : Node) (time : ℕ) (c d : Configuration) (fit : keys
       alike (λ (x y : Bool). x ≡ y) (c .network .report) (d .network .report) (bytesIn (c .network .value)) (bytesIn (d .network .value))
       true true false (h .network) (λ p q f. refl) refl
 
-  owes-same : owesIdentifier call n (c .network .report) ≡ owesIdentifier call n (d .network .report)
-  owes-same = ap (λ (b : Bool). asksIdentifier call && isBorder n && not (n .network .held) && not b) owing
+  owes-same : owesIdentifier delivery n (c .network .report) ≡ owesIdentifier delivery n (d .network .report)
+  owes-same = ap (λ (b : Bool). asksIdentifier delivery && isBorder n && not (n .network .held) && not b) owing
 
   node-same :
-      SameNode (configured call n time c (placementOf n (c .keys) .sets) (reportsOf (isBorder n) c)) (configured call n time d (placementOf n (d .keys) .sets) (reportsOf (isBorder n) d))
+      SameNode (configured delivery n time c (placementOf n (c .keys) .sets) (reportsOf (isBorder n) c)) (configured delivery n time d (placementOf n (d .keys) .sets) (reportsOf (isBorder n) d))
   unfolding configured reportsOf
   node-same = record {
     role = refl;
@@ -142,16 +142,16 @@ module _ (call : Call) (n : Node) (time : ℕ) (c d : Configuration) (fit : keys
 
   outcomes :
       (o : Bool) (v : Verdict) →
-      SameOutcome (cond o (undelivered refusal.Owed n) (placedBy v call n time c (placementOf n (c .keys) .sets)))
-      (cond o (undelivered refusal.Owed n) (placedBy v call n time d (placementOf n (d .keys) .sets)))
+      SameOutcome (cond o (undelivered refusal.Owed n) (placedBy v delivery n time c (placementOf n (c .keys) .sets)))
+      (cond o (undelivered refusal.Owed n) (placedBy v delivery n time d (placementOf n (d .keys) .sets)))
   outcomes true v = record { verdict = refl; node = same-self n }
   outcomes false (verdict.Refused k) = record { verdict = refl; node = same-self n }
   outcomes false verdict.Accepted = record { verdict = refl; node = node-same }
 
-  applied-alike : SameOutcome (apply call n time c) (apply call n time d)
+  applied-alike : SameOutcome (apply delivery n time c) (apply delivery n time d)
   unfolding apply
   applied-alike =
-      rw (owes-same, places .verdict) (outcomes (owesIdentifier call n (d .network .report)) (placementOf n (d .keys) .verdict))
+      rw (owes-same, places .verdict) (outcomes (owesIdentifier delivery n (d .network .report)) (placementOf n (d .keys) .verdict))
 
 pub applies-alike : AppliesAlike
-applies-alike call n time c d p q h = applied-alike call n time c d p q h
+applies-alike delivery n time c d p q h = applied-alike delivery n time c d p q h

@@ -11,7 +11,7 @@ use Rattle.cojp.specs.declared.configuration.Configuration.{Configuration}
 use Rattle.node_parameters.specs.declared.address.HeldAddress.{HeldAddress}
 use Rattle.node.specs.Node.{activeOf, pendingOf}
 use Rattle.node.specs.Delivery.{apply}
-use Rattle.node_delivery.specs.declared.Call.{Call}
+use Rattle.node_delivery.specs.declared.Delivery.{Delivery}
 use Rattle.node.specs.declared.delivery.Delivered.{Delivered}
 use Rattle.node_parameters.specs.declared.octets.HeldOctets.{HeldOctets}
 use Rattle.node.specs.declared.node.Node.{Node}
@@ -42,5 +42,5 @@ pub record SameOutcome (x y : Delivered) : Type 0 where
 -- both with key sets within their limits, as every configuration that was read has
 abbrev pub AppliesAlike : Type 0
 AppliesAlike =
-    (call : Call) (n : Node) (time : ℕ) (c d : Configuration) → keysInRange (c .keys) ≡ true → keysInRange (d .keys) ≡ true →
-    SameConfiguration c d → SameOutcome (apply call n time c) (apply call n time d)
+    (delivery : Delivery) (n : Node) (time : ℕ) (c d : Configuration) → keysInRange (c .keys) ≡ true → keysInRange (d .keys) ≡ true →
+    SameConfiguration c d → SameOutcome (apply delivery n time c) (apply delivery n time d)

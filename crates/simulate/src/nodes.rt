@@ -64,7 +64,7 @@ fn between(nodes: Nodes, order: Order) -> Obeyed {
     let answer = turned.answer;
     let nodes = stored(nodes, order.first, turned.sender);
     Obeyed {
-        nodes: stored(nodes, order.second, turned.hearer),
+        nodes: stored(nodes, order.second, turned.receiver),
         reply: turn_reply(answer),
     }
 }

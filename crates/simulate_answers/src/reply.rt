@@ -70,8 +70,8 @@ pub fn delivery_reply(verdict: Verdict, reports: Reports) -> Reply {
 pub fn holding_reply(holding: Holding) -> Reply {
     match holding {
         Holding::Refused(refusal) => Reply::Refused(refusal),
-        Holding::Holds => Reply::Said(YES),
-        Holding::Lapsed => Reply::Said(NO),
+        Holding::Yes => Reply::Said(YES),
+        Holding::No => Reply::Said(NO),
     }
 }
 

@@ -2,7 +2,7 @@
 use mathlib.Core.Path.{_∙_}
 use borrow.Author.Needs.{needs}
 use Rattle.node.proofs.Applied.{apply-owed, apply-placed}
-use Rattle.link_key.proofs.Tests.{is-false, is-true}
+use Rattle.logic_facts.specs.Tests.{is-false, is-true}
 use Rattle.node.proofs.node.Node.apply.Statement.{statement}
 use Rattle.node.proofs.node.Node.apply.Tie as tie
 
@@ -17,7 +17,7 @@ returns c =
     let asked = c .before .before in
     let x = asked .before .before .args in
     c .undelivered .ensures
-    ∙ apply-owed (x .call) (x .self) (x .time) (x .c) (is-true (asked .owes-identifier .ensures) (c .before .if1 .taken))
+    ∙ apply-owed (x .delivery) (x .self) (x .time) (x .c) (is-true (asked .owes-identifier .ensures) (c .before .if1 .taken))
 
 placement-requires : tie.Need-placement-requires
 placement-requires c κs = search needs
@@ -41,7 +41,7 @@ returns-2 c =
     let x = asked .before .before .args in
     let owes = is-false (asked .owes-identifier .ensures) (place .before .if1 .left) in
     c .undelivered2 .ensures
-    ∙ apply-placed (x .call) (x .self) (x .time) (x .c) owes _ (place .placement .ensures) (c .before .before .verdict .given .1)
+    ∙ apply-placed (x .delivery) (x .self) (x .time) (x .c) owes _ (place .placement .ensures) (c .before .before .verdict .given .1)
 
 returns-3 : tie.Need-returns-3
 returns-3 c =
@@ -50,7 +50,7 @@ returns-3 c =
     let x = asked .before .before .args in
     let owes = is-false (asked .owes-identifier .ensures) (place .before .if1 .left) in
     c .changed .ensures
-    ∙ apply-placed (x .call) (x .self) (x .time) (x .c) owes _ (place .placement .ensures) (c .before .enum-told .given .1)
+    ∙ apply-placed (x .delivery) (x .self) (x .time) (x .c) owes _ (place .placement .ensures) (c .before .enum-told .given .1)
 
 pub apply-spec : {M : Type 1} → statement M
 apply-spec =

@@ -2,7 +2,7 @@
 use mathlib.Core.Path.{_∙_}
 use borrow.Author.Needs.{needs}
 use Rattle.node_key_sets.specs.Sets.{install}
-use Rattle.link_key.proofs.Tests.{denied, granted, is-false, is-true}
+use Rattle.logic_facts.specs.Tests.{denied, granted, is-false, is-true}
 use Rattle.node_key_sets.proofs.sets.KeySets.install.Statement.{statement}
 use Rattle.node_key_sets.proofs.sets.KeySets.install.Tie as tie
 
