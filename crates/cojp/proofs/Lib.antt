@@ -3,3 +3,5 @@ mod Demand1
 pub mod Strings
 pub mod Arrays
 mod Addresses
+mod Walks
+mod Reading

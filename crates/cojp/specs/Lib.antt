@@ -8,5 +8,6 @@ pub mod Configuration
 pub mod Writing
 pub mod Same
 pub mod Laws
+pub mod InRange
 pub mod Examples
 pub mod Bytes

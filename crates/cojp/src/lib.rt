@@ -38,11 +38,17 @@ pub use request::empty_request;
 pub use request::is_owing;
 pub use walk::Standing;
 ghost use Rattle.cojp.specs.Examples.{MarkedExamples};
+ghost use Rattle.cojp.specs.InRange.{ReadsInRange};
 ghost use Rattle.cojp.specs.Laws.{ReadersDemand1};
 
 // Document 01's marked examples hold of the definitions.
 pub fn marked_examples()
     ensures { λ r. ⌜ MarkedExamples ⌝ }
+{}
+
+// What the reader of configurations takes is in range.
+pub fn reads_in_range()
+    ensures { λ r. ⌜ ReadsInRange ⌝ }
 {}
 
 // Demand 1 for the readers: a refusal comes with the empty object.

@@ -6,17 +6,18 @@ use mathlib.Core.Bool.{Bool, true, false, cond, _&&_}
 use mathlib.Core.List.{List}
 use mathlib.Core.Option.{Option, none, some}
 use borrow.Author.Tests.{leb-true, eqb-true, eq-eqb, le-leb}
-use lib.Dec.{eqb}
+use lib.Dec.{leb, eqb}
+use lib.ListN.{length}
 use Rattle.refusal.specs.declared.Refusal.the-variants.{Range}
 use Rattle.link_key_usage.specs.Usage.{usageOf, familyOf, familyCovers, listed, knownType, entryAt, entrySays}
-use Rattle.link_key.specs.Key.{sameKey, sameValue, covers, coverageOf, coverageSays, foundKey}
+use Rattle.link_key.specs.Key.{inLimits, sameKey, sameValue, covers, coverageOf, coverageSays, foundKey}
 use Rattle.link_key.specs.declared.Key.{Key}
 use Rattle.link_key_usage.specs.declared.Coverage.the-variants.{Covered, Refused}
 use Rattle.link_key_usage.specs.declared.Entry.the-variants as entry
 use Rattle.link_key_usage.specs.declared.Usage.{Usage}
 use Rattle.link_key_usage.specs.declared.Family.{Family}
 use Rattle.link_key_usage.specs.declared.Family.the-variants.{K1K2Encrypted, K1K2, K1, K2, K2Encrypted}
-use Rattle.logic_facts.specs.Tests.{both-left, both-right}
+use Rattle.logic_facts.specs.Tests.{both-left, both-right, first}
 use Rattle.link_key.proofs.Same.{same-self, same-equal}
 
 pub same-key-self : (k : Key) → sameKey k k ≡ true
@@ -41,6 +42,11 @@ same-key-equal k l e =
     let values = both-right (names && usages) (sameValue (k .value) (l .value)) e in
     let v : k .value ≡ l .value = same-equal eqb eqb-true (k .value) (l .value) values in
     alike i u v
+
+pub limits-identifier : (k : Key) → inLimits k ≡ true → 1 ≤ k .identifier
+unfolding inLimits
+limits-identifier k e =
+    leb-true 1 (k .identifier) (first (leb 1 (k .identifier)) (leb (k .identifier) 255) (listed (k .usage)) (eqb (length (k .value)) 16) e)
 
 known-type : (f : Family) (type : ℕ) → familyCovers f type ≡ true → type ≤ 1
 known-type K1K2Encrypted type e = leb-true type 1 e

@@ -10,7 +10,6 @@ use Rattle.link_key.specs.Key.{foundKey, covers}
 use Rattle.link_key_set.specs.KeySet.{has}
 use Rattle.link_key.specs.declared.FoundKey.{FoundKey}
 use Rattle.link_key.specs.declared.Key.{Key}
-use Rattle.link_key.proofs.Keys.{found-some, found-none}
 use Rattle.node_key_sets.specs.Sets.{activeIn}
 use Rattle.node_key_sets.specs.Frames.{withKey, withoutKey, keyOr, ifCovers, receivingKey, switched, effect, verifiedIn}
 use Rattle.node_key_sets.specs.declared.frames.Change.the-variants as change
@@ -18,6 +17,14 @@ use Rattle.node_key_sets.specs.declared.frames.KeyAnswer.{KeyAnswer}
 use Rattle.node_key_sets.specs.declared.sets.KeySets.{KeySets}
 
 -- ---- a key that was looked for
+found-some : (o : Option Key) → foundKey o .found ≡ true → o ≡ some (foundKey o .key)
+found-some none e = cc
+found-some (some k) e = refl
+
+found-none : (o : Option Key) → foundKey o .found ≡ false → o ≡ none
+found-none none e = refl
+found-none (some k) e = cc
+
 -- the answer where it was found, and SILENT where not
 abbrev pub answerOf : FoundKey → KeyAnswer
 answerOf x = cond (x .found) (withKey (x .key)) (withoutKey refusal.Silent)

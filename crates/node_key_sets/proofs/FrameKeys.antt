@@ -17,8 +17,7 @@ use Rattle.link_key.specs.Key.{inLimits, covers}
 use Rattle.link_key_set.specs.KeySet.{has, Covers, firstCover, findKey}
 use Rattle.link_key_usage.specs.Usage.{knownType, listed}
 use Rattle.link_key.specs.declared.Key.{Key}
-use Rattle.link_key.proofs.Keys.{covers-known-type}
-use Rattle.link_key_set.proofs.KeySets.{has-none, none-has, cover-found, cover-finds, find-found, find-own, none-find, allowed-none-twice, allowed-in-limits}
+use Rattle.link_key_set.specs.KeyLaws.{KeyLaws}
 use Rattle.node_key_sets.specs.Sets.{activeIn, pendingIn, valid}
 use Rattle.node_key_sets.specs.Frames.{withKey, withoutKey, keyOr, sendingKey, orElse, ifCovers, receivingKey, switched, effectBy, verifiedIn}
 use Rattle.node_key_sets.specs.declared.frames.Change.the-variants as change
@@ -31,92 +30,12 @@ use Rattle.node_key_sets.proofs.Valid.{pending-valid, member-allowed}
 abbrev pub Without : ℕ → List Key → Type 0
 Without identifier ks = (l : Key) → List·Memᴰ l ks → l .identifier ≡ identifier → ⊥
 
--- ---- sending
-pub can-send : (s : KeySets) (type : ℕ) → Covers (activeIn s) type → sendingKey s type .verdict ≡ verdict.Accepted
-unfolding sendingKey
-can-send s type c =
-    let known : knownType type ≡ true = le-leb type 1 (covers-known-type (c .key) type (c .covering)) in
-    rw (known, cover-finds type (activeIn s) c .1)
-
-sent-by :
-    (s : KeySets) (type : ℕ) (t : Bool) (o : Option Key) → firstCover type (activeIn s) ≡ o → (x : KeyAnswer) →
-    x ≡ cond t (keyOr refusal.Silent o) (withoutKey refusal.Range) → x .verdict ≡ verdict.Accepted →
-    List·Memᴰ (x .key) (activeIn s) × (covers (x .key) type ≡ true)
-sent-by s type true (some k) f x e a = rw e (cover-found type (activeIn s) k f)
-sent-by s type true none f x e a = refused-not refusal.Silent (rw e at a)
-sent-by s type false o f x e a = refused-not refusal.Range (rw e at a)
-
-pub sent-from :
-    (s : KeySets) (type : ℕ) → sendingKey s type .verdict ≡ verdict.Accepted →
-    List·Memᴰ (sendingKey s type .key) (activeIn s) × (covers (sendingKey s type .key) type ≡ true)
-sent-from s type a =
-    sent-by s type (knownType type) (firstCover type (activeIn s)) refl (sendingKey s type) (unfold sendingKey in refl) a
-
--- ---- receiving
-module _ (border : Bool) (s : KeySets) (type : ℕ) (k : Key) (ok : valid border s ≡ true) (covering : covers k type ≡ true)
-    (absent : Without (k .identifier) (activeIn s)) (member : List·Memᴰ k (pendingIn s)) where
-  limits : inLimits k ≡ true
-  limits = allowed-in-limits (pendingIn s) (member-allowed (s .pending) k (pending-valid border s ok) member) k member
-
-  not-zero : eqb (k .identifier) 0 ≡ false
-  unfolding inLimits
-  not-zero =
-      let least = leb-true 1 (k .identifier) (first (leb 1 (k .identifier)) (leb (k .identifier) 255) (listed (k .usage)) (eqb (length (k .value)) 16) limits) in
-      ne-eqb (k .identifier) 0 (omega arith)
-
-  pub receive-pending : receivingKey s type (k .identifier) ≡ withKey k
-  unfolding receivingKey
-  receive-pending =
-      let known : knownType type ≡ true = le-leb type 1 (covers-known-type k type covering) in
-      let allowed = member-allowed (s .pending) k (pending-valid border s ok) member in
-      rw (
-        known,
-        not-zero,
-        none-find (k .identifier) (activeIn s) (none-has (k .identifier) (activeIn s) absent),
-        find-own member (allowed-none-twice (pendingIn s) allowed),
-        covering,
-      )
-
 -- a key that receiving answers
 record Received (s : KeySets) (type identifier : ℕ) (k : Key) : Type 0 where
   member : List·Memᴰ k (activeIn s) ⊎ List·Memᴰ k (pendingIn s)
   identified : k .identifier ≡ identifier
   covering : covers k type ≡ true
 
-module _ (s : KeySets) (type identifier : ℕ) (x : KeyAnswer) (a : x .verdict ≡ verdict.Accepted) where
-  cover-cases :
-      (k : Key) (b : Bool) → covers k type ≡ b → List·Memᴰ k (activeIn s) ⊎ List·Memᴰ k (pendingIn s) → k .identifier ≡ identifier →
-      x ≡ cond b (withKey k) (withoutKey refusal.Silent) → Received s type identifier (x .key)
-  cover-cases k true c m i e = rw e (record { member = m; identified = i; covering = c })
-  cover-cases k false c m i e = refused-not refusal.Silent (rw e at a)
-
-  received-by :
-      (t : Bool) (o p : Option Key) → findKey identifier (activeIn s) ≡ o → findKey identifier (pendingIn s) ≡ p →
-      x ≡ cond t (ifCovers type (orElse o p)) (withoutKey refusal.Range) → Received s type identifier (x .key)
-  received-by false o p f g e = refused-not refusal.Range (rw e at a)
-  received-by true none none f g e = refused-not refusal.Silent (rw e at a)
-  received-by true (some k) p f g e =
-      let found = find-found identifier (activeIn s) k f in
-      cover-cases k (covers k type) refl (inl (found .0)) (found .1) e
-  received-by true none (some k) f g e =
-      let found = find-found identifier (pendingIn s) k g in
-      cover-cases k (covers k type) refl (inr (found .0)) (found .1) e
-
-received :
-    (s : KeySets) (type identifier : ℕ) → receivingKey s type identifier .verdict ≡ verdict.Accepted →
-    Received s type identifier (receivingKey s type identifier .key)
-received s type identifier a =
-    received-by s type identifier (receivingKey s type identifier) a (knownType type && not (eqb identifier 0))
-    (findKey identifier (activeIn s)) (findKey identifier (pendingIn s)) refl refl (unfold receivingKey in refl)
-
-pub receive-from :
-    (s : KeySets) (type identifier : ℕ) → receivingKey s type identifier .verdict ≡ verdict.Accepted →
-    (List·Memᴰ (receivingKey s type identifier .key) (activeIn s) ⊎ List·Memᴰ (receivingKey s type identifier .key) (pendingIn s))
-    × (receivingKey s type identifier .key .identifier ≡ identifier)
-    × (covers (receivingKey s type identifier .key) type ≡ true)
-receive-from s type identifier a = let r = received s type identifier a in (r .member, r .identified, r .covering)
-
--- ---- the verified report
 -- the key by which the pending set becomes active: pending, covering the type, its identifier not active
 pub record Switching (s : KeySets) (type identifier : ℕ) : Type 0 where
   pub key : Key
@@ -125,47 +44,128 @@ pub record Switching (s : KeySets) (type identifier : ℕ) : Type 0 where
   pub covering : covers key type ≡ true
   pub absent : Without identifier (activeIn s)
 
--- the key of an accepted frame is pending where no active key has its identifier
-switching-by :
-    (s : KeySets) (type identifier : ℕ) (k : Key) → Received s type identifier k → has identifier (activeIn s) ≡ false → Switching s type identifier
-switching-by s type identifier k r e =
-    record {
-      key = k;
-      identified = r .identified;
-      member = ⊎-elim (λ m. absurd (has-none identifier (activeIn s) e k m (r .identified))) (λ m. m) (r .member);
-      covering = r .covering;
-      absent = has-none identifier (activeIn s) e;
-    }
+-- ---- by the laws of keys
+module _ (K : KeyLaws) where
+  -- ---- sending
+  pub can-send : (s : KeySets) (type : ℕ) → Covers (activeIn s) type → sendingKey s type .verdict ≡ verdict.Accepted
+  unfolding sendingKey
+  can-send s type c =
+      let known : knownType type ≡ true = le-leb type 1 (K .covers-known-type (c .key) type (c .covering)) in
+      rw (known, K .cover-finds type (activeIn s) c .1)
 
-either-by :
-    (s : KeySets) (type identifier : ℕ) (w : Verdict) (b : Bool) → receivingKey s type identifier .verdict ≡ w → has identifier (activeIn s) ≡ b →
-    (effectBy w b s .sets ≡ s) ⊎ (Switching s type identifier × (effectBy w b s .sets ≡ switched s))
-either-by s type identifier (verdict.Refused k) b e f = inl refl
-either-by s type identifier verdict.Accepted true e f = inl refl
-either-by s type identifier verdict.Accepted false e f =
-    inr (switching-by s type identifier (receivingKey s type identifier .key) (received s type identifier e) f, refl)
+  sent-by :
+      (s : KeySets) (type : ℕ) (t : Bool) (o : Option Key) → firstCover type (activeIn s) ≡ o → (x : KeyAnswer) →
+      x ≡ cond t (keyOr refusal.Silent o) (withoutKey refusal.Range) → x .verdict ≡ verdict.Accepted →
+      List·Memᴰ (x .key) (activeIn s) × (covers (x .key) type ≡ true)
+  sent-by s type true (some k) f x e a = rw e (K .cover-found type (activeIn s) k f)
+  sent-by s type true none f x e a = refused-not refusal.Silent (rw e at a)
+  sent-by s type false o f x e a = refused-not refusal.Range (rw e at a)
 
-pub verified-either :
-    (s : KeySets) (type identifier : ℕ) →
-    (verifiedIn s type identifier .sets ≡ s) ⊎ (Switching s type identifier × (verifiedIn s type identifier .sets ≡ switched s))
-unfolding verifiedIn
-verified-either s type identifier = either-by s type identifier (receivingKey s type identifier .verdict) (has identifier (activeIn s)) refl refl
+  pub sent-from :
+      (s : KeySets) (type : ℕ) → sendingKey s type .verdict ≡ verdict.Accepted →
+      List·Memᴰ (sendingKey s type .key) (activeIn s) × (covers (sendingKey s type .key) type ≡ true)
+  sent-from s type a =
+      sent-by s type (knownType type) (firstCover type (activeIn s)) refl (sendingKey s type) (unfold sendingKey in refl) a
 
-pub verified-switches :
-    (border : Bool) (s : KeySets) (type identifier : ℕ) → valid border s ≡ true → Switching s type identifier →
-    verifiedIn s type identifier .sets ≡ switched s
-unfolding verifiedIn
-verified-switches border s type identifier ok w =
-    let absent : Without (w .key .identifier) (activeIn s) = rw (w .identified) (w .absent) in
-    let r = receive-pending border s type (w .key) ok (w .covering) absent (w .member) in
-    let answer = subst (λ (i : ℕ). receivingKey s type i ≡ withKey (w .key)) (w .identified) r in
-    rw (answer, none-has identifier (activeIn s) (w .absent))
+  -- ---- receiving
+  module _ (border : Bool) (s : KeySets) (type : ℕ) (k : Key) (ok : valid border s ≡ true) (covering : covers k type ≡ true)
+      (absent : Without (k .identifier) (activeIn s)) (member : List·Memᴰ k (pendingIn s)) where
+    limits : inLimits k ≡ true
+    limits = K .allowed-in-limits (pendingIn s) (member-allowed K (s .pending) k (pending-valid border s ok) member) k member
 
-says-by : (s : KeySets) (w : Verdict) (b : Bool) → effectBy w b s .change ≡ change.Switched → effectBy w b s .sets ≡ switched s
-says-by s (verdict.Refused k) b e = absurd (let z : _≡_ {A = ℕ} 0 1 = cc in omega arith)
-says-by s verdict.Accepted true e = absurd (let z : _≡_ {A = ℕ} 0 1 = cc in omega arith)
-says-by s verdict.Accepted false e = refl
+    not-zero : eqb (k .identifier) 0 ≡ false
+    not-zero = let least = K .limits-identifier k limits in ne-eqb (k .identifier) 0 (omega arith)
 
-pub verified-says : (s : KeySets) (type identifier : ℕ) → verifiedIn s type identifier .change ≡ change.Switched → verifiedIn s type identifier .sets ≡ switched s
-unfolding verifiedIn
-verified-says s type identifier e = says-by s (receivingKey s type identifier .verdict) (has identifier (activeIn s)) e
+    pub receive-pending : receivingKey s type (k .identifier) ≡ withKey k
+    unfolding receivingKey
+    receive-pending =
+        let known : knownType type ≡ true = le-leb type 1 (K .covers-known-type k type covering) in
+        let allowed = member-allowed K (s .pending) k (pending-valid border s ok) member in
+        rw (
+          known,
+          not-zero,
+          K .none-find (k .identifier) (activeIn s) (K .none-has (k .identifier) (activeIn s) absent),
+          K .find-own (pendingIn s) k member (K .allowed-none-twice (pendingIn s) allowed),
+          covering,
+        )
+
+  module _ (s : KeySets) (type identifier : ℕ) (x : KeyAnswer) (a : x .verdict ≡ verdict.Accepted) where
+    cover-cases :
+        (k : Key) (b : Bool) → covers k type ≡ b → List·Memᴰ k (activeIn s) ⊎ List·Memᴰ k (pendingIn s) → k .identifier ≡ identifier →
+        x ≡ cond b (withKey k) (withoutKey refusal.Silent) → Received s type identifier (x .key)
+    cover-cases k true c m i e = rw e (record { member = m; identified = i; covering = c })
+    cover-cases k false c m i e = refused-not refusal.Silent (rw e at a)
+
+    received-by :
+        (t : Bool) (o p : Option Key) → findKey identifier (activeIn s) ≡ o → findKey identifier (pendingIn s) ≡ p →
+        x ≡ cond t (ifCovers type (orElse o p)) (withoutKey refusal.Range) → Received s type identifier (x .key)
+    received-by false o p f g e = refused-not refusal.Range (rw e at a)
+    received-by true none none f g e = refused-not refusal.Silent (rw e at a)
+    received-by true (some k) p f g e =
+        let found = K .find-found identifier (activeIn s) k f in
+        cover-cases k (covers k type) refl (inl (found .0)) (found .1) e
+    received-by true none (some k) f g e =
+        let found = K .find-found identifier (pendingIn s) k g in
+        cover-cases k (covers k type) refl (inr (found .0)) (found .1) e
+
+  received :
+      (s : KeySets) (type identifier : ℕ) → receivingKey s type identifier .verdict ≡ verdict.Accepted →
+      Received s type identifier (receivingKey s type identifier .key)
+  received s type identifier a =
+      received-by s type identifier (receivingKey s type identifier) a (knownType type && not (eqb identifier 0))
+      (findKey identifier (activeIn s)) (findKey identifier (pendingIn s)) refl refl (unfold receivingKey in refl)
+
+  pub receive-from :
+      (s : KeySets) (type identifier : ℕ) → receivingKey s type identifier .verdict ≡ verdict.Accepted →
+      (List·Memᴰ (receivingKey s type identifier .key) (activeIn s) ⊎ List·Memᴰ (receivingKey s type identifier .key) (pendingIn s))
+      × (receivingKey s type identifier .key .identifier ≡ identifier)
+      × (covers (receivingKey s type identifier .key) type ≡ true)
+  receive-from s type identifier a = let r = received s type identifier a in (r .member, r .identified, r .covering)
+
+  -- ---- the verified report
+  -- the key of an accepted frame is pending where no active key has its identifier
+  switching-by :
+      (s : KeySets) (type identifier : ℕ) (k : Key) → Received s type identifier k → has identifier (activeIn s) ≡ false → Switching s type identifier
+  switching-by s type identifier k r e =
+      record {
+        key = k;
+        identified = r .identified;
+        member = ⊎-elim (λ m. absurd (K .has-none identifier (activeIn s) e k m (r .identified))) (λ m. m) (r .member);
+        covering = r .covering;
+        absent = K .has-none identifier (activeIn s) e;
+      }
+
+  either-by :
+      (s : KeySets) (type identifier : ℕ) (w : Verdict) (b : Bool) → receivingKey s type identifier .verdict ≡ w → has identifier (activeIn s) ≡ b →
+      (effectBy w b s .sets ≡ s) ⊎ (Switching s type identifier × (effectBy w b s .sets ≡ switched s))
+  either-by s type identifier (verdict.Refused k) b e f = inl refl
+  either-by s type identifier verdict.Accepted true e f = inl refl
+  either-by s type identifier verdict.Accepted false e f =
+      inr (switching-by s type identifier (receivingKey s type identifier .key) (received s type identifier e) f, refl)
+
+  pub verified-either :
+      (s : KeySets) (type identifier : ℕ) →
+      (verifiedIn s type identifier .sets ≡ s) ⊎ (Switching s type identifier × (verifiedIn s type identifier .sets ≡ switched s))
+  unfolding verifiedIn
+  verified-either s type identifier = either-by s type identifier (receivingKey s type identifier .verdict) (has identifier (activeIn s)) refl refl
+
+  pub verified-switches :
+      (border : Bool) (s : KeySets) (type identifier : ℕ) → valid border s ≡ true → Switching s type identifier →
+      verifiedIn s type identifier .sets ≡ switched s
+  unfolding verifiedIn
+  verified-switches border s type identifier ok w =
+      let absent : Without (w .key .identifier) (activeIn s) = rw (w .identified) (w .absent) in
+      let r = receive-pending border s type (w .key) ok (w .covering) absent (w .member) in
+      let answer = subst (λ (i : ℕ). receivingKey s type i ≡ withKey (w .key)) (w .identified) r in
+      rw (answer, K .none-has identifier (activeIn s) (w .absent))
+
+  says-by : (s : KeySets) (w : Verdict) (b : Bool) → effectBy w b s .change ≡ change.Switched → effectBy w b s .sets ≡ switched s
+  says-by s (verdict.Refused k) b e = absurd (let z : _≡_ {A = ℕ} 0 1 = cc in omega arith)
+  says-by s verdict.Accepted true e = absurd (let z : _≡_ {A = ℕ} 0 1 = cc in omega arith)
+  says-by s verdict.Accepted false e = refl
+
+  pub verified-says :
+      (s : KeySets) (type identifier : ℕ) → verifiedIn s type identifier .change ≡ change.Switched →
+      verifiedIn s type identifier .sets ≡ switched s
+  unfolding verifiedIn
+  verified-says s type identifier e = says-by s (receivingKey s type identifier .verdict) (has identifier (activeIn s)) e

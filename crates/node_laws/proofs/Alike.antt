@@ -127,7 +127,8 @@ module _ (delivery : Delivery) (n : Node) (time : ℕ) (c d : Configuration)
   owes-same = ap (λ (b : Bool). asksIdentifier delivery && isBorder n && not (n .network .held) && not b) owing
 
   node-same :
-      SameNode (configured delivery n time c (placementOf n (c .keys) .sets) (reportsOf (isBorder n) c)) (configured delivery n time d (placementOf n (d .keys) .sets) (reportsOf (isBorder n) d))
+      SameNode (configured delivery n time c (placementOf n (c .keys) .sets) (reportsOf (isBorder n) c))
+      (configured delivery n time d (placementOf n (d .keys) .sets) (reportsOf (isBorder n) d))
   unfolding configured reportsOf
   node-same = record {
     role = refl;

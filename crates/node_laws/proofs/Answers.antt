@@ -23,6 +23,7 @@ use Rattle.link_key_set.specs.declared.key_set.KeySet.{KeySet}
 use Rattle.cbor.specs.Answer.{Plan, refuse, answer}
 use Rattle.cbor.specs.declared.write.Written.{Written}
 use Rattle.cbor.specs.declared.write.Written.the-variants as written
+use Rattle.cojp.specs.InRange.{ReadsInRange}
 use Rattle.cojp.specs.Reading.{ifTaken}
 use Rattle.cojp.specs.Writing.{keysInRange, requestPlan}
 use Rattle.cojp.specs.declared.configuration.Configuration.{Configuration}
@@ -57,13 +58,13 @@ use Rattle.node.specs.Lease.{holds, holdingNumber, holdsNow}
 use Rattle.node.specs.Node.{emptyNode, activeOf, isBorder, clockOf, validRole, unmade, made}
 use Rattle.node.specs.Range.{valid, Valid}
 use Rattle.node.specs.Timing.{requestOf, startVerdict, planBy, startPlan, startedFrom, startedBy, start, polled, polledBy, poll}
+use Rattle.node.specs.declared.frames.Reported.{Reported}
 use Rattle.node.specs.declared.lease.Holding.the-variants as holding
 use Rattle.node.specs.declared.node.Made.{Made}
 use Rattle.node.specs.declared.node.Node.{Node}
 use Rattle.node_laws.specs.Answers.{early, waits, reached, isPolled, isDue, clashes, isMissing, isUncovered, writtenNumber, AnswersSay}
 use Rattle.node_laws.specs.Calls.{NodeCall, starting, polling, delivering, asking, sending, receiving, reporting, perform}
 use Rattle.node_laws.proofs.Deliveries.{accepted-reports}
-use Rattle.node_laws.proofs.Reading.{read-in-range}
 use Rattle.node_laws.proofs.Valid.{attempt-valid}
 
 -- ---- a node that is not valid
@@ -312,7 +313,9 @@ module _ (delivery : Delivery) (n : Node) (time : ℕ) where
   unfolding apply
   apply-number c h = go (owesIdentifier delivery n (c .network .report))
     where
-      place : verdictNumber (placedBy (placementOf n (c .keys) .verdict) delivery n time c (placementOf n (c .keys) .sets) .verdict) ≡ inOrder (refusedIf (clashes n (c .keys)) 10 ∷ [])
+      place :
+          verdictNumber (placedBy (placementOf n (c .keys) .verdict) delivery n time c (placementOf n (c .keys) .sets) .verdict)
+          ≡ inOrder (refusedIf (clashes n (c .keys)) 10 ∷ [])
       place =
           placed-by (placementOf n (c .keys) .verdict) delivery n time c (placementOf n (c .keys) .sets)
           ∙ placed-number n (c .keys .report) (c .keys .value) h
@@ -345,7 +348,7 @@ module _ (delivery : Delivery) (n : Node) (time : ℕ) where
   come-by true true true r h = read-number (r .verdict) (r .configuration) h
 
   delivery-number :
-      (payload : List ℕ) →
+      ReadsInRange → (payload : List ℕ) →
       verdictNumber (deliver delivery n time payload .verdict)
       ≡ inOrder
       (refusedIf (not (valid n)) 13
@@ -355,7 +358,7 @@ module _ (delivery : Delivery) (n : Node) (time : ℕ) where
       ∷ verdictNumber (readFor n payload .verdict)
       ∷ last (readFor n payload .configuration))
   unfolding deliver deliverVerdict mayCome
-  delivery-number payload = go (valid n) refl
+  delivery-number R payload = go (valid n) refl
     where
       rest : List ℕ
       rest =
@@ -375,7 +378,7 @@ module _ (delivery : Delivery) (n : Node) (time : ℕ) where
       go true e =
           rw (attempt-valid n e)
           (come-by (leb (length payload) 256) (leb (clockOf n) time) (belongs delivery (n .attempt .phase)) (readFor n payload)
-          (λ a. read-in-range payload a .keys))
+          (λ a. R payload a .keys))
 
 -- ---- the question whether the address holds
 held-number :
@@ -499,18 +502,21 @@ module _ (n : Node) (type identifier : ℕ) where
   kept-by verdict.Accepted true = refl
   kept-by verdict.Accepted false = refl
 
-  abbrev sets : KeyAnswer
-  sets = receivingKey (n .sets) type identifier
+  abbrev receiveBy : Bool → KeyAnswer
+  receiveBy b = cond b (receivingKey (n .sets) type identifier) (withoutKey refusal.Range)
+
+  abbrev active : Bool
+  active = has identifier (activeOf n)
+
+  abbrev reportBy : Bool → Reported
+  reportBy b = cond b (reportedBy n (verifiedIn (n .sets) type identifier)) (reported (change.Refused refusal.Range) n)
 
   report-number : changeNumber (verified n type identifier .change) ≡ verdictNumber (receive n type identifier .verdict)
   unfolding verified verifiedIn receive
   report-number = go (valid n)
     where
-      go :
-          (b : Bool) →
-          changeNumber (cond b (reportedBy n (effectBy (sets .verdict) (has identifier (activeOf n)) (n .sets))) (reported (change.Refused refusal.Range) n) .change)
-          ≡ verdictNumber (cond b sets (withoutKey refusal.Range) .verdict)
-      go true = effect-by (sets .verdict) (has identifier (activeOf n))
+      go : (b : Bool) → changeNumber (reportBy b .change) ≡ verdictNumber (receiveBy b .verdict)
+      go true = effect-by (receivingKey (n .sets) type identifier .verdict) active
       go false = refl
 
   has-switched :
@@ -518,31 +524,25 @@ module _ (n : Node) (type identifier : ℕ) where
   unfolding verified verifiedIn receive
   has-switched = go (valid n)
     where
-      go :
-          (b : Bool) →
-          hasSwitched (cond b (reportedBy n (effectBy (sets .verdict) (has identifier (activeOf n)) (n .sets))) (reported (change.Refused refusal.Range) n) .change)
-          ≡ (isAccepted (cond b sets (withoutKey refusal.Range) .verdict) && not (has identifier (activeOf n)))
-      go true = switched-by (sets .verdict) (has identifier (activeOf n))
+      go : (b : Bool) → hasSwitched (reportBy b .change) ≡ (isAccepted (receiveBy b .verdict) && not active)
+      go true = switched-by (receivingKey (n .sets) type identifier .verdict) active
       go false = refl
 
   has-kept : hasKept (verified n type identifier .change) ≡ (isAccepted (receive n type identifier .verdict) && has identifier (activeOf n))
   unfolding verified verifiedIn receive
   has-kept = go (valid n)
     where
-      go :
-          (b : Bool) →
-          hasKept (cond b (reportedBy n (effectBy (sets .verdict) (has identifier (activeOf n)) (n .sets))) (reported (change.Refused refusal.Range) n) .change)
-          ≡ (isAccepted (cond b sets (withoutKey refusal.Range) .verdict) && has identifier (activeOf n))
-      go true = kept-by (sets .verdict) (has identifier (activeOf n))
+      go : (b : Bool) → hasKept (reportBy b .change) ≡ (isAccepted (receiveBy b .verdict) && active)
+      go true = kept-by (receivingKey (n .sets) type identifier .verdict) active
       go false = refl
 
-pub answers-say : AnswersSay
-answers-say = record {
+pub answers-say : ReadsInRange → AnswersSay
+answers-say R = record {
   invalid = invalid;
   made-number = made-number;
   start-number = start-number;
   poll-number = poll-number;
-  delivery-number = delivery-number;
+  delivery-number = λ delivery n time payload. delivery-number delivery n time R payload;
   holding-number = holding-number;
   send-number = send-number;
   receive-number = receive-number;

@@ -19,6 +19,7 @@ use Rattle.link_key_set.specs.declared.key_set.KeySet.{KeySet}
 use Rattle.node_key_sets.specs.Sets.{twoSets, placed, install}
 use Rattle.node_key_sets.specs.Sets as sets
 use Rattle.node_key_sets.specs.declared.sets.KeySets.{KeySets}
+use Rattle.link_key_set.specs.KeyLaws.{KeyLaws}
 use Rattle.node_key_sets.proofs.Valid.{install-valid, border-installs}
 use Rattle.node_attempt.specs.Attempt as attempt
 use Rattle.node_parameters.specs.Lease.{validAddress}
@@ -28,6 +29,7 @@ use Rattle.node_attempt.proofs.Attempts.{moved-valid, joined-valid}
 use Rattle.node_parameters.proofs.Leases.{later}
 use Rattle.cojp.specs.Reading.{ifTaken}
 use Rattle.cojp.specs.Address.{isAddress}
+use Rattle.cojp.specs.InRange.{InRange, ReadsInRange}
 use Rattle.cojp.specs.declared.address.ShortAddress.{ShortAddress}
 use Rattle.cojp.specs.declared.configuration.Configuration.{Configuration}
 use Rattle.cojp.specs.declared.configuration.ConfigurationRead.{ConfigurationRead}
@@ -49,7 +51,6 @@ use Rattle.node_parameters.specs.declared.octets.HeldOctets.{HeldOctets}
 use Rattle.node.specs.declared.node.Node.{Node}
 use Rattle.logic_facts.specs.Tests.{all-four, first, second, third, fourth, both}
 use Rattle.node_laws.proofs.Valid.{keys-valid, attempt-valid, address-valid, others-valid, valid-by}
-use Rattle.node_laws.proofs.Reading.{InRange, read-in-range}
 
 -- ---- refusals
 -- where it is refused, the node is as it was, and the report is empty
@@ -113,12 +114,14 @@ accepted-placed (verdict.Refused k) delivery n time c s e = refused-not k e
 accepted-placed verdict.Accepted delivery n time c s e = refl
 
 accepted-read :
-    (v : Verdict) (delivery : Delivery) (n : Node) (time : ℕ) (c : Configuration) → applyRead v delivery n time c .verdict ≡ verdict.Accepted → v ≡ verdict.Accepted
+    (v : Verdict) (delivery : Delivery) (n : Node) (time : ℕ) (c : Configuration) →
+    applyRead v delivery n time c .verdict ≡ verdict.Accepted → v ≡ verdict.Accepted
 accepted-read (verdict.Refused k) delivery n time c e = refused-not k e
 accepted-read verdict.Accepted delivery n time c e = refl
 
 accepted-by :
-    (v : Verdict) (delivery : Delivery) (n : Node) (time : ℕ) (r : ConfigurationRead) → deliverBy v delivery n time r .verdict ≡ verdict.Accepted → v ≡ verdict.Accepted
+    (v : Verdict) (delivery : Delivery) (n : Node) (time : ℕ) (r : ConfigurationRead) →
+    deliverBy v delivery n time r .verdict ≡ verdict.Accepted → v ≡ verdict.Accepted
 accepted-by (verdict.Refused k) delivery n time r e = refused-not k e
 accepted-by verdict.Accepted delivery n time r e = refl
 
@@ -161,14 +164,6 @@ pub accepted-reports :
     deliver delivery n time payload .reports ≡ reportsOf (isBorder n) (readFor n payload .configuration)
 accepted-reports delivery n time payload e = ap (λ (m : Delivered). m .reports) (accepted-passed delivery n time payload e .is)
 
--- ---- key sets
-placement-valid :
-    (n : Node) (r : Report) (set : KeySet) → sets.valid (isBorder n) (n .sets) ≡ true →
-    sets.valid (isBorder n) (ifTaken r (install (isBorder n) (n .sets) set) (placed (n .sets)) .sets) ≡ true
-placement-valid n Absent set v = v
-placement-valid n Discarded set v = v
-placement-valid n Taken set v = install-valid (isBorder n) (n .sets) set v
-
 -- ---- the other parameters
 address-after :
     (clock time : ℕ) (r : Report) (value : ShortAddress) (old : HeldAddress) → clock ≤ time → ifTaken r (isAddress (value .bytes)) true ≡ true →
@@ -199,43 +194,6 @@ attempt-after : (delivery : Delivery) (a : Attempt) (time : ℕ) → a .clock �
 attempt-after JoinAnswer a time h e = joined-valid a time h e
 attempt-after Update a time h e = moved-valid a time h e
 
--- ---- the node stays valid
-module _ (delivery : Delivery) (n : Node) (time : ℕ) (c : Configuration) (v : Valid n) (h : clockOf n ≤ time) (r : InRange c) where
-  abbrev after : Node
-  after = configured delivery n time c (placementOf n (c .keys) .sets) (reportsOf (isBorder n) c)
-
-  others-after : othersValid after ≡ true
-  unfolding configured reportsOf
-  others-after =
-      let o = others-valid n v in
-      let part1 = validRole (n .role) in
-      let part2 = validJrc (n .jrc) in
-      let part3 = validOctets (n .network) in
-      let part4 = validOctets (n .prefix) in
-      all-four (validRole (n .role)) (validJrc (after .jrc)) (validOctets (after .network)) (validOctets (after .prefix))
-      (first part1 part2 part3 part4 o)
-      (jrc-after (c .jrc .report) (c .jrc .value) (n .jrc) (r .jrc) (second part1 part2 part3 part4 o))
-      (octets-after (isBorder n) (c .network .report) (c .network .value) (n .network) (r .network) (third part1 part2 part3 part4 o))
-      (octets-after (isBorder n) (c .prefix .report) (c .prefix .value) (n .prefix) (r .prefix) (fourth part1 part2 part3 part4 o))
-
-  configured-valid : Valid after
-  configured-valid =
-      valid-by after
-      (unfold configured in placement-valid n (c .keys .report) (c .keys .value) (keys-valid n v))
-      (unfold configured in attempt-after delivery (n .attempt) time h (attempt-valid n v))
-      (unfold configured in address-after (clockOf n) time (c .address .report) (c .address .value) (n .address) h (r .address) (address-valid n v))
-      others-after
-
-pub deliver-valid : (delivery : Delivery) (n : Node) (time : ℕ) (payload : List ℕ) → Valid n → Valid (deliver delivery n time payload .node)
-deliver-valid delivery n time payload v = go (deliver delivery n time payload .verdict) refl
-  where
-    go : (w : Verdict) → deliver delivery n time payload .verdict ≡ w → Valid (deliver delivery n time payload .node)
-    go (verdict.Refused k) e = rw (deliver-leaves n delivery time payload k e .0) v
-    go verdict.Accepted e =
-        let p = accepted-passed delivery n time payload e in
-        rw (p .is)
-        (configured-valid delivery n time (readFor n payload .configuration) v (p .later) (read-in-range payload (p .read)))
-
 pub deliver-role : (delivery : Delivery) (n : Node) (time : ℕ) (payload : List ℕ) → deliver delivery n time payload .node .role ≡ n .role
 deliver-role delivery n time payload = go (deliver delivery n time payload .verdict) refl
   where
@@ -252,18 +210,64 @@ border-place n r set b e a =
     let border = eq-eqb (n .role) 1 b in
     rw (e, border) (border-installs (n .sets) set (rw (e, border) at a))
 
-pub border-takes :
-    (delivery : Delivery) (n : Node) (time : ℕ) (payload : List ℕ) (ks : List Key) → Valid n → n .role ≡ 1 → Takes delivery n time payload ks →
-    Installed ks n (deliver delivery n time payload .node)
-unfolding configured reportsOf
-border-takes delivery n time payload ks v b h =
-    let p = accepted-passed delivery n time payload (h .accepted) in
-    let c = readFor n payload .configuration in
-    let taken : c .keys .report ≡ Taken = sym (ap (λ (m : Delivered). m .reports .keys) (p .is)) ∙ h .taken in
-    let place = border-place n (c .keys .report) (c .keys .value) b taken (p .placed) in
-    record {
-      active = rw (p .is) (rw place (h .set));
-      pending = rw (p .is) (rw place);
-      role = deliver-role delivery n time payload;
-      valid = deliver-valid delivery n time payload v;
-    }
+-- ---- by the laws of keys and of what is read
+module _ (K : KeyLaws) (R : ReadsInRange) where
+  placement-valid :
+      (n : Node) (r : Report) (set : KeySet) → sets.valid (isBorder n) (n .sets) ≡ true →
+      sets.valid (isBorder n) (ifTaken r (install (isBorder n) (n .sets) set) (placed (n .sets)) .sets) ≡ true
+  placement-valid n Absent set v = v
+  placement-valid n Discarded set v = v
+  placement-valid n Taken set v = install-valid K (isBorder n) (n .sets) set v
+
+  -- ---- the node stays valid
+  module _ (delivery : Delivery) (n : Node) (time : ℕ) (c : Configuration) (v : Valid n) (h : clockOf n ≤ time) (r : InRange c) where
+    abbrev after : Node
+    after = configured delivery n time c (placementOf n (c .keys) .sets) (reportsOf (isBorder n) c)
+
+    others-after : othersValid after ≡ true
+    unfolding configured reportsOf
+    others-after =
+        let o = others-valid n v in
+        let part1 = validRole (n .role) in
+        let part2 = validJrc (n .jrc) in
+        let part3 = validOctets (n .network) in
+        let part4 = validOctets (n .prefix) in
+        all-four (validRole (n .role)) (validJrc (after .jrc)) (validOctets (after .network)) (validOctets (after .prefix))
+        (first part1 part2 part3 part4 o)
+        (jrc-after (c .jrc .report) (c .jrc .value) (n .jrc) (r .jrc) (second part1 part2 part3 part4 o))
+        (octets-after (isBorder n) (c .network .report) (c .network .value) (n .network) (r .network) (third part1 part2 part3 part4 o))
+        (octets-after (isBorder n) (c .prefix .report) (c .prefix .value) (n .prefix) (r .prefix) (fourth part1 part2 part3 part4 o))
+
+    configured-valid : Valid after
+    configured-valid =
+        valid-by after
+        (unfold configured in placement-valid n (c .keys .report) (c .keys .value) (keys-valid n v))
+        (unfold configured in attempt-after delivery (n .attempt) time h (attempt-valid n v))
+        (unfold configured in address-after (clockOf n) time (c .address .report) (c .address .value) (n .address) h (r .address) (address-valid n v))
+        others-after
+
+  pub deliver-valid : (delivery : Delivery) (n : Node) (time : ℕ) (payload : List ℕ) → Valid n → Valid (deliver delivery n time payload .node)
+  deliver-valid delivery n time payload v = go (deliver delivery n time payload .verdict) refl
+    where
+      go : (w : Verdict) → deliver delivery n time payload .verdict ≡ w → Valid (deliver delivery n time payload .node)
+      go (verdict.Refused k) e = rw (deliver-leaves n delivery time payload k e .0) v
+      go verdict.Accepted e =
+          let p = accepted-passed delivery n time payload e in
+          rw (p .is)
+          (configured-valid delivery n time (readFor n payload .configuration) v (p .later) (R payload (p .read)))
+
+  pub border-takes :
+      (delivery : Delivery) (n : Node) (time : ℕ) (payload : List ℕ) (ks : List Key) → Valid n → n .role ≡ 1 → Takes delivery n time payload ks →
+      Installed ks n (deliver delivery n time payload .node)
+  unfolding configured reportsOf
+  border-takes delivery n time payload ks v b h =
+      let p = accepted-passed delivery n time payload (h .accepted) in
+      let c = readFor n payload .configuration in
+      let taken : c .keys .report ≡ Taken = sym (ap (λ (m : Delivered). m .reports .keys) (p .is)) ∙ h .taken in
+      let place = border-place n (c .keys .report) (c .keys .value) b taken (p .placed) in
+      record {
+        active = rw (p .is) (rw place (h .set));
+        pending = rw (p .is) (rw place);
+        role = deliver-role delivery n time payload;
+        valid = deliver-valid delivery n time payload v;
+      }

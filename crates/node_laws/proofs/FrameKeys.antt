@@ -14,12 +14,14 @@ use Rattle.node_key_sets.specs.Frames.{withKey, withoutKey, sendingKey, receivi
 use Rattle.node_key_sets.specs.declared.frames.Change.the-variants as change
 use Rattle.node_key_sets.specs.declared.frames.KeyAnswer.{KeyAnswer}
 use Rattle.node_key_sets.specs.declared.sets.KeySets.{KeySets}
+use Rattle.link_key_set.specs.KeyLaws.{KeyLaws}
 use Rattle.node_key_sets.proofs.Valid.{switched-valid}
 use Rattle.node_key_sets.proofs.FrameKeys as sets
 use Rattle.node.specs.Node.{activeOf, pendingOf, isBorder, keyed}
 use Rattle.node.specs.Range.{valid, Valid}
 use Rattle.node.specs.Frames.{send, receive, reported, reportedBy, verified}
 use Rattle.node_laws.specs.Laws.{Without, KeysStay, Switched, Sends, Switching}
+use Rattle.node.specs.declared.frames.Reported.{Reported}
 use Rattle.node.specs.declared.node.Node.{Node}
 use Rattle.node_laws.proofs.Valid.{keys-valid, attempt-valid, address-valid, others-valid, valid-by}
 use Rattle.node_laws.proofs.KeysStay.{stay-self, stay-keyed}
@@ -29,98 +31,101 @@ answered-valid : (b : Bool) (x : KeyAnswer) → cond b x (withoutKey refusal.Ran
 answered-valid true x e = refl
 answered-valid false x e = absurd (let z : _≡_ {A = ℕ} 0 1 = cc in omega arith)
 
--- ---- sending
-module _ (n : Node) (type : ℕ) where
-  send-is : Valid n → send n type ≡ sendingKey (n .sets) type
-  unfolding send
-  send-is v = rw v
+-- ---- by the laws of keys
+module _ (K : KeyLaws) where
+  -- ---- sending
+  module _ (n : Node) (type : ℕ) where
+    send-is : Valid n → send n type ≡ sendingKey (n .sets) type
+    unfolding send
+    send-is v = rw v
 
-  pub send-from : send n type .verdict ≡ verdict.Accepted → Sends n type
-  unfolding send
-  send-from a =
-      let v : Valid n = answered-valid (valid n) (sendingKey (n .sets) type) a in
-      let s = sets.sent-from (n .sets) type (rw v at a) in
-      record { accepted = a; member = rw v (s .0); covering = rw v (s .1) }
+    pub send-from : send n type .verdict ≡ verdict.Accepted → Sends n type
+    unfolding send
+    send-from a =
+        let v : Valid n = answered-valid (valid n) (sendingKey (n .sets) type) a in
+        let s = sets.sent-from K (n .sets) type (rw v at a) in
+        record { accepted = a; member = rw v (s .0); covering = rw v (s .1) }
 
-  pub can-send : Valid n → Covers (activeOf n) type → Sends n type
-  can-send v c = send-from (rw (send-is v) (sets.can-send (n .sets) type c))
+    pub can-send : Valid n → Covers (activeOf n) type → Sends n type
+    can-send v c = send-from (rw (send-is v) (sets.can-send K (n .sets) type c))
 
--- ---- receiving
-module _ (n : Node) (type identifier : ℕ) where
-  receive-is : Valid n → receive n type identifier ≡ receivingKey (n .sets) type identifier
-  unfolding receive
-  receive-is v = rw v
+  -- ---- receiving
+  module _ (n : Node) (type identifier : ℕ) where
+    receive-is : Valid n → receive n type identifier ≡ receivingKey (n .sets) type identifier
+    unfolding receive
+    receive-is v = rw v
 
-  pub receive-from :
-      receive n type identifier .verdict ≡ verdict.Accepted →
-      (List·Memᴰ (receive n type identifier .key) (activeOf n) ⊎ List·Memᴰ (receive n type identifier .key) (pendingOf n))
-      × (receive n type identifier .key .identifier ≡ identifier)
-      × (covers (receive n type identifier .key) type ≡ true)
-  unfolding receive
-  receive-from a =
-      let v : Valid n = answered-valid (valid n) (receivingKey (n .sets) type identifier) a in
-      rw v (sets.receive-from (n .sets) type identifier (rw v at a))
+    pub receive-from :
+        receive n type identifier .verdict ≡ verdict.Accepted →
+        (List·Memᴰ (receive n type identifier .key) (activeOf n) ⊎ List·Memᴰ (receive n type identifier .key) (pendingOf n))
+        × (receive n type identifier .key .identifier ≡ identifier)
+        × (covers (receive n type identifier .key) type ≡ true)
+    unfolding receive
+    receive-from a =
+        let v : Valid n = answered-valid (valid n) (receivingKey (n .sets) type identifier) a in
+        rw v (sets.receive-from K (n .sets) type identifier (rw v at a))
 
-pub receive-pending :
-    (n : Node) (type : ℕ) (k : Key) → Valid n → covers k type ≡ true → Without (k .identifier) (activeOf n) →
-    List·Memᴰ k (pendingOf n) → receive n type (k .identifier) ≡ withKey k
-receive-pending n type k v c absent member =
-    receive-is n type (k .identifier) v ∙ sets.receive-pending (isBorder n) (n .sets) type k (keys-valid n v) c absent member
+  pub receive-pending :
+      (n : Node) (type : ℕ) (k : Key) → Valid n → covers k type ≡ true → Without (k .identifier) (activeOf n) →
+      List·Memᴰ k (pendingOf n) → receive n type (k .identifier) ≡ withKey k
+  receive-pending n type k v c absent member =
+      receive-is n type (k .identifier) v ∙ sets.receive-pending K (isBorder n) (n .sets) type k (keys-valid n v) c absent member
 
--- ---- the verified report
-switched-keyed : (n : Node) (s : KeySets) → s ≡ switched (n .sets) → Switched n (keyed n s)
-switched-keyed n s e =
-    rw e
-    (record {
-      active = refl;
-      pending = refl;
-      role = refl;
-      valid =
-          λ v. valid-by (keyed n (switched (n .sets))) (switched-valid (isBorder n) (n .sets) (keys-valid n v)) (attempt-valid n v) (address-valid n v)
-          (others-valid n v);
-    })
+  -- ---- the verified report
+  switched-keyed : (n : Node) (s : KeySets) → s ≡ switched (n .sets) → Switched n (keyed n s)
+  switched-keyed n s e =
+      rw e
+      (record {
+        active = refl;
+        pending = refl;
+        role = refl;
+        valid =
+            λ v. valid-by (keyed n (switched (n .sets))) (switched-valid K (isBorder n) (n .sets) (keys-valid n v)) (attempt-valid n v) (address-valid n v)
+            (others-valid n v);
+      })
 
-module _ (n : Node) (type identifier : ℕ) where
-  abbrev reportedSets : KeySets
-  reportedSets = verifiedIn (n .sets) type identifier .sets
+  module _ (n : Node) (type identifier : ℕ) where
+    abbrev reportedSets : KeySets
+    reportedSets = verifiedIn (n .sets) type identifier .sets
 
-  verified-is : Valid n → verified n type identifier ≡ reportedBy n (verifiedIn (n .sets) type identifier)
-  unfolding verified
-  verified-is v = rw v
+    verified-is : Valid n → verified n type identifier ≡ reportedBy n (verifiedIn (n .sets) type identifier)
+    unfolding verified
+    verified-is v = rw v
 
-  either-by : KeysStay n (keyed n reportedSets) ⊎ (Switching n type identifier × Switched n (keyed n reportedSets))
-  either-by =
-      ⊎-elim (λ e. inl (stay-keyed n reportedSets e))
-      (λ s. inr (record { key = s .0 .key; identified = s .0 .identified; member = s .0 .member; covering = s .0 .covering; absent = s .0 .absent }, switched-keyed n reportedSets (s .1)))
-      (sets.verified-either (n .sets) type identifier)
+    -- the sets' word for the key by which they switch is the node's
+    switching : sets.Switching (n .sets) type identifier → Switching n type identifier
+    switching s = record { key = s .key; identified = s .identified; member = s .member; covering = s .covering; absent = s .absent }
 
-  pub verified-either : KeysStay n (verified n type identifier .node) ⊎ (Switching n type identifier × Switched n (verified n type identifier .node))
-  unfolding verified
-  verified-either = go (valid n)
-    where
-      go :
-          (b : Bool) →
-          KeysStay n (cond b (reportedBy n (verifiedIn (n .sets) type identifier)) (reported (change.Refused refusal.Range) n) .node)
-          ⊎ (Switching n type identifier × Switched n (cond b (reportedBy n (verifiedIn (n .sets) type identifier)) (reported (change.Refused refusal.Range) n) .node))
-      go true = either-by
-      go false = inl (stay-self n)
+    either-by : KeysStay n (keyed n reportedSets) ⊎ (Switching n type identifier × Switched n (keyed n reportedSets))
+    either-by =
+        ⊎-elim (λ e. inl (stay-keyed n reportedSets e)) (λ s. inr (switching (s .0), switched-keyed n reportedSets (s .1)))
+        (sets.verified-either K (n .sets) type identifier)
 
-  pub verified-stays : Without identifier (pendingOf n) → KeysStay n (verified n type identifier .node)
-  verified-stays without = ⊎-elim (λ k. k) (λ s. absurd (without (s .0 .key) (s .0 .member) (s .0 .identified))) verified-either
+    abbrev reportBy : Bool → Reported
+    reportBy b = cond b (reportedBy n (verifiedIn (n .sets) type identifier)) (reported (change.Refused refusal.Range) n)
 
-  pub verified-switches : Valid n → Switching n type identifier → Switched n (verified n type identifier .node)
-  verified-switches v s =
-      rw (verified-is v)
-      (switched-keyed n reportedSets
-      (sets.verified-switches (isBorder n) (n .sets) type identifier (keys-valid n v)
-      (record { key = s .key; identified = s .identified; member = s .member; covering = s .covering; absent = s .absent })))
+    pub verified-either : KeysStay n (verified n type identifier .node) ⊎ (Switching n type identifier × Switched n (verified n type identifier .node))
+    unfolding verified
+    verified-either = go (valid n)
+      where
+        go : (b : Bool) → KeysStay n (reportBy b .node) ⊎ (Switching n type identifier × Switched n (reportBy b .node))
+        go true = either-by
+        go false = inl (stay-self n)
 
-  pub verified-says : verified n type identifier .change ≡ change.Switched → Switched n (verified n type identifier .node)
-  unfolding verified
-  verified-says = go (valid n)
-    where
-      go :
-          (b : Bool) → cond b (reportedBy n (verifiedIn (n .sets) type identifier)) (reported (change.Refused refusal.Range) n) .change ≡ change.Switched →
-          Switched n (cond b (reportedBy n (verifiedIn (n .sets) type identifier)) (reported (change.Refused refusal.Range) n) .node)
-      go true e = switched-keyed n reportedSets (sets.verified-says (n .sets) type identifier e)
-      go false e = absurd (let z : _≡_ {A = ℕ} 0 1 = cc in omega arith)
+    pub verified-stays : Without identifier (pendingOf n) → KeysStay n (verified n type identifier .node)
+    verified-stays without = ⊎-elim (λ k. k) (λ s. absurd (without (s .0 .key) (s .0 .member) (s .0 .identified))) verified-either
+
+    pub verified-switches : Valid n → Switching n type identifier → Switched n (verified n type identifier .node)
+    verified-switches v s =
+        rw (verified-is v)
+        (switched-keyed n reportedSets
+        (sets.verified-switches K (isBorder n) (n .sets) type identifier (keys-valid n v)
+        (record { key = s .key; identified = s .identified; member = s .member; covering = s .covering; absent = s .absent })))
+
+    pub verified-says : verified n type identifier .change ≡ change.Switched → Switched n (verified n type identifier .node)
+    unfolding verified
+    verified-says = go (valid n)
+      where
+        go : (b : Bool) → reportBy b .change ≡ change.Switched → Switched n (reportBy b .node)
+        go true e = switched-keyed n reportedSets (sets.verified-says (n .sets) type identifier e)
+        go false e = absurd (let z : _≡_ {A = ℕ} 0 1 = cc in omega arith)

@@ -1,7 +1,6 @@
 mod Valid
 mod KeysStay
 mod Timings
-mod Reading
 mod Deliveries
 mod Alike
 mod FrameKeys

@@ -8,8 +8,8 @@ use Rattle.refusal.specs.declared.Refusal.{Refusal}
 use Rattle.refusal.specs.declared.Verdict.the-variants.{Refused}
 use Rattle.link_key_set.specs.KeySet.{Apart}
 use Rattle.node_key_sets.specs.Frames.{changeVerdict}
-use Rattle.link_key.proofs.Keys.{same-key-self}
-use Rattle.link_key_set.proofs.KeySets.{shares-apart}
+use Rattle.link_key_set.specs.KeyLaws.{KeyLaws}
+use Rattle.cojp.specs.InRange.{ReadsInRange}
 use Rattle.node_key_sets.proofs.Valid.{sets-apart, border-empty}
 use Rattle.node.specs.Node.{activeOf, pendingOf, isBorder}
 use Rattle.node.specs.Range.{Valid}
@@ -23,33 +23,6 @@ use Rattle.node_laws.proofs.Timings.{start-stays, poll-stays}
 use Rattle.node_laws.proofs.Deliveries.{deliver-leaves, deliver-valid, deliver-role, border-takes}
 use Rattle.node_laws.proofs.FrameKeys.{can-send, send-from, receive-pending, receive-from, verified-either, verified-switches, verified-stays, verified-says}
 use Rattle.node_laws.proofs.Untouched.{node-demand1}
-
-valid-apart : (n : Node) → Valid n → Apart (activeOf n) (pendingOf n)
-valid-apart n v = shares-apart (activeOf n) (pendingOf n) (sets-apart (isBorder n) (n .sets) (keys-valid n v))
-
-border-none : (n : Node) → Valid n → n .role ≡ 1 → pendingOf n ≡ []
-border-none n v b = border-empty (isBorder n) (n .sets) (keys-valid n v) (eq-eqb (n .role) 1 b)
-
-stays-valid : (c : NodeCall) (n : Node) → Valid n → Valid (perform c n .node)
-unfolding perform afterSend
-stays-valid (starting time timeout d) n v = start-stays n time timeout d .valid v
-stays-valid (polling time) n v = poll-stays n time .valid v
-stays-valid (delivering delivery time payload) n v = deliver-valid delivery n time payload v
-stays-valid (asking time) n v = v
-stays-valid (sending type) n v = v
-stays-valid (receiving type identifier) n v = v
-stays-valid (reporting type identifier) n v =
-    ⊎-elim (λ k. k .valid v) (λ s. s .1 .valid v) (verified-either n type identifier)
-
-role-stays : (c : NodeCall) (n : Node) → perform c n .node .role ≡ n .role
-unfolding perform afterSend
-role-stays (starting time timeout d) n = start-stays n time timeout d .role
-role-stays (polling time) n = poll-stays n time .role
-role-stays (delivering delivery time payload) n = deliver-role delivery n time payload
-role-stays (asking time) n = refl
-role-stays (sending type) n = refl
-role-stays (receiving type identifier) n = refl
-role-stays (reporting type identifier) n = ⊎-elim (λ k. k .role) (λ s. s .1 .role) (verified-either n type identifier)
 
 send-stays : (n : Node) (type : ℕ) → KeysStay n (afterSend n type)
 unfolding afterSend
@@ -65,29 +38,58 @@ report-refused :
 unfolding perform
 report-refused n type identifier k e = node-demand1 .calls (reporting type identifier) n k e .node
 
-pub node-laws : NodeLaws
-node-laws =
-    record {
-      valid-apart = valid-apart;
-      border-none = border-none;
-      stays-valid = stays-valid;
-      role-stays = role-stays;
-      refused-stays = λ c n k e. node-demand1 .calls c n k e .node;
-      covers-can = λ n type c. c;
-      can-send = can-send;
-      send-from = send-from;
-      send-stays = send-stays;
-      send-refused = send-refused;
-      receive-pending = receive-pending;
-      receive-from = receive-from;
-      verified-either = verified-either;
-      verified-switches = verified-switches;
-      verified-stays = verified-stays;
-      report-refused = report-refused;
-      verified-says = verified-says;
-      same-key-self = same-key-self;
-      start-stays = start-stays;
-      poll-stays = poll-stays;
-      deliver-refused = λ delivery n time payload k e. deliver-leaves n delivery time payload k e .0;
-      border-takes = border-takes;
-    }
+-- ---- by the laws of keys and of what is read
+module _ (K : KeyLaws) (R : ReadsInRange) where
+  valid-apart : (n : Node) → Valid n → Apart (activeOf n) (pendingOf n)
+  valid-apart n v = K .shares-apart (activeOf n) (pendingOf n) (sets-apart (isBorder n) (n .sets) (keys-valid n v))
+
+  border-none : (n : Node) → Valid n → n .role ≡ 1 → pendingOf n ≡ []
+  border-none n v b = border-empty K (isBorder n) (n .sets) (keys-valid n v) (eq-eqb (n .role) 1 b)
+
+  role-stays : (c : NodeCall) (n : Node) → perform c n .node .role ≡ n .role
+  unfolding perform afterSend
+  role-stays (starting time timeout d) n = start-stays n time timeout d .role
+  role-stays (polling time) n = poll-stays n time .role
+  role-stays (delivering delivery time payload) n = deliver-role delivery n time payload
+  role-stays (asking time) n = refl
+  role-stays (sending type) n = refl
+  role-stays (receiving type identifier) n = refl
+  role-stays (reporting type identifier) n = ⊎-elim (λ k. k .role) (λ s. s .1 .role) (verified-either K n type identifier)
+
+  stays-valid : (c : NodeCall) (n : Node) → Valid n → Valid (perform c n .node)
+  unfolding perform afterSend
+  stays-valid (starting time timeout d) n v = start-stays n time timeout d .valid v
+  stays-valid (polling time) n v = poll-stays n time .valid v
+  stays-valid (delivering delivery time payload) n v = deliver-valid K R delivery n time payload v
+  stays-valid (asking time) n v = v
+  stays-valid (sending type) n v = v
+  stays-valid (receiving type identifier) n v = v
+  stays-valid (reporting type identifier) n v =
+      ⊎-elim (λ k. k .valid v) (λ s. s .1 .valid v) (verified-either K n type identifier)
+
+  pub node-laws : NodeLaws
+  node-laws =
+      record {
+        valid-apart = valid-apart;
+        border-none = border-none;
+        stays-valid = stays-valid;
+        role-stays = role-stays;
+        refused-stays = λ c n k e. node-demand1 .calls c n k e .node;
+        covers-can = λ n type c. c;
+        can-send = can-send K;
+        send-from = send-from K;
+        send-stays = send-stays;
+        send-refused = send-refused;
+        receive-pending = receive-pending K;
+        receive-from = receive-from K;
+        verified-either = verified-either K;
+        verified-switches = verified-switches K;
+        verified-stays = verified-stays K;
+        report-refused = report-refused;
+        verified-says = verified-says K;
+        same-key-self = K .same-key-self;
+        start-stays = start-stays;
+        poll-stays = poll-stays;
+        deliver-refused = λ delivery n time payload k e. deliver-leaves n delivery time payload k e .0;
+        border-takes = border-takes K R;
+      }

@@ -51,7 +51,9 @@ module _ (n m : Node) (d : List ℕ) (k : Refusal) where
   start-untouched (emit p) e = room (leb (length p) (length d)) (length p) (p ++ drop (length p) d) e
 
 -- ---- polling
-node-polled : (n : Node) (time : ℕ) (k : Refusal) → attempt.dueVerdict (poll n time .due) ≡ verdict.Refused k → (poll n time .node ≡ n) × (dueObject (poll n time .due) ≡ nothing)
+node-polled :
+    (n : Node) (time : ℕ) (k : Refusal) → attempt.dueVerdict (poll n time .due) ≡ verdict.Refused k →
+    (poll n time .node ≡ n) × (dueObject (poll n time .due) ≡ nothing)
 unfolding poll
 node-polled n time k = go (valid n)
   where

@@ -12,7 +12,10 @@ pub fn demand1()
 // What the layer above may rely on.
 pub fn laws()
     ensures { λ r. ⌜ NodeLaws ⌝ }
-{}
+{
+    link_key_set::laws();
+    cojp::reads_in_range();
+}
 
 // Polled exactly when due, a join attempt with first timeout t gives up 31t after its start.
 pub fn gives_up()
@@ -27,4 +30,6 @@ pub fn applies_alike()
 // The answers of the calls in document 01's numbers and values.
 pub fn answers_say()
     ensures { λ r. ⌜ AnswersSay ⌝ }
-{}
+{
+    cojp::reads_in_range();
+}

@@ -1,1 +1,2 @@
 pub mod Leases
+pub mod Taken

@@ -1,4 +1,4 @@
--- `absent_octets` meets its contract.
+-- `absent_octets` meets its contract: its value is the one that stands for none.
 use borrow.Author.Needs.{needs}
 use Rattle.node_parameters.proofs.octets.absent_octets.Statement.{statement}
 use Rattle.node_parameters.proofs.octets.absent_octets.Tie as tie

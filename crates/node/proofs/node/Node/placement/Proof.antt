@@ -3,7 +3,7 @@ use mathlib.Core.Path.{sym, _∙_}
 use borrow.Author.Needs.{needs}
 use Rattle.node_key_sets.specs.Sets.{install, placed}
 use Rattle.node.specs.Node.{isBorder}
-use Rattle.cojp_range.proofs.Taken.{taken-is, taken-not}
+use Rattle.node_parameters.proofs.Taken.{taken-is, taken-not}
 use Rattle.node.proofs.node.Node.placement.Statement.{statement}
 use Rattle.node.proofs.node.Node.placement.Tie as tie
 

@@ -28,21 +28,22 @@ started-requires c κs = search needs
 returns : tie.Need-returns
 returns c =
     let at-why = c .before .before in
-    let at-may-start = at-why .before .before in
-    let entry = at-may-start .before .before in
-    rw (c .unstarted .ensures) (start-refused (entry .args .self) (entry .args .time) (entry .args .timeout) _ _ (at-may-start .may-start .ensures) (at-why .why .given .1))
+    let asked = at-why .before .before in
+    let x = asked .before .before .args in
+    rw (c .unstarted .ensures) (start-refused (x .self) (x .time) (x .timeout) _ _ (asked .may-start .ensures) (at-why .why .given .1))
 
 same-length : tie.Need-same-length
 same-length c = search needs
 
 returns-2 : tie.Need-returns-2
 returns-2 c =
-    let at-write-request = c .before .before .before in
-    let at-request = at-write-request .before in
-    let at-enum-told = at-request .before .before in
-    let at-may-start = at-enum-told .before .before in
-    let entry = at-may-start .before .before in
-    rw (c .started .ensures) (start-written (entry .args .self) (entry .args .time) (entry .args .timeout) _ _ (at-may-start .may-start .ensures) (at-enum-told .enum-told .given .1) _ _ _ (at-request .request .ensures) (at-write-request .write-request .ensures))
+    let writing = c .before .before .before in
+    let told = writing .before .before .before in
+    let asked = told .before .before in
+    let x = asked .before .before .args in
+    rw (c .started .ensures)
+    (start-written (x .self) (x .time) (x .timeout) _ _ (asked .may-start .ensures) (told .enum-told .given .1) _ _ _
+    (writing .before .request .ensures) (writing .write-request .ensures))
 
 pub start-spec : {M : Type 1} → statement M
 start-spec =
