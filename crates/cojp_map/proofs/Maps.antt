@@ -5,16 +5,17 @@ use mathlib.Core.Bool.{Bool, true, false}
 use mathlib.Core.List.{List}
 use native.Mathlib.Omega.{arith}
 use lib.ListN.{length, drop}
+use lib.Seq.{drop-length}
 use borrow.Author.Tests.{lt-ltb, le-ltb}
 use lib.Dec.{ltb}
 use Rattle.refusal.specs.declared.Refusal.{Refusal}
 use Rattle.refusal.specs.declared.Refusal.the-variants as refusal
 use Rattle.refusal.specs.declared.Verdict.{Verdict}
 use Rattle.refusal.specs.declared.Verdict.the-variants as verdict
-use Rattle.cbor.specs.Answer.{skipAnswer, openAnswer}
-use Rattle.cbor.specs.Decode.{Outcome, got, heading, pairs, decode, payload}
+use Rattle.cbor.specs.Answer.{headAnswer, skipAnswer, openAnswer}
+use Rattle.cbor.specs.Decode.{majorOf, decodeBy, Outcome, got, heading, pairs, decode, payload}
 use Rattle.cbor.specs.Decode as item
-use Rattle.cbor.specs.Item.{Pairs}
+use Rattle.cbor.specs.Item.{Item, Pairs, empty, pair}
 use Rattle.cbor.specs.View.{View, labelOf, viewOf, labelAt}
 use Rattle.cbor.specs.declared.item.Opened.{Opened}
 use Rattle.cbor.specs.declared.item.Opened.the-variants as ov
@@ -22,16 +23,19 @@ use Rattle.cbor.specs.declared.item.Skip.{Skip}
 use Rattle.cbor.specs.declared.item.Skip.the-variants as sv
 use Rattle.cbor.specs.declared.value.Label.{Label}
 use Rattle.cbor.specs.declared.value.Label.the-variants as label
-use Rattle.cbor.proofs.Answers.{skip-refused, skip-next}
+use Rattle.cbor.specs.declared.head.Head.{Head}
+use Rattle.cbor.specs.declared.head.HeadRead.{HeadRead}
+use Rattle.cbor.specs.declared.head.HeadRead.the-variants as hv
+use Rattle.cbor.proofs.Answers.{head-refused, head-got, skip-refused, skip-next}
 use Rattle.cbor.proofs.Outcomes.{then-got, same-value}
 use Rattle.cbor.proofs.Payloads.{opened-refused, opened-map, opened-other}
 use Rattle.cbor.proofs.Views.{tree-label, tree-view}
-use Rattle.cojp.specs.Bytes.{valueView}
-use Rattle.cojp.specs.Reading.{Reading, refused, read, onward, put, said}
+use Rattle.cojp.specs.Bytes.{valueView, restOf, afterValue}
+use Rattle.cojp.specs.Reading.{Reading, refused, read, onward, put, said, Accepting}
 use Rattle.cojp.specs.Walk.{Form, pairRead, pairsRead, scannedRead, payloadRead}
 use Rattle.cojp.specs.declared.walk.Standing.{Standing}
 use Rattle.cojp.specs.declared.walk.Standing.the-variants.{Unknown, Fresh, Again}
-use Rattle.cojp_map.specs.Pairs.{startOf, startAnswer, numbered, pairAt, refusedPair, pairAnswer, Told, walkOn, walkAt, pairTaken, leftAfter}
+use Rattle.cojp_map.specs.Pairs.{startOf, startAnswer, numbered, pairAt, refusedPair, pairAnswer, Told, walkOn, walkAt, pairTaken, leftAfter, Readable}
 use Rattle.cojp_map.specs.declared.open.Start.{Start}
 use Rattle.cojp_map.specs.declared.open.Start.the-variants as start
 use Rattle.cojp_map.specs.declared.pair.Pair.{Pair}
@@ -61,6 +65,28 @@ module _ (s : List ℕ) (at : ℕ) (k : Skip) (e : k ≡ skipAnswer (length s) (
 
     pub pair-found : (q : ℕ) → v ≡ sv.Next q → (l : Label) → l ≡ labelAt (drop at s) → (r : Pair) → r ≡ pairAnswer l p q → Told s r (pairAt (drop at s))
     pair-found q o l w r h = rw (skip-next s at 7 k e p g .1, skip-next s p 7 v f q o .1, ← w, h) (told-numbered s l p q)
+
+-- ---- the returns of `item_end`
+module _ (s : List ℕ) (at : ℕ) (k : Skip) (e : k ≡ skipAnswer (length s) (decode 7 (drop at s))) where
+  pub end-refused : (j : Refusal) → k ≡ sv.Refused j → drop (length s) s ≡ afterValue (drop at s)
+  end-refused j g = rw (skip-refused s at 7 k e j g) (drop-length s)
+
+  pub end-next : (p : ℕ) → k ≡ sv.Next p → drop p s ≡ afterValue (drop at s)
+  end-next p g = rw (skip-next s at 7 k e p g .1)
+
+-- ---- the returns of `labelled_at`
+module _ (s : List ℕ) (at : ℕ) (r : HeadRead) (e : r ≡ headAnswer (length s) (heading (drop at s))) where
+  pub label-none : (k : Refusal) → r ≡ hv.Refused k → drop (length s) s ≡ afterValue (drop at s)
+  unfolding decodeBy
+  label-none k g = rw (head-refused s at r e k g) (drop-length s)
+
+  pub unsigned-end : (h : Head) → r ≡ hv.Got h → h .major ≡ 0 → drop (h .next) s ≡ afterValue (drop at s)
+  unfolding decodeBy majorOf
+  unsigned-end h g f = rw (head-got s at r e h g, f)
+
+  pub negative-end : (h : Head) → r ≡ hv.Got h → h .major ≡ 1 → drop (h .next) s ≡ afterValue (drop at s)
+  unfolding decodeBy majorOf
+  negative-end h g f = rw (head-got s at r e h g, f)
 
 -- ---- the returns of `left_after`
 pub none-left : (v : Verdict) (n : ℕ) → n ≡ 0 → 0 ≡ leftAfter v n
@@ -142,7 +168,7 @@ module _ {S : Type 0} (F : Form S) where
     on-label c label.Negative v u f = rw (unknown c)
     on-label c (label.Number n) v u f = refl
 
-    walk-tree : (n : ℕ) (c : S) (l : List ℕ) (ps : Pairs) (u : List ℕ) → pairs (decode 7) n l ≡ got ps u → walkAt F n c l ≡ pairsRead F c ps
+    pub walk-tree : (n : ℕ) (c : S) (l : List ℕ) (ps : Pairs) (u : List ℕ) → pairs (decode 7) n l ≡ got ps u → walkAt F n c l ≡ pairsRead F c ps
     unfolding pairs walkAt
     walk-tree zero c l ps u e = ap (pairsRead F c) (same-value e)
     walk-tree (suc n) c l ps u e =
@@ -178,6 +204,23 @@ module _ {S : Type 0} (F : Form S) where
       pub read-refused : (k : Refusal) → r ≡ start.Refused k → payloadRead F c s ≡ refused k
       read-refused k g = start-read c s ∙ rw (← e, g)
 
+      opened-readable : (o : Opened) → o ≡ openAnswer (length s) (payload s) (heading s) → (n p : ℕ) → startOf o ≡ start.Pairs n p → Readable n (drop p s)
+      opened-readable (ov.Refused k) f n p g = absurd (let z : _≡_ {A = ℕ} 0 1 = cc in omega arith)
+      opened-readable ov.NoMap f n p g = absurd (let z : _≡_ {A = ℕ} 0 1 = cc in omega arith)
+      opened-readable (ov.Map m q) f n p g =
+          let w = opened-map s (ov.Map m q) f m q refl in
+          let a : m ≡ n = cc in
+          let b : q ≡ p = cc in
+          rw (← a, ← b) (record { tree = w .pairs-are; left = w .left; each = w .each })
+
+      pub pairs-readable : (n p : ℕ) → r ≡ start.Pairs n p → Readable n (drop p s)
+      unfolding startAnswer
+      pairs-readable n p g = go (ltb 256 (length s)) refl (sym g ∙ e)
+        where
+          go : (b : Bool) → ltb 256 (length s) ≡ b → start.Pairs n p ≡ startAnswer s → Readable n (drop p s)
+          go true h f = absurd (let f′ : start.Pairs n p ≡ start.Refused refusal.Long = rw h at f in let z : _≡_ {A = ℕ} 0 1 = cc in omega arith)
+          go false h f = opened-readable (openAnswer (length s) (payload s) (heading s)) refl n p (sym (rw h at f))
+
       pub read-pairs : (n p : ℕ) → r ≡ start.Pairs n p → payloadRead F c s ≡ walkAt F n c (drop p s)
       read-pairs n p g = start-read c s ∙ rw (← e, g)
 
@@ -208,3 +251,96 @@ module _ {S : Type 0} (F : Form S) (total : Reading S) (count : ℕ) where
     going = left-going w n;
     rest = walk-next F n h c s at q e w d f ∙ going-on i h;
   }
+
+-- ---- the same walk over pairs that can be read, whose tree is ahead
+pub record Underway {S : Type 0} (F : Form S) (total : Reading S) (count passed left : ℕ) (v : Verdict) (c : S) (l : List ℕ) : Type 0 where
+  pub few : passed + left ≤ count
+  pub going : 0 < left → v ≡ verdict.Accepted
+  pub ahead : Readable left l
+  pub rest : onward (said v c) (λ d. pairsRead F d (ahead .tree)) ≡ total
+
+-- the first of the pairs ahead, and those after it
+record Ahead (n : ℕ) (l : List ℕ) (ps : Pairs) : Type 0 where
+  pub key : Item
+  pub from : List ℕ
+  pub value : Item
+  pub to : List ℕ
+  pub others : Pairs
+  pub end : List ℕ
+  pub key-is : decode 7 l ≡ got key from
+  pub value-is : decode 7 from ≡ got value to
+  pub others-are : pairs (decode 7) (n - 1) to ≡ got others end
+  pub whole : pair key value others ≡ ps
+
+first-ahead : (n : ℕ) → 0 < n → (l : List ℕ) (w : Readable n l) → Ahead n l (w .tree)
+unfolding pairs
+first-ahead n h l w =
+    let z : n ≡ suc (n - 1) = omega arith in
+    let e : pairs (decode 7) (suc (n - 1)) l ≡ got (w .tree) (w .left) = ap (λ (m : ℕ). pairs (decode 7) m l) (sym z) ∙ w .each in
+    let (k, t, a, b) = then-got (decode 7 l) _ (w .tree) (w .left) e in
+    let (v, u, x, y) = then-got (decode 7 t) _ (w .tree) (w .left) b in
+    let (qs, o, i, j) = then-got (pairs (decode 7) (n - 1) u) _ (w .tree) (w .left) y in
+    record { key = k; from = t; value = v; to = u; others = qs; end = o; key-is = a; value-is = x; others-are = i; whole = same-value j }
+
+none-ahead : (n : ℕ) → n ≡ 0 → (l : List ℕ) (w : Readable n l) → empty ≡ w .tree
+unfolding pairs
+none-ahead n h l w = same-value (ap (λ (m : ℕ). pairs (decode 7) m l) (sym h) ∙ w .each)
+
+nothing-ahead : (l : List ℕ) → Readable 0 l
+unfolding pairs
+nothing-ahead l = record { tree = empty; left = l; each = refl }
+
+module _ {S : Type 0} (F : Form S) where
+  pub underway-start : ((c : S) → F .standing c 0 ≡ Unknown) → (n : ℕ) (c : S) (l : List ℕ) → Readable n l → Underway F (walkAt F n c l) n 0 n verdict.Accepted c l
+  underway-start unknown n c l w =
+      record { few = omega arith; going = λ h. refl; ahead = w; rest = sym (walk-tree F unknown n c l (w .tree) (w .left) (w .each)) }
+
+  module _ (total : Reading S) (count : ℕ) where
+    pub underway-done : {p n : ℕ} {v : Verdict} {c : S} {l : List ℕ} → Underway F total count p n v c l → n ≤ 0 → said v c ≡ total
+    underway-done {n = n} {v = v} {c = c} {l = l} i h =
+        go (said v c) ∙ ap (λ (ps : Pairs). onward (said v c) (λ d. pairsRead F d ps)) (none-ahead n (omega arith) l (i .ahead)) ∙ i .rest
+      where
+        go : (x : Reading S) → x ≡ onward x (λ d. read d)
+        go (refused k) = refl
+        go (read d) = refl
+
+    pub underway-next : {p n : ℕ} {v : Verdict} {c : S} (s : List ℕ) (at : ℕ) → Underway F total count p n v c (drop at s) → 0 < n
+        → (value : ℕ) → drop value s ≡ afterValue (drop at s) → (l : Label) → l ≡ labelAt (drop at s)
+        → (w : Verdict) (d : S) (m next : ℕ) → said w d ≡ pairRead F c l (valueView (drop value s)) → m ≤ p + 1
+        → Accepting w (drop next s ≡ afterValue (drop value s))
+        → Underway F total count m (leftAfter w n) w d (drop next s)
+    underway-next {p = p} {n = n} {v = v} {c = c} s at i h value at-value l label-is w d m next f few o = go w f o
+      where
+        a : Ahead n (drop at s) (i .ahead .tree)
+        a = first-ahead n h (drop at s) (i .ahead)
+
+        here : drop value s ≡ a .from
+        here = at-value ∙ ap restOf (a .key-is)
+
+        after : afterValue (drop value s) ≡ a .to
+        after = rw (here, a .value-is)
+
+        one : pairRead F c l (valueView (drop value s)) ≡ pairRead F c (labelOf (a .key)) (viewOf (a .value))
+        one = rw (label-is, tree-label 6 (drop at s) (a .key) (a .from) (a .key-is), here, tree-view 5 (a .from) (a .value) (a .to) (a .value-is))
+
+        on : onward (pairRead F c l (valueView (drop value s))) (λ t. pairsRead F t (a .others)) ≡ total
+        on =
+            ap (λ (x : Reading S). onward x (λ t. pairsRead F t (a .others))) one
+            ∙ ap (pairsRead F c) (a .whole)
+            ∙ ap (λ (v : Verdict). onward (said v c) (λ d. pairsRead F d (i .ahead .tree))) (sym (i .going h))
+            ∙ i .rest
+
+        go : (w : Verdict) → said w d ≡ pairRead F c l (valueView (drop value s)) → Accepting w (drop next s ≡ afterValue (drop value s))
+            → Underway F total count m (leftAfter w n) w d (drop next s)
+        go verdict.Accepted f o = record {
+          few = omega (arith, i .few, few, h);
+          going = λ g. refl;
+          ahead = record { tree = a .others; left = a .end; each = rw (o ∙ after) (a .others-are) };
+          rest = ap (λ (x : Reading S). onward x (λ t. pairsRead F t (a .others))) f ∙ on;
+        }
+        go (verdict.Refused k) f o = record {
+          few = omega (arith, i .few, few, h);
+          going = λ g. absurd (omega arith);
+          ahead = nothing-ahead (drop next s);
+          rest = ap (λ (x : Reading S). onward x (λ t. pairsRead F t (a .others))) f ∙ on;
+        }

@@ -13,6 +13,7 @@ use Rattle.refusal.specs.declared.Verdict.the-variants as verdict
 use Rattle.cbor.specs.Answer.{openAnswer}
 use Rattle.cbor.specs.Decode.{Outcome, andThen, heading, payload}
 use Rattle.cbor.specs.Decode as decode
+use Rattle.cbor.specs.Item.{Pairs}
 use Rattle.cbor.specs.View.{View, labelAt}
 use Rattle.cbor.specs.declared.item.Opened.{Opened}
 use Rattle.cbor.specs.declared.item.Opened.the-variants as ov
@@ -58,6 +59,12 @@ abbrev pub Told : List ℕ → Pair → Outcome (ℕ × View) → Type 0
 Told s r (decode.refused k) = r ≡ refusedPair k
 Told s r (decode.got p u) =
     (r .verdict ≡ verdict.Accepted) × (r .label ≡ p .0) × (valueView (drop (r .value) s) ≡ p .1) × (drop (r .next) s ≡ u)
+
+-- the next n pairs can be read
+pub record Readable (n : ℕ) (l : List ℕ) : Type 0 where
+  pub tree : Pairs
+  pub left : List ℕ
+  pub each : decode.pairs (decode.decode 7) n l ≡ decode.got tree left
 
 -- ---- the walk
 abbrev pub walkOn : {S : Type 0} → Form S → S → (S → List ℕ → Reading S) → Outcome (ℕ × View) → Reading S

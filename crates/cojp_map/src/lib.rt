@@ -4,7 +4,10 @@ pub mod pair;
 
 pub use open::Start;
 pub use open::open_payload;
+pub use pair::Labelled;
 pub use pair::Pair;
+pub use pair::item_end;
+pub use pair::labelled_at;
 pub use pair::left_after;
 pub use pair::pair_at;
 pub use pair::standing_of;

@@ -1,7 +1,9 @@
 // The pairs of a map, one by one.
+use cbor::HeadRead;
 use cbor::Label;
 use cbor::Skip;
 use cbor::label_at;
+use cbor::read_head;
 use cbor_scan::skip_item;
 use cojp::Report;
 use cojp::Standing;
@@ -9,6 +11,8 @@ use refusal::Refusal;
 use refusal::Verdict;
 ghost use mathlib.Core.Path.{_≡_};
 ghost use lib.ListN.{drop};
+ghost use Rattle.cbor.specs.View.{labelAt};
+ghost use Rattle.cojp.specs.Bytes.{afterValue};
 ghost use Rattle.cojp.specs.Walk.{standingOf};
 ghost use Rattle.cojp_map.specs.Pairs.{Told, pairAt, refusedPair, pairAnswer, leftAfter};
 
@@ -78,6 +82,56 @@ fn labelled_pair(label: Label, value: usize, next: usize) -> Pair
         Label::NoInteger => refused_pair(Refusal::Type),
         Label::Negative => found_pair(0, value, next),
         Label::Number(n) => found_pair(n, value, next),
+    }
+}
+
+// Where the bytes go on after the label or the value at a place: the end where no item can be read there.
+pub fn item_end(s: &[u8], at: usize) -> usize
+    ensures { λ r. ⌜ drop r (now (s .entry)) ≡ afterValue (drop at (now (s .entry))) ⌝ }
+{
+    let passed = skip_item(s, at, MEMBER_LEVELS);
+    match passed {
+        Skip::Refused(_) => s.len(),
+        Skip::Next(next) => next,
+    }
+}
+
+// The label at a place, and where its value begins.
+pub struct Labelled {
+    pub label: Label,
+    pub value: usize,
+}
+
+pub fn labelled_at(s: &[u8], at: usize) -> Labelled
+    ensures label { λ r. ⌜ r .label ≡ labelAt (drop at (now (s .entry))) ⌝ }
+    ensures value { λ r. ⌜ drop (r .value) (now (s .entry)) ≡ afterValue (drop at (now (s .entry))) ⌝ }
+{
+    let h = read_head(s, at);
+    match h {
+        HeadRead::Refused(_) => Labelled {
+            label: Label::NoInteger,
+            value: s.len(),
+        },
+        HeadRead::Got(head) => {
+            let major = head.major;
+            match major {
+                0 => Labelled {
+                    label: Label::Number(head.argument),
+                    value: head.next,
+                },
+                1 => Labelled {
+                    label: Label::Negative,
+                    value: head.next,
+                },
+                _ => {
+                    let value = item_end(s, at);
+                    Labelled {
+                        label: Label::NoInteger,
+                        value: value,
+                    }
+                }
+            }
+        }
     }
 }
 
