@@ -39,12 +39,6 @@ argument-wide k s l h = simp (le-ltb k 24 l, le-ltb 27 k h)
 
 -- ---- an argument, by the bytes from a place on
 module _ (s : List ℕ) (k at end : ℕ) (e : end ≡ at + announced k) where
-  pub argument-none : k < 24 → argument k (drop at s) ≡ got k (drop end s)
-  argument-none h =
-      let f : end ≡ at + 0 = rw (lt-ltb k 24 h) at e in
-      let g : end ≡ at = omega arith in
-      rw g (argument-direct k (drop at s) h)
-
   -- its bytes are missing
   pub argument-cut : k ≤ 27 → at ≤ length s → length s < end → argument k (drop at s) ≡ refused Cut
   argument-cut h i l = go (decLt k 24)

@@ -11,8 +11,8 @@ use lib.Dec.{ltb, eqb}
 use lib.ListN.{length, take, drop, length-drop}
 use lib.Seq.{drop-drop}
 use Rattle.refusal.specs.declared.Refusal.{Refusal}
-use Rattle.cbor.specs.Item.{Size, half, single, double, Item, Items, unsigned, bytes, simple, float}
-use Rattle.cbor.specs.Decode.{Outcome, refused, got, next, heading, Heading, members, pairs, Major, unsigneds, negatives, byteStrings, textStrings, arrays, maps, tags, others, majorOf, special, content, decodeBy, decode}
+use Rattle.cbor.specs.Item.{Size, half, single, double, Item, Items, unsigned, bytes, array, simple, float}
+use Rattle.cbor.specs.Decode.{Outcome, refused, got, andThen, next, heading, Heading, members, pairs, Major, unsigneds, negatives, byteStrings, textStrings, arrays, maps, tags, others, majorOf, special, content, decodeBy, decode}
 use Rattle.cbor.specs.Answer.{headAnswer}
 use Rattle.cbor.specs.View.{Plain, number, string, other, View, plain, list, plainOf, plainsOf, viewOf, labelOf, plainBy, plainAt, plainsAt, viewBy, viewAt, labelBy, labelAt, valueBy, valueAnswer}
 use Rattle.cbor.specs.declared.head.Head.{Head}
@@ -119,7 +119,7 @@ module _ (d : ℕ) (s : List ℕ) where
   abbrev pub saysRest : ℕ → Value → Type 0
   saysRest at (vv.Number n p) = (p ≤ length s) × (decode (suc d) (drop at s) ≡ got (unsigned n) (drop p s))
   saysRest at (vv.Bytes p a) = (p + a ≤ length s) × (decode (suc d) (drop at s) ≡ got (bytes (take a (drop p s))) (drop (p + a) s))
-  saysRest at (vv.Array p n) = p ≤ length s
+  saysRest at (vv.Array p n) = (p ≤ length s) × (decode (suc d) (drop at s) ≡ andThen (members (decode d) n (drop p s)) (λ is t. got (array is) t))
   saysRest at vv.Other = Unit {0}
 
 -- what a member that is no number and no byte string is
@@ -182,7 +182,7 @@ module _ (d : ℕ) (s : List ℕ) (at : ℕ) where
     says-by arrays f = record {
       view = view-headed ∙ rw f (ap (λ (u : List ℕ). list (plainsAt (suc d) arg u)) l);
       member = plain-headed ∙ rw f;
-      rest = i;
+      rest = (i, decode-headed ∙ rw f (ap (λ (u : List ℕ). andThen (members (decode d) arg u) (λ is t. got (array is) t)) l));
     }
     says-by maps f = says-other maps f refl refl
     says-by tags f = says-other tags f refl refl

@@ -35,14 +35,11 @@ fn width(info: u8) -> usize
     }
 }
 
-// The argument: the length information itself, or the number that the bytes from `at` to `end` hold, big-endian.
+// The argument that length information 24 to 27 announces: the number that the bytes from `at` to `end` hold, big-endian.
 fn argument_at(s: &[u8], info: u8, mut at: usize, end: usize) -> u64
-    requires { ⌜ (info ≤ 27) × (end ≡ at + announced info) × (end ≤ at + 8) × (end ≤ length (now s)) ⌝ }
+    requires { ⌜ (info ≤ 27) × (end ≡ at + announced info) × (end ≤ at + 8) × (end ≤ length (now s)) × (24 ≤ info) ⌝ }
     ensures { λ r. ⌜ argument info (drop at (now (s .entry))) ≡ got r (drop end (now (s .entry))) ⌝ }
 {
-    if info < 24 {
-        return info as u64;
-    }
     let mut value: u64 = 0;
     while at < end {
         value = value * 256 + s[at] as u64;
@@ -57,6 +54,14 @@ fn head_from(s: &[u8], at: usize, first: u8) -> HeadRead
     ensures { λ r. ⌜ r ≡ headAnswer (length (now (s .entry))) (heading (first ∷ drop at (now (s .entry)))) ⌝ }
 {
     let info = first % 32;
+    if info < 24 {
+        return HeadRead::Got(Head {
+            major: first / 32,
+            info: info,
+            argument: info as u64,
+            next: at,
+        });
+    }
     if 27 < info {
         return HeadRead::Refused(Refusal::Form);
     }

@@ -1,5 +1,5 @@
 -- A member of an array is what stands at its place, and the other members are what stands behind it.
-use Prim.Native.Nat.{ℕ, _+_, _-_, _≤_, _<_, suc}
+use Prim.Native.Nat.{ℕ, _+_, _-_, _≤_, _<_, zero, suc}
 use mathlib.Core.Path.{_≡_, refl, ap, sym, _∙_}
 use mathlib.Core.Bool.{Bool, true, false, cond}
 use mathlib.Core.List.{List, [], _∷_}
@@ -10,14 +10,14 @@ use lib.ListN.{length, take, drop}
 use borrow.Author.Tests.{eq-eqb, ne-eqb, eqb-true, eqb-false}
 use types.Run.{OneOf}
 use denote.Enum.Declared.{tagOf}
-use Rattle.cbor.specs.Decode.{Outcome, refused, got, heading, decode}
-use Rattle.cbor.specs.Item.{Item}
+use Rattle.cbor.specs.Decode.{Outcome, refused, got, andThen, heading, members, decodeBy, decode}
+use Rattle.cbor.specs.Item.{Item, array, more}
 use Rattle.cbor.specs.View.{Plain, number, string, other, plain, list, plainAt, plainsAt, andOn, valueAnswer}
 use Rattle.cbor.specs.declared.value.Value.{Value}
 use Rattle.cbor.specs.declared.value.Value.the-variants as vv
 use Rattle.cbor.proofs.value.Value as value
 use Rattle.cbor.proofs.Views.{ValueAt, value-says}
-use Rattle.cojp.specs.Bytes.{valueView, membersAt, memberOf, memberAnswer}
+use Rattle.cojp.specs.Bytes.{valueView, membersAt, restOf, afterValue, afterMembers, memberOf, memberAnswer}
 use Rattle.cojp.specs.declared.members.Member.{Member}
 use Rattle.cojp.specs.declared.members.Member.the-variants as mv
 
@@ -117,10 +117,79 @@ module _ (s : List ℕ) (at n : ℕ) (v : Member) (e : v ≡ memberAnswer s at n
     pub bytes-inside : p + a ≤ length s
     bytes-inside = bytes-here .1
 
+-- ---- where the bytes go on
+abbrev pub MemberRest : List ℕ → ℕ → ℕ → Member → Type 0
+MemberRest s at n (mv.Number x p) = afterMembers n (drop at s) ≡ afterMembers (n - 1) (drop p s)
+MemberRest s at n (mv.Bytes p a) = afterMembers n (drop at s) ≡ afterMembers (n - 1) (drop (p + a) s)
+MemberRest s at n mv.Neither = Unit {0}
+
+pub nothing-left : (n : ℕ) (l : List ℕ) → n ≡ 0 → afterMembers n l ≡ l
+unfolding afterMembers
+nothing-left n l e = rw e
+
+after-step : (n : ℕ) (l : List ℕ) (i : Item) (t : List ℕ) → 0 < n → decode 6 l ≡ got i t → afterMembers n l ≡ afterMembers (n - 1) t
+unfolding afterMembers
+after-step n l i t h e =
+    let z : n ≡ suc (n - 1) = omega arith in
+    ap (λ (k : ℕ). afterMembers k l) z ∙ ap (λ (o : Outcome Item). afterMembers (n - 1) (restOf o)) e
+
+module _ (s : List ℕ) (at n : ℕ) where
+  value-rest : 0 < n → (v : Value) → ValueAt 5 s at v → MemberRest s at n (memberOf v)
+  value-rest h (vv.Number x p) w = after-step n (drop at s) _ (drop p s) h (w .rest .1)
+  value-rest h (vv.Bytes p a) w = after-step n (drop at s) _ (drop (p + a) s) h (w .rest .1)
+  value-rest h (vv.Array p m) w = tt
+  value-rest h vv.Other w = tt
+
+  pub member-rest : (v : Member) → v ≡ memberAnswer s at n → MemberRest s at n v
+  member-rest v e = rw e (go (eqb n 0) refl)
+    where
+      answer : Value
+      answer = valueAnswer (length s) (heading (drop at s))
+
+      go : (b : Bool) → eqb n 0 ≡ b → MemberRest s at n (cond b mv.Neither (memberOf answer))
+      go true f = tt
+      go false f = value-rest (let z = eqb-false n 0 f in omega arith) answer (value-says 5 s at answer refl)
+
+after-nothing : (n : ℕ) → afterMembers n [] ≡ []
+unfolding afterMembers decodeBy heading
+after-nothing zero = refl
+after-nothing (suc n) = after-nothing n
+
+rest-same : {A B : Type 0} (f : A → B) (o : Outcome A) → restOf (andThen o (λ a t. got (f a) t)) ≡ restOf o
+rest-same f (refused k) = refl
+rest-same f (got a t) = refl
+
+after-item : (n : ℕ) → ((l : List ℕ) → restOf (members (decode 6) n l) ≡ afterMembers n l) → (o : Outcome Item)
+    → restOf (andThen o (λ i t. andThen (members (decode 6) n t) (λ is u. got (more i is) u))) ≡ afterMembers n (restOf o)
+after-item n below (refused k) = sym (after-nothing n)
+after-item n below (got i t) = rest-same (more i) (members (decode 6) n t) ∙ below t
+
+after-members : (n : ℕ) (l : List ℕ) → restOf (members (decode 6) n l) ≡ afterMembers n l
+unfolding members afterMembers
+after-members zero l = refl
+after-members (suc n) l = after-item n (λ t. after-members n t) (decode 6 l)
+
+module _ (s : List ℕ) (at n : ℕ) (v : Member) (e : v ≡ memberAnswer s at n) where
+  pub number-after : (x p : ℕ) → v ≡ mv.Number x p → afterMembers n (drop at s) ≡ afterMembers (n - 1) (drop p s)
+  number-after x p g = let w : MemberRest s at n (mv.Number x p) = rw g at (member-rest s at n v e) in w
+
+  pub bytes-after : (p a : ℕ) → v ≡ mv.Bytes p a → afterMembers n (drop at s) ≡ afterMembers (n - 1) (drop (p + a) s)
+  bytes-after p a g = let w : MemberRest s at n (mv.Bytes p a) = rw g at (member-rest s at n v e) in w
+
 -- ---- an array, and anything else
 module _ (s : List ℕ) (at : ℕ) (v : Value) (e : v ≡ valueAnswer (length s) (heading (drop at s))) where
   pub array-here : (p n : ℕ) → v ≡ vv.Array p n → (p ≤ length s) × (valueView (drop at s) ≡ list (membersAt n (drop p s)))
-  array-here p n g = let w : ValueAt 5 s at (vv.Array p n) = rw g at (value-says 5 s at v e) in (w .rest, w .view)
+  array-here p n g = let w : ValueAt 5 s at (vv.Array p n) = rw g at (value-says 5 s at v e) in (w .rest .0, w .view)
+
+  pub array-after : (p n : ℕ) → v ≡ vv.Array p n → afterValue (drop at s) ≡ afterMembers n (drop p s)
+  array-after p n g =
+      let w : ValueAt 6 s at (vv.Array p n) = rw g at (value-says 6 s at v e) in
+      ap restOf (w .rest .1) ∙ rest-same array (members (decode 6) n (drop p s)) ∙ after-members n (drop p s)
+
+  pub string-after : (p a : ℕ) → v ≡ vv.Bytes p a → drop (p + a) s ≡ afterValue (drop at s)
+  string-after p a g =
+      let w : ValueAt 6 s at (vv.Bytes p a) = rw g at (value-says 6 s at v e) in
+      sym (ap restOf (w .rest .1))
 
   pub no-array : OneOf (0 ∷ 1 ∷ 3 ∷ []) (tagOf value.the-type v) → (p : Plain) × (valueView (drop at s) ≡ plain p)
   no-array o = go v (value-says 5 s at v e) o

@@ -3,3 +3,4 @@ mod Demand1
 pub mod Strings
 pub mod Arrays
 mod Addresses
+pub mod Nexts

@@ -66,7 +66,7 @@ module _ (s : List ℕ) (at least : ℕ) (v : Value) (e : v ≡ valueAnswer (len
     string-here : ValueAt 5 s at (vv.Bytes p a)
     string-here = rw g at (value-says 5 s at v e)
 
-    string-inside : p + a ≤ length s
+    pub string-inside : p + a ≤ length s
     string-inside = string-here .rest .0
 
     whole : length (take a (drop p s)) ≡ a

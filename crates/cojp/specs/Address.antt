@@ -56,7 +56,7 @@ addressConcluded j = concluded (read (noAddressParameter Discarded)) (addressPar
 abbrev pub addressRead : View → Reading AddressParameter
 addressRead v = addressConcluded (addressJudged v)
 
--- the answer: beside a refusal the parameter is absent
-abbrev pub addressAnswer : Reading AddressParameter → AddressRead
-addressAnswer (refused k) = record { verdict = verdict.Refused k; parameter = noAddressParameter Absent }
-addressAnswer (read p) = record { verdict = verdict.Accepted; parameter = p }
+-- the answer: beside a refusal the parameter is absent; the value ends at `next`
+abbrev pub addressAnswer : Reading AddressParameter → ℕ → AddressRead
+addressAnswer (refused k) next = record { verdict = verdict.Refused k; parameter = noAddressParameter Absent; next = next }
+addressAnswer (read p) next = record { verdict = verdict.Accepted; parameter = p; next = next }

@@ -1,11 +1,11 @@
 -- For the contracts of functions that read at a place: what Address and KeySet say of the tree, said of the bytes that it is read from.
 -- Where no item can be read these definitions go on with anything; a payload that passed the item scan has no such place.
-use Prim.Native.Nat.{ℕ, _+_}
+use Prim.Native.Nat.{ℕ, zero, suc, _+_}
 use mathlib.Core.Bool.{cond}
-use mathlib.Core.List.{List, _∷_}
+use mathlib.Core.List.{List, [], _∷_}
 use lib.Dec.{eqb}
 use lib.ListN.{length, take, drop}
-use Rattle.cbor.specs.Decode.{heading}
+use Rattle.cbor.specs.Decode.{Outcome, refused, got, heading, decode}
 use Rattle.cbor.specs.View.{Plain, string, View, viewAt, plainsAt, valueAnswer}
 use Rattle.cbor.specs.declared.value.Value.{Value}
 use Rattle.cbor.specs.declared.value.Value.the-variants as vv
@@ -19,6 +19,19 @@ valueView l = viewAt 6 l
 -- ---- the members of an array
 abbrev pub membersAt : ℕ → List ℕ → List Plain
 membersAt n l = plainsAt 6 n l
+
+-- what is left after an item; nothing where none can be read
+abbrev pub restOf : {A : Type 0} → Outcome A → List ℕ
+restOf (refused k) = []
+restOf (got a t) = t
+
+-- after a value, and after n members of an array
+abbrev pub afterValue : List ℕ → List ℕ
+afterValue l = restOf (decode 7 l)
+
+unfoldable pub afterMembers : ℕ → List ℕ → List ℕ
+afterMembers zero l = l
+afterMembers (suc n) l = afterMembers n (restOf (decode 6 l))
 
 -- the bytes of a string, and the n members that follow it
 abbrev pub stringAnd : List ℕ → ℕ → ℕ → ℕ → List Plain

@@ -1,24 +1,33 @@
 -- Configurations: a label's standing, its value, and the answer, case by case.
-use Prim.Native.Nat.{ℕ}
+use Prim.Native.Nat.{ℕ, _+_, _-_, _≤_, _<_}
+use native.Mathlib.Omega.{arith}
+use mathlib.Core.List.{List}
+use mathlib.Core.Logic.{_⊎_, ⊎-elim}
+use lib.ListN.{drop}
 use mathlib.Core.Path.{_≡_, refl, sym, _∙_}
-use mathlib.Core.Bool.{Bool, true, false, cond, false≢true}
-use lib.Dec.{eqb}
+use mathlib.Core.Bool.{true, false, false≢true}
 use borrow.Author.Tests.{ne-eqb}
 use Rattle.refusal.specs.declared.Refusal.{Refusal}
 use Rattle.refusal.specs.declared.Verdict.the-variants as verdict
-use Rattle.cbor.specs.View.{View}
+use Rattle.cbor.specs.View.{View, labelAt}
+use Rattle.cbor.specs.declared.value.Label.{Label}
+use Rattle.cbor.specs.declared.value.Label.the-variants as label
+use Rattle.refusal.specs.declared.Refusal.the-variants as refusal
+use Rattle.refusal.specs.declared.Verdict.{Verdict}
+use Rattle.cojp.specs.Bytes.{valueView, afterValue}
 use Rattle.cojp.specs.Address.{addressRead}
-use Rattle.cojp.specs.Configuration.{withKeys, withAddress, withJrc, withNetwork, withPrefix, configurationStanding, configurationTaking, emptyConfiguration, configurationAnswer}
+use Rattle.cojp.specs.Configuration.{configurationForm, configurationPassing, withKeys, withAddress, withJrc, withNetwork, withPrefix, configurationStanding, configurationTaking}
 use Rattle.cojp.specs.KeySet.{keysRead}
 use Rattle.cojp.specs.Octets.{octetsRead}
-use Rattle.cojp.specs.Reading.{Reading, put, said}
-use Rattle.cojp.specs.Walk.{standingOf}
+use Rattle.cojp.specs.Reading.{Reading, refused, read, put, said, Accepting}
+use Rattle.cojp.specs.Walk.{standingOf, pairRead}
+use Rattle.cojp.specs.declared.report.Report.{Report}
+use Rattle.cojp.specs.declared.report.Report.the-variants.{Absent, Taken, Discarded}
+use Rattle.cojp_map.proofs.Maps.{Underway, underway-next, underway-done, pair-again, pair-fresh, pair-unknown}
 use Rattle.cojp.specs.declared.configuration.Configuration.{Configuration}
-use Rattle.cojp.specs.declared.configuration.ConfigurationRead.{ConfigurationRead}
-use Rattle.cojp.specs.declared.octets.OctetsParameter.{OctetsParameter}
 use Rattle.cojp.specs.declared.walk.Standing.{Standing}
-use Rattle.cojp.specs.declared.walk.Standing.the-variants.{Unknown}
-use Rattle.cojp_configuration_read.specs.Configurations.{withOctets}
+use Rattle.cojp.specs.declared.walk.Standing.the-variants.{Unknown, Fresh, Again}
+use Rattle.cojp_configuration_read.specs.Configurations.{seen}
 
 module _ (c : Configuration) (n : ℕ) where
   -- ---- a label's standing
@@ -57,49 +66,68 @@ module _ (c : Configuration) (n : ℕ) where
     unfolding configurationTaking
     taking-address h e = e ∙ rw h
 
-    pub taking-jrc : n ≡ 4 → r ≡ put (withOctets c 4) (octetsRead 16 v) → r ≡ configurationTaking c n v
+    pub taking-jrc : n ≡ 4 → r ≡ put (withJrc c) (octetsRead 16 v) → r ≡ configurationTaking c n v
     unfolding configurationTaking
     taking-jrc h e = e ∙ rw h
 
-    pub taking-octets : ¬ (n ≡ 2) → ¬ (n ≡ 3) → ¬ (n ≡ 4) → r ≡ put (withOctets c n) (octetsRead 0 v) → r ≡ configurationTaking c n v
+    pub taking-network : n ≡ 5 → r ≡ put (withNetwork c) (octetsRead 0 v) → r ≡ configurationTaking c n v
     unfolding configurationTaking
-    taking-octets h₂ h₃ h₄ e = e ∙ rw (ne-eqb n 2 h₂, ne-eqb n 3 h₃) (go (eqb n 4) (ne-eqb n 4 h₄) (eqb n 5) (octetsRead 0 v))
-      where
-        go : (a : Bool) → a ≡ false → (b : Bool) (x : Reading OctetsParameter)
-            → put (λ p. cond a (withJrc c p) (cond b (withNetwork c p) (withPrefix c p))) x
-            ≡ cond a (put (withJrc c) (octetsRead 16 v)) (cond b (put (withNetwork c) x) (put (withPrefix c) x))
-        go true h b x = absurd (false≢true (sym h))
-        go false h true x = refl
-        go false h false x = refl
+    taking-network h e = e ∙ rw h
 
-  pub octets-jrc : (p : OctetsParameter) → n ≡ 4 → withJrc c p ≡ withOctets c n p
-  octets-jrc p h = rw h
+    pub taking-prefix : n ≡ 6 → r ≡ put (withPrefix c) (octetsRead 0 v) → r ≡ configurationTaking c n v
+    unfolding configurationTaking
+    taking-prefix h e = e ∙ rw h
 
-  pub octets-network : (p : OctetsParameter) → n ≡ 5 → withNetwork c p ≡ withOctets c n p
-  octets-network p h = rw h
+-- ---- a label that came before, and one that did not
+pub seen-again : (r : Report) → seen r ≡ true → standingOf r ≡ Again
+seen-again Absent e = absurd (false≢true e)
+seen-again Taken e = refl
+seen-again Discarded e = refl
 
-  pub octets-prefix : (p : OctetsParameter) → ¬ (n ≡ 4) → ¬ (n ≡ 5) → withPrefix c p ≡ withOctets c n p
-  octets-prefix p h k = rw (ne-eqb n 4 h, ne-eqb n 5 k)
-
-  pub octets-passed : (p : OctetsParameter) → withOctets c n p .passed ≡ c .passed
-  octets-passed p = go (eqb n 4) (eqb n 5)
-    where
-      go : (a b : Bool) → cond a (withJrc c p) (cond b (withNetwork c p) (withPrefix c p)) .passed ≡ c .passed
-      go true b = refl
-      go false true = refl
-      go false false = refl
-
--- ---- the answer
-module _ (r : ConfigurationRead) where
-  pub answer-accepted : r .verdict ≡ verdict.Accepted
-      → _≡_ {A = ConfigurationRead} (record { verdict = r .verdict; configuration = r .configuration }) (configurationAnswer (said (r .verdict) (r .configuration)))
-  answer-accepted h = rw h
-
-  pub answer-refused : (k : Refusal) → r .verdict ≡ verdict.Refused k → (c : Configuration) → c ≡ emptyConfiguration
-      → _≡_ {A = ConfigurationRead} (record { verdict = r .verdict; configuration = c }) (configurationAnswer (said (r .verdict) (r .configuration)))
-  answer-refused k h c e = rw (h, e)
+pub seen-fresh : (r : Report) → seen r ≡ false → standingOf r ≡ Fresh
+seen-fresh Absent e = refl
+seen-fresh Taken e = absurd (false≢true (sym e))
+seen-fresh Discarded e = absurd (false≢true (sym e))
 
 -- label 0 is unknown
 pub zero-unknown : (c : Configuration) → configurationStanding c 0 ≡ Unknown
 unfolding configurationStanding
 zero-unknown c = refl
+
+-- ---- one turn of the walk, s being the payload and the value standing at a place
+module _ (total : Reading Configuration) (count : ℕ) {n : ℕ} (c : Configuration) (s : List ℕ) (at : ℕ)
+    (i : Underway configurationForm total count (c .passed) n verdict.Accepted c (drop at s)) (h : 0 < n)
+    (value : ℕ) (e : drop value s ≡ afterValue (drop at s)) (l : Label) (f : l ≡ labelAt (drop at s)) where
+  pub turn-stops : (k : Refusal) → refused k ≡ pairRead configurationForm c l (valueView (drop value s)) → refused k ≡ total
+  turn-stops k g =
+      underway-done configurationForm total count
+      (underway-next configurationForm total count s at i h value e l f (verdict.Refused k) c (c .passed) 0 g (omega arith) tt) (omega arith)
+
+  pub turn-goes : (d : Configuration) (next : ℕ) → read d ≡ pairRead configurationForm c l (valueView (drop value s)) → d .passed ≤ c .passed + 1
+      → drop next s ≡ afterValue (drop value s) → Underway configurationForm total count (d .passed) (n - 1) verdict.Accepted d (drop next s)
+  turn-goes d next g few o = underway-next configurationForm total count s at i h value e l f verdict.Accepted d (d .passed) next g few o
+
+  module _ (m : ℕ) (g : l ≡ label.Number m) (x : Report) (t : standingOf x ≡ configurationStanding c m) where
+    pub turn-again : seen x ≡ true → refused refusal.Twice ≡ total
+    turn-again z =
+        turn-stops refusal.Twice
+        (rw g (pair-again configurationForm c verdict.Accepted m (valueView (drop value s)) _ refl (standingOf x) t (seen-again x z) refl))
+
+    module _ (z : seen x ≡ false) (w : Verdict) (d : Configuration) (y : said w d ≡ configurationTaking c m (valueView (drop value s))) where
+      takes : said w d ≡ pairRead configurationForm c l (valueView (drop value s))
+      takes = rw g (pair-fresh configurationForm c verdict.Accepted m (valueView (drop value s)) _ refl (standingOf x) t (seen-fresh x z) y)
+
+      pub turn-refused : (k : Refusal) → w ≡ verdict.Refused k → refused k ≡ total
+      turn-refused k u = turn-stops k (rw u at takes)
+
+      pub turn-takes : (next : ℕ) → w ≡ verdict.Accepted → d .passed ≤ c .passed + 1 → Accepting w (drop next s ≡ afterValue (drop value s))
+          → Underway configurationForm total count (d .passed) (n - 1) verdict.Accepted d (drop next s)
+      turn-takes next u few o = turn-goes d next (rw u at takes) few (rw u at o)
+
+  pub turn-passes : (k : ℕ) → l ≡ label.Negative ⊎ ((m : ℕ) × (l ≡ label.Number m) × (Unknown ≡ configurationStanding c m)) → drop k s ≡ afterValue (drop value s)
+      → Underway configurationForm total count (c .passed + 1) (n - 1) verdict.Accepted (configurationPassing c) (drop k s)
+  turn-passes k o q =
+      turn-goes (configurationPassing c) k
+      (⊎-elim (λ g. rw g)
+      (λ g. rw (g .1) (pair-unknown configurationForm c verdict.Accepted (g .0) (valueView (drop value s)) _ refl Unknown (g .2) refl refl)) o)
+      (omega arith) q

@@ -8,7 +8,7 @@ use native.Mathlib.Omega.{arith}
 use lib.Dec.{leb, ltb, eqb}
 use lib.ListN.{length, take, drop, set, replicate, length-append, length-drop}
 use lib.Seq.{set-at, take-append-seam, append-snoc, take-all, drop-drop, length-take-le}
-use borrow.Author.Tests.{lt-leb, le-leb, le-ltb, lt-ltb, ltb-true, ltb-false, leb-true, leb-false, eqb-true}
+use borrow.Author.Tests.{lt-leb, le-leb, ltb-true, ltb-false, leb-true, leb-false, eqb-true}
 use types.Run.{OneOf}
 use denote.Enum.Declared.{tagOf}
 use Rattle.refusal.specs.declared.Refusal.the-variants as refusal
@@ -21,8 +21,8 @@ use Rattle.link_key.specs.Key.{noKey, inLimits}
 use Rattle.link_key_set.specs.KeySet.{noKeys, allInLimits, allowed, allowedSet}
 use Rattle.link_key.specs.declared.Key.{Key}
 use Rattle.link_key_set.specs.declared.key_set.KeySet.{KeySet}
-use Rattle.cojp_key_set_read.specs.Groups.{GroupAt, storable, overfull, addKey}
-use Rattle.cojp.specs.Bytes.{valueView, membersAt, memberAnswer}
+use Rattle.cojp_key_set_read.specs.Groups.{GroupAt, GroupRest, storable, addKey}
+use Rattle.cojp.specs.Bytes.{valueView, membersAt, afterMembers, memberAnswer}
 use Rattle.cojp.specs.KeySet.{keyOf, keySetOf, Groups, notGroups, groupsOf, group, groups, keysIn, keysConcluded, keysRead}
 use Rattle.cojp.specs.Octets.{padded, copiedFrom}
 use Rattle.cojp.specs.Reading.{Reading, refused, unfit, good}
@@ -32,7 +32,7 @@ use Rattle.cojp.specs.declared.key_set.KeysParameter.{KeysParameter}
 use Rattle.cojp.specs.declared.members.Member.{Member}
 use Rattle.cojp.specs.declared.members.Member.the-variants as mv
 use Rattle.link_key.proofs.Tests.{both-left, both-right}
-use Rattle.cojp.proofs.Arrays.{Neither, MemberAt, members-none, members-other, member-says, array-here, no-array}
+use Rattle.cojp.proofs.Arrays.{nothing-left, Neither, MemberAt, members-none, members-other, member-says, array-here, no-array}
 use Rattle.cojp.proofs.Strings.{copied-inside}
 use Rattle.cojp.proofs.members.Member as member
 
@@ -41,6 +41,10 @@ use Rattle.cojp.proofs.members.Member as member
 regroup : (l : List ℕ) (m n : ℕ) (gs hs : Groups) (r : Group) → m ≤ n → gs ≡ hs → GroupAt l m hs r → GroupAt l n gs r
 regroup l m n gs hs gv.Broken k e w = e ∙ w
 regroup l m n gs hs (gv.Closed i u p a j) k e w = (w .0, omega (arith, w .1), e ∙ w .2)
+
+pub rest-on : (s : List ℕ) (at n q m : ℕ) (r : Group) → afterMembers n (drop at s) ≡ afterMembers m (drop q s) → GroupRest s q m r → GroupRest s at n r
+rest-on s at n q m gv.Broken e w = tt
+rest-on s at n q m (gv.Closed i u p a j) e w = e ∙ w
 
 module _ (l : List ℕ) (n : ℕ) (v : Member) where
   module _ (h : 0 < n) (e : v ≡ memberAnswer l 0 n) where
@@ -140,7 +144,7 @@ one-not-allowed ks k js e =
 -- ---- the keys so far, and the set that holds them or is past holding them
 pub data Holds (ks : List Key) (s : KeySet) : Type 0 where
   held : length ks ≤ 8 → s ≡ keySetOf ks → Holds ks s
-  lost : ((js : List Key) → allowed (ks ++ js) ≡ false) → s ≡ overfull → Holds ks s
+  lost : ((js : List Key) → allowed (ks ++ js) ≡ false) → s .count ≡ 9 → Holds ks s
 
 pub holds-none : (s : KeySet) → s ≡ noKeys → Holds [] s
 holds-none s e = held (omega arith) e
@@ -225,21 +229,17 @@ module _ (s : KeySet) (i u n : ℕ) (l : List ℕ) (p : ℕ) (h : p + n ≤ leng
   whole : length content ≡ n
   whole = length-take-le n (drop p l) (omega (arith, length-drop p l))
 
-  pub add-full : 8 ≤ s .count → overfull ≡ addKey s (keyOf i u content)
+  pub add-none : (ltb (s .count) 8 && storable i u n) ≡ false → _≡_ {A = KeySet} (record { count = 9; keys = s .keys }) (addKey s (keyOf i u content))
   unfolding addKey
-  add-full f = rw (le-ltb (s .count) 8 f)
+  add-none f = rw (whole, f)
 
-  pub add-unstorable : storable i u n ≡ false → overfull ≡ addKey s (keyOf i u content)
-  unfolding addKey
-  add-unstorable f = rw (whole, f, and-false (ltb (s .count) 8))
-
-  pub add-stored : s .count < 8 → storable i u n ≡ true → (b : List ℕ) → b ≡ copiedFrom l p n
+  pub add-stored : (ltb (s .count) 8 && storable i u n) ≡ true → (b : List ℕ) → b ≡ copiedFrom l p n
       → _≡_ {A = KeySet} (record { count = s .count + 1; keys = set (s .keys) (s .count) (keyOf i u b) }) (addKey s (keyOf i u content))
   unfolding addKey
-  add-stored f g b e =
-      let z : n ≡ 16 = storable-parts i u n g .2 in
+  add-stored g b e =
+      let z : n ≡ 16 = storable-parts i u n (both-right (ltb (s .count) 8) (storable i u n) g) .2 in
       let w : b ≡ content = e ∙ copied-inside l p n (omega arith) h ∙ unpadded content (whole ∙ z) in
-      rw (w, whole, lt-ltb (s .count) 8 f, g)
+      rw (w, whole, g)
 
 -- ---- the loop over the groups: the keys so far, the set that holds them, and the groups that are left
 pub record Gathering (s : List ℕ) (from count at left : ℕ) (k : KeySet) : Type 0 where
@@ -247,9 +247,10 @@ pub record Gathering (s : List ℕ) (from count at left : ℕ) (k : KeySet) : Ty
   pub holds : Holds keys k
   pub so-far : groups (membersAt count (drop from s)) ≡ after keys (groups (membersAt left (drop at s)))
   pub inside : at ≤ length s
+  pub rest : afterMembers count (drop from s) ≡ afterMembers left (drop at s)
 
 pub gathering-none : (s : List ℕ) (from count : ℕ) (k : KeySet) → from ≤ length s → k ≡ noKeys → Gathering s from count from count k
-gathering-none s from count k h e = record { keys = []; holds = holds-none k e; so-far = after-none _; inside = h }
+gathering-none s from count k h e = record { keys = []; holds = holds-none k e; so-far = after-none _; inside = h; rest = refl }
 
 module _ (s : List ℕ) (from count at n : ℕ) (k : KeySet) (w : Gathering s from count at n k) where
   pub gathering-done : n ≤ 0 → (r : Reading KeysParameter) → r ≡ keysConcluded (cond (allowedSet k) (good k) unfit)
@@ -260,6 +261,9 @@ module _ (s : List ℕ) (from count at n : ℕ) (k : KeySet) (w : Gathering s fr
       let f : groups (membersAt count (drop from s)) ≡ groupsOf (w .keys) =
       w .so-far ∙ rw (members-none n (drop at s) z, append-nil) in
       e ∙ ap keysConcluded (holds-all (w .keys) k (w .holds) ∙ ap keysIn (sym f))
+
+  pub gathering-end : n ≤ 0 → drop at s ≡ afterMembers count (drop from s)
+  gathering-end h = sym (w .rest ∙ nothing-left n (drop at s) (omega arith))
 
   module _ (r : Group) (g : GroupAt (take (length s - at) (drop at s)) n (groups (membersAt n (take (length s - at) (drop at s)))) r) where
     part : take (length s - at) (drop at s) ≡ drop at s
@@ -284,15 +288,17 @@ module _ (s : List ℕ) (from count at n : ℕ) (k : KeySet) (w : Gathering s fr
       pub group-inside : (at + (p + a) ≤ length s) × (m < n)
       group-inside = (omega (arith, closed .0, length-drop at s, w .inside), closed .1)
 
-      pub gathering-more : (x : KeySet) → x ≡ addKey k (keyOf i u (take a (drop p (take (length s - at) (drop at s)))))
+      pub gathering-more : GroupRest (take (length s - at) (drop at s)) 0 n r → (x : KeySet) → x ≡ addKey k (keyOf i u (take a (drop p (take (length s - at) (drop at s)))))
           → Gathering s from count (at + (p + a)) m x
-      gathering-more x f =
+      gathering-more y x f =
           let v : List ℕ = take a (drop p (drop at s)) in
+          let z : GroupRest (drop at s) 0 n (gv.Closed i u p a m) = rw e at (rw part at y) in
           record {
             keys = w .keys ++ (keyOf i u v ∷ []);
             holds = rw (f, part) (holds-more (w .keys) (keyOf i u v) k (w .holds));
             so-far = w .so-far ∙ rw (closed .2, drop-drop (p + a) at s) (after-more (w .keys) i u v (groups (membersAt m (drop (at + (p + a)) s))));
             inside = group-inside .0;
+            rest = w .rest ∙ z ∙ ap (afterMembers m) (drop-drop (p + a) at s);
           }
 
 -- ---- the value

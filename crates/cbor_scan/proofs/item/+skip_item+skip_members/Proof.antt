@@ -145,8 +145,8 @@ skip-item-sub-if4 t c =
     let h = arm .h2 .given .0 .0 in
     omega (arith, head-of t arm .inside)
 
-skip-item-add-t25 : item-need skip-item-lts.Need-add-t25
-skip-item-add-t25 t c =
+skip-item-add-t21 : item-need skip-item-lts.Need-add-t21
+skip-item-add-t21 t c =
     let arm = c .before .before .before .before .before in
     let a = arm .before .before .before .before .before .args in
     let h = arm .h2 .given .0 .0 in
@@ -308,20 +308,20 @@ pub +skip-item+skip-members-spec : {M : Type 1} → statement M
     (skip-item-sub-below t)
     (skip-item-read-head-requires t)
     (skip-item-enum-known-h t)
+    (skip-item-returns-2 t)
     (skip-item-enum-known-h-2 t)
     (skip-item-skip-members-requires t)
+    (skip-item-returns-3 t)
     (skip-item-skip-members-requires-2 t)
     (skip-item-enum-known-half t)
+    (skip-item-returns-4 t)
     (skip-item-enum-known-half-2 t)
     (skip-item-skip-members-requires-3 t)
-    (skip-item-skip-item-requires t)
-    (skip-item-sub-if4 t)
-    (skip-item-add-t25 t)
-    (skip-item-returns-2 t)
-    (skip-item-returns-3 t)
-    (skip-item-returns-4 t)
     (skip-item-returns-5 t)
+    (skip-item-skip-item-requires t)
     (skip-item-returns-6 t)
+    (skip-item-sub-if4 t)
+    (skip-item-add-t21 t)
     (skip-item-returns-7 t)
     (skip-item-returns-8 t)
     (skip-item-returns-9 t)

@@ -2,7 +2,7 @@
 use mathlib.Core.Path.{ap, sym, _∙_}
 use borrow.Author.Needs.{needs}
 use Rattle.cojp.specs.Configuration.{configurationForm, emptyConfiguration, configurationAnswer}
-use Rattle.cojp_map.proofs.Maps.{read-refused, read-pairs}
+use Rattle.cojp_map.proofs.Maps.{read-refused, pairs-readable, read-pairs}
 use Rattle.cojp_configuration_read.proofs.Configurations.{zero-unknown}
 use Rattle.cojp_configuration_read.proofs.configuration.read_configuration.Statement.{statement}
 use Rattle.cojp_configuration_read.proofs.configuration.read_configuration.Tie as tie
@@ -20,10 +20,10 @@ enum-known-opened-2 : tie.Need-enum-known-opened-2
 enum-known-opened-2 c = search needs
 
 take-pairs-requires : tie.Need-take-pairs-requires
-take-pairs-requires c κs = search needs
-
-answered-requires : tie.Need-answered-requires
-answered-requires c κs = search needs
+take-pairs-requires c κs =
+    let o = c .before .before .before .open-payload in
+    let g = c .before .opened2 .given in
+    pairs-readable configurationForm zero-unknown emptyConfiguration (c .before .before .before .before .before .args .payload .now) (o .result) (o .ensures) (g .0 .0) (g .0 .1 .0) (g .1)
 
 returns : tie.Need-returns
 returns c =
@@ -32,9 +32,9 @@ returns c =
 
 returns-2 : tie.Need-returns-2
 returns-2 c =
-    let o = c .before .before .before .before .before .open-payload in
-    let g = c .before .before .before .opened2 .given in
-    c .answered .ensures ∙ ap configurationAnswer (c .before .take-pairs .ensures ∙ sym (read-pairs configurationForm zero-unknown emptyConfiguration (c .before .before .before .before .before .before .before .args .payload .now) (o .result) (o .ensures) (g .0 .0) (g .0 .1 .0) (g .1)))
+    let o = c .before .before .before .before .open-payload in
+    let g = c .before .before .opened2 .given in
+    c .take-pairs .ensures ∙ ap configurationAnswer (sym (read-pairs configurationForm zero-unknown emptyConfiguration (c .before .before .before .before .before .before .args .payload .now) (o .result) (o .ensures) (g .0 .0) (g .0 .1 .0) (g .1)))
 
 pub read-configuration-spec : {M : Type 1} → statement M
 read-configuration-spec =
@@ -45,6 +45,5 @@ read-configuration-spec =
     refused-configuration-requires
     enum-known-opened-2
     take-pairs-requires
-    answered-requires
     returns
     returns-2)

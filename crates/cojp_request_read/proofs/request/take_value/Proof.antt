@@ -31,7 +31,7 @@ returns-2 c =
     let a = c .before .before .before .before .before .args in
     let r = c .before .read-octets in
     record {
-      says = taking-network (a .g) (a .label) (valueView (drop (a .at) (a .s .now))) _ (c .before .before .match .rest .1) (put-said (withNetwork (a .g)) (r .result .verdict) (r .result .parameter) _ (octets-said (r .result) (octetsRead 0 (valueView (drop (a .at) (a .s .now)))) (r .ensures)));
+      says = taking-network (a .g) (a .label) (valueView (drop (a .at) (a .s .now))) _ (c .before .before .match .rest .1) (put-said (withNetwork (a .g)) (r .result .verdict) (r .result .parameter) _ (octets-said (r .result) (octetsRead 0 (valueView (drop (a .at) (a .s .now)))) _ (r .ensures .0)));
       few = omega arith;
     }
 
