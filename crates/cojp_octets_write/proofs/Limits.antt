@@ -14,7 +14,7 @@ use Rattle.link_key.specs.Key.{inLimits}
 use Rattle.link_key_set.specs.KeySet.{keysOf}
 use Rattle.link_key_usage.specs.Usage.{listed}
 use Rattle.link_key.specs.declared.Key.{Key}
-use Rattle.link_key.proofs.Tests.{both-left, both-right}
+use Rattle.logic_facts.specs.Tests.{both-left, both-right}
 use Rattle.link_key_set.proofs.KeySets.{set-allowed, allowed-few, allowed-in-limits}
 use Rattle.cojp.specs.Octets.{bytesIn}
 use Rattle.cojp.specs.Reading.{ifTaken}

@@ -17,13 +17,13 @@ use Rattle.node_attempt.specs.declared.attempt.Phase.the-variants.{Joined}
 use Rattle.node.specs.Node.{activeOf, pendingOf}
 use Rattle.node_laws.specs.Calls.{starting, polling, delivering}
 use Rattle.node_laws.specs.Laws.{Takes}
-use Rattle.node_delivery.specs.declared.Call.the-variants.{JoinAnswer, Update}
+use Rattle.node_delivery.specs.declared.Delivery.the-variants.{JoinAnswer, Update}
 use Rattle.node_parameters.specs.declared.octets.HeldOctets.{HeldOctets}
 use Rattle.node.specs.declared.node.Node.{Node}
 use Rattle.network.specs.Network.{Network, nodeAt}
 use Rattle.network.specs.Events.{Event, turning, calling, run, Come}
 use Rattle.network.specs.Rounds.{Links, Neighbours, Hops, AllLinked, Rounds}
-use Rattle.network.specs.Demand3.{Supposed, Silent, Rekeyed, handed}
+use Rattle.network.specs.Demand3.{Supposed, NoneSendsUnder, Rekeyed, handed}
 
 -- ---- the nodes: the old set is one key with identifier 1, the new one a key with identifier 5, both for all frames
 abbrev pub oldKeys : List Key
@@ -100,5 +100,5 @@ pub record Witness : Type 0 where
   pub two-rounds-active : activeOf (nodeAt (run taken twice) 2) ≡ newKeys
   pub two-rounds-pending : pendingOf (nodeAt (run taken twice) 2) ≡ []
   -- by demand 3
-  pub silent : Silent newKeys line first
+  pub none-sends : NoneSendsUnder newKeys line first
   pub rekeyed : Rekeyed newKeys 1 (nodeAt (run taken twice) 2)

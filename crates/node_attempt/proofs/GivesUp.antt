@@ -5,16 +5,16 @@ use mathlib.Core.Path.{_≡_, refl, _∙_}
 use mathlib.Core.Bool.{true}
 use borrow.Author.Tests.{le-leb, lt-ltb, le-ltb}
 use lib.Dec.{leb}
-use Rattle.node_attempt.specs.Attempt.{attempt, fits, waitingFrom}
+use Rattle.node_attempt.specs.Attempt.{attempt, valid, waitingFrom}
 use Rattle.node_attempt.specs.Poll.{step, stepped, poll, dueAt, AttemptGivesUp}
 use Rattle.node_attempt.specs.declared.attempt.Attempt.{Attempt}
 use Rattle.node_attempt.specs.declared.attempt.Phase.the-variants as phase
 use Rattle.node_attempt.specs.declared.poll.Due.the-variants.{SendAgain, GaveUp}
-use Rattle.node_attempt.proofs.Attempts.{waiting-fits, poll-fits}
+use Rattle.node_attempt.proofs.Attempts.{waiting-valid, poll-valid}
 
--- an attempt that fits, its request sent at the time s, with so long to wait, after so many retransmissions
+-- a valid attempt, its request sent at the time s, with so long to wait, after so many retransmissions
 record Waits (a : Attempt) (s t count : ℕ) : Type 0 where
-  fit : fits a ≡ true
+  is-valid : valid a ≡ true
   waiting : a .phase ≡ phase.Waiting
   clock : a .clock ≡ s
   sent : a .sent ≡ s
@@ -31,7 +31,7 @@ module _ (a : Attempt) (s t count : ℕ) (h : Waits a s t count) where
   -- what is due is done
   poll-due : poll a (dueAt a) ≡ stepped a (dueAt a)
   unfolding poll
-  poll-due = rw (h .fit, on-time, h .waiting, reached)
+  poll-due = rw (h .is-valid, on-time, h .waiting, reached)
 
   again-is : count < 4 → stepped a (dueAt a) ≡ step SendAgain (attempt (a .phase) (dueAt a) (dueAt a) (2 * a .timeout) (a .count + 1))
   unfolding stepped
@@ -47,7 +47,7 @@ module _ (a : Attempt) (s t count : ℕ) (h : Waits a s t count) where
       let at : dueAt a ≡ s + t = omega (arith, h .sent, h .timeout) in (
         rw e,
         record {
-          fit = poll-fits a (dueAt a) (h .fit);
+          is-valid = poll-valid a (dueAt a) (h .is-valid);
           waiting = rw e (h .waiting);
           clock = rw e at;
           sent = rw e at;
@@ -69,7 +69,7 @@ pub attempt-gives-up : AttemptGivesUp
 attempt-gives-up time t f =
     let a = waitingFrom time t in
     let s0 : Waits a time t 0 = record {
-      fit = waiting-fits time t f;
+      is-valid = waiting-valid time t f;
       waiting = refl;
       clock = refl;
       sent = refl;

@@ -8,7 +8,7 @@ use Rattle.refusal.specs.Refusal.{numberOf}
 use Rattle.refusal.specs.declared.Refusal.the-variants as refusal
 use Rattle.refusal.specs.declared.Verdict.{Verdict}
 use Rattle.refusal.specs.declared.Verdict.the-variants as verdict
-use Rattle.node_attempt.specs.Attempt.{isWaiting, attempt, firstTimeout, fits, waitingFrom}
+use Rattle.node_attempt.specs.Attempt.{isWaiting, attempt, firstTimeout, valid, waitingFrom}
 use Rattle.node_attempt.specs.declared.attempt.Attempt.{Attempt}
 use Rattle.node_attempt.specs.declared.attempt.Phase.the-variants as phase
 use Rattle.node_attempt.specs.declared.poll.Due.{Due}
@@ -28,7 +28,7 @@ stepped a time =
 -- RANGE: the attempt; CLOCK, PHASE; a step is due once the time since the last sending has reached the timeout
 unfoldable pub poll : Attempt → ℕ → Step
 poll a time =
-    cond (fits a)
+    cond (valid a)
     (cond (leb (a .clock) time)
     (cond (isWaiting (a .phase))
     (cond (leb (a .timeout) (time - a .sent)) (stepped a time) (step NotYet (attempt (a .phase) time (a .sent) (a .timeout) (a .count))))

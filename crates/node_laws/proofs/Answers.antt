@@ -3,11 +3,13 @@ use Prim.Native.Nat.{ℕ, _+_, _*_, _-_}
 use mathlib.Core.Path.{_≡_, refl, ap, _∙_}
 use mathlib.Core.Bool.{Bool, true, false, cond, not, _&&_}
 use lib.Dec.{leb, ltb}
+use Rattle.refusal.specs.Verdict.{verdictNumber}
 use Rattle.refusal.specs.declared.Refusal.the-variants as refusal
 use Rattle.node_key_sets.specs.Frames.{changeVerdict, changeNumber}
 use Rattle.node_key_sets.specs.declared.frames.Change.{Change}
 use Rattle.node_key_sets.specs.declared.frames.Change.the-variants as change
-use Rattle.node_attempt.specs.Attempt.{isWaiting, fits, attempt}
+use Rattle.node_attempt.specs.Attempt.{isWaiting, attempt}
+use Rattle.node_attempt.specs.Attempt as joinable
 use Rattle.node_attempt.specs.Poll.{dueVerdict, dueNumber, sendsAgain, givesUp, step, stepped}
 use Rattle.node_attempt.specs.Poll as joining
 use Rattle.node_attempt.specs.declared.attempt.Attempt.{Attempt}
@@ -23,7 +25,7 @@ use Rattle.node.specs.Timing.{polled, polledBy, poll}
 use Rattle.node.specs.declared.lease.Holding.{Holding}
 use Rattle.node.specs.declared.lease.Holding.the-variants as holding
 use Rattle.node.specs.declared.node.Node.{Node}
-use Rattle.node_laws.specs.Answers.{verdictNumber, isDue, AnswersSay}
+use Rattle.node_laws.specs.Answers.{isDue, AnswersSay}
 use Rattle.node_laws.specs.Calls.{perform}
 
 due-number : (d : Due) → dueNumber d ≡ verdictNumber (dueVerdict d)
@@ -34,8 +36,8 @@ due-number due.GaveUp = refl
 
 holding-number : (h : Holding) → holdingNumber h ≡ verdictNumber (holdingVerdict h)
 holding-number (holding.Refused k) = refl
-holding-number holding.Holds = refl
-holding-number holding.Lapsed = refl
+holding-number holding.Yes = refl
+holding-number holding.No = refl
 
 change-number : (c : Change) → changeNumber c ≡ verdictNumber (changeVerdict c)
 change-number (change.Refused k) = refl
@@ -56,12 +58,12 @@ dueBy v f l w t c =
 poll-by :
     (n : Node) (time : ℕ) →
     poll n time .due
-    ≡ dueBy (valid n) (fits (n .attempt)) (leb (clockOf n) time) (isWaiting (n .attempt .phase)) (leb (n .attempt .timeout) (time - n .attempt .sent)) (ltb (n .attempt .count) 4)
+    ≡ dueBy (valid n) (joinable.valid (n .attempt)) (leb (clockOf n) time) (isWaiting (n .attempt .phase)) (leb (n .attempt .timeout) (time - n .attempt .sent)) (ltb (n .attempt .count) 4)
 unfolding poll joining.poll stepped
 poll-by n time =
     let a = n .attempt in
     go (attempt (a .phase) time time (2 * a .timeout) (a .count + 1)) (attempt phase.GaveUp time (a .sent) (a .timeout) (a .count)) (attempt (a .phase) time (a .sent) (a .timeout) (a .count))
-    (valid n) (fits a) (leb (clockOf n) time) (isWaiting (a .phase)) (leb (a .timeout) (time - a .sent)) (ltb (a .count) 4)
+    (valid n) (joinable.valid a) (leb (clockOf n) time) (isWaiting (a .phase)) (leb (a .timeout) (time - a .sent)) (ltb (a .count) 4)
   where
     go :
         (again over still : Attempt) (v f l w t c : Bool) →
@@ -104,17 +106,17 @@ module _ (n : Node) (time : ℕ) where
   sends-again : sendsAgain (poll n time .due) ≡ (isDue n time && ltb (n .attempt .count) 4)
   sends-again =
       ap sendsAgain (poll-by n time)
-      ∙ again-by (valid n) (fits (n .attempt)) (leb (clockOf n) time) (isWaiting (n .attempt .phase)) (leb (n .attempt .timeout) (time - n .attempt .sent)) (ltb (n .attempt .count) 4)
+      ∙ again-by (valid n) (joinable.valid (n .attempt)) (leb (clockOf n) time) (isWaiting (n .attempt .phase)) (leb (n .attempt .timeout) (time - n .attempt .sent)) (ltb (n .attempt .count) 4)
 
   gives-up : givesUp (poll n time .due) ≡ (isDue n time && not (ltb (n .attempt .count) 4))
   gives-up =
       ap givesUp (poll-by n time)
-      ∙ over-by (valid n) (fits (n .attempt)) (leb (clockOf n) time) (isWaiting (n .attempt .phase)) (leb (n .attempt .timeout) (time - n .attempt .sent)) (ltb (n .attempt .count) 4)
+      ∙ over-by (valid n) (joinable.valid (n .attempt)) (leb (clockOf n) time) (isWaiting (n .attempt .phase)) (leb (n .attempt .timeout) (time - n .attempt .sent)) (ltb (n .attempt .count) 4)
 
 -- ---- the answer to the question whether the address holds
 held-by :
     (v l h : Bool) →
-    holdsNow (cond v (cond l (cond h holding.Holds holding.Lapsed) (holding.Refused refusal.Clock)) (holding.Refused refusal.Range)) ≡ (v && l && h)
+    holdsNow (cond v (cond l (cond h holding.Yes holding.No) (holding.Refused refusal.Clock)) (holding.Refused refusal.Range)) ≡ (v && l && h)
 held-by false l h = refl
 held-by true false h = refl
 held-by true true false = refl

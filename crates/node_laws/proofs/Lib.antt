@@ -1,5 +1,5 @@
 mod Valid
-mod Kept
+mod KeysStay
 mod Timings
 mod Reading
 mod Deliveries

@@ -3,11 +3,10 @@ use Prim.Native.Nat.{ℕ, _-_}
 use mathlib.Core.Path.{_≡_}
 use mathlib.Core.Bool.{Bool, not, _&&_}
 use lib.Dec.{leb, ltb}
-use Rattle.refusal.specs.Refusal.{numberOf}
-use Rattle.refusal.specs.declared.Verdict.{Verdict}
-use Rattle.refusal.specs.declared.Verdict.the-variants.{Refused, Accepted}
+use Rattle.refusal.specs.Verdict.{verdictNumber}
 use Rattle.node_key_sets.specs.Frames.{changeNumber}
-use Rattle.node_attempt.specs.Attempt.{isWaiting, fits}
+use Rattle.node_attempt.specs.Attempt.{isWaiting}
+use Rattle.node_attempt.specs.Attempt as attempt
 use Rattle.node_attempt.specs.Poll.{dueNumber, sendsAgain, givesUp}
 use Rattle.node_parameters.specs.Lease.{holdsAt}
 use Rattle.node.specs.Frames.{verified}
@@ -18,16 +17,11 @@ use Rattle.node.specs.Timing.{poll}
 use Rattle.node.specs.declared.node.Node.{Node}
 use Rattle.node_laws.specs.Calls.{polling, asking, reporting, perform}
 
--- the refusal's number, 0 where there is none
-abbrev pub verdictNumber : Verdict → ℕ
-verdictNumber (Refused k) = numberOf k
-verdictNumber Accepted = 0
-
 -- a node that may be handed in waits, and the time since the last sending has reached the timeout
 abbrev pub isDue : Node → ℕ → Bool
 isDue n time =
     (valid n
-    && fits (n .attempt)
+    && attempt.valid (n .attempt)
     && leb (clockOf n) time
     && isWaiting (n .attempt .phase)
     && leb (n .attempt .timeout) (time - n .attempt .sent))

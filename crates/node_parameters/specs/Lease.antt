@@ -11,8 +11,8 @@ abbrev pub absentAddress : HeldAddress
 absentAddress = record { held = false; value = noAddress; received = 0 }
 
 -- an address, received not after the clock; the lease may be any number
-abbrev pub addressInRange : ℕ → HeldAddress → Bool
-addressInRange clock a = cond (a .held) (isAddress (a .value .bytes) && leb (a .received) clock) true
+abbrev pub validAddress : ℕ → HeldAddress → Bool
+validAddress clock a = cond (a .held) (isAddress (a .value .bytes) && leb (a .received) clock) true
 
 -- a lease counts seconds: its unit in milliseconds
 abbrev pub leaseUnit : ℕ
