@@ -1,11 +1,14 @@
 -- What this layer promises about its definitions, for the layers above.
 use Prim.Native.Nat.{ℕ, _^_, _<_, _≤_}
 use mathlib.Core.Path.{_≡_}
+use mathlib.Core.Bool.{cond}
 use mathlib.Core.List.{List, [], _++_, List·Memᴰ}
 use lib.ListN.{length}
 use Rattle.cbor.specs.Item.{Item, Items, depth, Fit}
-use Rattle.cbor.specs.Decode.{got, Heading, heading, decode, members, payload}
+use Rattle.refusal.specs.declared.Refusal.the-variants.{Loose}
+use Rattle.cbor.specs.Decode.{refused, got, Heading, heading, decode, members, payload}
 use Rattle.cbor.specs.Encode.{shortest, encode, infoOf}
+use Rattle.cbor.specs.Strict.{strictPayload, loosePayload}
 
 -- s is at least n bytes and then t
 pub record Suffix (n : ℕ) (t s : List ℕ) : Type 0 where
@@ -33,3 +36,8 @@ pub record ItemLaws : Type 0 where
   pub head-shortest :
       (s : List ℕ) (h : Heading) (t : List ℕ) → Bytes s → heading s ≡ got h t →
       Suffix (length (shortest (h .major) (h .argument))) t s
+  -- the strict reading is LOOSE exactly where the ordinary scan meets a longer head, and else the ordinary one, which is never LOOSE
+  pub strict : (s : List ℕ) → strictPayload s ≡ cond (loosePayload s) (refused Loose) (payload s)
+  pub never-loose : (s : List ℕ) → payload s ≡ refused Loose → ⊥
+  -- what was encoded is never LOOSE
+  pub strict-round-trip : (i : Item) → depth i ≤ 8 → Fit i → strictPayload (encode i) ≡ got i []

@@ -1,7 +1,7 @@
 -- What Walk says of a map's pairs, said of the bytes that they are read from.
 -- Where no item can be read these definitions go on with anything; a payload that passed the item scan has no such place.
 use Prim.Native.Nat.{ℕ, zero, suc, _+_, _-_, _≤_}
-use mathlib.Core.Bool.{cond}
+use mathlib.Core.Bool.{Bool, cond}
 use mathlib.Core.Path.{_≡_}
 use mathlib.Core.List.{List}
 use lib.Dec.{ltb}
@@ -11,7 +11,8 @@ use Rattle.refusal.specs.declared.Refusal.the-variants as refusal
 use Rattle.refusal.specs.declared.Verdict.{Verdict}
 use Rattle.refusal.specs.declared.Verdict.the-variants as verdict
 use Rattle.cbor.specs.Answer.{openAnswer}
-use Rattle.cbor.specs.Decode.{Outcome, andThen, heading, payload}
+use Rattle.cbor.specs.Decode.{Outcome, andThen, heading, payloadBy}
+use Rattle.cbor.specs.Strict.{headBy}
 use Rattle.cbor.specs.Decode as decode
 use Rattle.cbor.specs.Item.{Pairs}
 use Rattle.cbor.specs.View.{View, labelAt}
@@ -26,14 +27,15 @@ use Rattle.cojp_map.specs.declared.open.Start.{Start}
 use Rattle.cojp_map.specs.declared.open.Start.the-variants as start
 use Rattle.cojp_map.specs.declared.pair.Pair.{Pair}
 
--- ---- opening: LONG, then what the scan says, then TYPE
+-- ---- opening, strictly or not: LONG, then what the scan says, then TYPE
 abbrev pub startOf : Opened → Start
 startOf (ov.Refused k) = start.Refused k
 startOf ov.NoMap = start.Refused refusal.«Type»
 startOf (ov.Map n p) = start.Pairs n p
 
-unfoldable pub startAnswer : List ℕ → Start
-startAnswer s = cond (ltb 256 (length s)) (start.Refused refusal.Long) (startOf (openAnswer (length s) (payload s) (heading s)))
+unfoldable pub startAnswer : Bool → List ℕ → Start
+startAnswer b s =
+    cond (ltb 256 (length s)) (start.Refused refusal.Long) (startOf (openAnswer (length s) (payloadBy (headBy b) s) (heading s)))
 
 -- ---- one pair
 -- its label's number, its value, and what is left; a negative label has the number 0

@@ -89,7 +89,7 @@ fn labelled_pair(label: Label, value: usize, next: usize) -> Pair
 pub fn item_end(s: &[u8], at: usize) -> usize
     ensures { λ r. ⌜ drop r (now (s .entry)) ≡ afterValue (drop at (now (s .entry))) ⌝ }
 {
-    let passed = skip_item(s, at, MEMBER_LEVELS);
+    let passed = skip_item(s, at, MEMBER_LEVELS, false);
     match passed {
         Skip::Refused(_) => s.len(),
         Skip::Next(next) => next,
@@ -135,15 +135,15 @@ pub fn labelled_at(s: &[u8], at: usize) -> Labelled
     }
 }
 
-// The pair at a place.
+// The pair at a place. Its heads were judged by the scan.
 pub fn pair_at(s: &[u8], at: usize) -> Pair
     ensures { λ r. ⌜ Told (now (s .entry)) r (pairAt (drop at (now (s .entry)))) ⌝ }
 {
-    let key = skip_item(s, at, MEMBER_LEVELS);
+    let key = skip_item(s, at, MEMBER_LEVELS, false);
     match key {
         Skip::Refused(k) => refused_pair(k),
         Skip::Next(value) => {
-            let passed = skip_item(s, value, MEMBER_LEVELS);
+            let passed = skip_item(s, value, MEMBER_LEVELS, false);
             match passed {
                 Skip::Refused(k) => refused_pair(k),
                 Skip::Next(next) => {
