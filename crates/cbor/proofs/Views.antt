@@ -183,8 +183,11 @@ module _ (d : ℕ) (s : List ℕ) (at : ℕ) where
     says-by arrays f = record {
       view = view-headed ∙ rw f (ap (λ (u : List ℕ). list (plainsAt (suc d) arg u)) l);
       member = plain-headed ∙ rw f;
-      rest = (i, ap (restOf {A = Item}) decode-headed
-          ∙ rw f (rest-same array (members (decode d) arg t) ∙ after-members d arg t ∙ ap (λ (u : List ℕ). afterItems d arg u) l));
+      rest = (
+        i,
+        ap (restOf {A = Item}) decode-headed
+            ∙ rw f (rest-same array (members (decode d) arg t) ∙ after-members d arg t ∙ ap (λ (u : List ℕ). afterItems d arg u) l),
+      );
     }
     says-by maps f = says-other maps f refl refl
     says-by tags f = says-other tags f refl refl
