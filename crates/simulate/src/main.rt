@@ -24,7 +24,7 @@ struct Simulation {
 fn answer_line(
     simulation: Simulation,
     bytes: &mut Buffer,
-    payload: &mut [u8; 257],
+    payload: &mut tool_notation::Payload,
     buffer: &mut Buffer,
 ) -> Simulation {
     let made = simulation.made;
@@ -49,7 +49,7 @@ fn answer_line(
 fn run(
     mut simulation: Simulation,
     bytes: &mut Buffer,
-    payload: &mut [u8; 257],
+    payload: &mut tool_notation::Payload,
     buffer: &mut Buffer,
 ) {
     let mut lines = u64::MAX;
@@ -62,7 +62,7 @@ fn run(
 
 fn main() {
     let mut bytes = io::large_buffer();
-    let mut payload = [0u8; 257];
+    let mut payload = tool_notation::no_payload();
     let mut buffer = io::large_buffer();
     let session = Session::begin(
         b"simulate: up to 16 nodes and their life, joining, updates, frames (docs/TOOLS.md).\n\

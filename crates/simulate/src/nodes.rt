@@ -39,7 +39,7 @@ fn stored(mut nodes: Nodes, number: u64, node: Node) -> Nodes {
 }
 
 // Carries the command out. A join request that is sent is written over the payload.
-pub fn execute(nodes: Nodes, command: Command, payload: &mut [u8; 257]) -> Executed {
+pub fn execute(nodes: Nodes, command: Command, payload: &mut tool_notation::Payload) -> Executed {
     let verb = command.verb;
     if let Verb::Turn = verb {
         return between(nodes, command);

@@ -47,7 +47,7 @@ fn counted(payload: &[u8]) -> usize {
 }
 
 // The node after a command that names it. A join request that it sends is written over the payload.
-pub fn perform(node: Node, command: Command, payload: &mut [u8; 257]) -> Done {
+pub fn perform(node: Node, command: Command, payload: &mut tool_notation::Payload) -> Done {
     let verb = command.verb;
     if let Verb::Start = verb {
         return start(node, command, payload);
@@ -55,7 +55,7 @@ pub fn perform(node: Node, command: Command, payload: &mut [u8; 257]) -> Done {
     call(node, command, tool_text::first(payload, command.len))
 }
 
-fn start(node: Node, command: Command, request: &mut [u8; 257]) -> Done {
+fn start(node: Node, command: Command, request: &mut tool_notation::Payload) -> Done {
     let started = node.start(request, command.second, command.third);
     let verdict = started.verdict;
     with_reply(started.node, start_reply(verdict, started.length))

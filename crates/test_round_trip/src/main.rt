@@ -37,7 +37,7 @@ fn answer(command: Word, hex: Hex, payload: &[u8], out: Output, buffer: &mut Buf
 fn answer_line(
     session: Session,
     bytes: &mut Buffer,
-    payload: &mut [u8; 257],
+    payload: &mut tool_notation::Payload,
     buffer: &mut Buffer,
 ) -> Session {
     let asked = session.next(FORM, bytes, payload, buffer);
@@ -57,7 +57,12 @@ fn answer_line(
 }
 
 // Answers line after line until the input ends or nobody reads the answers.
-fn run(mut session: Session, bytes: &mut Buffer, payload: &mut [u8; 257], buffer: &mut Buffer) {
+fn run(
+    mut session: Session,
+    bytes: &mut Buffer,
+    payload: &mut tool_notation::Payload,
+    buffer: &mut Buffer,
+) {
     let mut lines = u64::MAX;
     while lines > 0 && session.open {
         session = answer_line(session, bytes, payload, buffer);
@@ -68,7 +73,7 @@ fn run(mut session: Session, bytes: &mut Buffer, payload: &mut [u8; 257], buffer
 
 fn main() {
     let mut bytes = io::large_buffer();
-    let mut payload = [0u8; 257];
+    let mut payload = tool_notation::no_payload();
     let mut buffer = io::large_buffer();
     let session = Session::begin(
         b"test_round_trip: the objects of payloads, written and read again.\n",
