@@ -1,7 +1,7 @@
 #!/usr/bin/env python3
 """Make the input and the expected output of the crate test_round_trip from those of decode.
 
-The input is every command line of decode's that its output accepts, its spaces taken out, and the largest configuration. The expected output is made from
+The input is every line of decode's commands `request` and `configuration` that its output accepts, its spaces taken out, and the largest configuration. The expected output is made from
 the text of decode's output by the encoder below, which is written from RFC 7049 and knows nothing of the crates.
 
   tools/test_round_trip.py            write crates/test_round_trip/stdin and stdout
@@ -93,7 +93,7 @@ def main():
     assert len(asked) == len(answered)
     lines, expected = [], []
     for line, answer in [*zip(asked, answered), largest()]:
-        if not answer.startswith("accepted "):
+        if not answer.startswith("accepted ") or line.startswith("strict-"):
             continue
         p = payload(dict(w.split("=", 1) for w in answer.split(" ")[1:])).hex()
         marked = "ee" * (len(p) // 2 - 1)

@@ -21,7 +21,7 @@ def number(words, i):
 
 
 def letters(word):
-    return "%dh'%s'" % (min(len(word), 17), word[:16].ljust(16, b"\0").hex())
+    return "%dh'%s'" % (min(len(word), 25), word[:24].ljust(24, b"\0").hex())
 
 
 def payload(rest):

@@ -1,5 +1,6 @@
 mod Examples
 mod Demand1
+mod Strict
 pub mod Strings
 pub mod Arrays
 mod Addresses

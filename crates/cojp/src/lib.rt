@@ -38,7 +38,7 @@ pub use request::empty_request;
 pub use request::is_owing;
 pub use walk::Standing;
 ghost use Rattle.cojp.specs.Examples.{MarkedExamples};
-ghost use Rattle.cojp.specs.Laws.{ReadersDemand1};
+ghost use Rattle.cojp.specs.Laws.{ReadersDemand1, StrictReaders};
 
 // Document 01's marked examples hold of the definitions.
 pub fn marked_examples()
@@ -49,3 +49,10 @@ pub fn marked_examples()
 pub fn readers_demand1()
     ensures { λ r. ⌜ ReadersDemand1 ⌝ }
 {}
+
+// The strict readings are LOOSE exactly where the scan meets a longer head, and else the ordinary ones.
+pub fn strict_readers()
+    ensures { λ r. ⌜ StrictReaders ⌝ }
+{
+    cbor::laws();
+}

@@ -16,7 +16,8 @@ use refusal::Verdict;
 ghost use mathlib.Core.Path.{_≡_};
 ghost use lib.ListN.{drop};
 ghost use Rattle.cojp_configuration_read.specs.Configurations.{seen};
-ghost use Rattle.cojp.specs.Configuration.{emptyConfiguration, configurationForm, refuseConfiguration, configurationAnswer, readConfiguration};
+ghost use Rattle.cojp.specs.Configuration.{emptyConfiguration, configurationForm, refuseConfiguration, configurationAnswer, readConfigurationBy, readConfiguration, readStrictConfiguration};
+ghost use Rattle.cbor.specs.Strict.{headBy};
 ghost use Rattle.cojp_map.specs.Pairs.{walkAt, Readable};
 
 fn refused_configuration(why: Refusal) -> ConfigurationRead
@@ -160,13 +161,27 @@ fn take_pairs(s: &[u8], start: usize, count: u64) -> ConfigurationRead
     }
 }
 
-// Reads a configuration from a payload.
-pub fn read_configuration(payload: &[u8]) -> ConfigurationRead
-    ensures { λ r. ⌜ r ≡ readConfiguration (now (payload .entry)) ⌝ }
+// Reads a configuration from a payload, strictly or not.
+fn read_by(payload: &[u8], strict: bool) -> ConfigurationRead
+    ensures { λ r. ⌜ r ≡ readConfigurationBy (headBy strict) (now (payload .entry)) ⌝ }
 {
-    let opened = open_payload(payload);
+    let opened = open_payload(payload, strict);
     match opened {
         Start::Refused(k) => refused_configuration(k),
         Start::Pairs { count, start } => take_pairs(payload, start, count),
     }
+}
+
+// Reads a configuration from a payload.
+pub fn read_configuration(payload: &[u8]) -> ConfigurationRead
+    ensures { λ r. ⌜ r ≡ readConfiguration (now (payload .entry)) ⌝ }
+{
+    read_by(payload, false)
+}
+
+// Reads a configuration from a payload whose heads must all be the shortest: else LOOSE.
+pub fn read_strict_configuration(payload: &[u8]) -> ConfigurationRead
+    ensures { λ r. ⌜ r ≡ readStrictConfiguration (now (payload .entry)) ⌝ }
+{
+    read_by(payload, true)
 }

@@ -13,7 +13,8 @@ use Rattle.refusal.specs.declared.Refusal.the-variants as refusal
 use Rattle.refusal.specs.declared.Verdict.{Verdict}
 use Rattle.refusal.specs.declared.Verdict.the-variants as verdict
 use Rattle.cbor.specs.Answer.{headAnswer, skipAnswer, openAnswer}
-use Rattle.cbor.specs.Decode.{majorOf, decodeBy, got, heading, pairs, decode, payload}
+use Rattle.cbor.specs.Decode.{majorOf, decodeBy, got, heading, pairs, decode, payloadBy}
+use Rattle.cbor.specs.Strict.{headBy}
 use Rattle.cbor.specs.Item.{Item, Pairs}
 use Rattle.cbor.specs.View.{View, labelOf, viewOf, labelAt}
 use Rattle.cbor.specs.declared.item.Opened.{Opened}
@@ -31,7 +32,7 @@ use Rattle.cbor.proofs.Payloads.{opened-refused, opened-map, opened-other}
 use Rattle.cbor.proofs.Views.{tree-label, tree-view}
 use Rattle.cojp.specs.Bytes.{valueView, afterValue}
 use Rattle.cojp.specs.Reading.{Reading, refused, read, onward, put, said, Accepting}
-use Rattle.cojp.specs.Walk.{Form, standingOf, knownRead, pairRead, pairsRead, scannedRead, payloadRead}
+use Rattle.cojp.specs.Walk.{Form, standingOf, knownRead, pairRead, pairsRead, scannedRead, payloadReadBy}
 use Rattle.cojp.specs.declared.report.Report.{Report}
 use Rattle.cojp.specs.declared.report.Report.the-variants.{Absent, Taken, Discarded}
 use Rattle.cojp.specs.declared.walk.Standing.{Standing}
@@ -42,13 +43,13 @@ use Rattle.cojp_map.specs.declared.open.Start.the-variants as start
 use Rattle.cojp_map.specs.declared.pair.Labelled.{Labelled}
 
 -- ---- the returns of `open_payload`
-pub start-long : (s : List ℕ) → 256 < length s → start.Refused refusal.Long ≡ startAnswer s
+pub start-long : (b : Bool) (s : List ℕ) → 256 < length s → start.Refused refusal.Long ≡ startAnswer b s
 unfolding startAnswer
-start-long s h = rw (lt-ltb 256 (length s) h)
+start-long b s h = rw (lt-ltb 256 (length s) h)
 
-pub start-opened : (s : List ℕ) → length s ≤ 256 → (o : Opened) → o ≡ openAnswer (length s) (payload s) (heading s) → (p : Opened) → o ≡ p → startOf p ≡ startAnswer s
+pub start-opened : (b : Bool) (s : List ℕ) → length s ≤ 256 → (o : Opened) → o ≡ openAnswer (length s) (payloadBy (headBy b) s) (heading s) → (p : Opened) → o ≡ p → startOf p ≡ startAnswer b s
 unfolding startAnswer
-start-opened s h o e p g = rw (le-ltb 256 (length s) h, ← e, g)
+start-opened b s h o e p g = rw (le-ltb 256 (length s) h, ← e, g)
 
 -- ---- the returns of `item_end`
 module _ (s : List ℕ) (at : ℕ) (k : Skip) (e : k ≡ skipAnswer (length s) (decode 7 (drop at s))) where
@@ -200,24 +201,27 @@ module _ {S : Type 0} (F : Form S) where
   startRead c s (start.Refused k) = refused k
   startRead c s (start.Pairs n p) = walkAt F n c (drop p s)
 
-  opened-read : (c : S) (s : List ℕ) (o : Opened) → o ≡ openAnswer (length s) (payload s) (heading s) → scannedRead F c (payload s) ≡ startRead c s (startOf o)
-  opened-read c s (ov.Refused k) e = rw (opened-refused s (ov.Refused k) e k refl)
-  opened-read c s ov.NoMap e = let w = opened-other s ov.NoMap e refl in rw (w .read) (w .other (pairsRead F c) (refused refusal.«Type»))
-  opened-read c s (ov.Map n p) e =
-      let w = opened-map s (ov.Map n p) e n p refl in
-      rw (w .read) (sym (walk-tree n c (drop p s) (w .pairs-are) (w .left) (w .each)))
+  -- read strictly, or not: the pairs of a payload that passed are the same
+  module _ (b : Bool) where
+    opened-read : (c : S) (s : List ℕ) (o : Opened) → o ≡ openAnswer (length s) (payloadBy (headBy b) s) (heading s)
+        → scannedRead F c (payloadBy (headBy b) s) ≡ startRead c s (startOf o)
+    opened-read c s (ov.Refused k) e = rw (opened-refused b s (ov.Refused k) e k refl)
+    opened-read c s ov.NoMap e = let w = opened-other b s ov.NoMap e refl in rw (w .read) (w .other (pairsRead F c) (refused refusal.«Type»))
+    opened-read c s (ov.Map n p) e =
+        let w = opened-map b s (ov.Map n p) e n p refl in
+        rw (w .read) (sym (walk-tree n c (drop p s) (w .pairs-are) (w .left) (w .each)))
 
-  start-read : (c : S) (s : List ℕ) → payloadRead F c s ≡ startRead c s (startAnswer s)
-  unfolding startAnswer payloadRead
-  start-read c s = go (ltb 256 (length s)) refl
-    where
-      go : (b : Bool) → ltb 256 (length s) ≡ b → payloadRead F c s ≡ startRead c s (startAnswer s)
-      go true h = rw h
-      go false h = rw h (opened-read c s (openAnswer (length s) (payload s) (heading s)) refl)
+    start-read : (c : S) (s : List ℕ) → payloadReadBy F (headBy b) c s ≡ startRead c s (startAnswer b s)
+    unfolding startAnswer payloadReadBy
+    start-read c s = go (ltb 256 (length s)) refl
+      where
+        go : (l : Bool) → ltb 256 (length s) ≡ l → payloadReadBy F (headBy b) c s ≡ startRead c s (startAnswer b s)
+        go true h = rw h
+        go false h = rw h (opened-read c s (openAnswer (length s) (payloadBy (headBy b) s) (heading s)) refl)
 
-  module _ (c : S) (s : List ℕ) (r : Start) (e : r ≡ startAnswer s) where
-    pub read-refused : (k : Refusal) → r ≡ start.Refused k → payloadRead F c s ≡ refused k
-    read-refused k g = start-read c s ∙ rw (← e, g)
+    module _ (c : S) (s : List ℕ) (r : Start) (e : r ≡ startAnswer b s) where
+      pub read-refused : (k : Refusal) → r ≡ start.Refused k → payloadReadBy F (headBy b) c s ≡ refused k
+      read-refused k g = start-read c s ∙ rw (← e, g)
 
-    pub read-pairs : (n p : ℕ) → r ≡ start.Pairs n p → payloadRead F c s ≡ walkAt F n c (drop p s)
-    read-pairs n p g = start-read c s ∙ rw (← e, g)
+      pub read-pairs : (n p : ℕ) → r ≡ start.Pairs n p → payloadReadBy F (headBy b) c s ≡ walkAt F n c (drop p s)
+      read-pairs n p g = start-read c s ∙ rw (← e, g)

@@ -10,7 +10,8 @@ use Rattle.refusal.specs.declared.Refusal.the-variants as refusal
 use Rattle.refusal.specs.declared.Verdict.{Verdict}
 use Rattle.refusal.specs.declared.Verdict.the-variants as verdict
 use Rattle.cbor.specs.Answer.{openAnswer}
-use Rattle.cbor.specs.Decode.{heading, payload}
+use Rattle.cbor.specs.Decode.{heading, payloadBy}
+use Rattle.cbor.specs.Strict.{headBy}
 use Rattle.cbor.specs.View.{labelAt}
 use Rattle.cbor.specs.declared.item.Opened.{Opened}
 use Rattle.cbor.specs.declared.item.Opened.the-variants as ov
@@ -25,14 +26,15 @@ use Rattle.cojp_map.specs.declared.open.Start.{Start}
 use Rattle.cojp_map.specs.declared.open.Start.the-variants as start
 use Rattle.cojp_map.specs.declared.pair.Labelled.{Labelled}
 
--- ---- opening: LONG, then what the scan says, then TYPE
+-- ---- opening, strictly or not: LONG, then what the scan says, then TYPE
 abbrev pub startOf : Opened → Start
 startOf (ov.Refused k) = start.Refused k
 startOf ov.NoMap = start.Refused refusal.«Type»
 startOf (ov.Map n p) = start.Pairs n p
 
-unfoldable pub startAnswer : List ℕ → Start
-startAnswer s = cond (ltb 256 (length s)) (start.Refused refusal.Long) (startOf (openAnswer (length s) (payload s) (heading s)))
+unfoldable pub startAnswer : Bool → List ℕ → Start
+startAnswer b s =
+    cond (ltb 256 (length s)) (start.Refused refusal.Long) (startOf (openAnswer (length s) (payloadBy (headBy b) s) (heading s)))
 
 -- ---- a label: TYPE where it is no integer; a negative one has the number 0, which no object knows
 abbrev pub labelVerdict : Label → Verdict

@@ -25,7 +25,7 @@ pub struct Labelled {
 pub fn item_end(s: &[u8], at: usize) -> usize
     ensures { λ r. ⌜ drop r (now (s .entry)) ≡ afterValue (drop at (now (s .entry))) ⌝ }
 {
-    let passed = skip_item(s, at, MEMBER_LEVELS);
+    let passed = skip_item(s, at, MEMBER_LEVELS, false);
     match passed {
         Skip::Refused(_) => s.len(),
         Skip::Next(next) => next,

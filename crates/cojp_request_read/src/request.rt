@@ -22,7 +22,8 @@ ghost use Rattle.cojp_map.specs.Pairs.{walkAt, pairTaken};
 ghost use Rattle.cojp_request_read.specs.Requests.{Stepped};
 ghost use Rattle.cojp.specs.Bytes.{valueView};
 ghost use Rattle.cojp.specs.Reading.{said, read, onward};
-ghost use Rattle.cojp.specs.Request.{roleRead, nothingGathered, requestStanding, requestPassing, requestTaking, requestForm, settled, refuseRequest, requestAnswer, readRequest};
+ghost use Rattle.cojp.specs.Request.{roleRead, nothingGathered, requestStanding, requestPassing, requestTaking, requestForm, settled, refuseRequest, requestAnswer, readRequestBy, readRequest, readStrictRequest};
+ghost use Rattle.cbor.specs.Strict.{headBy};
 
 struct GatheredRead {
     verdict: Verdict,
@@ -233,11 +234,11 @@ fn answered(r: GatheredRead) -> RequestRead
     }
 }
 
-// Reads a join request from a payload.
-pub fn read_request(payload: &[u8]) -> RequestRead
-    ensures { λ r. ⌜ r ≡ readRequest (now (payload .entry)) ⌝ }
+// Reads a join request from a payload, strictly or not.
+fn read_by(payload: &[u8], strict: bool) -> RequestRead
+    ensures { λ r. ⌜ r ≡ readRequestBy (headBy strict) (now (payload .entry)) ⌝ }
 {
-    let opened = open_payload(payload);
+    let opened = open_payload(payload, strict);
     match opened {
         Start::Refused(k) => refused_request(k),
         Start::Pairs { count, start } => {
@@ -245,4 +246,18 @@ pub fn read_request(payload: &[u8]) -> RequestRead
             answered(r)
         }
     }
+}
+
+// Reads a join request from a payload.
+pub fn read_request(payload: &[u8]) -> RequestRead
+    ensures { λ r. ⌜ r ≡ readRequest (now (payload .entry)) ⌝ }
+{
+    read_by(payload, false)
+}
+
+// Reads a join request from a payload whose heads must all be the shortest: else LOOSE.
+pub fn read_strict_request(payload: &[u8]) -> RequestRead
+    ensures { λ r. ⌜ r ≡ readStrictRequest (now (payload .entry)) ⌝ }
+{
+    read_by(payload, true)
 }

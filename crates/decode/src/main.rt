@@ -1,41 +1,60 @@
 // The desk tool decode: reads join requests and configurations from lines of HEX, and writes what they say (docs/TOOLS.md).
+mod command;
 mod configuration;
+mod head;
 mod parameter;
 mod request;
+mod rewrite;
 
+use command::Command;
+use command::Reading;
+use command::command_of;
 use tool_text::fault::Fault;
 use tool_text::fault::put_fault;
-use tool_text::hex::Hex;
 use tool_text::hex::Payload;
 use tool_text::line::Form;
+use tool_text::line::Line;
 use tool_text::output::Buffer;
 use tool_text::output::Output;
 use tool_text::session::Session;
 use tool_text::word::Word;
 
-// A command and HEX.
+// A command and HEX; `rewrite` has a reading before HEX.
 const FORM: Form = Form {
     hex_at: 1,
     is_word: false,
+    apart: Word {
+        len: 7,
+        letters: *b"rewrite\0\0\0\0\0\0\0\0\0\0\0\0\0\0\0\0\0",
+    },
 };
 
-fn answer(command: Word, hex: Hex, payload: &[u8], out: Output, buffer: &mut Buffer) -> Output {
-    let is_request = command.is(b"request");
-    if !is_request && !command.is(b"configuration") {
+fn answer(line: Line, payload: &[u8], out: Output, buffer: &mut Buffer) -> Output {
+    let command = command_of(line);
+    if let Command::Wrong = command {
         return put_fault(out, Fault::Command, buffer);
     }
-    let Payload::Bytes(len) = hex.payload() else {
+    let Payload::Bytes(len) = line.tail.hex.payload() else {
         return put_fault(out, Fault::Hex, buffer);
     };
-    answer_object(is_request, tool_text::first(payload, len), out, buffer)
+    answer_command(command, tool_text::first(payload, len), out, buffer)
+}
+
+fn answer_command(command: Command, payload: &[u8], out: Output, buffer: &mut Buffer) -> Output {
+    match command {
+        Command::Wrong => put_fault(out, Fault::Command, buffer),
+        Command::Head => head::answer(payload, out, buffer),
+        Command::Read(reading) => answer_object(reading, payload, out, buffer),
+        Command::Rewrite(reading) => rewrite::answer(reading, payload, out, buffer),
+    }
 }
 
 // A payload is read as a join request, or else as a configuration.
-fn answer_object(is_request: bool, payload: &[u8], out: Output, buffer: &mut Buffer) -> Output {
-    if is_request {
-        return request::answer(payload, out, buffer);
+fn answer_object(reading: Reading, payload: &[u8], out: Output, buffer: &mut Buffer) -> Output {
+    if reading.is_request {
+        return request::answer(reading.strict, payload, out, buffer);
     }
-    configuration::answer(payload, out, buffer)
+    configuration::answer(reading.strict, payload, out, buffer)
 }
 
 // Answers the next line; an empty one and a comment are not answered.
@@ -49,13 +68,7 @@ fn answer_line(
     let line = asked.line;
     let mut session = asked.session;
     if !line.is_silent() {
-        let out = answer(
-            line.head.command,
-            line.tail.hex,
-            payload,
-            session.out,
-            buffer,
-        );
+        let out = answer(line, payload, session.out, buffer);
         session.out = out.byte(b'\n', buffer);
     }
     session
@@ -82,7 +95,8 @@ fn main() {
     let mut buffer = io::large_buffer();
     let session = Session::begin(
         b"decode: what the payloads of join requests and configurations mean (docs/TOOLS.md).\n\
-request HEX, configuration HEX\n",
+READING HEX: the object; rewrite READING HEX: the object, written again; head HEX: the first head.\n\
+READING is request, configuration, strict-request or strict-configuration.\n",
         &mut buffer,
     );
     run(session, &mut bytes, &mut payload, &mut buffer);

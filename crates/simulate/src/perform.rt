@@ -11,7 +11,6 @@ use simulate_answers::reply::start_reply;
 use simulate_commands::Command;
 use simulate_commands::Verb;
 use simulate_commands::command::byte;
-use tool_text::word::Word;
 
 // The node as the command left it, and what it is answered.
 pub struct Done {
@@ -31,13 +30,20 @@ pub fn no_node() -> Node {
 
 // The bytes as a network identifier, or none. Over 16 of them count as 17, which the library refuses.
 fn identifier(payload: &[u8], none: bool) -> HeldOctets {
-    let word = Word::new().more(payload);
-    let len = word.len;
-    let bytes = word.letters;
+    let len = counted(payload);
+    let bytes = cojp::copied(payload, 0, len);
     HeldOctets {
         held: !none,
         value: Octets { len, bytes },
     }
+}
+
+// How many bytes there are, 17 standing for any more.
+fn counted(payload: &[u8]) -> usize {
+    if 16 < payload.len() {
+        return 17;
+    }
+    payload.len()
 }
 
 // The node after a command that names it. A join request that it sends is written over the payload.

@@ -5,11 +5,13 @@ use crate::command::command_of;
 use tool_text::line::Form;
 use tool_text::output::Buffer;
 use tool_text::session::Session;
+use tool_text::word::NONE;
 
 // A command, two numbers, and a third or HEX.
 const FORM: Form = Form {
     hex_at: 3,
     is_word: true,
+    apart: NONE,
 };
 
 // What a line asks for, and the session after it.

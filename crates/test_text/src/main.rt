@@ -10,12 +10,14 @@ use tool_text::line::Tail;
 use tool_text::output::Buffer;
 use tool_text::output::Output;
 use tool_text::session::Session;
+use tool_text::word::NONE;
 use tool_text::word::Word;
 
 // A command, two numbers, and a third or HEX.
 const FORM: Form = Form {
     hex_at: 3,
     is_word: true,
+    apart: NONE,
 };
 
 fn put_number(out: Output, number: Decimal, buffer: &mut Buffer) -> Output {

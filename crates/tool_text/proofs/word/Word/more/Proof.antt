@@ -7,7 +7,7 @@ use Rattle.tool_text.proofs.word.Word.more.Statement.{statement}
 use Rattle.tool_text.proofs.word.Word.more.Tie as tie
 
 abbrev Inv-loop : tie.InvT-loop
-Inv-loop part letters₀ len₀ i₀ letters len i = (i ≤ length part) × (length letters ≡ 16)
+Inv-loop part letters₀ len₀ i₀ letters len i = (i ≤ length part) × (length letters ≡ 24)
 
 abbrev μ-loop : tie.MeasureT-loop
 μ-loop part letters₀ len₀ i₀ letters len i = length part - i

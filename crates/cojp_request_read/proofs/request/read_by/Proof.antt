@@ -4,8 +4,8 @@ use borrow.Author.Needs.{needs}
 use Rattle.cojp.specs.Request.{requestForm, nothingGathered}
 use Rattle.cojp_map.proofs.Maps.{read-refused, read-pairs}
 use Rattle.cojp_request_read.proofs.Requests.{zero-unknown, answerTo}
-use Rattle.cojp_request_read.proofs.request.read_request.Statement.{statement}
-use Rattle.cojp_request_read.proofs.request.read_request.Tie as tie
+use Rattle.cojp_request_read.proofs.request.read_by.Statement.{statement}
+use Rattle.cojp_request_read.proofs.request.read_by.Tie as tie
 
 open-payload-requires : tie.Need-open-payload-requires
 open-payload-requires c κs = search needs
@@ -28,16 +28,16 @@ answered-requires c κs = search needs
 returns : tie.Need-returns
 returns c =
     let o = c .before .before .before .before .open-payload in
-    c .refused-request .ensures ∙ ap answerTo (sym (read-refused requestForm zero-unknown nothingGathered (c .before .before .before .before .before .before .args .payload .now) (o .result) (o .ensures) (c .before .before .opened .given .0 .0) (c .before .before .opened .given .1)))
+    c .refused-request .ensures ∙ ap answerTo (sym (read-refused requestForm zero-unknown (c .before .before .before .before .before .before .args .strict) nothingGathered (c .before .before .before .before .before .before .args .payload .now) (o .result) (o .ensures) (c .before .before .opened .given .0 .0) (c .before .before .opened .given .1)))
 
 returns-2 : tie.Need-returns-2
 returns-2 c =
     let o = c .before .before .before .before .before .open-payload in
     let g = c .before .before .before .opened2 .given in
-    c .answered .ensures ∙ ap answerTo (c .before .take-pairs .ensures ∙ sym (read-pairs requestForm zero-unknown nothingGathered (c .before .before .before .before .before .before .before .args .payload .now) (o .result) (o .ensures) (g .0 .0) (g .0 .1 .0) (g .1)))
+    c .answered .ensures ∙ ap answerTo (c .before .take-pairs .ensures ∙ sym (read-pairs requestForm zero-unknown (c .before .before .before .before .before .before .before .args .strict) nothingGathered (c .before .before .before .before .before .before .before .args .payload .now) (o .result) (o .ensures) (g .0 .0) (g .0 .1 .0) (g .1)))
 
-pub read-request-spec : {M : Type 1} → statement M
-read-request-spec =
+pub read-by-spec : {M : Type 1} → statement M
+read-by-spec =
     tie.close
     (tie.spec
     open-payload-requires
