@@ -2,8 +2,7 @@
 use mathlib.Core.Path.{ap, sym, _∙_}
 use borrow.Author.Needs.{needs}
 use Rattle.cojp.specs.Configuration.{configurationForm, emptyConfiguration, configurationAnswer}
-use Rattle.cojp_map.proofs.Maps.{read-refused, pairs-readable, read-pairs}
-use Rattle.cojp_configuration_read.proofs.Configurations.{zero-unknown}
+use Rattle.cojp_map.proofs.Maps.{read-refused, read-pairs}
 use Rattle.cojp_configuration_read.proofs.configuration.read_configuration.Statement.{statement}
 use Rattle.cojp_configuration_read.proofs.configuration.read_configuration.Tie as tie
 
@@ -20,21 +19,23 @@ enum-known-opened-2 : tie.Need-enum-known-opened-2
 enum-known-opened-2 c = search needs
 
 take-pairs-requires : tie.Need-take-pairs-requires
-take-pairs-requires c κs =
-    let o = c .before .before .before .open-payload in
-    let g = c .before .opened2 .given in
-    pairs-readable configurationForm zero-unknown emptyConfiguration (c .before .before .before .before .before .args .payload .now) (o .result) (o .ensures) (g .0 .0) (g .0 .1 .0) (g .1)
+take-pairs-requires c κs = search needs
 
 returns : tie.Need-returns
 returns c =
-    let o = c .before .before .before .before .open-payload in
-    c .refused-configuration .ensures ∙ ap configurationAnswer (sym (read-refused configurationForm zero-unknown emptyConfiguration (c .before .before .before .before .before .before .args .payload .now) (o .result) (o .ensures) (c .before .before .opened .given .0 .0) (c .before .before .opened .given .1)))
+    let told = c .before .before .opened .given in
+    let opening = c .before .before .before .before .open-payload in
+    let payload = c .before .before .before .before .before .before .args .payload .now in
+    let read = read-refused configurationForm emptyConfiguration payload (opening .result) (opening .ensures) (told .0 .0) (told .1) in
+    c .refused-configuration .ensures ∙ ap configurationAnswer (sym read)
 
 returns-2 : tie.Need-returns-2
 returns-2 c =
-    let o = c .before .before .before .before .open-payload in
-    let g = c .before .before .opened2 .given in
-    c .take-pairs .ensures ∙ ap configurationAnswer (sym (read-pairs configurationForm zero-unknown emptyConfiguration (c .before .before .before .before .before .before .args .payload .now) (o .result) (o .ensures) (g .0 .0) (g .0 .1 .0) (g .1)))
+    let told = c .before .before .opened2 .given in
+    let opening = c .before .before .before .before .open-payload in
+    let payload = c .before .before .before .before .before .before .args .payload .now in
+    let read = read-pairs configurationForm emptyConfiguration payload (opening .result) (opening .ensures) (told .0 .0) (told .0 .1 .0) (told .1) in
+    c .take-pairs .ensures ∙ ap configurationAnswer (sym read)
 
 pub read-configuration-spec : {M : Type 1} → statement M
 read-configuration-spec =
