@@ -81,17 +81,25 @@ put-said {A} f v a x e = go v ∙ ap (put f) e
     go verdict.Accepted = refl
     go (verdict.Refused k) = refl
 
+pub put-put : {A B C : Type 0} (f : B → C) (g : A → B) (x : Reading A) → put f (put g x) ≡ put (λ a. f (g a)) x
+put-put f g (refused k) = refl
+put-put f g (read a) = refl
+
+-- ---- a known label: it comes again, or its value is read and put in its place
+abbrev pub ifAgain : Bool → Standing
+ifAgain true = Again
+ifAgain false = Fresh
+
+pub standing-seen : (r : Report) → standingOf r ≡ ifAgain (seen r)
+standing-seen Absent = refl
+standing-seen Taken = refl
+standing-seen Discarded = refl
+
 -- ---- the walk
 module _ {S : Type 0} (F : Form S) where
-  -- a known label: it comes again, or its value is read and put in its place
-  abbrev pub ifAgain : Bool → Standing
-  ifAgain true = Again
-  ifAgain false = Fresh
-
-  pub known-said : {P : Type 0} (c : S) (n : ℕ) (v : View) (again : Bool) (f : P → S) (x : Reading P)
-      → F .standing c n ≡ ifAgain again → F .taking c n v ≡ put f x → (w : Verdict) (q : P) → said w q ≡ once again x
-      → said w (f q) ≡ knownRead F (F .standing c n) c n v
-  known-said c n v again f x g h w q e = put-said f w q (once again x) e ∙ rw g (go again)
+  pub known-put : {P : Type 0} (c : S) (n : ℕ) (v : View) (again : Bool) (f : P → S) (x : Reading P)
+      → F .standing c n ≡ ifAgain again → F .taking c n v ≡ put f x → put f (once again x) ≡ knownRead F (F .standing c n) c n v
+  known-put c n v again f x g h = rw g (go again)
     where
       go : (again : Bool) → put f (once again x) ≡ knownRead F (ifAgain again) c n v
       go true = refl

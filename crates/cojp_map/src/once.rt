@@ -1,4 +1,5 @@
 // A known label may come once.
+use cojp::OctetsParameter;
 use cojp::OctetsRead;
 use cojp::Report;
 use cojp::no_octets;
@@ -23,12 +24,13 @@ pub fn is_seen(report: Report) -> bool
     }
 }
 
-// The byte string of `least` to 16 bytes at a place: TWICE where its label comes again.
-pub fn octets_once(s: &[u8], at: usize, again: bool, least: usize) -> OctetsRead
-    ensures { λ r. ⌜ said (r .verdict) (r .parameter) ≡ once again (octetsRead least (valueView (drop at (now (s .entry))))) ⌝ }
+// The byte string of `least` to 16 bytes at a place: TWICE where its label came before, with what is held.
+pub fn octets_once(s: &[u8], at: usize, held: OctetsParameter, least: usize) -> OctetsRead
+    ensures { λ r. ⌜ said (r .verdict) (r .parameter) ≡ once (seen (held .report)) (octetsRead least (valueView (drop at (now (s .entry))))) ⌝ }
     ensures rest { λ r. ⌜ Accepting (r .verdict) (drop (r .next) (now (s .entry)) ≡ afterValue (drop at (now (s .entry)))) ⌝ }
 {
-    if again {
+    let report = held.report;
+    if is_seen(report) {
         let none = no_octets(Report::Absent);
         return OctetsRead {
             verdict: Verdict::Refused(Refusal::Twice),
