@@ -24,7 +24,8 @@ use Rattle.link_key_set.proofs.KeySets.{allowed-few}
 use Rattle.logic_facts.specs.Tests.{both-left, both-right}
 use Rattle.cojp.specs.Reading.{Reading, refused, read, onward, put, Judgement, broken, unfit, good, concluded}
 use Rattle.cojp.specs.Octets.{octetsJudged, octetsOf, octetsParameter, noOctetsParameter}
-use Rattle.cojp.specs.Address.{isAddress, addressBy, addressIn, addressJudged, addressOf, addressParameter, noAddressParameter}
+use Rattle.short_address.specs.Address.{isAddress}
+use Rattle.cojp.specs.Address.{addressBy, addressIn, addressJudged, addressOf, addressParameter, noAddressParameter}
 use Rattle.cojp.specs.KeySet.{Groups, notGroups, groupsOf, groups, keysIn, keysJudged, keySetOf, keysParameter}
 use Rattle.cojp.specs.Walk.{knownRead, pairRead, pairsRead, mapRead, scannedRead, payloadRead, payloadReadBy}
 use Rattle.cojp.specs.Configuration.{emptyConfiguration, withKeys, withAddress, withJrc, withNetwork, withPrefix, withPassed, configurationStanding, configurationTaking, configurationForm, configurationAnswer, readConfiguration}
