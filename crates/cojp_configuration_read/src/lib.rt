@@ -1,5 +1,4 @@
 // Configurations are read from payloads: one scan, and one walk over the pairs of the map.
 mod configuration;
-mod strings;
 
 pub use configuration::read_configuration;
