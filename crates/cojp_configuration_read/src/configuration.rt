@@ -1,10 +1,6 @@
 // Configurations, which join responses and parameter updates carry.
-use crate::strings::Strings;
-use crate::strings::no_strings;
-use crate::strings::take_string;
 use cojp::AddressParameter;
 use cojp::AddressRead;
-use cojp::Configuration;
 use cojp::ConfigurationRead;
 use cojp::KeysParameter;
 use cojp::KeysRead;
@@ -18,6 +14,7 @@ use cojp_map::Start;
 use cojp_map::is_seen;
 use cojp_map::item_end;
 use cojp_map::labelled_at;
+use cojp_map::octets_once;
 use cojp_map::open_payload;
 use refusal::Refusal;
 use refusal::Verdict;
@@ -25,12 +22,11 @@ ghost use mathlib.Core.Path.{_≡_};
 ghost use lib.ListN.{drop};
 ghost use Rattle.cojp.specs.Address.{addressRead};
 ghost use Rattle.cojp.specs.Bytes.{valueView, afterValue};
-ghost use Rattle.cojp.specs.Configuration.{emptyConfiguration, configurationForm, refuseConfiguration, acceptConfiguration, configurationAnswer, readConfigurationBy, readConfiguration, readStrictConfiguration};
+ghost use Rattle.cojp.specs.Configuration.{emptyConfiguration, configurationForm, refuseConfiguration, configurationAnswer, readConfigurationBy, readConfiguration, readStrictConfiguration};
 ghost use Rattle.cojp.specs.KeySet.{keysRead};
 ghost use Rattle.cojp.specs.Reading.{said, Accepting};
 ghost use Rattle.cbor.specs.Strict.{headBy};
 ghost use Rattle.cojp_map.specs.Pairs.{seen, once, walkAt};
-ghost use Rattle.cojp_configuration_read.specs.Gathered.{gathered};
 
 fn refused_configuration(why: Refusal) -> ConfigurationRead
     ensures { λ r. ⌜ r ≡ refuseConfiguration why ⌝ }
@@ -39,31 +35,6 @@ fn refused_configuration(why: Refusal) -> ConfigurationRead
     ConfigurationRead {
         verdict: Verdict::Refused(why),
         configuration: none,
-    }
-}
-
-fn accepted_configuration(
-    keys: KeysParameter,
-    address: AddressParameter,
-    strings: Strings,
-    passed: u64,
-) -> ConfigurationRead
-    ensures { λ r. ⌜ r ≡ acceptConfiguration (gathered keys address strings passed) ⌝ }
-{
-    let jrc = strings.jrc;
-    let network = strings.network;
-    let prefix = strings.prefix;
-    let configuration = Configuration {
-        keys: keys,
-        address: address,
-        jrc: jrc,
-        network: network,
-        prefix: prefix,
-        passed: passed,
-    };
-    ConfigurationRead {
-        verdict: Verdict::Accepted,
-        configuration: configuration,
     }
 }
 
@@ -101,40 +72,54 @@ fn address_once(s: &[u8], at: usize, held: AddressParameter) -> AddressRead
     read_address(s, at)
 }
 
-// The next pairs in payload order, up to the first refusal. What is gathered is held in parts, each stored where it stands:
-// a Configuration handed down and back for each pair would cost a third of a short read.
+// The next pairs in payload order, up to the first refusal. The parameters are stored where they stand: a Configuration that is
+// handed down and back for each pair costs a third of a short read.
 fn take_pairs(s: &[u8], mut at: usize, mut left: u64) -> ConfigurationRead
     ensures { λ r. ⌜ r ≡ configurationAnswer (walkAt configurationForm left emptyConfiguration (drop at (now (s .entry)))) ⌝ }
 {
-    let mut keys = no_key_set(Report::Absent);
-    let mut address = no_address(Report::Absent);
-    let mut strings = no_strings();
-    let mut passed: u64 = 0;
+    let mut c = empty_configuration();
     while 0 < left {
         let pair = labelled_at(s, at);
         let mut verdict = pair.verdict;
         let label = pair.label;
         match label {
             2 => {
-                let r = keys_once(s, pair.value, keys);
+                let r = keys_once(s, pair.value, c.keys);
                 verdict = r.verdict;
-                keys = r.parameter;
+                let parameter = r.parameter;
+                c.keys = parameter;
                 at = r.next;
             }
             3 => {
-                let r = address_once(s, pair.value, address);
+                let r = address_once(s, pair.value, c.address);
                 verdict = r.verdict;
-                address = r.parameter;
+                let parameter = r.parameter;
+                c.address = parameter;
                 at = r.next;
             }
-            4..=6 => {
-                let r = take_string(s, pair.value, label, strings);
+            4 => {
+                let r = octets_once(s, pair.value, c.jrc, 16);
                 verdict = r.verdict;
-                strings = r.strings;
+                let parameter = r.parameter;
+                c.jrc = parameter;
+                at = r.next;
+            }
+            5 => {
+                let r = octets_once(s, pair.value, c.network, 0);
+                verdict = r.verdict;
+                let parameter = r.parameter;
+                c.network = parameter;
+                at = r.next;
+            }
+            6 => {
+                let r = octets_once(s, pair.value, c.prefix, 0);
+                verdict = r.verdict;
+                let parameter = r.parameter;
+                c.prefix = parameter;
                 at = r.next;
             }
             _ => {
-                passed += 1;
+                c.passed += 1;
                 at = item_end(s, pair.value);
             }
         }
@@ -143,7 +128,10 @@ fn take_pairs(s: &[u8], mut at: usize, mut left: u64) -> ConfigurationRead
         }
         left -= 1;
     }
-    accepted_configuration(keys, address, strings, passed)
+    ConfigurationRead {
+        verdict: Verdict::Accepted,
+        configuration: c,
+    }
 }
 
 // Reads a configuration from a payload, strictly or not.

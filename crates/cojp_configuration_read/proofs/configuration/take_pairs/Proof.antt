@@ -1,68 +1,64 @@
 -- What is still to be read from here on is what was to be read from the start; at most so many labels were passed over as there were pairs.
-use Prim.Native.Nat.{_<_}
 use native.Mathlib.Omega.{arith}
-use mathlib.Core.Path.{ap, _∙_}
+use mathlib.Core.Path.{refl, ap, _∙_}
 use mathlib.Core.Logic.{⊎-elim}
 use lib.ListN.{drop}
 use borrow.Author.Needs.{needs}
-use Rattle.cojp.specs.Configuration.{configurationForm, configurationAnswer, emptyConfiguration}
+use Rattle.cojp.specs.Bytes.{valueView}
+use Rattle.cojp.specs.Configuration.{configurationForm, configurationAnswer, emptyConfiguration, withKeys, withAddress, withJrc, withNetwork, withPrefix}
 use Rattle.cojp_map.specs.Pairs.{walkAt}
 use Rattle.cojp_map.proofs.Maps.{Walking, walk-start, walk-done, turn-stops, turn-goes}
-use Rattle.cojp_configuration_read.specs.Gathered.{gathered}
-use Rattle.cojp_configuration_read.proofs.Configurations.{Turn, turn-keys, turn-address, turn-string, turn-passed, from-four}
+use Rattle.cojp_configuration_read.proofs.Configurations.{keys-known, address-known, jrc-known, network-known, prefix-known, unknown, Turn, turn-known, turn-passed}
 use Rattle.cojp_configuration_read.proofs.configuration.take_pairs.Statement.{statement}
 use Rattle.cojp_configuration_read.proofs.configuration.take_pairs.Tie as tie
 use Rattle.cojp_configuration_read.proofs.configuration.take_pairs.Reads as reads
 use Rattle.cojp_configuration_read.proofs.configuration.take_pairs.Lts as lts
-use Rattle.cojp.proofs.no_address.Reads as no-address-reads
-use Rattle.cojp.proofs.no_key_set.Reads as no-key-set-reads
-use Rattle.cojp_configuration_read.proofs.configuration.accepted_configuration.Reads as accepted-configuration-reads
+use Rattle.cojp.proofs.empty_configuration.Reads as empty-configuration-reads
 use Rattle.cojp_configuration_read.proofs.configuration.address_once.Reads as address-once-reads
 use Rattle.cojp_configuration_read.proofs.configuration.keys_once.Reads as keys-once-reads
 use Rattle.cojp_configuration_read.proofs.configuration.refused_configuration.Reads as refused-configuration-reads
-use Rattle.cojp_configuration_read.proofs.strings.no_strings.Reads as no-strings-reads
-use Rattle.cojp_configuration_read.proofs.strings.take_string.Reads as take-string-reads
+use Rattle.cojp_map.proofs.octets_once.Reads as octets-once-reads
 use Rattle.cojp_map.proofs.item_end.Reads as item-end-reads
 use Rattle.cojp_map.proofs.labelled_at.Reads as labelled-at-reads
 
 abbrev Inv-loop : tie.InvT-loop
-Inv-loop s at₀ left₀ keys₀ address₀ strings₀ passed₀ at left keys address strings passed =
-    Walking configurationForm (walkAt configurationForm left₀ emptyConfiguration (drop at₀ s)) left₀ passed left (gathered keys address strings passed) (drop at s)
+Inv-loop s at₀ left₀ c₀ at left c =
+    Walking configurationForm (walkAt configurationForm left₀ emptyConfiguration (drop at₀ s)) left₀ (c .passed) left c (drop at s)
 
 abbrev μ-loop : tie.MeasureT-loop
-μ-loop s at₀ left₀ keys₀ address₀ strings₀ passed₀ at left keys address strings passed = left
+μ-loop s at₀ left₀ c₀ at left c = left
 
 -- what the pair that was met says, by its label
-turn : (m : lts.At-match-came (no-key-set-reads.Asked, no-key-set-reads.Learnt, no-address-reads.Asked, no-address-reads.Learnt, no-strings-reads.Asked, no-strings-reads.Learnt, labelled-at-reads.Asked, labelled-at-reads.Learnt, keys-once-reads.Asked, keys-once-reads.Learnt, address-once-reads.Asked, address-once-reads.Learnt, take-string-reads.Asked, take-string-reads.Learnt, item-end-reads.Asked, item-end-reads.Learnt, refused-configuration-reads.Asked, refused-configuration-reads.Learnt, accepted-configuration-reads.Asked, accepted-configuration-reads.Learnt) reads.Pre reads.Post Inv-loop μ-loop)
-    → Turn (m .before .before .before .loop .keys) (m .before .before .before .loop .address) (m .before .before .before .loop .strings) (m .before .before .before .loop .passed)
-    (m .before .before .before .before .before .before .before .before .args .s .now) (drop (m .before .before .before .loop .at) (m .before .before .before .before .before .before .before .before .args .s .now))
-    (m .before .labelled-at .result) (m .before .labelled-at .ensures)
-    (m .match .keys) (m .match .address) (m .match .strings) (m .match .passed) (m .match .verdict) (m .match .at)
+turn : (m : lts.At-match-came (empty-configuration-reads.Asked, empty-configuration-reads.Learnt, labelled-at-reads.Asked, labelled-at-reads.Learnt, keys-once-reads.Asked, keys-once-reads.Learnt, address-once-reads.Asked, address-once-reads.Learnt, octets-once-reads.Asked, octets-once-reads.Learnt, item-end-reads.Asked, item-end-reads.Learnt, refused-configuration-reads.Asked, refused-configuration-reads.Learnt) reads.Pre reads.Post Inv-loop μ-loop)
+    → Turn (m .before .before .before .loop .c)
+    (m .before .before .before .before .before .before .args .s .now) (drop (m .before .before .before .loop .at) (m .before .before .before .before .before .before .args .s .now))
+    (m .before .labelled-at .result) (m .before .labelled-at .ensures) (m .match .c) (m .match .verdict) (m .match .at)
 turn m =
-    let walked = m .before .before .before .loop in
-    let s = m .before .before .before .before .before .before .before .before .args .s .now in
     let p = m .before .labelled-at in
-    let k = m .match in
-    ⊎-elim (λ w. turn-keys _ _ _ _ _ _ _ (p .ensures) _ _ _ _ _ _ (w .0 .keys1) (w .1 .result) (w .1 .ensures) (w .3) (w .4) (w .5) (w .6) (w .7) (w .8))
-    (⊎-elim (λ w. turn-address _ _ _ _ _ _ _ (p .ensures) _ _ _ _ _ _ (w .0 .keys2) (w .1 .result) (w .1 .ensures) (w .3) (w .4) (w .5) (w .6) (w .7) (w .8))
-    (⊎-elim (λ w. turn-string _ _ _ _ _ _ _ (p .ensures) _ _ _ _ _ _ (from-four (p .result .label) (w .0 .rest .0 .1) (w .0 .rest .1) (w .1 .left)) (omega (arith, w .2 .taken)) (w .3 .result) (w .3 .ensures) (w .5) (w .6) (w .7) (w .8) (w .9) (w .10))
-    (λ w. turn-passed _ _ _ _ _ _ _ (p .ensures) _ _ _ _ _ _ (w .0 .rest .0 .1) (w .0 .rest .1) (λ h. ⊎-elim (λ few. omega (arith, few .taken, h .0)) (λ many. omega (arith, many .1 .left, h .1)) (w .1 .came)) (w .2 .result) (w .2 .ensures) (w .3) (w .4) (w .5) (w .6) (w .7) (w .8))))
-    (k .came)
+    let old = m .before .before .before .loop .c in
+    let s = m .before .before .before .before .before .before .args .s .now in
+    let n = p .result .label in
+    let v = valueView (drop (p .result .value) s) in
+    ⊎-elim (λ w. turn-known _ _ _ _ (p .ensures) _ _ _ (omega (arith, w .0 .keys1)) (w .1 .result .verdict) (withKeys old (w .1 .result .parameter)) (w .1 .result .next)
+    (keys-known old n v (w .0 .keys1) (w .1 .result .verdict) (w .1 .result .parameter) (w .1 .ensures .0)) (w .1 .ensures .1) refl (w .3) (w .4) (w .5))
+    (⊎-elim (λ w. turn-known _ _ _ _ (p .ensures) _ _ _ (omega (arith, w .0 .keys2)) (w .1 .result .verdict) (withAddress old (w .1 .result .parameter)) (w .1 .result .next)
+    (address-known old n v (w .0 .keys2) (w .1 .result .verdict) (w .1 .result .parameter) (w .1 .ensures .0)) (w .1 .ensures .1) refl (w .3) (w .4) (w .5))
+    (⊎-elim (λ w. turn-known _ _ _ _ (p .ensures) _ _ _ (omega (arith, w .0 .keys3)) (w .1 .result .verdict) (withJrc old (w .1 .result .parameter)) (w .1 .result .next)
+    (jrc-known old n v (w .0 .keys3) (w .1 .result .verdict) (w .1 .result .parameter) (w .1 .ensures .0)) (w .1 .ensures .1) refl (w .3) (w .4) (w .5))
+    (⊎-elim (λ w. turn-known _ _ _ _ (p .ensures) _ _ _ (omega (arith, w .0 .keys4)) (w .1 .result .verdict) (withNetwork old (w .1 .result .parameter)) (w .1 .result .next)
+    (network-known old n v (w .0 .keys4) (w .1 .result .verdict) (w .1 .result .parameter) (w .1 .ensures .0)) (w .1 .ensures .1) refl (w .3) (w .4) (w .5))
+    (⊎-elim (λ w. turn-known _ _ _ _ (p .ensures) _ _ _ (omega (arith, w .0 .keys5)) (w .1 .result .verdict) (withPrefix old (w .1 .result .parameter)) (w .1 .result .next)
+    (prefix-known old n v (w .0 .keys5) (w .1 .result .verdict) (w .1 .result .parameter) (w .1 .ensures .0)) (w .1 .ensures .1) refl (w .3) (w .4) (w .5))
+    (λ w. turn-passed _ _ _ _ (p .ensures) _ _ _ (unknown old n v (w .0 .rest .0 .0 .0 .0 .1) (w .0 .rest .0 .0 .0 .1) (w .0 .rest .0 .0 .1) (w .0 .rest .0 .1) (w .0 .rest .1))
+    (w .2 .result) (w .2 .ensures) (w .3) (w .4) (w .5)))))) (m .match .came)
 
-no-key-set-requires : tie.Need-no-key-set-requires Inv-loop μ-loop
-no-key-set-requires c κs = search needs
-
-no-address-requires : tie.Need-no-address-requires Inv-loop μ-loop
-no-address-requires c κs = search needs
-
-no-strings-requires : tie.Need-no-strings-requires Inv-loop μ-loop
-no-strings-requires c κs = search needs
+empty-configuration-requires : tie.Need-empty-configuration-requires Inv-loop μ-loop
+empty-configuration-requires c κs = search needs
 
 loop-holds : tie.Need-loop-holds Inv-loop μ-loop
 loop-holds c =
-    let a = c .before .before .before .before .args in
-    rw (c .no-strings .ensures, c .before .no-address .ensures, c .before .before .no-key-set .ensures)
-    (walk-start configurationForm (a .left) emptyConfiguration (drop (a .at) (a .s .now)))
+    let a = c .before .before .args in
+    rw (c .empty-configuration .ensures) (walk-start configurationForm (a .left) emptyConfiguration (drop (a .at) (a .s .now)))
 
 labelled-at-requires : tie.Need-labelled-at-requires Inv-loop μ-loop
 labelled-at-requires c κs = search needs
@@ -73,13 +69,19 @@ keys-once-requires c κs = search needs
 address-once-requires : tie.Need-address-once-requires Inv-loop μ-loop
 address-once-requires c κs = search needs
 
-take-string-requires : tie.Need-take-string-requires Inv-loop μ-loop
-take-string-requires c κs = search needs
+octets-once-requires : tie.Need-octets-once-requires Inv-loop μ-loop
+octets-once-requires c κs = search needs
 
-add-passed : tie.Need-add-passed Inv-loop μ-loop
-add-passed c =
-    let turn = c .before .before .before .before in
-    omega (arith, turn .loop .inv .few, c .before .before .before .loop-test .taken, turn .before .before .before .before .before .fits .left)
+octets-once-requires-2 : tie.Need-octets-once-requires-2 Inv-loop μ-loop
+octets-once-requires-2 c κs = search needs
+
+octets-once-requires-3 : tie.Need-octets-once-requires-3 Inv-loop μ-loop
+octets-once-requires-3 c κs = search needs
+
+add-c : tie.Need-add-c Inv-loop μ-loop
+add-c c =
+    let walked = c .before .before .before .before in
+    omega (arith, walked .loop .inv .few, c .before .before .before .loop-test .taken, walked .before .before .before .fits .left)
 
 item-end-requires : tie.Need-item-end-requires Inv-loop μ-loop
 item-end-requires c κs = search needs
@@ -96,7 +98,7 @@ returns c =
     let pair = c .before .before .before .before in
     let test = c .before .before .before .before .before .before .loop-test in
     let walked = c .before .before .before .before .before .before .before .loop in
-    let a = c .before .before .before .before .before .before .before .before .before .before .before .before .args in
+    let a = c .before .before .before .before .before .before .before .before .before .before .args in
     c .refused-configuration .ensures
     ∙ ap configurationAnswer (turn-stops configurationForm _ _ (a .s .now) _ (walked .inv) (omega (arith, test .taken)) (pair .match .verdict) _ (pair .match .at) (turn pair .turned) (why .0 .0) (why .1))
 
@@ -114,16 +116,13 @@ loop-again c =
     let pair = c .before .before in
     let test = c .before .before .before .before .loop-test in
     let walked = c .before .before .before .before .before .loop in
-    let a = c .before .before .before .before .before .before .before .before .before .before .args in
-    turn-goes configurationForm _ _ (a .s .now) _ (walked .inv) (omega (arith, test .taken)) (pair .match .verdict) _ (pair .match .at) (turn pair .turned) (c .enum-told .given .1) (pair .match .passed) (turn pair .few)
-
-accepted-configuration-requires : tie.Need-accepted-configuration-requires Inv-loop μ-loop
-accepted-configuration-requires c κs = search needs
+    let a = c .before .before .before .before .before .before .before .before .args in
+    turn-goes configurationForm _ _ (a .s .now) _ (walked .inv) (omega (arith, test .taken)) (pair .match .verdict) _ (pair .match .at) (turn pair .turned) (c .enum-told .given .1) (pair .match .c .passed) (turn pair .few)
 
 returns-2 : tie.Need-returns-2 Inv-loop μ-loop
 returns-2 c =
-    let walked = c .before .before .loop in
-    c .accepted-configuration .ensures ∙ ap configurationAnswer (walk-done configurationForm _ _ (walked .inv) (omega (arith, c .before .loop-test .left)))
+    let walked = c .before .loop in
+    ap configurationAnswer (walk-done configurationForm _ _ (walked .inv) (omega (arith, c .loop-test .left)))
 
 pub take-pairs-spec : {M : Type 1} → statement M
 take-pairs-spec =
@@ -131,15 +130,15 @@ take-pairs-spec =
     (tie.spec
     Inv-loop
     μ-loop
-    no-key-set-requires
-    no-address-requires
-    no-strings-requires
+    empty-configuration-requires
     loop-holds
     labelled-at-requires
     keys-once-requires
     address-once-requires
-    take-string-requires
-    add-passed
+    octets-once-requires
+    octets-once-requires-2
+    octets-once-requires-3
+    add-c
     item-end-requires
     enum-known-verdict
     refused-configuration-requires
@@ -148,5 +147,4 @@ take-pairs-spec =
     sub-left
     loop-less
     loop-again
-    accepted-configuration-requires
     returns-2)
