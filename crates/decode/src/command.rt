@@ -51,20 +51,20 @@ fn rewrite_of(word: Word) -> Command {
 
 fn reading_of(word: Word) -> Named {
     if word.is(b"request") {
-        return reading(true, false);
+        return reading_as(true, false);
     }
     if word.is(b"configuration") {
-        return reading(false, false);
+        return reading_as(false, false);
     }
     if word.is(b"strict-request") {
-        return reading(true, true);
+        return reading_as(true, true);
     }
     if word.is(b"strict-configuration") {
-        return reading(false, true);
+        return reading_as(false, true);
     }
     Named::Nothing
 }
 
-fn reading(is_request: bool, strict: bool) -> Named {
+fn reading_as(is_request: bool, strict: bool) -> Named {
     Named::As(Reading { is_request, strict })
 }
