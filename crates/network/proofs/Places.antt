@@ -10,14 +10,14 @@ use Rattle.link_key_set.specs.KeySet.{Covers}
 use Rattle.link_key.specs.declared.Key.{Key}
 use Rattle.node.specs.Node.{emptyNode}
 use Rattle.node_laws.specs.Calls.{NodeCall, starting, polling, delivering, asking, sending, receiving, reporting, perform}
-use Rattle.node_laws.specs.Laws.{KeysStay, NodeLaws}
+use Rattle.node_laws.specs.Laws.{KeysStay, CanSend, NodeLaws}
 use Rattle.node.specs.declared.node.Node.{Node}
 use Rattle.network.specs.Network.{Network, nodeAt, withNode}
 use Rattle.network.specs.Events.{Event, turning, calling, step, run, Permitted, Comes, Come}
 use Rattle.network.specs.Rounds.{Links, Linked, AllLinked}
 use Rattle.network.specs.Turn.{turn}
 use Rattle.network.proofs.Turns.{stay-self, sender-stays, receiver-role}
-use Rattle.network.proofs.Receiving.{Kind, new, Quiet, Is, becomes, stays-is, turn-becomes}
+use Rattle.network.proofs.Receiving.{Kind, new, Quiet, Is, becomes, stays-is, turn-becomes, new-can}
 use Rattle.network.proofs.Flood.{Kinds, with, moves, flows, still}
 
 -- ---- one node replaced
@@ -79,13 +79,13 @@ module _ (L : NodeLaws) (ks : List Key) where
   call-stays n (receiving type identifier) h = absurd h
   call-stays n (reporting type identifier) h = absurd h
 
-  -- a node that has switched is asked for a type that the set covers
-  abbrev Fits : Kinds → Event → Type 0
-  Fits kinds (turning i j type) = kinds i ≡ new → Covers ks type
-  Fits kinds (calling i c) = Unit {0}
+  -- a node that has switched can send the type that it is asked for
+  abbrev Ready : Kinds → Network → Event → Type 0
+  Ready kinds net (turning i j type) = kinds i ≡ new → CanSend (nodeAt net i) type
+  Ready kinds net (calling i c) = Unit {0}
 
   step-are :
-      (kinds : Kinds) (net : Network) (e : Event) → Comes net e → Fits kinds e → Are ks kinds net →
+      (kinds : Kinds) (net : Network) (e : Event) → Comes net e → Ready kinds net e → Are ks kinds net →
       Are ks (moves kinds e) (step net e)
   unfolding step Comes
   step-are kinds net (turning i j type) h f a =
@@ -101,11 +101,11 @@ module _ (L : NodeLaws) (ks : List Key) where
   -- where no node has switched, each node's kind stays, whatever the frame types
   module _ (kinds : Kinds) (quiet : (k : ℕ) → Quiet (kinds k)) where
     pub step-quiet : (net : Network) (e : Event) → Comes net e → Are ks kinds net → Are ks kinds (step net e)
-    step-quiet net e h a k l = rw (still kinds quiet e k) at (step-are kinds net e h (fits e) a k l)
+    step-quiet net e h a k l = rw (still kinds quiet e k) at (step-are kinds net e h (ready e) a k l)
       where
-        fits : (e : Event) → Fits kinds e
-        fits (turning i j type) = λ w. absurd (rw w at (quiet i))
-        fits (calling i c) = tt
+        ready : (e : Event) → Ready kinds net e
+        ready (turning i j type) = λ w. absurd (rw w at (quiet i))
+        ready (calling i c) = tt
 
     pub run-quiet : (net : Network) (es : List Event) → Come net es → Are ks kinds net → Are ks kinds (run net es)
     unfolding run Come
@@ -114,9 +114,10 @@ module _ (L : NodeLaws) (ks : List Key) where
 
   -- with turns of a type that the set covers, the kinds flow
   module _ (links : Links) (type : ℕ) (covering : Covers ks type) where
-    fits : (kinds : Kinds) (e : Event) → Linked links type e → Fits kinds e
-    fits kinds (turning i j u) l = λ w. rw (l .1) covering
-    fits kinds (calling i c) l = tt
+    ready : (kinds : Kinds) (net : Network) (e : Event) → Comes net e → Linked links type e → Are ks kinds net → Ready kinds net e
+    unfolding Comes
+    ready kinds net (turning i j u) h l a = λ w. rw (l .1) (new-can L ks (nodeAt net i) type covering (rw w at (a i (h .0))))
+    ready kinds net (calling i c) h l a = tt
 
     pub run-flows :
         (kinds : Kinds) (net : Network) (es : List Event) → Come net es → AllLinked links type es → Are ks kinds net →
@@ -125,7 +126,7 @@ module _ (L : NodeLaws) (ks : List Key) where
     run-flows kinds net [] h l a = a
     run-flows kinds net (e ∷ es) h l a =
         run-flows (moves kinds e) (step net e) es (h .1) (λ x m. l x (List·Memᴰ·tail m))
-        (step-are kinds net e (h .0) (fits kinds e (l e (List·Memᴰ·head refl))) a)
+        (step-are kinds net e (h .0) (ready kinds net e (h .0) (l e (List·Memᴰ·head refl)) a) a)
 
 -- ---- sizes and roles stay
 pub size-step : (net : Network) (e : Event) → length (step net e) ≡ length net

@@ -9,7 +9,7 @@ use Rattle.link_key.specs.declared.Key.{Key}
 use Rattle.node.specs.Node.{activeOf, pendingOf}
 use Rattle.node.specs.Range.{Valid}
 use Rattle.node.specs.Frames.{send}
-use Rattle.node_laws.specs.Laws.{KeysStay, Sends, NodeLaws}
+use Rattle.node_laws.specs.Laws.{KeysStay, CanSend, Sends, NodeLaws}
 use Rattle.node.specs.declared.node.Node.{Node}
 use Rattle.network.specs.Events.{Under}
 use Rattle.network.specs.Turn.{turn}
@@ -100,15 +100,15 @@ module _ (L : NodeLaws) (ks : List Key) (a b : Node) (type : ℕ) where
       moved d = absurd (other (send a type .key) (d .by .key) (d .sends .member) (rw (w .pending) at (d .by .member)) (sym (d .by .identified)))
 
   -- and it switches when one sends that has it
-  old-receives-new : Covers ks type → IsNew ks a → IsOld ks b → IsNew ks (turn a b type .receiver)
-  old-receives-new covering s w =
-      let sends : Sends a type = L .can-send a type (s .valid) (L .covers-can a type (rw (s .active) covering)) in
+  old-receives-new : CanSend a type → IsNew ks a → IsOld ks b → IsNew ks (turn a b type .receiver)
+  old-receives-new can s w =
+      let sends : Sends a type = L .can-send a type (s .valid) can in
       let member : List·Memᴰ (send a type .key) ks = rw (s .active) at (sends .member) in
       let d = receiver-switches L a b type (w .valid) sends (λ k m e. w .active k (send a type .key) m member e) (rw (w .pending) member) in
       record { valid = d .valid (w .valid); active = d .active ∙ w .pending; pending = d .pending }
 
-  -- the table, with a type that the set covers where the sender has switched
-  pub turn-becomes : (s k : Kind) → (s ≡ new → Covers ks type) → Is ks s a → Is ks k b → Is ks (becomes s k) (turn a b type .receiver)
+  -- the table, where a sender that has switched can send
+  pub turn-becomes : (s k : Kind) → (s ≡ new → CanSend a type) → Is ks s a → Is ks k b → Is ks (becomes s k) (turn a b type .receiver)
   turn-becomes apart apart c p q = apart-receives q
   turn-becomes apart old c p q = old-receives-other (p .active) q
   turn-becomes apart new c p q = new-receives q
@@ -120,6 +120,10 @@ module _ (L : NodeLaws) (ks : List Key) (a b : Node) (type : ℕ) where
   turn-becomes new new c p q = new-receives q
 
 module _ (L : NodeLaws) (ks : List Key) (a : Node) (type : ℕ) where
+  -- a node that has switched can send a type that the set covers
+  pub new-can : Covers ks type → IsNew ks a → CanSend a type
+  new-can covering w = L .covers-can a type (rw (w .active) covering)
+
   -- a node that has not switched sends nothing under the set
   other-sends : Apart (activeOf a) ks → Under ks (send a type) → ⊥
   other-sends other u = other (send a type .key) (send a type .key) (L .send-from a type (u .accepted) .member) (u .member) refl

@@ -23,7 +23,7 @@ use Rattle.network.specs.Network.{Network, nodeAt}
 use Rattle.network.specs.Events.{Event, turning, calling, step, run, Comes, Come, answers, Under}
 use Rattle.network.specs.Rounds.{Links, Neighbours, Hops, AllLinked, Rounds}
 use Rattle.network.specs.Demand3.{Supposed, NoneSendsUnder, Rekeyed, handed, Demand3}
-use Rattle.network.proofs.Receiving.{apart, old, new, Quiet, Carries, IsNew, Is, none-apart, kind-valid, quiet-sends}
+use Rattle.network.proofs.Receiving.{apart, old, new, Quiet, Carries, IsNew, Is, none-apart, kind-valid, new-can, quiet-sends}
 use Rattle.network.proofs.Flood.{Kinds, with, flows, far}
 use Rattle.network.proofs.Places.{Are, are-with, size-with, size-run, run-role, step-quiet, run-quiet, run-flows}
 
@@ -74,7 +74,7 @@ module _ (L : NodeLaws) where
   -- ---- after: a node that has switched is as demand 3 says
   rekeyed : (ks : List Key) (type : ℕ) (n : Node) → Covers ks type → IsNew ks n → Rekeyed ks type n
   rekeyed ks type n covering w =
-      let s = L .can-send n type (w .valid) (L .covers-can n type (rw (w .active) covering)) in
+      let s = L .can-send n type (w .valid) (new-can L ks n type covering w) in
       record {
         active = w .active;
         none-pending = w .pending;

@@ -38,12 +38,12 @@ Receives a b type m = KeysStay b m ⊎ Moved a b type m
 
 -- a turn ends with the receiver as it was, or the send was answered and the receiver is told that the frame is verified
 module _ (a b : Node) (type : ℕ) (P : Turned → Type 0) (same : (x : Answer) → P (turned (afterSend a type) b x))
-    (verifies : send a type .verdict ≡ Accepted → P (told (afterSend a type) (verified b type (frameId a type)))) where
+    (verifies : send a type .verdict ≡ Accepted → P (told (afterSend a type) b (verified b type (frameId a type)))) where
   at-radio : (e : send a type .verdict ≡ Accepted) (l : Key) → P (judged (afterSend a type) b type (send a type .key) l)
   unfolding judged
   at-radio e l = go (sameKey (send a type .key) l)
     where
-      go : (x : Bool) → P (cond x (told (afterSend a type) (verified b type (frameId a type))) (turned (afterSend a type) b Failed))
+      go : (x : Bool) → P (cond x (told (afterSend a type) b (verified b type (frameId a type))) (turned (afterSend a type) b Failed))
       go true = verifies e
       go false = same Failed
 

@@ -25,14 +25,14 @@ answerOf (change.Refused k) = Refused k
 answerOf change.Switched = Switched
 answerOf change.Kept = Kept
 
--- the receiver was told that the frame is verified
-abbrev pub told : Node → Reported → Turned
-told sender h = turned sender (h .node) (answerOf (h .change))
+-- the receiver was told that the frame is verified: what the report made of it
+abbrev pub told : Node → Node → Reported → Turned
+told sender receiver report = turned sender (report .node) (answerOf (report .change))
 
 -- the radio: a frame is verified exactly where the key sent with and the key found are equal; one that failed is no call
 unfoldable pub judged : Node → Node → ℕ → Key → Key → Turned
 judged sender receiver type sent found =
-    cond (sameKey sent found) (told sender (verified receiver type (sent .identifier))) (turned sender receiver Failed)
+    cond (sameKey sent found) (told sender receiver (verified receiver type (sent .identifier))) (turned sender receiver Failed)
 
 -- the receiver's answer; a refusal ends the turn
 abbrev pub received : Node → Node → ℕ → Key → Verdict → Key → Turned

@@ -11,10 +11,8 @@ use Rattle.cojp.specs.KeySet.{keyOf, keySetOf}
 use Rattle.cojp.specs.Octets.{octetsOf}
 use Rattle.node_key_sets.specs.Sets.{twoSets}
 use Rattle.node_attempt.specs.Attempt.{attempt}
-use Rattle.node_parameters.specs.Lease.{absentAddress}
-use Rattle.node_parameters.specs.Octets.{absentOctets}
 use Rattle.node_attempt.specs.declared.attempt.Phase.the-variants.{Joined}
-use Rattle.node.specs.Node.{activeOf, pendingOf}
+use Rattle.node.specs.Node.{activeOf, pendingOf, freshNode, attempting, keyed}
 use Rattle.node_laws.specs.Calls.{starting, polling, delivering}
 use Rattle.node_laws.specs.Laws.{Takes}
 use Rattle.node_delivery.specs.declared.Delivery.the-variants.{JoinAnswer, Update}
@@ -37,15 +35,8 @@ cafe = record { held = true; value = octetsOf (0xCA ∷ 0xFE ∷ []) }
 
 -- a node that joined at time 12,000
 abbrev pub joined : ℕ → KeySet → Node
-joined role pending = record {
-  role = role;
-  attempt = attempt Joined 12000 10000 10000 0;
-  sets = twoSets (keySetOf oldKeys) pending;
-  address = absentAddress;
-  jrc = absentOctets;
-  network = cafe;
-  prefix = absentOctets;
-}
+joined role pending =
+    attempting (keyed (freshNode role cafe) (twoSets (keySetOf oldKeys) pending)) (attempt Joined 12000 10000 10000 0)
 
 -- the border router, one in the middle, and one far from it
 abbrev pub line : Network

@@ -33,4 +33,6 @@ pub fn rekey_of_a_line()
 // A turn's answer in document 01's numbers and values.
 pub fn turns_say()
     ensures { λ r. ⌜ EveryTurnSays ⌝ }
-{}
+{
+    node_laws::answers_say();
+}

@@ -80,6 +80,10 @@ abbrev pub deliverBy : Verdict → Delivery → Node → ℕ → ConfigurationRe
 deliverBy (verdict.Refused k) delivery n time r = undelivered k n
 deliverBy verdict.Accepted delivery n time r = applyRead (r .verdict) delivery n time (r .configuration)
 
+-- how the node reads a payload: every node reads the same form
+abbrev pub readFor : Node → List ℕ → ConfigurationRead
+readFor n payload = readConfiguration payload
+
 -- a payload is handed over: then reading and applying
 unfoldable pub deliver : Delivery → Node → ℕ → List ℕ → Delivered
-deliver delivery n time payload = deliverBy (deliverVerdict delivery n time (length payload)) delivery n time (readConfiguration payload)
+deliver delivery n time payload = deliverBy (deliverVerdict delivery n time (length payload)) delivery n time (readFor n payload)

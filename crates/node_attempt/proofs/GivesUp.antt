@@ -3,10 +3,11 @@ use Prim.Native.Nat.{ℕ, _+_, _-_, _*_, _<_}
 use native.Mathlib.Omega.{arith}
 use mathlib.Core.Path.{_≡_, refl, _∙_}
 use mathlib.Core.Bool.{true}
-use borrow.Author.Tests.{le-leb, lt-ltb, le-ltb}
+use borrow.Author.Tests.{le-leb, lt-ltb, le-ltb, leb-true}
 use lib.Dec.{leb}
+use Rattle.logic_facts.specs.Tests.{both-left, both-right}
 use Rattle.node_attempt.specs.Attempt.{attempt, valid, waitingFrom}
-use Rattle.node_attempt.specs.Poll.{step, stepped, poll, dueAt, AttemptGivesUp}
+use Rattle.node_attempt.specs.Poll.{step, stepped, poll, dueAt, afterDue, AttemptGivesUp}
 use Rattle.node_attempt.specs.declared.attempt.Attempt.{Attempt}
 use Rattle.node_attempt.specs.declared.attempt.Phase.the-variants as phase
 use Rattle.node_attempt.specs.declared.poll.Due.the-variants.{SendAgain, GaveUp}
@@ -81,8 +82,13 @@ attempt-gives-up time t f =
     let s3 = due-again (next (next a)) _ _ _ (s2 .1) (omega arith) in
     let s4 = due-again (next (next (next a))) _ _ _ (s3 .1) (omega arith) in
     let s5 = due-over (next (next (next (next a)))) _ _ _ (s4 .1) refl in
+    let at : afterDue 5 a .clock ≡ time + 31 * t = s5 .2 ∙ (omega arith) in
+    let least = leb-true 10000 t (both-left (leb 10000 t) (leb t 15000) f) in
+    let most = leb-true t 15000 (both-right (leb 10000 t) (leb t 15000) f) in
     record {
       answers = rw (s1 .0, s2 .0, s3 .0, s4 .0, s5 .0);
       end = s5 .1;
-      at = s5 .2 ∙ (omega arith);
+      at = at;
+      earliest = rw at (omega (arith, least));
+      latest = rw at (omega (arith, most));
     }

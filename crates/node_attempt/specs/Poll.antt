@@ -1,5 +1,5 @@
 -- Polling a join attempt: when the request is to be sent again, and when the node gives up.
-use Prim.Native.Nat.{ℕ, zero, suc, _+_, _-_, _*_}
+use Prim.Native.Nat.{ℕ, zero, suc, _+_, _-_, _*_, _≤_}
 use mathlib.Core.Path.{_≡_}
 use mathlib.Core.Bool.{Bool, true, false, cond}
 use mathlib.Core.List.{List, [], _∷_}
@@ -49,6 +49,13 @@ dueNumber NotYet = 0
 dueNumber SendAgain = 0
 dueNumber GaveUp = 0
 
+-- nothing is due yet
+abbrev pub notYet : Due → Bool
+notYet (Refused k) = false
+notYet NotYet = true
+notYet SendAgain = false
+notYet GaveUp = false
+
 -- the request is to be sent again
 abbrev pub sendsAgain : Due → Bool
 sendsAgain (Refused k) = false
@@ -77,11 +84,13 @@ abbrev pub answersDue : ℕ → Attempt → List Due
 answersDue zero a = []
 answersDue (suc polls) a = poll a (dueAt a) .due ∷ answersDue polls (poll a (dueAt a) .attempt)
 
--- polled exactly when due, an attempt with first timeout t sends four times more, and gives up 31t after its start
+-- polled exactly when due, an attempt with first timeout t sends four times more, and gives up 31t after its start: 310,000 to 465,000 ms
 pub record GaveUpAfter (time timeout : ℕ) : Type 0 where
   pub answers : answersDue 5 (waitingFrom time timeout) ≡ SendAgain ∷ SendAgain ∷ SendAgain ∷ SendAgain ∷ GaveUp ∷ []
   pub end : afterDue 5 (waitingFrom time timeout) .phase ≡ phase.GaveUp
   pub at : afterDue 5 (waitingFrom time timeout) .clock ≡ time + 31 * timeout
+  pub earliest : time + 310000 ≤ afterDue 5 (waitingFrom time timeout) .clock
+  pub latest : afterDue 5 (waitingFrom time timeout) .clock ≤ time + 465000
 
 abbrev pub AttemptGivesUp : Type 0
 AttemptGivesUp = (time timeout : ℕ) → firstTimeout timeout ≡ true → GaveUpAfter time timeout

@@ -10,7 +10,7 @@ use Rattle.link_key_set.specs.KeySet.{keysOf, noKeys, allowed, allowedSet, same
 use Rattle.link_key.specs.declared.Key.{Key}
 use Rattle.link_key_set.specs.declared.key_set.KeySet.{KeySet}
 use Rattle.link_key_set.proofs.KeySets.{apart-shares, shares-turned, set-allowed}
-use Rattle.node_key_sets.specs.Sets.{activeIn, pendingIn, twoSets, isNone, noneOrValid, valid, placed, unplaced, install}
+use Rattle.node_key_sets.specs.Sets.{activeIn, pendingIn, twoSets, isNone, noneOrValid, valid, unplaced, place, install}
 use Rattle.node_key_sets.specs.Frames.{switched}
 use Rattle.node_key_sets.specs.declared.sets.KeySets.{KeySets}
 use Rattle.node_key_sets.specs.declared.sets.Placement.{Placement}
@@ -70,14 +70,9 @@ member-allowed set k e m = go (isNone set) refl
     go false p = let q : allowedSet set ≡ true = rw p at e in set-allowed set q .1
 
 -- ---- a new set
--- where it goes, by the answers to the tests: is it within its limits, is the node a border node, are its keys the active ones, is an
--- identifier shared
+-- the answer, by whether the set is within its limits and by the three questions of its placing
 abbrev pub placeBy : KeySets → KeySet → Bool → Bool → Bool → Bool → Placement
-placeBy s set ok border same shared =
-    cond ok
-    (cond border (placed (twoSets set noKeys))
-    (cond same (placed (twoSets (s .active) noKeys)) (cond shared (unplaced refusal.Clash s) (placed (twoSets (s .active) set)))))
-    (unplaced refusal.Range s)
+placeBy s set ok border equals shared = cond ok (place s set border equals shared) (unplaced refusal.Range s)
 
 module _ (s : KeySets) (set : KeySet) where
   set-valid : allowedSet set ≡ true → noneOrValid set ≡ true

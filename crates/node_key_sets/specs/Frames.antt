@@ -75,6 +75,12 @@ changeNumber (change.Refused k) = numberOf k
 changeNumber change.Switched = 0
 changeNumber change.Kept = 0
 
+-- the frame's key was active, and the active set stays
+abbrev pub hasKept : Change → Bool
+hasKept (change.Refused k) = false
+hasKept change.Switched = false
+hasKept change.Kept = true
+
 -- the pending set became active
 abbrev pub hasSwitched : Change → Bool
 hasSwitched (change.Refused k) = false

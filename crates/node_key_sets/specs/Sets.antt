@@ -45,16 +45,19 @@ placed s = record { verdict = verdict.Accepted; sets = s }
 abbrev pub unplaced : Refusal → KeySets → Placement
 unplaced k s = record { verdict = verdict.Refused k; sets = s }
 
--- a border node's new set replaces its active set at once; at an ordinary node a set equal to the active one empties the pending place,
--- one that otherwise shares an identifier with the active one is CLASH, and any other replaces what is pending
-abbrev pub place : Bool → KeySets → KeySet → Placement
-place border s set =
+-- a border node's new set replaces its active set at once; at an ordinary node one that equals the active set empties the pending place,
+-- one that otherwise shares an identifier with the active set is CLASH, and any other replaces what is pending
+abbrev pub place : KeySets → KeySet → Bool → Bool → Bool → Placement
+place s set border equals shared =
     cond border
     (placed (twoSets set noKeys))
-    (cond (sameKeys (keysOf set) (activeIn s))
+    (cond equals
     (placed (twoSets (s .active) noKeys))
-    (cond (shares (keysOf set) (activeIn s)) (unplaced refusal.Clash s) (placed (twoSets (s .active) set))))
+    (cond shared (unplaced refusal.Clash s) (placed (twoSets (s .active) set))))
 
 -- RANGE: the new set; CLASH
 unfoldable pub install : Bool → KeySets → KeySet → Placement
-install border s set = cond (allowedSet set) (place border s set) (unplaced refusal.Range s)
+install border s set =
+    cond (allowedSet set)
+    (place s set border (sameKeys (keysOf set) (activeIn s)) (shares (keysOf set) (activeIn s)))
+    (unplaced refusal.Range s)

@@ -28,7 +28,6 @@ use Rattle.node_attempt.proofs.Attempts.{moved-valid, joined-valid}
 use Rattle.node_parameters.proofs.Leases.{later}
 use Rattle.cojp.specs.Reading.{ifTaken}
 use Rattle.short_address.specs.Address.{isAddress}
-use Rattle.cojp.specs.Configuration.{readConfiguration}
 use Rattle.cojp.specs.declared.address.ShortAddress.{ShortAddress}
 use Rattle.cojp.specs.declared.configuration.Configuration.{Configuration}
 use Rattle.cojp.specs.declared.configuration.ConfigurationRead.{ConfigurationRead}
@@ -39,7 +38,7 @@ use Rattle.node_parameters.specs.Octets.{validOctets, validJrc, octetsAfter}
 use Rattle.node_parameters.specs.Reports.{noReports, discarded, reportsOf}
 use Rattle.node.specs.Node.{isBorder, clockOf, validRole}
 use Rattle.node.specs.Range.{othersValid, valid, Valid}
-use Rattle.node.specs.Delivery.{placementOf, configured, undelivered, delivered, owesIdentifier, placedBy, apply, deliverVerdict, applyRead, deliverBy, deliver}
+use Rattle.node.specs.Delivery.{placementOf, configured, undelivered, delivered, owesIdentifier, placedBy, apply, deliverVerdict, applyRead, deliverBy, readFor, deliver}
 use Rattle.node_delivery.specs.Delivery.{attemptAfter, belongs, mayCome}
 use Rattle.node_laws.specs.Laws.{Takes, Installed}
 use Rattle.node_delivery.specs.declared.Delivery.{Delivery}
@@ -88,19 +87,19 @@ module _ (n : Node) where
 
   pub deliver-leaves : (delivery : Delivery) (time : ℕ) (payload : List ℕ) → Leaves n (deliver delivery n time payload)
   unfolding deliver
-  deliver-leaves delivery time payload = by-leaves (deliverVerdict delivery n time (length payload)) delivery time (readConfiguration payload)
+  deliver-leaves delivery time payload = by-leaves (deliverVerdict delivery n time (length payload)) delivery time (readFor n payload)
 
 -- ---- an accepted configuration
 -- the tests before it passed
 record Passed (delivery : Delivery) (n : Node) (time : ℕ) (payload : List ℕ) : Type 0 where
   later : clockOf n ≤ time
-  read : readConfiguration payload .verdict ≡ verdict.Accepted
-  placed : placementOf n (readConfiguration payload .configuration .keys) .verdict ≡ verdict.Accepted
+  read : readFor n payload .verdict ≡ verdict.Accepted
+  placed : placementOf n (readFor n payload .configuration .keys) .verdict ≡ verdict.Accepted
   is :
       deliver delivery n time payload
-      ≡ delivered (reportsOf (isBorder n) (readConfiguration payload .configuration))
-      (configured delivery n time (readConfiguration payload .configuration) (placementOf n (readConfiguration payload .configuration .keys) .sets)
-      (reportsOf (isBorder n) (readConfiguration payload .configuration)))
+      ≡ delivered (reportsOf (isBorder n) (readFor n payload .configuration))
+      (configured delivery n time (readFor n payload .configuration) (placementOf n (readFor n payload .configuration .keys) .sets)
+      (reportsOf (isBorder n) (readFor n payload .configuration)))
 
 -- a test that refuses where it is true did not
 failed : (b : Bool) (x : Delivered) (k : Refusal) (n : Node) → cond b (undelivered k n) x .verdict ≡ verdict.Accepted → b ≡ false
@@ -143,19 +142,24 @@ not-early delivery n time len = go (valid n) (attempt.valid (n .attempt)) (leb l
 
 module _ (delivery : Delivery) (n : Node) (time : ℕ) (payload : List ℕ) where
   abbrev c : Configuration
-  c = readConfiguration payload .configuration
+  c = readFor n payload .configuration
 
   accepted-passed : deliver delivery n time payload .verdict ≡ verdict.Accepted → Passed delivery n time payload
   unfolding deliver apply
   accepted-passed e =
-      let v = accepted-by (deliverVerdict delivery n time (length payload)) delivery n time (readConfiguration payload) e in
+      let v = accepted-by (deliverVerdict delivery n time (length payload)) delivery n time (readFor n payload) e in
       let e1 = rw v at e in
-      let r = accepted-read (readConfiguration payload .verdict) delivery n time c e1 in
+      let r = accepted-read (readFor n payload .verdict) delivery n time c e1 in
       let e2 = rw r at e1 in
       let o = failed (owesIdentifier delivery n (c .network .report)) _ refusal.Owed n e2 in
       let e3 = rw o at e2 in
       let p = accepted-placed (placementOf n (c .keys) .verdict) delivery n time c (placementOf n (c .keys) .sets) e3 in
       record { later = leb-true (clockOf n) time (not-early delivery n time (length payload) v); read = r; placed = p; is = rw (v, r, o, p) }
+
+pub accepted-reports :
+    (delivery : Delivery) (n : Node) (time : ℕ) (payload : List ℕ) → deliver delivery n time payload .verdict ≡ verdict.Accepted →
+    deliver delivery n time payload .reports ≡ reportsOf (isBorder n) (readFor n payload .configuration)
+accepted-reports delivery n time payload e = ap (λ (m : Delivered). m .reports) (accepted-passed delivery n time payload e .is)
 
 -- ---- key sets
 placement-valid :
@@ -230,7 +234,7 @@ deliver-valid delivery n time payload v = go (deliver delivery n time payload .v
     go verdict.Accepted e =
         let p = accepted-passed delivery n time payload e in
         rw (p .is)
-        (configured-valid delivery n time (readConfiguration payload .configuration) v (p .later) (read-in-range payload (p .read)))
+        (configured-valid delivery n time (readFor n payload .configuration) v (p .later) (read-in-range payload (p .read)))
 
 pub deliver-role : (delivery : Delivery) (n : Node) (time : ℕ) (payload : List ℕ) → deliver delivery n time payload .node .role ≡ n .role
 deliver-role delivery n time payload = go (deliver delivery n time payload .verdict) refl
@@ -254,7 +258,7 @@ pub border-takes :
 unfolding configured reportsOf
 border-takes delivery n time payload ks v b h =
     let p = accepted-passed delivery n time payload (h .accepted) in
-    let c = readConfiguration payload .configuration in
+    let c = readFor n payload .configuration in
     let taken : c .keys .report ≡ Taken = sym (ap (λ (m : Delivered). m .reports .keys) (p .is)) ∙ h .taken in
     let place = border-place n (c .keys .report) (c .keys .value) b taken (p .placed) in
     record {

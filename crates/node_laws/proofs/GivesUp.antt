@@ -1,7 +1,7 @@
 -- Polled when due, a valid node answers as its join attempt does, which gives up 31t after its start.
-use Prim.Native.Nat.{ℕ, zero, suc}
+use Prim.Native.Nat.{ℕ, zero, suc, _+_, _≤_}
 use native.Mathlib.Omega.{arith}
-use mathlib.Core.Path.{_≡_, refl, _∙_, ap}
+use mathlib.Core.Path.{_≡_, refl, sym, _∙_, ap, subst}
 use mathlib.Core.List.{List}
 use Rattle.refusal.specs.Verdict.{refused-not}
 use Rattle.refusal.specs.declared.Refusal.{Refusal}
@@ -69,8 +69,11 @@ gives-up n time timeout d e =
     let g = attempt-gives-up time timeout (may-start (n .attempt) time timeout (p .1) .2) in
     let v : Valid (start n time timeout d .node) = start-stays n time timeout d .valid (p .0) in
     let a : start n time timeout d .node .attempt ≡ waitingFrom time timeout = ap (λ (x : Node). x .attempt) (s .1) in
+    let end = after-same 5 (start n time timeout d .node) v ∙ ap (attempt.afterDue 5) a in
     record {
       answers = answers-same 5 (start n time timeout d .node) v ∙ ap (attempt.answersDue 5) a ∙ g .answers;
-      end = ap (λ (x : Attempt). x .phase) (after-same 5 (start n time timeout d .node) v ∙ ap (attempt.afterDue 5) a) ∙ g .end;
-      at = ap (λ (x : Attempt). x .clock) (after-same 5 (start n time timeout d .node) v ∙ ap (attempt.afterDue 5) a) ∙ g .at;
+      end = ap (λ (x : Attempt). x .phase) end ∙ g .end;
+      at = ap (λ (x : Attempt). x .clock) end ∙ g .at;
+      earliest = subst (λ (x : Attempt). time + 310000 ≤ x .clock) (sym end) (g .earliest);
+      latest = subst (λ (x : Attempt). x .clock ≤ time + 465000) (sym end) (g .latest);
     }

@@ -1,5 +1,5 @@
 -- What the layer above may rely on of a node, whatever the definitions of its calls are; and when a join attempt gives up.
-use Prim.Native.Nat.{ℕ, zero, suc, _+_, _*_}
+use Prim.Native.Nat.{ℕ, zero, suc, _+_, _*_, _≤_}
 use mathlib.Core.Path.{_≡_}
 use mathlib.Core.Bool.{true}
 use mathlib.Core.Logic.{_⊎_}
@@ -16,12 +16,11 @@ use Rattle.node_attempt.specs.Poll as attempt
 use Rattle.node_attempt.specs.declared.attempt.Phase.the-variants as phase
 use Rattle.node_attempt.specs.declared.poll.Due.{Due}
 use Rattle.node_attempt.specs.declared.poll.Due.the-variants.{SendAgain, GaveUp}
-use Rattle.cojp.specs.Configuration.{readConfiguration}
 use Rattle.cojp.specs.declared.report.Report.the-variants.{Taken}
 use Rattle.node.specs.Node.{activeOf, pendingOf, clockOf}
 use Rattle.node.specs.Range.{Valid}
 use Rattle.node.specs.Timing.{start, poll}
-use Rattle.node.specs.Delivery.{deliver}
+use Rattle.node.specs.Delivery.{readFor, deliver}
 use Rattle.node.specs.Frames.{send, afterSend, receive, verified}
 use Rattle.node_laws.specs.Calls.{NodeCall, perform}
 use Rattle.node_delivery.specs.declared.Delivery.{Delivery}
@@ -56,15 +55,15 @@ pub record Sends (n : Node) (type : ℕ) : Type 0 where
   pub member : List·Memᴰ (send n type .key) (activeOf n)
   pub covering : covers (send n type .key) type ≡ true
 
--- the key set that a payload holds
-abbrev pub setIn : List ℕ → KeySet
-setIn payload = readConfiguration payload .configuration .keys .value
+-- the key set that a payload holds, as the node reads it
+abbrev pub setIn : Node → List ℕ → KeySet
+setIn n payload = readFor n payload .configuration .keys .value
 
 -- the node accepts the payload and takes the key set in it, which has the keys ks
 pub record Takes (delivery : Delivery) (n : Node) (time : ℕ) (payload : List ℕ) (ks : List Key) : Type 0 where
   pub accepted : deliver delivery n time payload .verdict ≡ Accepted
   pub taken : deliver delivery n time payload .reports .keys ≡ Taken
-  pub set : keysOf (setIn payload) ≡ ks
+  pub set : keysOf (setIn n payload) ≡ ks
 
 -- the node m, which n became, has the keys active, and none pending
 pub record Installed (ks : List Key) (n m : Node) : Type 0 where
@@ -146,11 +145,14 @@ abbrev pub answersDue : ℕ → Node → List Due
 answersDue zero n = []
 answersDue (suc polls) n = poll n (dueAt n) .due ∷ answersDue polls (poll n (dueAt n) .node)
 
--- the node has sent its request with first timeout t at that time: polled exactly when due, it sends four times more, and gives up 31t after
+-- the node has sent its request with first timeout t at that time: polled exactly when due, it sends four times more, and gives up 31t after,
+-- which is 310,000 to 465,000 ms
 pub record GaveUpAfter (n : Node) (time timeout : ℕ) : Type 0 where
   pub answers : answersDue 5 n ≡ SendAgain ∷ SendAgain ∷ SendAgain ∷ SendAgain ∷ GaveUp ∷ []
   pub end : afterDue 5 n .attempt .phase ≡ phase.GaveUp
   pub at : clockOf (afterDue 5 n) ≡ time + 31 * timeout
+  pub earliest : time + 310000 ≤ clockOf (afterDue 5 n)
+  pub latest : clockOf (afterDue 5 n) ≤ time + 465000
 
 abbrev pub GivesUp : Type 0
 GivesUp =

@@ -2,6 +2,7 @@
 use Prim.Native.Nat.{ℕ}
 use native.Mathlib.Omega.{arith}
 use mathlib.Core.Path.{_≡_, sym}
+use mathlib.Core.Bool.{Bool, true, false}
 use Rattle.refusal.specs.Refusal.{numberOf}
 use Rattle.refusal.specs.declared.Refusal.{Refusal}
 use Rattle.refusal.specs.declared.Verdict.{Verdict}
@@ -11,6 +12,11 @@ use Rattle.refusal.specs.declared.Verdict.the-variants.{Accepted, Refuse
 abbrev pub verdictNumber : Verdict → ℕ
 verdictNumber Accepted = 0
 verdictNumber (Refused k) = numberOf k
+
+-- it is no refusal
+abbrev pub isAccepted : Verdict → Bool
+isAccepted Accepted = true
+isAccepted (Refused k) = false
 
 pub refused-not : {A : Type 0} (k : Refusal) → Refused k ≡ Accepted → A
 refused-not k e = absurd (let z : _≡_ {A = ℕ} 0 1 = cc in omega arith)
