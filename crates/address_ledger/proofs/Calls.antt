@@ -1,0 +1,128 @@
+-- The ways out of the calls, one law each.
+use Prim.Native.Nat.{ℕ, _+_, _*_, _<_}
+use mathlib.Core.Path.{_≡_, refl}
+use mathlib.Core.Bool.{Bool, true, false}
+use mathlib.Core.List.{List}
+use native.Mathlib.Omega.{arith}
+use borrow.Author.Tests.{ltb-true}
+use lib.ListN.{length, set}
+use Rattle.refusal.specs.declared.Refusal.{Refusal}
+use Rattle.refusal.specs.declared.Refusal.the-variants.{Full, Unknown}
+use Rattle.refusal.specs.declared.Verdict.the-variants as verdict
+use Rattle.address_ledger.specs.Place.{Place, places, heldBy, isFree, lowest, has, sought, hold, freed, countFree}
+use Rattle.address_ledger.specs.Range.{judged, counted}
+use Rattle.address_ledger.specs.Ledger.{Outcome, outcome, answered, emptyLedger, ledgerOf, openedBy, opened, granting, grantedBy, granted, givingBack, givenBackBy, givenBack, freeBy, freeCount}
+use Rattle.address_ledger.specs.declared.answer.AddressAnswer.the-variants.{Address, Refused}
+use Rattle.address_ledger.specs.declared.answer.Answered.{Answered}
+use Rattle.address_ledger.specs.declared.answer.FreeAnswer.the-variants as free
+use Rattle.address_ledger.specs.declared.ledger.Ledger.{Ledger}
+use Rattle.address_ledger.specs.declared.place.Sought.{Sought}
+use Rattle.address_ledger.specs.declared.place.Sought.the-variants.{Held, Free, Nothing}
+use Rattle.address_ledger.proofs.Scan.{length-places}
+
+-- ---- a place that was found is one of the places
+module _ (b : List ℕ) (ps : List Place) (k : ℕ) where
+  held-by : (x y : Bool) → has (heldBy b) ps ≡ x → has isFree ps ≡ y → Held k ≡ sought b ps → k < length ps
+  unfolding sought has
+  held-by true y p q e =
+      let f : Held k ≡ Held (lowest (heldBy b) ps) = rw p at e in
+      let g : k ≡ lowest (heldBy b) ps = cc in
+      omega (arith, ltb-true (lowest (heldBy b) ps) (length ps) p)
+  held-by false true p q e =
+      let f : Held k ≡ Free (lowest isFree ps) = rw (p, q) at e in
+      let z : _≡_ {A = ℕ} 0 1 = cc in
+      absurd (omega arith)
+  held-by false false p q e =
+      let f : Held k ≡ Nothing = rw (p, q) at e in
+      let z : _≡_ {A = ℕ} 0 1 = cc in
+      absurd (omega arith)
+
+  free-by : (x y : Bool) → has (heldBy b) ps ≡ x → has isFree ps ≡ y → Free k ≡ sought b ps → k < length ps
+  unfolding sought has
+  free-by true y p q e =
+      let f : Free k ≡ Held (lowest (heldBy b) ps) = rw p at e in
+      let z : _≡_ {A = ℕ} 0 1 = cc in
+      absurd (omega arith)
+  free-by false true p q e =
+      let f : Free k ≡ Free (lowest isFree ps) = rw (p, q) at e in
+      let g : k ≡ lowest isFree ps = cc in
+      omega (arith, ltb-true (lowest isFree ps) (length ps) q)
+  free-by false false p q e =
+      let f : Free k ≡ Nothing = rw (p, q) at e in
+      let z : _≡_ {A = ℕ} 0 1 = cc in
+      absurd (omega arith)
+
+module _ (b : List ℕ) (n : ℕ) (m : List ℕ) (k : ℕ) where
+  pub held-within : Held k ≡ sought b (places n m) → k < n
+  held-within e = rw (length-places n m) at (held-by b (places n m) k _ _ refl refl e)
+
+  pub free-within : Free k ≡ sought b (places n m) → k < n
+  free-within e = rw (length-places n m) at (free-by b (places n m) k _ _ refl refl e)
+
+-- ---- opening
+module _ (first size : ℕ) (m : List ℕ) where
+  pub open-refused : (x : Refusal) → verdict.Refused x ≡ judged first size (length m)
+      → record { verdict = verdict.Refused x; ledger = emptyLedger } ≡ opened first size m
+  unfolding opened openedBy
+  open-refused x e = rw (← e)
+
+  pub open-accepted : verdict.Accepted ≡ judged first size (length m)
+      → record { verdict = verdict.Accepted; ledger = ledgerOf first size } ≡ opened first size m
+  unfolding opened openedBy
+  open-accepted e = rw (← e)
+
+-- ---- what was found decides
+module _ (l : Ledger) (m b : List ℕ) (s : Sought) (r : Answered) where
+  pub grant-held : (k : ℕ) → Held k ≡ s → r ≡ answered (Address (l .first + k)) l → outcome (r .answer) (r .ledger) m ≡ granting l m b s
+  unfolding granting
+  grant-held k e h = rw (← e, h)
+
+  pub grant-free : (k : ℕ) → Free k ≡ s → r ≡ answered (Address (l .first + k)) l → (m′ : List ℕ) → m′ ≡ hold m k b
+      → outcome (r .answer) (r .ledger) m′ ≡ granting l m b s
+  unfolding granting
+  grant-free k e h m′ w = rw (← e, h, w)
+
+  pub grant-nothing : Nothing ≡ s → r ≡ answered (Refused Full) l → outcome (r .answer) (r .ledger) m ≡ granting l m b s
+  unfolding granting
+  grant-nothing e h = rw (← e, h)
+
+  pub back-held : (k : ℕ) → Held k ≡ s → r ≡ answered (Address (l .first + k)) l
+      → outcome (r .answer) (r .ledger) (set m (9 * k) 0) ≡ givingBack l m s
+  unfolding givingBack freed
+  back-held k e h = rw (← e, h)
+
+  pub back-free : (k : ℕ) → Free k ≡ s → r ≡ answered (Refused Unknown) l → outcome (r .answer) (r .ledger) m ≡ givingBack l m s
+  unfolding givingBack
+  back-free k e h = rw (← e, h)
+
+  pub back-nothing : Nothing ≡ s → r ≡ answered (Refused Unknown) l → outcome (r .answer) (r .ledger) m ≡ givingBack l m s
+  unfolding givingBack
+  back-nothing e h = rw (← e, h)
+
+-- ---- RANGE and ROOM come first
+module _ (l : Ledger) (m b : List ℕ) where
+  module _ (x : Refusal) (e : verdict.Refused x ≡ judged (l .first) (l .size) (length m)) where
+    pub grant-refused : (r : Answered) → r ≡ answered (Refused x) l → outcome (r .answer) (r .ledger) m ≡ granted l m b
+    unfolding granted grantedBy
+    grant-refused r h = rw (← e, h)
+
+    pub back-refused : (r : Answered) → r ≡ answered (Refused x) l → outcome (r .answer) (r .ledger) m ≡ givenBack l m b
+    unfolding givenBack givenBackBy
+    back-refused r h = rw (← e, h)
+
+    pub free-refused : free.Refused x ≡ freeCount l m
+    unfolding freeCount freeBy
+    free-refused = rw (← e)
+
+  module _ (e : verdict.Accepted ≡ judged (l .first) (l .size) (length m)) (n : ℕ) (ne : n ≡ counted (l .first) (l .size)) where
+    pub grant-accepted : (o : Outcome) → o ≡ granting l m b (sought b (places n m)) → o ≡ granted l m b
+    unfolding granted grantedBy
+    grant-accepted o d = rw (← e, ← ne) d
+
+    pub back-accepted : (o : Outcome) → o ≡ givingBack l m (sought b (places n m)) → o ≡ givenBack l m b
+    unfolding givenBack givenBackBy
+    back-accepted o d = rw (← e, ← ne) d
+
+    pub free-accepted : (k : ℕ) → k ≡ countFree (places n m) → free.Count k ≡ freeCount l m
+    unfolding freeCount freeBy
+    free-accepted k d = rw (← e, ← ne, d)

@@ -1,0 +1,5 @@
+pub mod Judged
+pub mod Scan
+pub mod Seek
+pub mod Write
+pub mod Calls
