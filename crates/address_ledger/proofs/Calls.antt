@@ -1,15 +1,12 @@
 -- The ways out of the calls, one law each.
-use Prim.Native.Nat.{ℕ, _+_, _*_, _<_}
-use mathlib.Core.Path.{_≡_, refl}
-use mathlib.Core.Bool.{Bool, true, false}
+use Prim.Native.Nat.{ℕ, _+_, _*_}
+use mathlib.Core.Path.{_≡_}
 use mathlib.Core.List.{List}
-use native.Mathlib.Omega.{arith}
-use borrow.Author.Tests.{ltb-true}
 use lib.ListN.{length, set}
 use Rattle.refusal.specs.declared.Refusal.{Refusal}
 use Rattle.refusal.specs.declared.Refusal.the-variants.{Full, Unknown}
 use Rattle.refusal.specs.declared.Verdict.the-variants as verdict
-use Rattle.address_ledger.specs.Place.{Place, places, heldBy, isFree, lowest, has, sought, hold, freed, countFree}
+use Rattle.address_ledger.specs.Place.{places, sought, hold, freed, countFree}
 use Rattle.address_ledger.specs.Range.{judged, counted}
 use Rattle.address_ledger.specs.Ledger.{Outcome, outcome, answered, emptyLedger, ledgerOf, openedBy, opened, granting, grantedBy, granted, givingBack, givenBackBy, givenBack, freeBy, freeCount}
 use Rattle.address_ledger.specs.declared.answer.AddressAnswer.the-variants.{Address, Refused}
@@ -18,46 +15,6 @@ use Rattle.address_ledger.specs.declared.answer.FreeAnswer.the-variants 
 use Rattle.address_ledger.specs.declared.ledger.Ledger.{Ledger}
 use Rattle.address_ledger.specs.declared.place.Sought.{Sought}
 use Rattle.address_ledger.specs.declared.place.Sought.the-variants.{Held, Free, Nothing}
-use Rattle.address_ledger.proofs.Scan.{length-places}
-
--- ---- a place that was found is one of the places
-module _ (b : List ℕ) (ps : List Place) (k : ℕ) where
-  held-by : (x y : Bool) → has (heldBy b) ps ≡ x → has isFree ps ≡ y → Held k ≡ sought b ps → k < length ps
-  unfolding sought has
-  held-by true y p q e =
-      let f : Held k ≡ Held (lowest (heldBy b) ps) = rw p at e in
-      let g : k ≡ lowest (heldBy b) ps = cc in
-      omega (arith, ltb-true (lowest (heldBy b) ps) (length ps) p)
-  held-by false true p q e =
-      let f : Held k ≡ Free (lowest isFree ps) = rw (p, q) at e in
-      let z : _≡_ {A = ℕ} 0 1 = cc in
-      absurd (omega arith)
-  held-by false false p q e =
-      let f : Held k ≡ Nothing = rw (p, q) at e in
-      let z : _≡_ {A = ℕ} 0 1 = cc in
-      absurd (omega arith)
-
-  free-by : (x y : Bool) → has (heldBy b) ps ≡ x → has isFree ps ≡ y → Free k ≡ sought b ps → k < length ps
-  unfolding sought has
-  free-by true y p q e =
-      let f : Free k ≡ Held (lowest (heldBy b) ps) = rw p at e in
-      let z : _≡_ {A = ℕ} 0 1 = cc in
-      absurd (omega arith)
-  free-by false true p q e =
-      let f : Free k ≡ Free (lowest isFree ps) = rw (p, q) at e in
-      let g : k ≡ lowest isFree ps = cc in
-      omega (arith, ltb-true (lowest isFree ps) (length ps) q)
-  free-by false false p q e =
-      let f : Free k ≡ Nothing = rw (p, q) at e in
-      let z : _≡_ {A = ℕ} 0 1 = cc in
-      absurd (omega arith)
-
-module _ (b : List ℕ) (n : ℕ) (m : List ℕ) (k : ℕ) where
-  pub held-within : Held k ≡ sought b (places n m) → k < n
-  held-within e = rw (length-places n m) at (held-by b (places n m) k _ _ refl refl e)
-
-  pub free-within : Free k ≡ sought b (places n m) → k < n
-  free-within e = rw (length-places n m) at (free-by b (places n m) k _ _ refl refl e)
 
 -- ---- opening
 module _ (first size : ℕ) (m : List ℕ) where

@@ -2,4 +2,5 @@ pub mod Judged
 pub mod Scan
 pub mod Seek
 pub mod Write
+pub mod Found
 pub mod Calls

@@ -9,3 +9,4 @@ pub use answer::Answered;
 pub use answer::FreeAnswer;
 pub use answer::Opened;
 pub use ledger::Ledger;
+pub use place::Sought;

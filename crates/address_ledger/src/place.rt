@@ -9,7 +9,7 @@ pub(crate) const PLACE: usize = 9;
 const HELD: u8 = 1;
 
 // What the places have for a board: the lowest one that it holds, else the lowest free one.
-pub(crate) enum Sought {
+pub enum Sought {
     Held(usize),
     Free(usize),
     Nothing,

@@ -1,9 +1,9 @@
 -- What was found decides, as in the definition, and a place that was found is one of the counted ones.
-use Prim.Native.Nat.{_<_}
 use mathlib.Core.Path.{sym, _∙_}
 use native.Mathlib.Omega.{arith}
 use borrow.Author.Needs.{needs}
-use Rattle.address_ledger.proofs.Calls.{held-within, back-held, back-free, back-nothing}
+use Rattle.address_ledger.proofs.Found.{held-within}
+use Rattle.address_ledger.proofs.Calls.{back-held, back-free, back-nothing}
 use Rattle.address_ledger.proofs.ledger.Ledger.give_back_in.Statement.{statement}
 use Rattle.address_ledger.proofs.ledger.Ledger.give_back_in.Tie as tie
 
