@@ -1,0 +1,5 @@
+pub mod Blocks
+pub mod Streams
+pub mod Same
+pub mod Done
+pub mod Opening
