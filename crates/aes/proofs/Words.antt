@@ -4,10 +4,11 @@
 use mathlib.Core.Path.{_≡_, refl, sym, _∙_, ap, ap₂}
 use mathlib.Core.List.{List, [], _∷_, _++_}
 use Prim.Native.Nat.{ℕ, _+_, _*_, _/_, _%_, _^_, _<_}
-use native.Mathlib.Nat.{div-div-eq-div-mul, div-add-mod', mod-eq-of-lt}
+use native.Mathlib.Nat.{mod-eq-of-lt}
 use native.Mathlib.Omega.{arith}
 use lib.Bits.{bitXor, xor-shr, xor-mod}
 use lib.ListN.{getD}
+use Rattle.byte_lists.specs.Digits as number
 use Rattle.byte_lists.specs.Xor.{_⊕_, turn}
 use Rattle.byte_lists.specs.Table.{table}
 use Rattle.aes.specs.Field.{_•_, subByte}
@@ -32,18 +33,13 @@ pub word-bytes : (a b c d : ℕ) → a < 256 → b < 256 → c < 256 → d < 256
     → bytesOf (a + b * 256 + c * 65536 + d * 16777216) ≡ a ∷ b ∷ c ∷ d ∷ []
 word-bytes a b c d ha hb hc hd = column-eq (omega arith) (omega arith) (omega arith) (omega arith)
 
-whole : (w q r s b c d : ℕ) → q * 256 + b ≡ w → r * 256 + c ≡ q → s * 256 + d ≡ r → w ≡ b + c * 256 + d * 65536 + s * 16777216
-whole w q r s b c d e f g = omega arith
-
 -- a word below 2^32 is the number of its four bytes
 digits : (w : ℕ) → w < 4294967296
     → w ≡ w % 256 + w / 256 % 256 * 256 + w / 65536 % 256 * 65536 + w / 16777216 % 256 * 16777216
 digits w h =
     let small : w / 16777216 < 256 = omega arith in
-    let top : w / 16777216 % 256 ≡ w / 16777216 = mod-eq-of-lt small in
-    whole w (w / 256) (w / 65536) (w / 16777216 % 256) (w % 256) (w / 256 % 256) (w / 65536 % 256) (div-add-mod' w 256)
-    (ap (λ (x : ℕ). x * 256 + w / 256 % 256) (sym (div-div-eq-div-mul w 256 256)) ∙ div-add-mod' (w / 256) 256)
-    (ap (λ (x : ℕ). x * 256 + w / 65536 % 256) (top ∙ sym (div-div-eq-div-mul w 65536 256)) ∙ div-add-mod' (w / 65536) 256)
+    number.digits w
+    ∙ ap (λ (x : ℕ). w % 256 + w / 256 % 256 * 256 + w / 65536 % 256 * 65536 + x * 16777216) (sym (mod-eq-of-lt small))
 
 -- a word given by its bytes, turned
 turn-once : (a b c d : ℕ) → a < 256 → b < 256 → c < 256 → d < 256

@@ -9,13 +9,14 @@ use borrow.Author.Tests.{lt-ltb, le-ltb}
 use borrow.Rule.Slice.PartMut.{putMid}
 use lib.ListN.{length, take, drop, length-append, length-drop, drop-of-length-le}
 use lib.Seq.{take-at, drop-at, take-all, drop-drop, length-take-le}
+use Rattle.byte_lists.specs.Same.{same}
 use Rattle.byte_lists.specs.Table.{length-table}
 use Rattle.refusal.specs.declared.Refusal.{Refusal}
 use Rattle.refusal.specs.declared.Refusal.the-variants.{Room, Range, Seal}
 use Rattle.aes.specs.Cipher.{roundKeys}
 use Rattle.aes_ccm.specs.declared.Written.{Written}
 use Rattle.aes_ccm.specs.declared.Written.the-variants.{Refused, Length}
-use Rattle.aes_ccm.specs.Ccm.{crypt, tag, sealed, textOf, genuine, same}
+use Rattle.aes_ccm.specs.Ccm.{crypt, tag, sealed, textOf, genuine}
 use Rattle.aes_ccm.specs.Plan.{Plan, refuse, emit, Did, sealPlan, releasePlan, unsealPlan}
 use Rattle.aes_ccm.proofs.Streams.{length-crypt}
 
@@ -52,9 +53,10 @@ module _ (key nonce a m d : List ℕ) where
   seal-no-room h k l =
       refused (sealPlan key nonce a m (length d)) Room d (rw (le-ltb 64 (length a) h, le-ltb 256 (length m) k, lt-ltb (length d) (length m + 8) l))
 
-  seal-plan : length a ≤ 64 → length m ≤ 256 → length m + 8 ≤ length d → sealPlan key nonce a m (length d) ≡ emit (sealed key nonce a m)
-  unfolding sealPlan
-  seal-plan h k l = rw (le-ltb 64 (length a) h, le-ltb 256 (length m) k, le-ltb (length d) (length m + 8) l)
+pub seal-plan : (key nonce a m : List ℕ) (room : ℕ) → length a ≤ 64 → length m ≤ 256 → length m + 8 ≤ room
+    → sealPlan key nonce a m room ≡ emit (sealed key nonce a m)
+unfolding sealPlan
+seal-plan key nonce a m room h k l = rw (le-ltb 64 (length a) h, le-ltb 256 (length m) k, le-ltb room (length m + 8) l)
 
 -- what is written at the front, and then into the part after it, stands there one after the other
 seam : (x u d : List ℕ) (n : ℕ) → length x ≡ n → n + length u ≤ length d
@@ -81,7 +83,7 @@ pub seal-done : (key nonce a m d : List ℕ) (ks : List (List ℕ)) (e u p : Lis
     → Did (sealPlan key nonce a m (length d)) d (Length (length m + 8)) (putMid (length m) (length e - length m) e p)
 unfolding sealed
 seal-done key nonce a m d ks e u p ha hm hd eks ee eu ep =
-    written (sealPlan key nonce a m (length d)) (sealed key nonce a m) d _ (length m + 8) (seal-plan key nonce a m d ha hm hd)
+    written (sealPlan key nonce a m (length d)) (sealed key nonce a m) d _ (length m + 8) (seal-plan key nonce a m (length d) ha hm hd)
     (length-sealed key nonce a m)
     (rw (ep, ee, eu, eks)
     (seam (crypt (roundKeys 10 key) nonce m) (tag (roundKeys 10 key) nonce a m) d (length m) (length-crypt (roundKeys 10 key) nonce m)

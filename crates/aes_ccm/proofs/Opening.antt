@@ -12,15 +12,15 @@ use lib.Seq.{take-at, drop-at}
 use Rattle.refusal.specs.declared.Refusal.{Refusal}
 use Rattle.refusal.specs.declared.Refusal.the-variants.{Seal}
 use Rattle.refusal.specs.Refusal.{numberOf}
+use Rattle.byte_lists.specs.Same.{same-equal, same-refl}
 use Rattle.aes.specs.Cipher.{roundKeys}
 use Rattle.aes.specs.Laws.{AesLaws}
 use Rattle.aes_ccm.specs.declared.Written.{Written}
-use Rattle.aes_ccm.specs.Ccm.{crypt, tag, sealed, textOf, genuine, same}
+use Rattle.aes_ccm.specs.Ccm.{crypt, tag, sealed, textOf, genuine}
 use Rattle.aes_ccm.specs.Plan.{Plan, refuse, emit, Did, numberIn, lengthIn, releasePlan, unsealPlan}
 use Rattle.aes_ccm.specs.Laws.{CcmLaws, Judged, RightTag}
 use Rattle.aes_ccm.proofs.Streams.{length-crypt, crypt-crypt}
-use Rattle.aes_ccm.proofs.Done.{length-sealed}
-use Rattle.aes_ccm.proofs.Same.{same-equal, same-refl}
+use Rattle.aes_ccm.proofs.Done.{length-sealed, seal-plan}
 
 -- a plan that goes on past a refusal
 passed : (b : Bool) (k : Refusal) (p : Plan) (m : List ℕ) → cond b (refuse k) p ≡ emit m → (b ≡ false) × (p ≡ emit m)
@@ -116,6 +116,7 @@ refused k d d′ r did = (rw (did .says), rw (did .says), did .holds)
 pub ccm-laws : AesLaws → CcmLaws
 ccm-laws laws =
     record {
+      seals = seal-plan;
       sealed-opens = sealed-opens laws;
       opened-was-sealed = opened-was-sealed laws;
       right-tag = right-tag;

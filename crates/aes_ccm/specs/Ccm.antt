@@ -1,11 +1,11 @@
 -- RFC 3610 at L = 2 and M = 8, over AES-128: AES-CCM-16-64-128 of RFC 8152. A nonce has thirteen bytes.
 -- `ks` are the cipher's round keys; a is the associated data, m the text.
-use mathlib.Core.Bool.{Bool, true, false, _&&_}
+use mathlib.Core.Bool.{Bool}
 use mathlib.Core.List.{List, [], _∷_, _++_}
 use Prim.Native.Nat.{ℕ, zero, suc, _+_, _*_, _-_, _/_, _%_, min}
-use lib.Dec.{eqb}
 use lib.ListN.{length, getD, take, drop}
 use Rattle.byte_lists.specs.Xor.{_⊕_}
+use Rattle.byte_lists.specs.Same.{same}
 use Rattle.byte_lists.specs.Table.{table}
 use Rattle.aes.specs.Cipher.{addRoundKey, cipher, roundKeys}
 
@@ -82,13 +82,6 @@ tag ks nonce a m = let t = mac ks nonce a m in let s = stream ks nonce 0 in tabl
 -- 2.4: what is sent
 unfoldable pub sealed : List ℕ → List ℕ → List ℕ → List ℕ → List ℕ
 sealed key nonce a m = let ks = roundKeys 10 key in crypt ks nonce m ++ tag ks nonce a m
-
--- two lists of bytes are the same
-unfoldable pub same : List ℕ → List ℕ → Bool
-same [] [] = true
-same [] (y ∷ ys) = false
-same (x ∷ xs) [] = false
-same (x ∷ xs) (y ∷ ys) = eqb x y && same xs ys
 
 -- 2.5: the text in what was sent, c
 unfoldable pub textOf : List ℕ → List ℕ → List ℕ → List ℕ

@@ -9,7 +9,7 @@ use Rattle.refusal.specs.declared.Refusal.the-variants.{Seal}
 use Rattle.aes.specs.Cipher.{roundKeys}
 use Rattle.aes_ccm.specs.declared.Written.{Written}
 use Rattle.aes_ccm.specs.Ccm.{sealed, textOf, tag}
-use Rattle.aes_ccm.specs.Plan.{Plan, refuse, emit, Did, numberIn, lengthIn, unsealPlan}
+use Rattle.aes_ccm.specs.Plan.{Plan, refuse, emit, Did, numberIn, lengthIn, sealPlan, unsealPlan}
 
 -- c is within the limits, and so are the data a and the destination
 pub record Judged (a c : List ℕ) (room : ℕ) : Type 0 where
@@ -23,6 +23,9 @@ abbrev pub RightTag : List ℕ → List ℕ → List ℕ → List ℕ → Type 0
 RightTag key nonce a c = drop (length c - 8) c ≡ tag (roundKeys 10 key) nonce a (textOf key nonce c)
 
 pub record CcmLaws : Type 0 where
+  -- within the limits sealing is not refused
+  pub seals : (key nonce a m : List ℕ) (room : ℕ) → length a ≤ 64 → length m ≤ 256 → length m + 8 ≤ room
+      → sealPlan key nonce a m room ≡ emit (sealed key nonce a m)
   -- what was sealed with this key, nonce and data opens to its text
   pub sealed-opens : (key nonce a m : List ℕ) (room : ℕ) → length a ≤ 64 → length m ≤ 256 → length m ≤ room
       → unsealPlan key nonce a (sealed key nonce a m) room ≡ emit m

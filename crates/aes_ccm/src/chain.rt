@@ -35,7 +35,13 @@ fn absorb_data(table: &[u32; 256], keys: [[u8; 16]; 11], x: [u8; 16], a: &[u8]) 
 }
 
 // The last value of the chain, of which the tag is made.
-fn last_of(table: &[u32; 256], keys: [[u8; 16]; 11], nonce: [u8; 13], a: &[u8], m: &[u8]) -> [u8; 16]
+fn last_of(
+    table: &[u32; 256],
+    keys: [[u8; 16]; 11],
+    nonce: [u8; 13],
+    a: &[u8],
+    m: &[u8],
+) -> [u8; 16]
     requires { ⌜ (length (now a) < 65280) × (length (now m) < 65536) × RoundTable (now table) ⌝ }
     ensures { λ r. ⌜ r ≡ lastOf keys nonce (now (a .entry)) (now (m .entry)) ⌝ }
 {
@@ -48,7 +54,13 @@ fn last_of(table: &[u32; 256], keys: [[u8; 16]; 11], nonce: [u8; 13], a: &[u8], 
 }
 
 // The tag, encrypted.
-pub(crate) fn tag_of(table: &[u32; 256], keys: [[u8; 16]; 11], nonce: [u8; 13], a: &[u8], m: &[u8]) -> [u8; 8]
+pub(crate) fn tag_of(
+    table: &[u32; 256],
+    keys: [[u8; 16]; 11],
+    nonce: [u8; 13],
+    a: &[u8],
+    m: &[u8],
+) -> [u8; 8]
     requires { ⌜ (length (now a) < 65280) × (length (now m) < 65536) × RoundTable (now table) ⌝ }
     ensures { λ r. ⌜ r ≡ tag keys nonce (now (a .entry)) (now (m .entry)) ⌝ }
 {

@@ -23,7 +23,13 @@ pub enum Written {
 }
 
 // Seals `text` into `dst`: RANGE, ROOM, or the length written.
-pub fn seal(key: [u8; 16], nonce: [u8; 13], associated: &[u8], text: &[u8], dst: &mut [u8]) -> Written
+pub fn seal(
+    key: [u8; 16],
+    nonce: [u8; 13],
+    associated: &[u8],
+    text: &[u8],
+    dst: &mut [u8],
+) -> Written
     ensures { λ r. ⌜ Did (sealPlan key nonce (now (associated .entry)) (now (text .entry)) (length (now (dst .entry)))) (now (dst .entry)) r (now (dst .exit)) ⌝ }
 {
     if 64 < associated.len() {
@@ -45,7 +51,13 @@ pub fn seal(key: [u8; 16], nonce: [u8; 13], associated: &[u8], text: &[u8], dst:
 }
 
 // Opens `sealed` into `dst`: RANGE, ROOM, SEAL where the tag is not the one of the text in it, or the length written.
-pub fn unseal(key: [u8; 16], nonce: [u8; 13], associated: &[u8], sealed: &[u8], dst: &mut [u8]) -> Written
+pub fn unseal(
+    key: [u8; 16],
+    nonce: [u8; 13],
+    associated: &[u8],
+    sealed: &[u8],
+    dst: &mut [u8],
+) -> Written
     ensures { λ r. ⌜ Did (unsealPlan key nonce (now (associated .entry)) (now (sealed .entry)) (length (now (dst .entry)))) (now (dst .entry)) r (now (dst .exit)) ⌝ }
 {
     if 64 < associated.len() {

@@ -8,7 +8,13 @@ ghost use Rattle.aes.specs.Words.{RoundTable};
 ghost use Rattle.aes_ccm.specs.Ccm.{crypt};
 
 // The bytes of `src` xor the key stream, at the front of `dst`.
-pub(crate) fn crypt_into(table: &[u32; 256], keys: [[u8; 16]; 11], nonce: [u8; 13], src: &[u8], dst: &mut [u8])
+pub(crate) fn crypt_into(
+    table: &[u32; 256],
+    keys: [[u8; 16]; 11],
+    nonce: [u8; 13],
+    src: &[u8],
+    dst: &mut [u8],
+)
     requires { ⌜ (length (now src) ≤ length (now dst)) × (length (now src) ≤ 256) × RoundTable (now table) ⌝ }
     ensures { λ r. ⌜ now (dst .exit) ≡ crypt keys nonce (now (src .entry)) ++ drop (length (now (src .entry))) (now (dst .entry)) ⌝ }
 {

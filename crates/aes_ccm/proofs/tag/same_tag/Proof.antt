@@ -1,5 +1,5 @@
 -- The invariant: the bits found to differ so far, and whether the rest is the same, say whether the lists are.
-use Rattle.aes_ccm.proofs.Same.{Comparing, compare-begin, compare-step, compare-end}
+use Rattle.byte_lists.specs.Same.{Comparing, compare-begin, compare-step, compare-end}
 use lib.ListN.{length}
 use mathlib.Core.Path.{_≡_}
 use native.Mathlib.Omega.{arith}
@@ -9,7 +9,7 @@ use Rattle.aes_ccm.proofs.tag.same_tag.Statement.{statement}
 use Rattle.aes_ccm.proofs.tag.same_tag.Tie as tie
 
 abbrev Inv-loop : tie.InvT-loop
-Inv-loop s u d₀ i₀ d i = Comparing s u d i
+Inv-loop s u d₀ i₀ d i = Comparing 8 s u d i
 
 abbrev μ-loop : tie.MeasureT-loop
 μ-loop s u d₀ i₀ d i = 8 - i

@@ -1,4 +1,4 @@
--- Two lists compared from the front: the bits in which they differ are gathered, so none is found exactly where they are the same.
+-- Two lists of bytes compared from the front: the bits in which they differ are gathered, so none is found exactly where they are the same.
 -- Assumes nothing.
 use mathlib.Core.Path.{_≡_, refl, sym, _∙_, ap₂}
 use mathlib.Core.Bool.{Bool, true, false, _&&_}
@@ -11,7 +11,13 @@ use lib.ListN.{length, getD, drop, drop-of-length-le}
 use lib.Seq.{drop-cons}
 use lib.Dec.{eqb}
 use lib.Bits.{bitXor, bitOr, xor-self, or-zero-r, or-add-and, xor-add-and, and-le-l, and-le-r}
-use Rattle.aes_ccm.specs.Ccm.{same}
+
+-- two lists of bytes are the same
+unfoldable pub same : List ℕ → List ℕ → Bool
+same [] [] = true
+same [] (y ∷ ys) = false
+same (x ∷ xs) [] = false
+same (x ∷ xs) (y ∷ ys) = eqb x y && same xs ys
 
 and-true : (a : Bool) → (a && true) ≡ a
 and-true true = refl
@@ -25,12 +31,12 @@ and-assoc : (a b c : Bool) → ((a && b) && c) ≡ (a && (b && c))
 and-assoc true b c = refl
 and-assoc false b c = refl
 
--- the bits in which two lists were found to differ, as far as the first i places: none, and the rest is the same, where the lists are
-pub record Comparing (s u : List ℕ) (d i : ℕ) : Type 0 where
-  pub low : i ≤ 8
+-- d has the bits in which the first i of n places were found to differ: none, and the rest is the same, where the lists are
+pub record Comparing (n : ℕ) (s u : List ℕ) (d i : ℕ) : Type 0 where
+  pub low : i ≤ n
   pub so-far : (eqb d 0 && same (drop i s) (drop i u)) ≡ same s u
 
-pub compare-begin : {s u : List ℕ} → Comparing s u 0 0
+pub compare-begin : {n : ℕ} {s u : List ℕ} → Comparing n s u 0 0
 compare-begin = record { low = omega arith; so-far = refl }
 
 equal-bits : (d a b : ℕ) → bitOr d (bitXor a b) ≡ 0 → a ≡ b
@@ -43,10 +49,10 @@ differing d a b false h =
     ne-eqb (bitOr d (bitXor a b)) 0 (λ z. let t : eqb a b ≡ true = eq-eqb a b (equal-bits d a b z) in let w : _≡_ {A = ℕ} 0 1 = cc in omega arith)
     ∙ sym (and-false (eqb d 0))
 
-pub compare-step : {s u : List ℕ} {d i : ℕ} → Comparing s u d i → i < length s → i < length u → i < 8
-    → Comparing s u (bitOr d (bitXor (getD s i 0) (getD u i 0))) (i + 1)
+pub compare-step : {n : ℕ} {s u : List ℕ} {d i : ℕ} → Comparing n s u d i → i < length s → i < length u → i < n
+    → Comparing n s u (bitOr d (bitXor (getD s i 0) (getD u i 0))) (i + 1)
 unfolding same
-compare-step {s} {u} {d} {i} inv h k l =
+compare-step {n} {s} {u} {d} {i} inv h k l =
     record {
       low = omega arith;
       so-far =
@@ -54,9 +60,9 @@ compare-step {s} {u} {d} {i} inv h k l =
           (rw (drop-cons s i 0 h, drop-cons u i 0 k) at (inv .so-far));
     }
 
-pub compare-end : {s u : List ℕ} {d i : ℕ} → Comparing s u d i → length s ≤ i → length u ≤ i → eqb d 0 ≡ same s u
+pub compare-end : {n : ℕ} {s u : List ℕ} {d i : ℕ} → Comparing n s u d i → length s ≤ i → length u ≤ i → eqb d 0 ≡ same s u
 unfolding same
-compare-end {s} {u} {d} {i} inv h k = rw (drop-of-length-le s h, drop-of-length-le u k, and-true (eqb d 0)) at (inv .so-far)
+compare-end {n} {s} {u} {d} {i} inv h k = rw (drop-of-length-le s h, drop-of-length-le u k, and-true (eqb d 0)) at (inv .so-far)
 
 and-left : (a b : Bool) → (a && b) ≡ true → a ≡ true
 and-left true b e = refl
