@@ -1,4 +1,4 @@
 mod Numbers
 mod Zeros
 mod Ends
-mod Rooms
+pub mod Rooms

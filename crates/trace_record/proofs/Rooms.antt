@@ -65,7 +65,7 @@ module _ (b : List ℕ) where
       either In (eqb k 5) (verified b) from6 (λ e. verified-room (rw (e₁, e₂, e₃, e₄, e) at h)) (λ e₅.
       either In (eqb k 6) (poll b) Bad (λ e. let g = rw (e₁, e₂, e₃, e₄, e₅, e) at h in omega arith) (λ _. tt))))))
 
-roomy : (s : List ℕ) → Inside 0 (length s) (entry s)
+pub roomy : (s : List ℕ) → Inside 0 (length s) (entry s)
 unfolding entry
 roomy [] = tt
 roomy (k ∷ b) =
