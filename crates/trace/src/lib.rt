@@ -1,8 +1,8 @@
 // A recorded night replayed, record by record (document 02, request 4): the calls that its records make, and the report.
 mod count;
 mod done;
-mod state;
-mod walk;
+pub mod state;
+pub mod walk;
 
 pub use state::Progress;
 pub use state::Replayed;
