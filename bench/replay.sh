@@ -15,7 +15,7 @@ cc -O2 -o "$work/peer" bench/replay_peer.c
 
 # measure NAME RECORDS BYTES COMMAND..: a row of the table, RECORDS and BYTES being those of the whole run
 measure() {
-    name=$1 records=$2 bytes=$3
+    local name=$1 records=$2 size=$3
     shift 3
     best=''
     for _ in 1 2 3; do
@@ -24,7 +24,7 @@ measure() {
         took=$(($(date +%s%N) - begun))
         if [ -z "$best" ] || [ "$took" -lt "$best" ]; then best=$took; fi
     done
-    awk -v n="$name" -v r="$records" -v b="$bytes" -v t="$best" \
+    awk -v n="$name" -v r="$records" -v b="$size" -v t="$best" \
         'BEGIN { s = t / 1e9; printf "%-36s %8.2f %12.0f %10.1f %8.1f\n", n, s, r / s, t / r, b / s / 1e6 }'
 }
 

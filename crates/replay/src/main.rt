@@ -40,13 +40,7 @@ fn answer_line(
     let line = asked.line;
     let mut session = asked.session;
     if !line.is_silent() {
-        let out = answer(
-            line.head.command,
-            line.tail.hex,
-            trace,
-            session.out,
-            buffer,
-        );
+        let out = answer(line.head.command, line.tail.hex, trace, session.out, buffer);
         session.out = out.byte(b'\n', buffer);
     }
     session

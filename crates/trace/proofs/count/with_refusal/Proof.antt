@@ -1,6 +1,5 @@
 -- Every refusal has a number from 1 to 22, and so a place.
 use native.Mathlib.Omega.{arith}
-use Prim.Native.Nat.{ℕ}
 use mathlib.Core.Path.{_≡_}
 use lib.ListN.{length}
 use borrow.Author.Needs.{needs}
@@ -22,8 +21,9 @@ number-requires c κs = search needs
 
 sub-place : tie.Need-sub-place
 sub-place c =
-    let k = c .before .before .before .verdict .given .0 .0 in
-    rw (c .number .ensures) (c .before .numbers .ensures .least k)
+    let laws = c .before in
+    let k = laws .before .before .verdict .given .0 .0 in
+    rw (c .number .ensures) (laws .numbers .ensures .least k)
 
 slice-aggregate-raise : tie.Need-slice-aggregate-raise
 slice-aggregate-raise c = search needs
@@ -33,18 +33,25 @@ cast-raise c = search needs
 
 raise-requires : tie.Need-raise-requires
 raise-requires c κs =
-    let k = c .before .before .before .before .verdict .given .0 .0 in
-    let a = c .before .before .before .before .before .before .args in
+    let number = c .before in
+    let laws = number .before in
+    let known = laws .before .before in
+    let a = known .before .before .args in
+    let k = known .verdict .given .0 .0 in
     let n : length (a .refusals) ≡ 22 = search needs in
-    omega (arith, n, c .before .number .ensures, c .before .before .numbers .ensures .least k, c .before .before .numbers .ensures .most k)
+    omega (arith, n, number .number .ensures, laws .numbers .ensures .least k, laws .numbers .ensures .most k)
 
 returns : tie.Need-returns
 returns c = search needs
 
 returns-2 : tie.Need-returns-2
 returns-2 c =
-    let known = c .before .before .before .before .before .before .verdict in
-    refused-counted (c .before .before .before .before .before .before .before .before .args .verdict) (known .given .0 .0) (c .before .before .before .before .before .before .before .before .args .refusals) _ _ (known .given .1) (c .before .before .before .number .ensures) (c .before .raise .ensures)
+    let raised = c .before in
+    let number = raised .before .before in
+    let known = number .before .before .before in
+    let a = known .before .before .args in
+    refused-counted (a .verdict) (known .verdict .given .0 .0) (a .refusals) _ _ (known .verdict .given .1) (number .number .ensures)
+    (raised .raise .ensures)
 
 pub with-refusal-spec : {M : Type 1} → statement M
 with-refusal-spec =

@@ -20,8 +20,10 @@ reached-requires c κs = search needs
 
 returns : tie.Need-returns
 returns c =
-    let a = c .before .before .before .args in
-    walks (newNode (a .role) (a .network)) (a .at) (a .state) _ refl _ (c .before .before .new-node .ensures) _ (c .before .after .ensures) _ refl (c .reached .ensures)
+    let after = c .before in
+    let did = after .before in
+    let a = did .before .args in
+    walks (newNode (a .role) (a .network)) (a .at) (a .state) _ refl _ (did .new-node .ensures) _ (after .after .ensures) _ refl (c .reached .ensures)
 
 pub new-at-spec : {M : Type 1} → statement M
 new-at-spec =
