@@ -9,3 +9,4 @@ mod Untouched
 mod GivesUp
 mod NodeLaws
 mod Answers
+mod Waiting
