@@ -1,13 +1,15 @@
 -- Between the equations of specs/Answer and what Places says: each answer is determined by the bytes that are left, and says where they begin.
 use Prim.Native.Nat.{ℕ, _+_, _-_, _≤_}
 use mathlib.Core.Path.{_≡_, refl, ap, sym, _∙_}
+use mathlib.Core.Bool.{Bool, false}
 use mathlib.Core.List.{List}
 use native.Mathlib.Omega.{arith}
 use lib.ListN.{length, drop, length-drop}
 use lib.Seq.{drop-drop}
 use Rattle.refusal.specs.declared.Refusal.{Refusal}
 use Rattle.cbor.specs.Item.{Item}
-use Rattle.cbor.specs.Decode.{Outcome, refused, got, heading, Heading, members, decode}
+use Rattle.cbor.specs.Decode.{Outcome, refused, got, heading, Heading, members, decodeBy, decode}
+use Rattle.cbor.specs.Strict.{headBy}
 use Rattle.cbor.specs.Answer.{headAnswer, skipAnswer}
 use Rattle.cbor.specs.declared.head.Head.{Head}
 use Rattle.cbor.specs.declared.head.HeadRead.{HeadRead}
@@ -15,7 +17,7 @@ use Rattle.cbor.specs.declared.head.HeadRead.the-variants as hv
 use Rattle.cbor.specs.declared.item.Skip.{Skip}
 use Rattle.cbor.specs.declared.item.Skip.the-variants as sv
 use Rattle.cbor.proofs.Places.{plainly, HeadAt, stop, rest, Passed}
-use Rattle.cbor.proofs.Tails.{Tail, heading-tail, decode-tail, members-tail}
+use Rattle.cbor.proofs.Tails.{Tail, head-tail, decode-tail, members-tail}
 
 -- where s is passed as far as p, p is what is left over
 left-over : (s t : List ℕ) (p : ℕ) → p ≤ length s → drop p s ≡ t → p ≡ length s - length t
@@ -44,13 +46,13 @@ place s t at k l h e =
 pub within : (s : List ℕ) (at k : ℕ) → 1 ≤ k → k ≤ length (drop at s) → at ≤ length s
 within s at k l h = omega (arith, length-drop at s)
 
-pub head-says : (s : List ℕ) (at : ℕ) (r : HeadRead) → r ≡ headAnswer (length s) (heading (drop at s)) → HeadAt s at r
-head-says s at r e = rw e (go (heading (drop at s)) (heading-tail (drop at s)) refl)
+pub head-says : (b : Bool) (s : List ℕ) (at : ℕ) (r : HeadRead) → r ≡ headAnswer (length s) (headBy b (drop at s)) → HeadAt b s at r
+head-says b s at r e = rw e (go (headBy b (drop at s)) (head-tail b (drop at s)) refl)
   where
-    go : (o : Outcome Heading) → Tail (drop at s) 1 o → o ≡ heading (drop at s) → HeadAt s at (headAnswer (length s) o)
+    go : (o : Outcome Heading) → Tail (drop at s) 1 o → o ≡ headBy b (drop at s) → HeadAt b s at (headAnswer (length s) o)
     go (refused k) t e = record { says = e; inside = tt }
-    go (got h t) (k, a, b, c) e =
-        let q = place s t at k (within s at k a b) b c in
+    go (got h t) (k, x, y, z) e =
+        let q = place s t at k (within s at k x y) y z in
         record { says = ap (got h) (sym (q .0)) ∙ e; inside = q .1 }
 
 passed : {A : Type 0} (s : List ℕ) (at j : ℕ) (o : Outcome A) (r : Skip) → at ≤ length s → Tail (drop at s) j o
@@ -60,17 +62,20 @@ passed s at j (got a u) r l t e =
     let q = place s u at (t .0) l (t .2) (t .3) in
     rw e (record { says = ap rest (sym (q .0)); inside = q .1 })
 
-pub passed-item : (s : List ℕ) (at d : ℕ) (r : Skip) → r ≡ skipAnswer (length s) (decode d (drop at s)) → Passed s (decode d (drop at s)) r
-passed-item s at d r e = go (decode d (drop at s)) (decode-tail d (drop at s)) e
-  where
-    go : (o : Outcome Item) → Tail (drop at s) 1 o → r ≡ skipAnswer (length s) o → Passed s o r
-    go (refused k) t e = rw e (record { says = refl; inside = tt })
-    go (got i u) t e = passed s at 1 (got i u) r (within s at (t .0) (t .1) (t .2)) t e
+module _ (b : Bool) (s : List ℕ) (at d : ℕ) where
+  abbrev item : List ℕ → Outcome Item
+  item = decodeBy (headBy b) d
 
-pub passed-members : (s : List ℕ) (at d n : ℕ) (r : Skip) → at ≤ length s
-    → r ≡ skipAnswer (length s) (members (decode d) n (drop at s)) → Passed s (members (decode d) n (drop at s)) r
-passed-members s at d n r l e =
-    passed s at n (members (decode d) n (drop at s)) r l (members-tail (decode d) (decode-tail d) n (drop at s)) e
+  pub passed-item : (r : Skip) → r ≡ skipAnswer (length s) (item (drop at s)) → Passed s (item (drop at s)) r
+  passed-item r e = go (item (drop at s)) (decode-tail b d (drop at s)) e
+    where
+      go : (o : Outcome Item) → Tail (drop at s) 1 o → r ≡ skipAnswer (length s) o → Passed s o r
+      go (refused k) t e = rw e (record { says = refl; inside = tt })
+      go (got i u) t e = passed s at 1 (got i u) r (within s at (t .0) (t .1) (t .2)) t e
+
+  pub passed-members : (n : ℕ) (r : Skip) → at ≤ length s
+      → r ≡ skipAnswer (length s) (members item n (drop at s)) → Passed s (members item n (drop at s)) r
+  passed-members n r l e = passed s at n (members item n (drop at s)) r l (members-tail item (decode-tail b d) n (drop at s)) e
 
 -- ---- which outcome there was
 pub passed-got : {A : Type 0} (s : List ℕ) (o : Outcome A) (p : ℕ) → Passed s o (sv.Next p) → (a : A) × (o ≡ got a (drop p s))
@@ -89,11 +94,11 @@ passed-refused s (got a t) k q = let e : stop k ≡ rest t = q .says in cc
 -- ---- in the arm of a head that was refused, or got
 module _ (s : List ℕ) (at : ℕ) (r : HeadRead) (e : r ≡ headAnswer (length s) (heading (drop at s))) where
   pub head-refused : (k : Refusal) → r ≡ hv.Refused k → heading (drop at s) ≡ refused k
-  head-refused k g = let h : HeadAt s at (hv.Refused k) = rw g at (head-says s at r e) in sym (h .says)
+  head-refused k g = let h : HeadAt false s at (hv.Refused k) = rw g at (head-says false s at r e) in sym (h .says)
 
   module _ (h : Head) (g : r ≡ hv.Got h) where
-    pub head-at : HeadAt s at (hv.Got h)
-    head-at = rw g at (head-says s at r e)
+    pub head-at : HeadAt false s at (hv.Got h)
+    head-at = rw g at (head-says false s at r e)
 
     pub head-got : heading (drop at s) ≡ got (plainly h) (drop (h .next) s)
     head-got = sym (head-at .says)
@@ -107,7 +112,7 @@ module _ (s : List ℕ) (at : ℕ) (r : HeadRead) (e : r ≡ headAnswer (length 
 -- ---- in the arm of an item that was refused, or passed over
 module _ (s : List ℕ) (at d : ℕ) (r : Skip) (e : r ≡ skipAnswer (length s) (decode d (drop at s))) where
   pub skip-refused : (k : Refusal) → r ≡ sv.Refused k → decode d (drop at s) ≡ refused k
-  skip-refused k g = passed-refused s (decode d (drop at s)) k (rw g at (passed-item s at d r e))
+  skip-refused k g = passed-refused s (decode d (drop at s)) k (rw g at (passed-item false s at d r e))
 
   pub skip-next : (p : ℕ) → r ≡ sv.Next p → (i : Item) × (decode d (drop at s) ≡ got i (drop p s))
-  skip-next p g = passed-got s (decode d (drop at s)) p (rw g at (passed-item s at d r e))
+  skip-next p g = passed-got s (decode d (drop at s)) p (rw g at (passed-item false s at d r e))

@@ -1,17 +1,21 @@
 -- What `read_head` and its parts answer, case by case of their returns.
 use Prim.Native.Nat.{ℕ, _+_, _-_, _/_, _%_, _^_, _≤_, _<_}
-use mathlib.Core.Path.{_≡_, ap, _∙_}
+use mathlib.Core.Bool.{Bool, true, false, cond}
+use mathlib.Core.Path.{_≡_, refl, ap, _∙_}
 use mathlib.Core.List.{List, _∷_}
 use native.Mathlib.Omega.{arith}
 use native.Mathlib.Decide.{decLt}
 use native.Mathlib.Numerals.{add-one}
-use borrow.Author.Tests.{le-ltb, lt-ltb, le-leb, lt-leb}
+use borrow.Author.Tests.{le-ltb, lt-ltb, le-leb, lt-leb, eq-eqb}
+use lib.Dec.{eqb}
 use lib.ListN.{length, take, drop, getD, length-drop, drop-of-length-le}
 use lib.Seq.{drop-cons, drop-drop}
 use Rattle.refusal.specs.declared.Refusal.{Refusal}
 use Rattle.refusal.specs.declared.Refusal.the-variants.{Cut, Form}
 use Rattle.cbor.specs.Decode.{refused, got, andThen, next, bigEndian, argument, heading}
 use Rattle.cbor.specs.Answer.{headAnswer, announced}
+use Rattle.cbor.specs.Encode.{infoOf}
+use Rattle.cbor.specs.Strict.{isShort}
 use Rattle.cbor.specs.declared.head.HeadRead.the-variants as hv
 
 pub next-got : (n : ℕ) (s : List ℕ) → n ≤ length s → next n s ≡ got (take n s) (drop n s)
@@ -37,14 +41,17 @@ pub argument-wide : (k : ℕ) (s : List ℕ) → 24 ≤ k → k ≤ 27
 unfolding argument
 argument-wide k s l h = simp (le-ltb k 24 l, le-ltb 27 k h)
 
+-- an argument that stands in the first byte has no shorter head
+pub direct-short : (major k : ℕ) → k < 24 → true ≡ isShort major k k
+unfolding isShort infoOf
+direct-short major k h = rw (lt-ltb k 24 h, eq-eqb k k refl) (go (eqb major 7))
+  where
+    go : (b : Bool) → true ≡ cond b true true
+    go true = refl
+    go false = refl
+
 -- ---- an argument, by the bytes from a place on
 module _ (s : List ℕ) (k at end : ℕ) (e : end ≡ at + announced k) where
-  pub argument-none : k < 24 → argument k (drop at s) ≡ got k (drop end s)
-  argument-none h =
-      let f : end ≡ at + 0 = rw (lt-ltb k 24 h) at e in
-      let g : end ≡ at = omega arith in
-      rw g (argument-direct k (drop at s) h)
-
   -- its bytes are missing
   pub argument-cut : k ≤ 27 → at ≤ length s → length s < end → argument k (drop at s) ≡ refused Cut
   argument-cut h i l = go (decLt k 24)
@@ -79,9 +86,9 @@ module _ (s : List ℕ) (at : ℕ) where
     unfolding heading
     head-no k e = rw e
 
-    pub head-yes : (v p : ℕ) → p ≤ length s → argument (b % 32) (drop at s) ≡ got v (drop p s)
-        → hv.Got (record { major = b / 32; info = b % 32; argument = v; next = p }) ≡ headAnswer (length s) (heading (b ∷ drop at s))
+    pub head-yes : (v p : ℕ) (f : Bool) → p ≤ length s → argument (b % 32) (drop at s) ≡ got v (drop p s) → f ≡ isShort (b / 32) (b % 32) v
+        → hv.Got (record { major = b / 32; info = b % 32; argument = v; short = f; next = p }) ≡ headAnswer (length s) (heading (b ∷ drop at s))
     unfolding heading
-    head-yes v p i e =
-        rw e
-        (ap (λ (q : ℕ). hv.Got (record { major = b / 32; info = b % 32; argument = v; next = q })) (omega (arith, length-drop p s)))
+    head-yes v p f i e w =
+        let q : p ≡ length s - length (drop p s) = omega (arith, length-drop p s) in
+        rw (e, w) (ap (λ (x : ℕ). hv.Got (record { major = b / 32; info = b % 32; argument = v; short = isShort (b / 32) (b % 32) v; next = x })) q)

@@ -5,6 +5,7 @@ pub mod Outcomes
 pub mod Tails
 pub mod Answers
 pub mod Views
+pub mod Strict
 pub mod Payloads
 pub mod RoundTrip
 pub mod Writing

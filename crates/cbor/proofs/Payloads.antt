@@ -10,26 +10,30 @@ use lib.Dec.{eqb}
 use lib.ListN.{length, drop}
 use Rattle.refusal.specs.declared.Refusal.{Refusal}
 use Rattle.cbor.specs.Item.{Item, Pairs, map}
-use Rattle.cbor.specs.Decode.{Outcome, refused, got, andThen, next, heading, Heading, members, pairs, majorOf, content, decodeBy, decode, payload, ended}
+use Rattle.cbor.specs.Decode.{Outcome, refused, got, andThen, next, heading, Heading, members, pairs, majorOf, content, decodeBy, decode, payload, payloadBy, ended}
 use Rattle.cbor.specs.Answer.{mapAnswer, openAnswer}
+use Rattle.cbor.specs.Strict.{headBy}
 use Rattle.cbor.specs.View.{ifMap}
+use Rattle.refusal.specs.declared.Refusal.the-variants.{Loose}
 use Rattle.cbor.specs.declared.item.Opened.{Opened}
 use Rattle.cbor.specs.declared.item.Opened.the-variants as ov
 use Rattle.cbor.proofs.Answers.{place}
 use Rattle.cbor.proofs.Outcomes.{never, then-got, same-value, same-rest}
+use Rattle.cbor.proofs.Strict.{payload-same}
 use Rattle.cbor.proofs.Tails.{Tail, heading-tail}
 use Rattle.cbor.proofs.Views.{special-all}
 
-pub record IsMap (s : List ℕ) (n p : ℕ) : Type 0 where
+-- read strictly, or not
+pub record IsMap (b : Bool) (s : List ℕ) (n p : ℕ) : Type 0 where
   pub pairs-are : Pairs
   pub left : List ℕ
   pub inside : p ≤ length s
-  pub read : payload s ≡ got (map pairs-are) []
+  pub read : payloadBy (headBy b) s ≡ got (map pairs-are) []
   pub each : pairs (decode 7) n (drop p s) ≡ got pairs-are left
 
-pub record IsOther (s : List ℕ) : Type 1 where
+pub record IsOther (b : Bool) (s : List ℕ) : Type 1 where
   pub item : Item
-  pub read : payload s ≡ got item []
+  pub read : payloadBy (headBy b) s ≡ got item []
   pub other : {R : Type 0} (f : Pairs → R) (x : R) → ifMap f x item ≡ x
 
 -- nothing follows an item that was got, and a payload's head is its outermost item's
@@ -39,7 +43,7 @@ ended-same i j (b ∷ t) u e = absurd (never e)
 
 module _ (s : List ℕ) (i : Item) (t : List ℕ) (e : payload s ≡ got i t) where
   from-decode : (u : List ℕ) × (decode 8 s ≡ got i u) × (t ≡ [])
-  unfolding payload
+  unfolding payloadBy
   from-decode =
       let (j, u, f, g) = then-got (decode 8 s) ended i t e in
       let (a, b) = ended-same j i u t g in
@@ -82,12 +86,15 @@ by-test : (b : Bool) (n p : ℕ) (r : Opened) → r ≡ cond b (ov.Map n p) ov.N
 by-test true n p r e = inl (refl, e)
 by-test false n p r e = inr (refl, e)
 
+same-refusal : {j k : Refusal} → ov.Refused j ≡ ov.Refused k → j ≡ k
+same-refusal e = cc
+
 same-map : {n m p q : ℕ} → ov.Map n p ≡ ov.Map m q → (n ≡ m) × (p ≡ q)
 same-map e = (cc, cc)
 
 module _ (s : List ℕ) (r : Opened) (e : r ≡ openAnswer (length s) (payload s) (heading s)) where
-  pub opened-refused : (k : Refusal) → r ≡ ov.Refused k → payload s ≡ refused k
-  opened-refused k g = go (payload s) refl (sym g ∙ e)
+  plain-refused : (k : Refusal) → r ≡ ov.Refused k → payload s ≡ refused k
+  plain-refused k g = go (payload s) refl (sym g ∙ e)
     where
       go : (o : Outcome Item) → payload s ≡ o → ov.Refused k ≡ openAnswer (length s) o (heading s) → o ≡ refused k
       go (refused j) w f = cc
@@ -97,10 +104,10 @@ module _ (s : List ℕ) (r : Opened) (e : r ≡ openAnswer (length s) (payload s
           absurd (⊎-elim (λ q. let z : _≡_ {A = ℕ} 0 1 = cc in omega arith) (λ q. let z : _≡_ {A = ℕ} 0 1 = cc in omega arith)
           (by-test (eqb (h .major) 5) (h .argument) (length s - length u) (ov.Refused k) f′))
 
-  pub opened-map : (n p : ℕ) → r ≡ ov.Map n p → IsMap s n p
-  opened-map n p g = go (payload s) refl (sym g ∙ e)
+  plain-map : (n p : ℕ) → r ≡ ov.Map n p → IsMap false s n p
+  plain-map n p g = go (payload s) refl (sym g ∙ e)
     where
-      go : (o : Outcome Item) → payload s ≡ o → ov.Map n p ≡ openAnswer (length s) o (heading s) → IsMap s n p
+      go : (o : Outcome Item) → payload s ≡ o → ov.Map n p ≡ openAnswer (length s) o (heading s) → IsMap false s n p
       go (refused j) w f = absurd (let z : _≡_ {A = ℕ} 0 1 = cc in omega arith)
       go (got i t) w f =
           let (h, u, a, x, b) = headed s i t w in
@@ -121,10 +128,10 @@ module _ (s : List ℕ) (r : Opened) (e : r ≡ openAnswer (length s) (payload s
           (λ q. absurd (let z : _≡_ {A = ℕ} 0 1 = cc in omega arith))
           (by-test (eqb (h .major) 5) (h .argument) (length s - length u) (ov.Map n p) f′)
 
-  pub opened-other : r ≡ ov.NoMap → IsOther s
-  opened-other g = go (payload s) refl (sym g ∙ e)
+  plain-other : r ≡ ov.NoMap → IsOther false s
+  plain-other g = go (payload s) refl (sym g ∙ e)
     where
-      go : (o : Outcome Item) → payload s ≡ o → ov.NoMap ≡ openAnswer (length s) o (heading s) → IsOther s
+      go : (o : Outcome Item) → payload s ≡ o → ov.NoMap ≡ openAnswer (length s) o (heading s) → IsOther false s
       go (refused j) w f = absurd (let z : _≡_ {A = ℕ} 0 1 = cc in omega arith)
       go (got i t) w f =
           let (h, u, a, x, b) = headed s i t w in
@@ -137,3 +144,36 @@ module _ (s : List ℕ) (r : Opened) (e : r ≡ openAnswer (length s) (payload s
             other = λ f y. no-map (h .info) (h .argument) u i x f y (h .major) (eqb-false (h .major) 5 (q .0)) b;
           })
           (by-test (eqb (h .major) 5) (h .argument) (length s - length u) ov.NoMap f′)
+
+-- ---- read strictly, or not: a payload that is not LOOSE is as in the ordinary reading
+module _ (b : Bool) (s : List ℕ) (r : Opened) (e : r ≡ openAnswer (length s) (payloadBy (headBy b) s) (heading s)) where
+  as-plain : payloadBy (headBy b) s ≡ payload s → r ≡ openAnswer (length s) (payload s) (heading s)
+  as-plain f = rw f at e
+
+  as-loose : payloadBy (headBy b) s ≡ refused Loose → r ≡ ov.Refused Loose
+  as-loose f = rw f at e
+
+  pub opened-refused : (k : Refusal) → r ≡ ov.Refused k → payloadBy (headBy b) s ≡ refused k
+  opened-refused k g =
+      ⊎-elim
+      (λ f. let h : ov.Refused k ≡ ov.Refused Loose = sym g ∙ as-loose f in f ∙ ap refused (sym (same-refusal h)))
+      (λ f. f ∙ plain-refused s r (as-plain f) k g)
+      (payload-same b s)
+
+  pub opened-map : (n p : ℕ) → r ≡ ov.Map n p → IsMap b s n p
+  opened-map n p g =
+      ⊎-elim
+      (λ f. let h : ov.Map n p ≡ ov.Refused Loose = sym g ∙ as-loose f in absurd (let z : _≡_ {A = ℕ} 0 1 = cc in omega arith))
+      (λ f.
+      let w = plain-map s r (as-plain f) n p g in
+      record { pairs-are = w .pairs-are; left = w .left; inside = w .inside; read = f ∙ w .read; each = w .each })
+      (payload-same b s)
+
+  pub opened-other : r ≡ ov.NoMap → IsOther b s
+  opened-other g =
+      ⊎-elim
+      (λ f. let h : ov.NoMap ≡ ov.Refused Loose = sym g ∙ as-loose f in absurd (let z : _≡_ {A = ℕ} 0 1 = cc in omega arith))
+      (λ f.
+      let w = plain-other s r (as-plain f) g in
+      record { item = w .item; read = f ∙ w .read; other = w .other })
+      (payload-same b s)

@@ -1,10 +1,12 @@
 -- What an answer says of the bytes: its place is where what is left begins. Between this and the equations of specs/Answer one follows from the other.
 use Prim.Native.Nat.{ℕ, _≤_}
+use mathlib.Core.Bool.{Bool}
 use mathlib.Core.List.{List}
 use mathlib.Core.Path.{_≡_}
 use lib.ListN.{length, drop}
 use Rattle.refusal.specs.declared.Refusal.{Refusal}
-use Rattle.cbor.specs.Decode.{Outcome, refused, got, Heading, heading}
+use Rattle.cbor.specs.Decode.{Outcome, refused, got, Heading}
+use Rattle.cbor.specs.Strict.{headBy}
 use Rattle.cbor.specs.declared.head.Head.{Head}
 use Rattle.cbor.specs.declared.head.HeadRead.{HeadRead}
 use Rattle.cbor.specs.declared.head.HeadRead.the-variants as hv
@@ -23,8 +25,9 @@ abbrev pub headInside : List ℕ → HeadRead → Type 0
 headInside s (hv.Refused k) = Unit {0}
 headInside s (hv.Got h) = h .next ≤ length s
 
-pub record HeadAt (s : List ℕ) (at : ℕ) (r : HeadRead) : Type 0 where
-  pub says : headSays s r ≡ heading (drop at s)
+-- read strictly, or not
+pub record HeadAt (b : Bool) (s : List ℕ) (at : ℕ) (r : HeadRead) : Type 0 where
+  pub says : headSays s r ≡ headBy b (drop at s)
   pub inside : headInside s r
 
 -- an outcome with the value forgotten

@@ -1,15 +1,18 @@
 -- What was encoded is read back: a head by its length information, an item by its parts. Shown for every reader of heads that reads the written ones.
 use Prim.Native.Nat.{ℕ, zero, suc, _+_, _*_, _-_, _/_, _%_, _^_, _≤_, _<_}
 use mathlib.Core.Path.{_≡_, refl, ap, _∙_}
+use mathlib.Core.Bool.{Bool, true, false, cond}
+use lib.Dec.{eqb}
 use mathlib.Core.List.{List, [], _∷_, _++_, append-assoc, append-nil}
 use native.Mathlib.Omega.{arith}
 use native.Mathlib.Nat.{pow-suc, div-lt-iff-lt-mul, mul-assoc}
 use native.Mathlib.Decide.{decLt}
-use borrow.Author.Tests.{le-ltb, lt-ltb}
+use borrow.Author.Tests.{le-ltb, lt-ltb, eq-eqb}
 use lib.ListN.{length, length-append}
 use lib.Seq.{take-append-seam, drop-append-seam, take-at, drop-at}
 use Rattle.cbor.specs.Item.{Size, half, single, double, Item, Items, Pairs, unsigned, negative, bytes, text, array, map, tag, simple, float, none, more, empty, pair, count, countPairs, depth, depths, depthPairs, width, Fit, Fits, FitPairs}
-use Rattle.cbor.specs.Decode.{Outcome, got, andThen, next, digits, argument, heading, Heading, members, pairs, majorOf, content, decodeBy, decode, payload}
+use Rattle.cbor.specs.Decode.{Outcome, got, andThen, next, digits, argument, heading, Heading, members, pairs, majorOf, content, decodeBy, payloadBy}
+use Rattle.cbor.specs.Strict.{isShort, strictHeading, headBy}
 use Rattle.cbor.specs.Encode.{bytesOf, headWith, infoOf, extraOf, shortest, sizeInfo, encode, encodes, encodePairs}
 use Rattle.cbor.proofs.Heads.{next-got, argument-direct, argument-wide}
 
@@ -157,7 +160,35 @@ module _ (head : List ℕ → Outcome Heading) (read : Reads head) where
 pub reads : Reads heading
 reads = record { short = head-read; floats = float-read }
 
+-- the written heads are the shortest
+info-same : (n : ℕ) → eqb n n ≡ true
+info-same n = eq-eqb n n refl
+
+short-written : (m n : ℕ) → isShort m (infoOf n) n ≡ true
+unfolding isShort
+short-written m n = rw (info-same (infoOf n)) (go (eqb m 7))
+  where
+    go : (b : Bool) → cond b true true ≡ true
+    go true = refl
+    go false = refl
+
+float-short : (w : Size) (n : ℕ) → isShort 7 (sizeInfo w) n ≡ true
+unfolding isShort
+float-short w n = refl
+
+pub strict-reads : Reads strictHeading
+unfolding strictHeading
+strict-reads = record {
+  short = λ m n r h. rw (head-read m n r h, short-written m n);
+  floats = λ w n r h. rw (float-read w n r h, float-short w n);
+}
+
+pub reads-by : (b : Bool) → Reads (headBy b)
+reads-by true = strict-reads
+reads-by false = reads
+
 -- a whole payload
-pub read-payload : (i : Item) → depth i ≤ 8 → Fit i → payload (encode i) ≡ got i []
-unfolding payload
-read-payload i l f = let e : decode 8 (encode i) ≡ got i [] = rw (append-nil (encode i)) at (read-item heading reads i 8 [] l f) in rw e
+pub read-payload : (head : List ℕ → Outcome Heading) → Reads head → (i : Item) → depth i ≤ 8 → Fit i → payloadBy head (encode i) ≡ got i []
+unfolding payloadBy
+read-payload head read i l f =
+    let e : decodeBy head 8 (encode i) ≡ got i [] = rw (append-nil (encode i)) at (read-item head read i 8 [] l f) in rw e

@@ -10,7 +10,8 @@ use lib.Dec.{ltb}
 use lib.ListN.{length, take, drop, length-drop, length-take, take-append-drop}
 use lib.Seq.{drop-drop}
 use Rattle.cbor.specs.Item.{Item, Items, Pairs}
-use Rattle.cbor.specs.Decode.{Outcome, refused, got, andThen, next, argument, heading, Heading, members, pairs, Major, unsigneds, negatives, byteStrings, textStrings, arrays, maps, tags, others, majorOf, content, decodeBy, decode}
+use Rattle.cbor.specs.Decode.{Outcome, refused, got, andThen, next, argument, heading, Heading, members, pairs, Major, unsigneds, negatives, byteStrings, textStrings, arrays, maps, tags, others, majorOf, content, decodeBy}
+use Rattle.cbor.specs.Strict.{short, shortOnly, strictHeading, headBy}
 use Rattle.cbor.specs.Laws.{Suffix}
 use Rattle.cbor.proofs.Heads.{next-got, next-cut}
 
@@ -104,8 +105,14 @@ module _ (head : List ℕ → Outcome Heading) (headed : (l : List ℕ) → Tail
       tail-then l 1 0 (head l) _ (headed l) (λ h t.
       content-tail (decodeBy head d) (decode-by-tail d) (majorOf (h .major)) (h .info) (h .argument) t)
 
-pub decode-tail : (d : ℕ) (l : List ℕ) → Tail l 1 (decode d l)
-decode-tail d l = decode-by-tail heading heading-tail d l
+-- read strictly, or not
+pub head-tail : (b : Bool) (l : List ℕ) → Tail l 1 (headBy b l)
+unfolding strictHeading
+head-tail true l = tail-then l 1 0 (heading l) _ (heading-tail l) (λ h t. tail-cond (short h) t 0 _ _ (here t) tt)
+head-tail false l = heading-tail l
+
+pub decode-tail : (b : Bool) (d : ℕ) (l : List ℕ) → Tail l 1 (decodeBy (headBy b) d l)
+decode-tail b d l = decode-by-tail (headBy b) (head-tail b) d l
 
 -- the same as a front and what follows it
 pub suffix : {A : Type 0} (n : ℕ) (s : List ℕ) (o : Outcome A) (a : A) (t : List ℕ) → Tail s n o → o ≡ got a t → Suffix n t s

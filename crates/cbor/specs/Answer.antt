@@ -13,6 +13,7 @@ use Rattle.refusal.specs.declared.Verdict.the-variants as vv
 use Rattle.cbor.specs.Decode.{Outcome, refused, got, Heading}
 use Rattle.cbor.specs.Encode.{shortest}
 use Rattle.cbor.specs.Item.{Item}
+use Rattle.cbor.specs.Strict.{short}
 use Rattle.cbor.specs.declared.head.HeadRead.{HeadRead}
 use Rattle.cbor.specs.declared.head.HeadRead.the-variants as hv
 use Rattle.cbor.specs.declared.write.Written.{Written}
@@ -31,7 +32,7 @@ announced info = cond (ltb info 24) 0 (2 ^ (info - 24))
 abbrev pub headAnswer : ℕ → Outcome Heading → HeadRead
 headAnswer n (refused k) = hv.Refused k
 headAnswer n (got h t) =
-    hv.Got (record { major = h .major; info = h .info; argument = h .argument; next = n - length t })
+    hv.Got (record { major = h .major; info = h .info; argument = h .argument; short = short h; next = n - length t })
 
 -- where the bytes go on after what was passed over
 abbrev pub skipAnswer : {A : Type 0} → ℕ → Outcome A → Skip

@@ -103,5 +103,8 @@ abbrev pub ended : Item → List ℕ → Outcome Item
 ended i [] = got i []
 ended i (b ∷ s) = refused Extra
 
-unfoldable pub payload : List ℕ → Outcome Item
-payload s = andThen (decode 8 s) ended
+unfoldable pub payloadBy : (List ℕ → Outcome Heading) → List ℕ → Outcome Item
+payloadBy head s = andThen (decodeBy head 8 s) ended
+
+abbrev pub payload : List ℕ → Outcome Item
+payload s = payloadBy heading s

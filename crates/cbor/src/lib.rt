@@ -8,6 +8,7 @@ pub mod write;
 pub use head::Head;
 pub use head::HeadRead;
 pub use head::read_head;
+pub use head::read_head_by;
 pub use item::Opened;
 pub use item::Skip;
 pub use value::Label;

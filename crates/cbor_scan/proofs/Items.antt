@@ -1,6 +1,7 @@
 -- What `skip_item`, `skip_members`, `scan` and `open_map` answer, case by case of their returns.
 use Prim.Native.Nat.{ℕ, zero, suc, _+_, _-_, _≤_, _<_}
 use mathlib.Core.Path.{_≡_, refl, ap, sym, _∙_, fun-ext}
+use mathlib.Core.Bool.{Bool}
 use mathlib.Core.List.{List, [], _∷_}
 use native.Mathlib.Omega.{arith}
 use native.Mathlib.Nat.{suc-add, add-suc, zero-add}
@@ -10,7 +11,8 @@ use Rattle.refusal.specs.declared.Refusal.{Refusal}
 use Rattle.refusal.specs.declared.Refusal.the-variants.{Cut, Deep, Extra}
 use Rattle.refusal.specs.declared.Verdict.the-variants as vv
 use Rattle.cbor.specs.Item.{Item, bytes, text, array, map, tag, more, pair}
-use Rattle.cbor.specs.Decode.{Outcome, refused, got, andThen, next, heading, Heading, members, pairs, majorOf, content, decodeBy, decode, payload, ended}
+use Rattle.cbor.specs.Decode.{Outcome, refused, got, andThen, next, Heading, members, pairs, majorOf, content, decodeBy, payloadBy, ended}
+use Rattle.cbor.specs.Strict.{headBy}
 use Rattle.cbor.specs.Answer.{scanAnswer}
 use Rattle.cbor.specs.declared.head.Head.{Head}
 use Rattle.cbor.specs.declared.head.HeadRead.the-variants as hv
@@ -101,20 +103,24 @@ module _ (item : List ℕ → Outcome Item) (i a : ℕ) (l : List ℕ) where
 unsuc : (d : ℕ) → ¬ (d ≡ 0) → d ≡ suc (d - 1)
 unsuc d h = omega arith
 
-module _ (s : List ℕ) (at d : ℕ) where
-  pub item-deep : d ≡ 0 → Passed s (decode d (drop at s)) (sv.Refused Deep)
+-- read strictly, or not
+abbrev pub itemBy : Bool → ℕ → List ℕ → Outcome Item
+itemBy b d l = decodeBy (headBy b) d l
+
+module _ (b : Bool) (s : List ℕ) (at d : ℕ) where
+  pub item-deep : d ≡ 0 → Passed s (itemBy b d (drop at s)) (sv.Refused Deep)
   unfolding decodeBy
   item-deep e = rw e (record { says = refl; inside = tt })
 
-  decode-step : (h : Outcome Heading) → ¬ (d ≡ 0) → h ≡ heading (drop at s)
-      → decode d (drop at s) ≡ andThen h (λ h t. content (decode (d - 1)) (majorOf (h .major)) (h .info) (h .argument) t)
+  decode-step : (h : Outcome Heading) → ¬ (d ≡ 0) → h ≡ headBy b (drop at s)
+      → itemBy b d (drop at s) ≡ andThen h (λ h t. content (itemBy b (d - 1)) (majorOf (h .major)) (h .info) (h .argument) t)
   unfolding decodeBy
-  decode-step h n e = ap (λ (k : ℕ). decode k (drop at s)) (unsuc d n) ∙ rw e
+  decode-step h n e = ap (λ (k : ℕ). itemBy b k (drop at s)) (unsuc d n) ∙ rw e
 
-  pub item-refused : (k : Refusal) → ¬ (d ≡ 0) → HeadAt s at (hv.Refused k) → Passed s (decode d (drop at s)) (sv.Refused k)
+  pub item-refused : (k : Refusal) → ¬ (d ≡ 0) → HeadAt b s at (hv.Refused k) → Passed s (itemBy b d (drop at s)) (sv.Refused k)
   item-refused k n h = record { says = sym (ap forget (decode-step (refused k) n (h .says))); inside = tt }
 
-  module _ (h : Head) (n : ¬ (d ≡ 0)) (w : HeadAt s at (hv.Got h)) where
+  module _ (h : Head) (n : ¬ (d ≡ 0)) (w : HeadAt b s at (hv.Got h)) where
     abbrev m : ℕ
     m = h .major
 
@@ -125,16 +131,16 @@ module _ (s : List ℕ) (at d : ℕ) where
     p = h .next
 
     abbrev below : List ℕ → Outcome Item
-    below = decode (d - 1)
+    below = itemBy b (d - 1)
 
-    pub decode-got : decode d (drop at s) ≡ content below (majorOf m) (h .info) a (drop p s)
+    pub decode-got : itemBy b d (drop at s) ≡ content below (majorOf m) (h .info) a (drop p s)
     decode-got = decode-step (headSays s (hv.Got h)) n (w .says)
 
-    pub item-alone : (2 ≤ m → m ≤ 6 → ⊥) → Passed s (decode d (drop at s)) (sv.Next p)
+    pub item-alone : (2 ≤ m → m ≤ 6 → ⊥) → Passed s (itemBy b d (drop at s)) (sv.Next p)
     item-alone o =
         record { says = sym (ap forget decode-got ∙ head-alone below (h .info) a (drop p s) m o); inside = w .inside }
 
-    pub item-string : 2 ≤ m → m ≤ 3 → a ≤ length s - p → Passed s (decode d (drop at s)) (sv.Next (p + a))
+    pub item-string : 2 ≤ m → m ≤ 3 → a ≤ length s - p → Passed s (itemBy b d (drop at s)) (sv.Next (p + a))
     item-string l l′ r =
         let i : p ≤ length s = w .inside in
         let r′ : a ≤ length (drop p s) = rw (length-drop p s) r in
@@ -143,7 +149,7 @@ module _ (s : List ℕ) (at d : ℕ) where
           inside = omega arith;
         }
 
-    pub item-short : 2 ≤ m → m ≤ 3 → length s - p < a → Passed s (decode d (drop at s)) (sv.Refused Cut)
+    pub item-short : 2 ≤ m → m ≤ 3 → length s - p < a → Passed s (itemBy b d (drop at s)) (sv.Refused Cut)
     item-short l l′ r =
         let r′ : length (drop p s) < a = rw (length-drop p s) r in
         record {
@@ -151,42 +157,42 @@ module _ (s : List ℕ) (at d : ℕ) where
           inside = tt;
         }
 
-    pub item-array : m ≡ 4 → (r : Skip) → Passed s (members below a (drop p s)) r → Passed s (decode d (drop at s)) r
+    pub item-array : m ≡ 4 → (r : Skip) → Passed s (members below a (drop p s)) r → Passed s (itemBy b d (drop at s)) r
     item-array e r q =
         record { says = q .says ∙ sym (ap forget decode-got ∙ array-content below (h .info) a (drop p s) m e); inside = q .inside }
 
-    pub item-map-refused : m ≡ 5 → (k : Refusal) → Passed s (members below a (drop p s)) (sv.Refused k) → Passed s (decode d (drop at s)) (sv.Refused k)
+    pub item-map-refused : m ≡ 5 → (k : Refusal) → Passed s (members below a (drop p s)) (sv.Refused k) → Passed s (itemBy b d (drop at s)) (sv.Refused k)
     item-map-refused e k q = record {
       says = sym (ap forget decode-got ∙ map-content below (h .info) a (drop p s) m e ∙ rw (← q .says));
       inside = tt;
     }
 
     pub item-map : m ≡ 5 → (q : ℕ) (r : Skip) → Passed s (members below a (drop p s)) (sv.Next q)
-        → Passed s (members below a (drop q s)) r → Passed s (decode d (drop at s)) r
+        → Passed s (members below a (drop q s)) r → Passed s (itemBy b d (drop at s)) r
     item-map e q r f g = record {
       says = g .says ∙ sym (ap forget decode-got ∙ map-content below (h .info) a (drop p s) m e ∙ rw (← f .says));
       inside = g .inside;
     }
 
-    pub item-tag : m ≡ 6 → (r : Skip) → Passed s (below (drop p s)) r → Passed s (decode d (drop at s)) r
+    pub item-tag : m ≡ 6 → (r : Skip) → Passed s (below (drop p s)) r → Passed s (itemBy b d (drop at s)) r
     item-tag e r q =
         record { says = q .says ∙ sym (ap forget decode-got ∙ tag-content below (h .info) a (drop p s) m e); inside = q .inside }
 
 -- ---- members, as the loop goes: what is left to pass over from here is what was to be passed over from the start
-module _ (s : List ℕ) (at d n : ℕ) where
-  members-step : 0 < n → forget (members (decode d) n (drop at s)) ≡ onward (forget (decode d (drop at s))) (λ t. forget (members (decode d) (n - 1) t))
+module _ (b : Bool) (s : List ℕ) (at d n : ℕ) where
+  members-step : 0 < n → forget (members (itemBy b d) n (drop at s)) ≡ onward (forget (itemBy b d (drop at s))) (λ t. forget (members (itemBy b d) (n - 1) t))
   members-step h =
-      ap (λ (k : ℕ). forget (members (decode d) k (drop at s))) (unsuc n (omega arith)) ∙ members-times (decode d) (suc (n - 1)) (drop at s)
+      ap (λ (k : ℕ). forget (members (itemBy b d) k (drop at s))) (unsuc n (omega arith)) ∙ members-times (itemBy b d) (suc (n - 1)) (drop at s)
       ∙ sym (simp members-times)
 
-  pub members-refused : 0 < n → (k : Refusal) → Passed s (decode d (drop at s)) (sv.Refused k) → forget (members (decode d) n (drop at s)) ≡ stop k
+  pub members-refused : 0 < n → (k : Refusal) → Passed s (itemBy b d (drop at s)) (sv.Refused k) → forget (members (itemBy b d) n (drop at s)) ≡ stop k
   members-refused h k q = members-step h ∙ rw (← q .says)
 
-  pub members-before : 0 < n → (p : ℕ) → Passed s (decode d (drop at s)) (sv.Next p)
-      → forget (members (decode d) (n - 1) (drop p s)) ≡ forget (members (decode d) n (drop at s))
+  pub members-before : 0 < n → (p : ℕ) → Passed s (itemBy b d (drop at s)) (sv.Next p)
+      → forget (members (itemBy b d) (n - 1) (drop p s)) ≡ forget (members (itemBy b d) n (drop at s))
   members-before h p q = sym (members-step h ∙ rw (← q .says))
 
-  pub members-done : n ≤ 0 → forget (members (decode d) n (drop at s)) ≡ rest (drop at s)
+  pub members-done : n ≤ 0 → forget (members (itemBy b d) n (drop at s)) ≡ rest (drop at s)
   unfolding members
   members-done h = let e : n ≡ 0 = omega arith in rw e
 
@@ -199,19 +205,19 @@ whole : (i : Item) (t : List ℕ) → length t ≡ 0 → scanAnswer (ended i t) 
 whole i [] h = refl
 whole i (b ∷ t) h = absurd (omega arith)
 
-module _ (s : List ℕ) where
-  pub scan-refused : (k : Refusal) → Passed s (decode 8 s) (sv.Refused k) → vv.Refused k ≡ scanAnswer (payload s)
-  unfolding payload
-  scan-refused k q = rw (passed-refused s (decode 8 s) k q)
+module _ (b : Bool) (s : List ℕ) where
+  pub scan-refused : (k : Refusal) → Passed s (itemBy b 8 s) (sv.Refused k) → vv.Refused k ≡ scanAnswer (payloadBy (headBy b) s)
+  unfolding payloadBy
+  scan-refused k q = rw (passed-refused s (itemBy b 8 s) k q)
 
-  pub scan-extra : (p : ℕ) → Passed s (decode 8 s) (sv.Next p) → p < length s → vv.Refused Extra ≡ scanAnswer (payload s)
-  unfolding payload
+  pub scan-extra : (p : ℕ) → Passed s (itemBy b 8 s) (sv.Next p) → p < length s → vv.Refused Extra ≡ scanAnswer (payloadBy (headBy b) s)
+  unfolding payloadBy
   scan-extra p q h =
-      let (i, e) = passed-got s (decode 8 s) p q in
+      let (i, e) = passed-got s (itemBy b 8 s) p q in
       rw e (sym (extra i (drop p s) (omega (arith, length-drop p s))))
 
-  pub scan-whole : (p : ℕ) → Passed s (decode 8 s) (sv.Next p) → length s ≤ p → vv.Accepted ≡ scanAnswer (payload s)
-  unfolding payload
+  pub scan-whole : (p : ℕ) → Passed s (itemBy b 8 s) (sv.Next p) → length s ≤ p → vv.Accepted ≡ scanAnswer (payloadBy (headBy b) s)
+  unfolding payloadBy
   scan-whole p q h =
-      let (i, e) = passed-got s (decode 8 s) p q in
+      let (i, e) = passed-got s (itemBy b 8 s) p q in
       rw e (sym (whole i (drop p s) (omega (arith, length-drop p s))))

@@ -1,7 +1,7 @@
 -- What `open_map` answers, case by case of its returns.
 use Prim.Native.Nat.{ℕ}
 use mathlib.Core.Path.{_≡_, refl, sym, _∙_}
-use mathlib.Core.Bool.{cond}
+use mathlib.Core.Bool.{Bool, cond}
 use mathlib.Core.List.{List}
 use native.Mathlib.Omega.{arith}
 use borrow.Author.Tests.{eq-eqb, ne-eqb}
@@ -11,7 +11,8 @@ use Rattle.refusal.specs.declared.Refusal.{Refusal}
 use Rattle.refusal.specs.declared.Verdict.{Verdict}
 use Rattle.refusal.specs.declared.Verdict.the-variants as vv
 use Rattle.cbor.specs.Item.{Item}
-use Rattle.cbor.specs.Decode.{Outcome, refused, got, heading, payload}
+use Rattle.cbor.specs.Decode.{Outcome, refused, got, heading, payloadBy}
+use Rattle.cbor.specs.Strict.{headBy}
 use Rattle.cbor.specs.Answer.{headAnswer, scanAnswer, openAnswer}
 use Rattle.cbor.specs.declared.head.Head.{Head}
 use Rattle.cbor.specs.declared.head.HeadRead.{HeadRead}
@@ -27,24 +28,24 @@ scan-yes : (o : Outcome Item) → vv.Accepted ≡ scanAnswer o → (i : Item) ×
 scan-yes (refused k) e = absurd (let z : _≡_ {A = ℕ} 0 1 = cc in omega arith)
 scan-yes (got i t) e = (i, t, refl)
 
-module _ (s : List ℕ) (v : Verdict) (e : v ≡ scanAnswer (payload s)) where
-  pub open-refused : (k : Refusal) → v ≡ vv.Refused k → ov.Refused k ≡ openAnswer (length s) (payload s) (heading s)
-  open-refused k g = rw (scan-no k (payload s) (sym g ∙ e))
+module _ (b : Bool) (s : List ℕ) (v : Verdict) (e : v ≡ scanAnswer (payloadBy (headBy b) s)) where
+  pub open-refused : (k : Refusal) → v ≡ vv.Refused k → ov.Refused k ≡ openAnswer (length s) (payloadBy (headBy b) s) (heading s)
+  open-refused k g = rw (scan-no k (payloadBy (headBy b) s) (sym g ∙ e))
 
   module _ (g : v ≡ vv.Accepted) (r : HeadRead) (f : r ≡ headAnswer (length s) (heading (drop 0 s))) where
-    pub open-unheaded : (k : Refusal) → r ≡ hv.Refused k → ov.Refused k ≡ openAnswer (length s) (payload s) (heading s)
+    pub open-unheaded : (k : Refusal) → r ≡ hv.Refused k → ov.Refused k ≡ openAnswer (length s) (payloadBy (headBy b) s) (heading s)
     open-unheaded k o =
-        let (i, t, w) = scan-yes (payload s) (sym g ∙ e) in
+        let (i, t, w) = scan-yes (payloadBy (headBy b) s) (sym g ∙ e) in
         rw (w, head-refused s 0 r f k o)
 
     module _ (h : Head) (o : r ≡ hv.Got h) where
-      opened : openAnswer (length s) (payload s) (heading s) ≡ cond (eqb (h .major) 5) (ov.Map (h .argument) (h .next)) ov.NoMap
+      opened : openAnswer (length s) (payloadBy (headBy b) s) (heading s) ≡ cond (eqb (h .major) 5) (ov.Map (h .argument) (h .next)) ov.NoMap
       opened =
-          let (i, t, w) = scan-yes (payload s) (sym g ∙ e) in
+          let (i, t, w) = scan-yes (payloadBy (headBy b) s) (sym g ∙ e) in
           rw (w, head-got s 0 r f h o, head-place s 0 r f h o)
 
-      pub open-map : h .major ≡ 5 → ov.Map (h .argument) (h .next) ≡ openAnswer (length s) (payload s) (heading s)
+      pub open-map : h .major ≡ 5 → ov.Map (h .argument) (h .next) ≡ openAnswer (length s) (payloadBy (headBy b) s) (heading s)
       open-map m = sym (opened ∙ rw (eq-eqb (h .major) 5 m))
 
-      pub open-other : ¬ (h .major ≡ 5) → ov.NoMap ≡ openAnswer (length s) (payload s) (heading s)
+      pub open-other : ¬ (h .major ≡ 5) → ov.NoMap ≡ openAnswer (length s) (payloadBy (headBy b) s) (heading s)
       open-other m = sym (opened ∙ rw (ne-eqb (h .major) 5 m))

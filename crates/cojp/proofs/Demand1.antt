@@ -5,7 +5,7 @@ use native.Mathlib.Omega.{arith}
 use Rattle.refusal.specs.declared.Refusal.{Refusal}
 use Rattle.refusal.specs.declared.Verdict.the-variants.{Refused}
 use Rattle.cojp.specs.Reading.{Reading, refused, read, onward}
-use Rattle.cojp.specs.Walk.{payloadRead}
+use Rattle.cojp.specs.Walk.{payloadReadBy}
 use Rattle.cojp.specs.Request.{emptyRequest, requestAnswer, requestForm, nothingGathered, settled}
 use Rattle.cojp.specs.Configuration.{emptyConfiguration, configurationAnswer, configurationForm}
 use Rattle.cojp.specs.Laws.{ReadersDemand1}
@@ -24,6 +24,6 @@ configuration-empty (read c) k e = absurd (let z : _≡_ {A = ℕ} 0 1 = cc in o
 
 pub readers-demand1 : ReadersDemand1
 readers-demand1 = record {
-  request = (λ s k e. request-empty (onward (payloadRead requestForm nothingGathered s) settled) k e);
-  configuration = (λ s k e. configuration-empty (payloadRead configurationForm emptyConfiguration s) k e);
+  request = (λ head s k e. request-empty (onward (payloadReadBy requestForm head nothingGathered s) settled) k e);
+  configuration = (λ head s k e. configuration-empty (payloadReadBy configurationForm head emptyConfiguration s) k e);
 }

@@ -11,6 +11,7 @@ use lib.Seq.{take-at}
 use Rattle.refusal.specs.Verdict.{refused-not}
 use Rattle.refusal.specs.declared.Refusal.the-variants as refusal
 use Rattle.refusal.specs.declared.Verdict.the-variants.{Accepted}
+use Rattle.cbor.specs.Decode.{heading}
 use Rattle.cbor.specs.View.{Plain, number, string, other, View, plain, list}
 use Rattle.link_key.specs.Key.{noKey}
 use Rattle.link_key_set.specs.KeySet.{keysOf, allowed, allowedSet}
@@ -19,7 +20,8 @@ use Rattle.link_key_set.specs.declared.key_set.KeySet.{KeySet}
 use Rattle.link_key_set.proofs.KeySets.{allowed-few}
 use Rattle.cojp.specs.Reading.{Reading, refused, read, put, Judgement, broken, unfit, good, concluded}
 use Rattle.cojp.specs.Octets.{octetsJudged, octetsOf, octetsParameter, noOctetsParameter}
-use Rattle.cojp.specs.Address.{isAddress, addressBy, addressIn, addressJudged, addressOf, addressParameter, noAddressParameter}
+use Rattle.short_address.specs.Address.{isAddress}
+use Rattle.cojp.specs.Address.{addressBy, addressIn, addressJudged, addressOf, addressParameter, noAddressParameter}
 use Rattle.cojp.specs.KeySet.{Groups, notGroups, groupsOf, groups, keysIn, keysJudged, keySetOf, keysParameter}
 use Rattle.cojp.specs.Walk.{payloadRead}
 use Rattle.cojp.specs.Configuration.{emptyConfiguration, withKeys, withAddress, withJrc, withNetwork, withPrefix, withPassed, configurationTaking, configurationForm, configurationAnswer, readConfiguration}
@@ -150,7 +152,7 @@ empty-fits = record { keys = refl; address = refl; jrc = refl; network = refl; p
 pub reads-in-range : ReadsInRange
 reads-in-range p e =
     go (payloadRead configurationForm emptyConfiguration p)
-    (payload-gives configurationForm InRange (λ c h. passing-fits c h (c .passed + 1)) taking-fits emptyConfiguration empty-fits p) e
+    (payload-gives configurationForm InRange (λ c h. passing-fits c h (c .passed + 1)) taking-fits heading emptyConfiguration empty-fits p) e
   where
     go : (r : Reading Configuration) → Gives InRange r → configurationAnswer r .verdict ≡ Accepted → InRange (configurationAnswer r .configuration)
     go (refused k) h q = refused-not k q

@@ -5,14 +5,14 @@ use mathlib.Core.List.{List}
 use lib.Dec.{ltb}
 use lib.ListN.{length}
 use Rattle.refusal.specs.declared.Refusal.the-variants as refusal
-use Rattle.cbor.specs.Decode.{Outcome, payload}
+use Rattle.cbor.specs.Decode.{Outcome, Heading, payloadBy}
 use Rattle.cbor.specs.Decode as decode
 use Rattle.cbor.specs.Item.{Item, Pairs, unsigned, negative, bytes, text, array, map, tag, simple, float, empty, pair}
 use Rattle.cbor.specs.View.{View, labelOf, viewOf}
 use Rattle.cbor.specs.declared.value.Label.{Label}
 use Rattle.cbor.specs.declared.value.Label.the-variants as label
 use Rattle.cojp.specs.Reading.{Reading, refused, read, onward}
-use Rattle.cojp.specs.Walk.{Form, knownRead, pairRead, pairsRead, mapRead, scannedRead, payloadRead}
+use Rattle.cojp.specs.Walk.{Form, knownRead, pairRead, pairsRead, mapRead, scannedRead, payloadReadBy}
 use Rattle.cojp.specs.declared.walk.Standing.{Standing}
 use Rattle.cojp.specs.declared.walk.Standing.the-variants.{Unknown, Fresh, Again}
 
@@ -58,10 +58,11 @@ module _ {S : Type 0} (F : Form S) (P : S → Type 0) (passing : (s : S) → P s
   scanned-gives s h (decode.refused k) = tt
   scanned-gives s h (decode.got i t) = map-gives s h i
 
-  pub payload-gives : (s : S) → P s → (p : List ℕ) → Gives P (payloadRead F s p)
-  unfolding payloadRead
-  payload-gives s h p = go (ltb 256 (length p))
+  -- whatever reader of heads the scan has
+  pub payload-gives : (head : List ℕ → Outcome Heading) (s : S) → P s → (p : List ℕ) → Gives P (payloadReadBy F head s p)
+  unfolding payloadReadBy
+  payload-gives head s h p = go (ltb 256 (length p))
     where
-      go : (b : Bool) → Gives P (cond b (refused refusal.Long) (scannedRead F s (payload p)))
+      go : (b : Bool) → Gives P (cond b (refused refusal.Long) (scannedRead F s (payloadBy head p)))
       go true = tt
-      go false = scanned-gives s h (payload p)
+      go false = scanned-gives s h (payloadBy head p)

@@ -5,12 +5,14 @@ use mathlib.Core.List.{List}
 use lib.Dec.{eqb}
 use Rattle.refusal.specs.declared.Refusal.{Refusal}
 use Rattle.refusal.specs.declared.Verdict.the-variants as verdict
+use Rattle.cbor.specs.Decode.{Outcome, Heading, heading}
+use Rattle.cbor.specs.Strict.{strictHeading}
 use Rattle.cbor.specs.View.{View}
 use Rattle.cojp.specs.Reading.{Reading, refused, read, put}
 use Rattle.cojp.specs.Octets.{noOctetsParameter, octetsRead}
 use Rattle.cojp.specs.Address.{noAddressParameter, addressRead}
 use Rattle.cojp.specs.KeySet.{noKeysParameter, keysRead}
-use Rattle.cojp.specs.Walk.{Form, standingOf, payloadRead}
+use Rattle.cojp.specs.Walk.{Form, standingOf, payloadReadBy}
 use Rattle.cojp.specs.declared.address.AddressParameter.{AddressParameter}
 use Rattle.cojp.specs.declared.configuration.Configuration.{Configuration}
 use Rattle.cojp.specs.declared.configuration.ConfigurationRead.{ConfigurationRead}
@@ -88,5 +90,12 @@ abbrev pub configurationAnswer : Reading Configuration → ConfigurationRead
 configurationAnswer (refused k) = refuseConfiguration k
 configurationAnswer (read c) = acceptConfiguration c
 
+-- its heads read by `head`
+abbrev pub readConfigurationBy : (List ℕ → Outcome Heading) → List ℕ → ConfigurationRead
+readConfigurationBy head p = configurationAnswer (payloadReadBy configurationForm head emptyConfiguration p)
+
 abbrev pub readConfiguration : List ℕ → ConfigurationRead
-readConfiguration p = configurationAnswer (payloadRead configurationForm emptyConfiguration p)
+readConfiguration p = readConfigurationBy heading p
+
+abbrev pub readStrictConfiguration : List ℕ → ConfigurationRead
+readStrictConfiguration p = readConfigurationBy strictHeading p

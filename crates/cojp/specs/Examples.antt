@@ -7,7 +7,7 @@ use lib.ListN.{replicate}
 use Rattle.refusal.specs.declared.Refusal.the-variants as refusal
 use Rattle.cojp.specs.Octets.{octetsParameter, noOctetsParameter}
 use Rattle.cojp.specs.Address.{addressOf, addressParameter, noAddressParameter}
-use Rattle.cojp.specs.Request.{readRequest, refuseRequest, acceptRequest}
+use Rattle.cojp.specs.Request.{readRequest, readStrictRequest, refuseRequest, acceptRequest}
 use Rattle.cojp.specs.Configuration.{emptyConfiguration, withAddress, withPassed, readConfiguration, refuseConfiguration, acceptConfiguration}
 use Rattle.cojp.specs.declared.configuration.ConfigurationRead.{ConfigurationRead}
 use Rattle.cojp.specs.declared.octets.OctetsParameter.{OctetsParameter}
@@ -17,10 +17,12 @@ use Rattle.cojp.specs.declared.request.RequestRead.{RequestRead}
 -- a payload and what it must be read as
 pub data Example : Type 0 where
   request : List ℕ → RequestRead → Example
+  strictRequest : List ℕ → RequestRead → Example
   configuration : List ℕ → ConfigurationRead → Example
 
 abbrev pub Shown : Example → Type 0
 Shown (request s r) = readRequest s ≡ r
+Shown (strictRequest s r) = readStrictRequest s ≡ r
 Shown (configuration s r) = readConfiguration s ≡ r
 
 abbrev pub AllShown : List Example → Type 0
@@ -40,6 +42,7 @@ abbrev pub markedExamples : List Example
 markedExamples =
     request (0xA1 ∷ 0x05 ∷ 0x42 ∷ 0xCA ∷ 0xFE ∷ []) (asking 0 cafe)  -- M1
     ∷ request (0xB8 ∷ 0x01 ∷ 0x05 ∷ 0x42 ∷ 0xCA ∷ 0xFE ∷ []) (asking 0 cafe)  -- M2
+    ∷ strictRequest (0xB8 ∷ 0x01 ∷ 0x05 ∷ 0x42 ∷ 0xCA ∷ 0xFE ∷ []) (refuseRequest refusal.Loose)  -- M2, read strictly
     ∷ request (0xA0 ∷ []) (refuseRequest refusal.Owed)  -- M3
     ∷ request (0xA1 ∷ 0x01 ∷ 0x01 ∷ []) (asking 1 (noOctetsParameter Absent))  -- M4
     ∷ request (0xA1 ∷ 0x01 ∷ 0x02 ∷ []) (refuseRequest refusal.Role)  -- M5

@@ -70,7 +70,7 @@ keysConcluded j = concluded (refused Keys) (keysParameter Taken) j
 abbrev pub keysRead : View → Reading KeysParameter
 keysRead v = keysConcluded (keysJudged v)
 
--- the answer: beside a refusal the parameter is absent
-abbrev pub keysAnswer : Reading KeysParameter → KeysRead
-keysAnswer (refused k) = record { verdict = verdict.Refused k; parameter = noKeysParameter Absent }
-keysAnswer (read p) = record { verdict = verdict.Accepted; parameter = p }
+-- the answer: beside a refusal the parameter is absent; the value ends at `next`
+abbrev pub keysAnswer : Reading KeysParameter → ℕ → KeysRead
+keysAnswer (refused k) next = record { verdict = verdict.Refused k; parameter = noKeysParameter Absent; next = next }
+keysAnswer (read p) next = record { verdict = verdict.Accepted; parameter = p; next = next }

@@ -25,6 +25,11 @@ abbrev pub said : {A : Type 0} → Verdict → A → Reading A
 said verdict.Accepted a = read a
 said (verdict.Refused k) a = refused k
 
+-- what an answer that accepts promises besides
+abbrev pub Accepting : Verdict → Type 0 → Type 0
+Accepting verdict.Accepted P = P
+Accepting (verdict.Refused k) P = Unit {0}
+
 -- a known label's value: of another kind or pattern; of the pattern, but outside the limits of its content; or good
 pub data Judgement (A : Type 0) : Type 0 where
   broken : Judgement A

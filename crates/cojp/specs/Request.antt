@@ -6,10 +6,12 @@ use lib.Dec.{leb, eqb}
 use Rattle.refusal.specs.declared.Refusal.{Refusal}
 use Rattle.refusal.specs.declared.Refusal.the-variants as refusal
 use Rattle.refusal.specs.declared.Verdict.the-variants as verdict
+use Rattle.cbor.specs.Decode.{Outcome, Heading, heading}
+use Rattle.cbor.specs.Strict.{strictHeading}
 use Rattle.cbor.specs.View.{number, string, other, View, plain, list}
 use Rattle.cojp.specs.Reading.{Reading, refused, read, onward, put, Judgement, broken, unfit, good, concluded, ifTaken}
 use Rattle.cojp.specs.Octets.{noOctetsParameter, octetsRead}
-use Rattle.cojp.specs.Walk.{Form, standingOf, payloadRead}
+use Rattle.cojp.specs.Walk.{Form, standingOf, payloadReadBy}
 use Rattle.cojp.specs.declared.octets.OctetsParameter.{OctetsParameter}
 use Rattle.cojp.specs.declared.report.Report.{Report}
 use Rattle.cojp.specs.declared.report.Report.the-variants.{Absent}
@@ -81,5 +83,12 @@ abbrev pub requestAnswer : Reading JoinRequest → RequestRead
 requestAnswer (refused k) = refuseRequest k
 requestAnswer (read q) = acceptRequest q
 
+-- its heads read by `head`
+abbrev pub readRequestBy : (List ℕ → Outcome Heading) → List ℕ → RequestRead
+readRequestBy head p = requestAnswer (onward (payloadReadBy requestForm head nothingGathered p) settled)
+
 abbrev pub readRequest : List ℕ → RequestRead
-readRequest p = requestAnswer (onward (payloadRead requestForm nothingGathered p) settled)
+readRequest p = readRequestBy heading p
+
+abbrev pub readStrictRequest : List ℕ → RequestRead
+readStrictRequest p = readRequestBy strictHeading p

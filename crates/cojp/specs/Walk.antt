@@ -7,7 +7,7 @@ use lib.Dec.{ltb}
 use lib.ListN.{length}
 use Rattle.refusal.specs.declared.Refusal.the-variants as refusal
 use Rattle.cbor.specs.Item.{Item, Pairs, empty, pair}
-use Rattle.cbor.specs.Decode.{Outcome, payload}
+use Rattle.cbor.specs.Decode.{Outcome, Heading, heading, payloadBy}
 use Rattle.cbor.specs.Decode as decode
 use Rattle.cbor.specs.View.{View, labelOf, viewOf, ifMap}
 use Rattle.cbor.specs.declared.value.Label.{Label}
@@ -57,6 +57,9 @@ module _ {S : Type 0} (F : Form S) where
   scannedRead s (decode.refused k) = refused k
   scannedRead s (decode.got i t) = mapRead s i
 
-  -- a payload is at most 256 bytes long; then comes the item scan, then the map
-  unfoldable pub payloadRead : S → List ℕ → Reading S
-  payloadRead s p = cond (ltb 256 (length p)) (refused refusal.Long) (scannedRead s (payload p))
+  -- a payload is at most 256 bytes long; then comes the item scan, its heads read by `head`, then the map
+  unfoldable pub payloadReadBy : (List ℕ → Outcome Heading) → S → List ℕ → Reading S
+  payloadReadBy head s p = cond (ltb 256 (length p)) (refused refusal.Long) (scannedRead s (payloadBy head p))
+
+  abbrev pub payloadRead : S → List ℕ → Reading S
+  payloadRead s p = payloadReadBy heading s p

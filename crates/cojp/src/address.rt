@@ -6,12 +6,13 @@ use cbor::Value;
 use cbor::value_at;
 use refusal::Refusal;
 use refusal::Verdict;
+use short_address::is_address;
 ghost use mathlib.Core.Path.{_≡_};
 ghost use Prim.Native.Nat.{_+_, _≤_};
 ghost use lib.ListN.{length, take, drop};
-ghost use Rattle.cojp.specs.Address.{isAddress, noAddressParameter, addressBy, addressIn, addressConcluded, addressRead, addressAnswer};
-ghost use Rattle.cojp.specs.Bytes.{valueView, membersAt, stringAnd};
-ghost use Rattle.cojp.specs.Reading.{broken};
+ghost use Rattle.cojp.specs.Address.{noAddressParameter, addressBy, addressIn, addressConcluded, addressRead, addressAnswer};
+ghost use Rattle.cojp.specs.Bytes.{valueView, membersAt, stringAnd, afterValue, afterMembers};
+ghost use Rattle.cojp.specs.Reading.{broken, unfit, Accepting};
 
 // An address that is not leased has no end; its lease is 0 in a value that we make.
 pub struct ShortAddress {
@@ -26,17 +27,11 @@ pub struct AddressParameter {
     pub value: ShortAddress,
 }
 
-// Beside a refusal the parameter is absent.
+// Beside a refusal the parameter is absent, and `next`, where the bytes go on after the value, says nothing.
 pub struct AddressRead {
     pub verdict: Verdict,
     pub parameter: AddressParameter,
-}
-
-// Any two bytes are an address.
-pub fn is_address(bytes: [u8; 2]) -> bool
-    ensures { λ r. ⌜ r ≡ isAddress bytes ⌝ }
-{
-    true
+    pub next: usize,
 }
 
 // A parameter with no value.
@@ -56,56 +51,78 @@ pub fn no_address(report: Report) -> AddressParameter
 }
 
 fn broken_address() -> AddressRead
-    ensures { λ r. ⌜ r ≡ addressAnswer (addressConcluded broken) ⌝ }
+    ensures { λ r. ⌜ r ≡ addressAnswer (addressConcluded broken) 0 ⌝ }
 {
     let parameter = no_address(Report::Absent);
     AddressRead {
         verdict: Verdict::Refused(Refusal::Type),
         parameter: parameter,
+        next: 0,
+    }
+}
+
+// A byte string that is no address: the parameter is discarded.
+fn discarded_address(next: usize) -> AddressRead
+    ensures { λ r. ⌜ r ≡ addressAnswer (addressConcluded unfit) next ⌝ }
+{
+    let none = no_address(Report::Discarded);
+    AddressRead {
+        verdict: Verdict::Accepted,
+        parameter: none,
+        next: next,
     }
 }
 
 // The address that `len` bytes from `start` on are, if they are one.
-fn address_from(s: &[u8], start: usize, len: usize, leased: bool, lease: u64) -> AddressRead
+fn address_from(
+    s: &[u8],
+    start: usize,
+    len: usize,
+    leased: bool,
+    lease: u64,
+    next: usize,
+) -> AddressRead
     requires { ⌜ start + len ≤ length (now s) ⌝ }
-    ensures { λ r. ⌜ r ≡ addressAnswer (addressConcluded (addressBy (take len (drop start (now (s .entry)))) leased lease)) ⌝ }
+    ensures { λ r. ⌜ r ≡ addressAnswer (addressConcluded (addressBy (take len (drop start (now (s .entry)))) leased lease)) next ⌝ }
 {
     if len != 2 {
-        let none = no_address(Report::Discarded);
-        return AddressRead {
-            verdict: Verdict::Accepted,
-            parameter: none,
-        };
+        return discarded_address(next);
     }
     let bytes = [s[start], s[start + 1]];
-    let value = ShortAddress {
-        bytes: bytes,
-        leased: leased,
-        lease: lease,
-    };
-    let parameter = AddressParameter {
-        report: Report::Taken,
-        value: value,
-    };
-    AddressRead {
-        verdict: Verdict::Accepted,
-        parameter: parameter,
+    if is_address(bytes) {
+        let value = ShortAddress {
+            bytes: bytes,
+            leased: leased,
+            lease: lease,
+        };
+        let parameter = AddressParameter {
+            report: Report::Taken,
+            value: value,
+        };
+        return AddressRead {
+            verdict: Verdict::Accepted,
+            parameter: parameter,
+            next: next,
+        };
     }
+    discarded_address(next)
 }
 
 // The rest of a short address after its byte string: nothing, or a lease; `left` members are left.
 fn lease_after(s: &[u8], start: usize, len: usize, left: u64) -> AddressRead
     requires { ⌜ start + len ≤ length (now s) ⌝ }
-    ensures { λ r. ⌜ r ≡ addressAnswer (addressConcluded (addressIn (stringAnd (now (s .entry)) start len left))) ⌝ }
+    ensures { λ r. ⌜ r ≡ addressAnswer (addressConcluded (addressIn (stringAnd (now (s .entry)) start len left))) (r .next) ⌝ }
+    ensures rest { λ r. ⌜ Accepting (r .verdict) (drop (r .next) (now (s .entry)) ≡ afterMembers left (drop (start + len) (now (s .entry)))) ⌝ }
 {
+    let end = start + len;
     if left == 0 {
-        return address_from(s, start, len, false, 0);
+        return address_from(s, start, len, false, 0, end);
     }
-    let second = member_at(s, start + len, left);
+    let second = member_at(s, end, left);
     match second {
-        Member::Number { number, next: _ } => {
+        Member::Number { number, next } => {
             if left == 1 {
-                address_from(s, start, len, true, number)
+                address_from(s, start, len, true, number, next)
             } else {
                 broken_address()
             }
@@ -116,7 +133,8 @@ fn lease_after(s: &[u8], start: usize, len: usize, left: u64) -> AddressRead
 
 // The short address whose `count` members begin at a place.
 fn address_members(s: &[u8], at: usize, count: u64) -> AddressRead
-    ensures { λ r. ⌜ r ≡ addressAnswer (addressConcluded (addressIn (membersAt count (drop at (now (s .entry)))))) ⌝ }
+    ensures { λ r. ⌜ r ≡ addressAnswer (addressConcluded (addressIn (membersAt count (drop at (now (s .entry)))))) (r .next) ⌝ }
+    ensures rest { λ r. ⌜ Accepting (r .verdict) (drop (r .next) (now (s .entry)) ≡ afterMembers count (drop at (now (s .entry)))) ⌝ }
 {
     let first = member_at(s, at, count);
     match first {
@@ -127,7 +145,8 @@ fn address_members(s: &[u8], at: usize, count: u64) -> AddressRead
 
 // The short address at a place.
 pub fn read_address(s: &[u8], at: usize) -> AddressRead
-    ensures { λ r. ⌜ r ≡ addressAnswer (addressRead (valueView (drop at (now (s .entry))))) ⌝ }
+    ensures { λ r. ⌜ r ≡ addressAnswer (addressRead (valueView (drop at (now (s .entry))))) (r .next) ⌝ }
+    ensures rest { λ r. ⌜ Accepting (r .verdict) (drop (r .next) (now (s .entry)) ≡ afterValue (drop at (now (s .entry)))) ⌝ }
 {
     let v = value_at(s, at);
     match v {

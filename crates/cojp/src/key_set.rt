@@ -12,10 +12,11 @@ pub struct KeysParameter {
     pub value: KeySet,
 }
 
-// Beside a refusal the parameter is absent.
+// Beside a refusal the parameter is absent, and `next`, where the bytes go on after the value, says nothing.
 pub struct KeysRead {
     pub verdict: Verdict,
     pub parameter: KeysParameter,
+    pub next: usize,
 }
 
 // A parameter with no value.

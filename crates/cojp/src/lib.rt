@@ -13,7 +13,6 @@ pub mod walk;
 pub use address::AddressParameter;
 pub use address::AddressRead;
 pub use address::ShortAddress;
-pub use address::is_address;
 pub use address::no_address;
 pub use address::read_address;
 pub use configuration::Configuration;
@@ -39,7 +38,7 @@ pub use request::is_owing;
 pub use walk::Standing;
 ghost use Rattle.cojp.specs.Examples.{MarkedExamples};
 ghost use Rattle.cojp.specs.InRange.{ReadsInRange};
-ghost use Rattle.cojp.specs.Laws.{ReadersDemand1};
+ghost use Rattle.cojp.specs.Laws.{ReadersDemand1, StrictReaders};
 
 // Document 01's marked examples hold of the definitions.
 pub fn marked_examples()
@@ -55,3 +54,10 @@ pub fn reads_in_range()
 pub fn readers_demand1()
     ensures { λ r. ⌜ ReadersDemand1 ⌝ }
 {}
+
+// The strict readings are LOOSE exactly where the scan meets a longer head, and else the ordinary ones.
+pub fn strict_readers()
+    ensures { λ r. ⌜ StrictReaders ⌝ }
+{
+    cbor::laws();
+}

@@ -7,9 +7,9 @@ use refusal::Refusal;
 use refusal::Verdict;
 ghost use mathlib.Core.Path.{_≡_};
 ghost use lib.ListN.{drop};
-ghost use Rattle.cojp.specs.Bytes.{valueView};
+ghost use Rattle.cojp.specs.Bytes.{valueView, afterValue};
 ghost use Rattle.cojp.specs.Octets.{noOctetsParameter, octetsRead, octetsAnswer};
-ghost use Rattle.cojp.specs.Reading.{read};
+ghost use Rattle.cojp.specs.Reading.{read, Accepting};
 
 // The first `len` bytes; zeros stand after them in a value that we make.
 pub struct Octets {
@@ -23,10 +23,11 @@ pub struct OctetsParameter {
     pub value: Octets,
 }
 
-// Beside a refusal the parameter is absent.
+// Beside a refusal the parameter is absent, and `next`, where the bytes go on after the value, says nothing.
 pub struct OctetsRead {
     pub verdict: Verdict,
     pub parameter: OctetsParameter,
+    pub next: usize,
 }
 
 // A parameter with no value.
@@ -46,16 +47,18 @@ pub fn no_octets(report: Report) -> OctetsParameter
 
 // The byte string at a place, of `least` to 16 bytes.
 pub fn read_octets(s: &[u8], at: usize, least: usize) -> OctetsRead
-    ensures { λ r. ⌜ r ≡ octetsAnswer (octetsRead least (valueView (drop at (now (s .entry))))) ⌝ }
+    ensures { λ r. ⌜ r ≡ octetsAnswer (octetsRead least (valueView (drop at (now (s .entry))))) (r .next) ⌝ }
+    ensures rest { λ r. ⌜ Accepting (r .verdict) (drop (r .next) (now (s .entry)) ≡ afterValue (drop at (now (s .entry)))) ⌝ }
 {
     let v = value_at(s, at);
     match v {
         Value::Bytes { start, len } => {
+            let next = start + len;
             if len < least {
-                return discarded();
+                return discarded(next);
             }
             if 16 < len {
-                return discarded();
+                return discarded(next);
             }
             let bytes = copied(s, start, len);
             let value = Octets {
@@ -69,6 +72,7 @@ pub fn read_octets(s: &[u8], at: usize, least: usize) -> OctetsRead
             OctetsRead {
                 verdict: Verdict::Accepted,
                 parameter: parameter,
+                next: next,
             }
         }
         _ => {
@@ -76,18 +80,20 @@ pub fn read_octets(s: &[u8], at: usize, least: usize) -> OctetsRead
             OctetsRead {
                 verdict: Verdict::Refused(Refusal::Type),
                 parameter: parameter,
+                next: 0,
             }
         }
     }
 }
 
 // A byte string whose length is outside the limits.
-fn discarded() -> OctetsRead
-    ensures { λ r. ⌜ r ≡ octetsAnswer (read (noOctetsParameter Report.Discarded)) ⌝ }
+fn discarded(next: usize) -> OctetsRead
+    ensures { λ r. ⌜ r ≡ octetsAnswer (read (noOctetsParameter Report.Discarded)) next ⌝ }
 {
     let parameter = no_octets(Report::Discarded);
     OctetsRead {
         verdict: Verdict::Accepted,
         parameter: parameter,
+        next: next,
     }
 }

@@ -1,105 +1,83 @@
--- Configurations: a label's standing, its value, and the answer, case by case.
-use Prim.Native.Nat.{ℕ}
-use mathlib.Core.Path.{_≡_, refl, sym, _∙_}
-use mathlib.Core.Bool.{Bool, true, false, cond, false≢true}
-use lib.Dec.{eqb}
+-- Configurations: a label's standing and its value, case by case.
+use Prim.Native.Nat.{ℕ, _+_, _≤_, _<_}
+use mathlib.Core.Path.{_≡_, _∙_}
+use mathlib.Core.List.{List}
+use native.Mathlib.Omega.{arith}
+use lib.ListN.{drop}
 use borrow.Author.Tests.{ne-eqb}
-use Rattle.refusal.specs.declared.Refusal.{Refusal}
-use Rattle.refusal.specs.declared.Verdict.the-variants as verdict
+use Rattle.refusal.specs.declared.Verdict.{Verdict}
 use Rattle.cbor.specs.View.{View}
 use Rattle.cojp.specs.Address.{addressRead}
-use Rattle.cojp.specs.Configuration.{withKeys, withAddress, withJrc, withNetwork, withPrefix, configurationStanding, configurationTaking, emptyConfiguration, configurationAnswer}
+use Rattle.cojp.specs.Bytes.{valueView, afterValue}
+use Rattle.cojp.specs.Configuration.{configurationForm, configurationPassing, configurationStanding, configurationTaking}
+use Rattle.cojp.specs.Configuration.{withKeys, withAddress, withJrc, withNetwork, withPrefix}
 use Rattle.cojp.specs.KeySet.{keysRead}
 use Rattle.cojp.specs.Octets.{octetsRead}
-use Rattle.cojp.specs.Reading.{Reading, put, said}
-use Rattle.cojp.specs.Walk.{standingOf}
+use Rattle.cojp.specs.Reading.{Reading, put, said, Accepting}
+use Rattle.cojp.specs.Walk.{standingOf, knownRead}
+use Rattle.cojp.specs.declared.address.AddressParameter.{AddressParameter}
 use Rattle.cojp.specs.declared.configuration.Configuration.{Configuration}
-use Rattle.cojp.specs.declared.configuration.ConfigurationRead.{ConfigurationRead}
+use Rattle.cojp.specs.declared.key_set.KeysParameter.{KeysParameter}
 use Rattle.cojp.specs.declared.octets.OctetsParameter.{OctetsParameter}
-use Rattle.cojp.specs.declared.walk.Standing.{Standing}
+use Rattle.cojp.specs.declared.report.Report.{Report}
 use Rattle.cojp.specs.declared.walk.Standing.the-variants.{Unknown}
-use Rattle.cojp_configuration_read.specs.Configurations.{withOctets}
+use Rattle.cojp_map.specs.Pairs.{Told, seen, once}
+use Rattle.cojp_map.specs.declared.pair.Labelled.{Labelled}
+use Rattle.cojp_map.proofs.Maps.{put-said, known-put, standing-seen, Turned, turned-known, turned-passed}
 
-module _ (c : Configuration) (n : ℕ) where
-  -- ---- a label's standing
-  module _ (t : Standing) where
-    pub standing-keys : n ≡ 2 → t ≡ standingOf (c .keys .report) → t ≡ configurationStanding c n
-    unfolding configurationStanding
-    standing-keys h e = e ∙ rw h
+-- ---- a known label's value, as its reader says it
+module _ (c : Configuration) (n : ℕ) (v : View) where
+  -- what the label comes to
+  abbrev pub known : Reading Configuration
+  known = knownRead configurationForm (configurationStanding c n) c n v
 
-    pub standing-address : n ≡ 3 → t ≡ standingOf (c .address .report) → t ≡ configurationStanding c n
-    unfolding configurationStanding
-    standing-address h e = e ∙ rw h
+  known-by : {P : Type 0} (held : Report) (f : P → Configuration) (x : Reading P) → configurationStanding c n ≡ standingOf held
+      → configurationTaking c n v ≡ put f x → (w : Verdict) (p : P) → said w p ≡ once (seen held) x → said w (f p) ≡ known
+  known-by held f x a b w p e =
+      put-said f w p (once (seen held) x) e ∙ known-put configurationForm c n v (seen held) f x (a ∙ standing-seen held) b
 
-    pub standing-jrc : n ≡ 4 → t ≡ standingOf (c .jrc .report) → t ≡ configurationStanding c n
-    unfolding configurationStanding
-    standing-jrc h e = e ∙ rw h
+  pub keys-known : n ≡ 2 → (w : Verdict) (p : KeysParameter) → said w p ≡ once (seen (c .keys .report)) (keysRead v) → said w (withKeys c p) ≡ known
+  unfolding configurationStanding configurationTaking
+  keys-known h = known-by (c .keys .report) (withKeys c) (keysRead v) (rw h) (rw h)
 
-    pub standing-network : n ≡ 5 → t ≡ standingOf (c .network .report) → t ≡ configurationStanding c n
-    unfolding configurationStanding
-    standing-network h e = e ∙ rw h
+  pub address-known : n ≡ 3 → (w : Verdict) (p : AddressParameter) → said w p ≡ once (seen (c .address .report)) (addressRead v) → said w (withAddress c p) ≡ known
+  unfolding configurationStanding configurationTaking
+  address-known h = known-by (c .address .report) (withAddress c) (addressRead v) (rw h) (rw h)
 
-    pub standing-prefix : n ≡ 6 → t ≡ standingOf (c .prefix .report) → t ≡ configurationStanding c n
-    unfolding configurationStanding
-    standing-prefix h e = e ∙ rw h
+  pub jrc-known : n ≡ 4 → (w : Verdict) (p : OctetsParameter) → said w p ≡ once (seen (c .jrc .report)) (octetsRead 16 v) → said w (withJrc c p) ≡ known
+  unfolding configurationStanding configurationTaking
+  jrc-known h = known-by (c .jrc .report) (withJrc c) (octetsRead 16 v) (rw h) (rw h)
 
-  pub standing-unknown : ¬ (n ≡ 2) → ¬ (n ≡ 3) → ¬ (n ≡ 4) → ¬ (n ≡ 5) → ¬ (n ≡ 6) → Unknown ≡ configurationStanding c n
+  pub network-known : n ≡ 5 → (w : Verdict) (p : OctetsParameter) → said w p ≡ once (seen (c .network .report)) (octetsRead 0 v) → said w (withNetwork c p) ≡ known
+  unfolding configurationStanding configurationTaking
+  network-known h = known-by (c .network .report) (withNetwork c) (octetsRead 0 v) (rw h) (rw h)
+
+  pub prefix-known : n ≡ 6 → (w : Verdict) (p : OctetsParameter) → said w p ≡ once (seen (c .prefix .report)) (octetsRead 0 v) → said w (withPrefix c p) ≡ known
+  unfolding configurationStanding configurationTaking
+  prefix-known h = known-by (c .prefix .report) (withPrefix c) (octetsRead 0 v) (rw h) (rw h)
+
+  pub unknown : ¬ (n ≡ 2) → ¬ (n ≡ 3) → ¬ (n ≡ 4) → ¬ (n ≡ 5) → ¬ (n ≡ 6) → configurationStanding c n ≡ Unknown
   unfolding configurationStanding
-  standing-unknown h₂ h₃ h₄ h₅ h₆ = rw (ne-eqb n 2 h₂, ne-eqb n 3 h₃, ne-eqb n 4 h₄, ne-eqb n 5 h₅, ne-eqb n 6 h₆)
+  unknown h₂ h₃ h₄ h₅ h₆ = rw (ne-eqb n 2 h₂, ne-eqb n 3 h₃, ne-eqb n 4 h₄, ne-eqb n 5 h₅, ne-eqb n 6 h₆)
 
-  -- ---- its value
-  module _ (v : View) (r : Reading Configuration) where
-    pub taking-keys : n ≡ 2 → r ≡ put (withKeys c) (keysRead v) → r ≡ configurationTaking c n v
-    unfolding configurationTaking
-    taking-keys h e = e ∙ rw h
+-- ---- one turn of the walk: what is gathered after the pair, by its label; p is the answer about the label
+module _ (c : Configuration) (s l : List ℕ) (p : Labelled) (t : Told s l p) (c′ : Configuration) (w : Verdict) (next : ℕ) where
+  pub record Turn : Type 0 where
+    pub turned : Turned configurationForm c s l w c′ next
+    pub few : c′ .passed ≤ c .passed + 1
 
-    pub taking-address : n ≡ 3 → r ≡ put (withAddress c) (addressRead v) → r ≡ configurationTaking c n v
-    unfolding configurationTaking
-    taking-address h e = e ∙ rw h
+  -- a known label: w₀, c₀ and next₀ are what its reader gave
+  pub turn-known : 0 < p .label → (w₀ : Verdict) (c₀ : Configuration) (next₀ : ℕ)
+      → said w₀ c₀ ≡ known c (p .label) (valueView (drop (p .value) s)) → Accepting w₀ (drop next₀ s ≡ afterValue (drop (p .value) s))
+      → c₀ .passed ≡ c .passed → next ≡ next₀ → c′ ≡ c₀ → w ≡ w₀ → Turn
+  turn-known h w₀ c₀ next₀ e f g n-is c-is w-is = record {
+    turned = rw (n-is, c-is, w-is) (turned-known configurationForm c s l p t h w₀ c₀ next₀ e f);
+    few = rw c-is (omega (arith, g));
+  }
 
-    pub taking-jrc : n ≡ 4 → r ≡ put (withOctets c 4) (octetsRead 16 v) → r ≡ configurationTaking c n v
-    unfolding configurationTaking
-    taking-jrc h e = e ∙ rw h
-
-    pub taking-octets : ¬ (n ≡ 2) → ¬ (n ≡ 3) → ¬ (n ≡ 4) → r ≡ put (withOctets c n) (octetsRead 0 v) → r ≡ configurationTaking c n v
-    unfolding configurationTaking
-    taking-octets h₂ h₃ h₄ e = e ∙ rw (ne-eqb n 2 h₂, ne-eqb n 3 h₃) (go (eqb n 4) (ne-eqb n 4 h₄) (eqb n 5) (octetsRead 0 v))
-      where
-        go : (a : Bool) → a ≡ false → (b : Bool) (x : Reading OctetsParameter)
-            → put (λ p. cond a (withJrc c p) (cond b (withNetwork c p) (withPrefix c p))) x
-            ≡ cond a (put (withJrc c) (octetsRead 16 v)) (cond b (put (withNetwork c) x) (put (withPrefix c) x))
-        go true h b x = absurd (false≢true (sym h))
-        go false h true x = refl
-        go false h false x = refl
-
-  pub octets-jrc : (p : OctetsParameter) → n ≡ 4 → withJrc c p ≡ withOctets c n p
-  octets-jrc p h = rw h
-
-  pub octets-network : (p : OctetsParameter) → n ≡ 5 → withNetwork c p ≡ withOctets c n p
-  octets-network p h = rw h
-
-  pub octets-prefix : (p : OctetsParameter) → ¬ (n ≡ 4) → ¬ (n ≡ 5) → withPrefix c p ≡ withOctets c n p
-  octets-prefix p h k = rw (ne-eqb n 4 h, ne-eqb n 5 k)
-
-  pub octets-passed : (p : OctetsParameter) → withOctets c n p .passed ≡ c .passed
-  octets-passed p = go (eqb n 4) (eqb n 5)
-    where
-      go : (a b : Bool) → cond a (withJrc c p) (cond b (withNetwork c p) (withPrefix c p)) .passed ≡ c .passed
-      go true b = refl
-      go false true = refl
-      go false false = refl
-
--- ---- the answer
-module _ (r : ConfigurationRead) where
-  pub answer-accepted : r .verdict ≡ verdict.Accepted
-      → _≡_ {A = ConfigurationRead} (record { verdict = r .verdict; configuration = r .configuration }) (configurationAnswer (said (r .verdict) (r .configuration)))
-  answer-accepted h = rw h
-
-  pub answer-refused : (k : Refusal) → r .verdict ≡ verdict.Refused k → (c : Configuration) → c ≡ emptyConfiguration
-      → _≡_ {A = ConfigurationRead} (record { verdict = r .verdict; configuration = c }) (configurationAnswer (said (r .verdict) (r .configuration)))
-  answer-refused k h c e = rw (h, e)
-
--- label 0 is unknown
-pub zero-unknown : (c : Configuration) → configurationStanding c 0 ≡ Unknown
-unfolding configurationStanding
-zero-unknown c = refl
+  pub turn-passed : configurationStanding c (p .label) ≡ Unknown → (end : ℕ) → drop end s ≡ afterValue (drop (p .value) s)
+      → next ≡ end → c′ ≡ configurationPassing c → w ≡ p .verdict → Turn
+  turn-passed h end e n-is c-is w-is = record {
+    turned = rw (n-is, c-is, w-is) (turned-passed configurationForm c s l p t h end e);
+    few = rw c-is (omega arith);
+  }

@@ -2,3 +2,4 @@
 mod configuration;
 
 pub use configuration::read_configuration;
+pub use configuration::read_strict_configuration;

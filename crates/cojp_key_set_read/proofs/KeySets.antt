@@ -8,12 +8,11 @@ use native.Mathlib.Omega.{arith}
 use lib.Dec.{leb, ltb, eqb}
 use lib.ListN.{length, take, drop, set, replicate, length-append, length-drop}
 use lib.Seq.{set-at, take-append-seam, append-snoc, take-all, drop-drop, length-take-le}
-use borrow.Author.Tests.{lt-leb, le-leb, le-ltb, lt-ltb, ltb-true, ltb-false, leb-true, leb-false, eqb-true}
+use borrow.Author.Tests.{lt-leb, le-leb, ltb-true, ltb-false, leb-true, leb-false, eqb-true}
 use types.Run.{OneOf}
 use denote.Enum.Declared.{tagOf}
 use Rattle.refusal.specs.declared.Refusal.the-variants as refusal
-use Rattle.cbor.specs.Decode.{heading}
-use Rattle.cbor.specs.View.{Plain, number, string, other, valueAnswer}
+use Rattle.cbor.specs.View.{Plain, number, string, other, ValueSays}
 use Rattle.cbor.specs.declared.value.Value.{Value}
 use Rattle.cbor.specs.declared.value.Value.the-variants as vv
 use Rattle.cbor.proofs.value.Value as value
@@ -21,8 +20,8 @@ use Rattle.link_key.specs.Key.{noKey, inLimits}
 use Rattle.link_key_set.specs.KeySet.{noKeys, allInLimits, allowed, allowedSet}
 use Rattle.link_key.specs.declared.Key.{Key}
 use Rattle.link_key_set.specs.declared.key_set.KeySet.{KeySet}
-use Rattle.cojp_key_set_read.specs.Groups.{GroupAt, storable, overfull, addKey}
-use Rattle.cojp.specs.Bytes.{valueView, membersAt, memberAnswer}
+use Rattle.cojp_key_set_read.specs.Groups.{GroupAt, GroupRest, storable, addKey}
+use Rattle.cojp.specs.Bytes.{valueView, membersAt, afterMembers, Neither, MemberAt, MemberSays}
 use Rattle.cojp.specs.KeySet.{keyOf, keySetOf, Groups, notGroups, groupsOf, group, groups, keysIn, keysConcluded, keysRead}
 use Rattle.cojp.specs.Octets.{padded, copiedFrom}
 use Rattle.cojp.specs.Reading.{Reading, refused, unfit, good}
@@ -32,7 +31,7 @@ use Rattle.cojp.specs.declared.key_set.KeysParameter.{KeysParameter}
 use Rattle.cojp.specs.declared.members.Member.{Member}
 use Rattle.cojp.specs.declared.members.Member.the-variants as mv
 use Rattle.logic_facts.specs.Tests.{both-left, both-right}
-use Rattle.cojp.proofs.Arrays.{Neither, MemberAt, members-none, members-other, member-says, array-here, no-array}
+use Rattle.cojp.proofs.Arrays.{nothing-left, members-none, members-other, array-here, no-array}
 use Rattle.cojp.proofs.Strings.{copied-inside}
 use Rattle.cojp.proofs.members.Member as member
 
@@ -42,40 +41,44 @@ regroup : (l : List ℕ) (m n : ℕ) (gs hs : Groups) (r : Group) → m ≤ n �
 regroup l m n gs hs gv.Broken k e w = e ∙ w
 regroup l m n gs hs (gv.Closed i u p a j) k e w = (w .0, omega (arith, w .1), e ∙ w .2)
 
+pub rest-on : (s : List ℕ) (at n q m : ℕ) (r : Group) → afterMembers n (drop at s) ≡ afterMembers m (drop q s) → GroupRest s q m r → GroupRest s at n r
+rest-on s at n q m gv.Broken e w = tt
+rest-on s at n q m (gv.Closed i u p a j) e w = e ∙ w
+
 module _ (l : List ℕ) (n : ℕ) (v : Member) where
-  module _ (h : 0 < n) (e : v ≡ memberAnswer l 0 n) where
+  module _ (h : 0 < n) (e : MemberSays l 0 n v) where
     pub group-begun : (x p : ℕ) → v ≡ mv.Number x p → (r : Group) → GroupAt l (n - 1) (groups (number x ∷ membersAt (n - 1) (drop p l))) r
         → GroupAt l n (groups (membersAt n l)) r
     group-begun x p g r q =
-        let w : MemberAt l 0 n (mv.Number x p) = rw g at (member-says l 0 n v e) in
+        let w : MemberAt l 0 n (mv.Number x p) = rw g at (e .here) in
         regroup l (n - 1) n _ _ r (omega arith) (ap groups (w .1)) q
 
     pub group-headless : OneOf (1 ∷ 2 ∷ []) (tagOf member.the-type v) → GroupAt l n (groups (membersAt n l)) gv.Broken
     unfolding groups
-    group-headless o = go v (member-says l 0 n v e) o
+    group-headless o = go v (e .here) o
       where
         go : (v : Member) → MemberAt l 0 n v → OneOf (1 ∷ 2 ∷ []) (tagOf member.the-type v) → groups (membersAt n l) ≡ notGroups
         go (mv.Number x p) w o = absurd (⊎-elim (λ e. omega arith) (λ e. omega arith) o)
         go (mv.Bytes p a) w o = rw (w .2)
         go mv.Neither w o = rw (members-other n l h w .1)
 
-  module _ (at i : ℕ) (e : v ≡ memberAnswer l at n) where
+  module _ (at i : ℕ) (e : MemberSays l at n v) where
     pub group-used : (u p : ℕ) → v ≡ mv.Number u p → (r : Group)
         → GroupAt l (n - 1) (groups (number i ∷ number u ∷ membersAt (n - 1) (drop p l))) r
         → GroupAt l n (groups (number i ∷ membersAt n (drop at l))) r
     group-used u p g r q =
-        let w : MemberAt l at n (mv.Number u p) = rw g at (member-says l at n v e) in
+        let w : MemberAt l at n (mv.Number u p) = rw g at (e .here) in
         regroup l (n - 1) n _ _ r (omega arith) (ap (λ (ps : List Plain). groups (number i ∷ ps)) (w .1)) q
 
     pub group-pair : (p a : ℕ) → v ≡ mv.Bytes p a → GroupAt l n (groups (number i ∷ membersAt n (drop at l))) (gv.Closed i 0 p a (n - 1))
     unfolding groups
     group-pair p a g =
-        let w : MemberAt l at n (mv.Bytes p a) = rw g at (member-says l at n v e) in
+        let w : MemberAt l at n (mv.Bytes p a) = rw g at (e .here) in
         (w .1, omega (arith, w .0), rw (w .2))
 
     pub group-open : v ≡ mv.Neither → GroupAt l n (groups (number i ∷ membersAt n (drop at l))) gv.Broken
     unfolding groups
-    group-open g = go (membersAt n (drop at l)) (let w : MemberAt l at n mv.Neither = rw g at (member-says l at n v e) in w)
+    group-open g = go (membersAt n (drop at l)) (let w : MemberAt l at n mv.Neither = rw g at (e .here) in w)
       where
         go : (ps : List Plain) → Neither ps → groups (number i ∷ ps) ≡ notGroups
         go [] w = refl
@@ -88,13 +91,13 @@ module _ (l : List ℕ) (n : ℕ) (v : Member) where
           → GroupAt l n (groups (number i ∷ number u ∷ membersAt n (drop at l))) (gv.Closed i u p a (n - 1))
       unfolding groups
       group-triple p a g =
-          let w : MemberAt l at n (mv.Bytes p a) = rw g at (member-says l at n v e) in
+          let w : MemberAt l at n (mv.Bytes p a) = rw g at (e .here) in
           (w .1, omega (arith, w .0), rw (w .2))
 
       pub group-valueless : OneOf (0 ∷ 2 ∷ []) (tagOf member.the-type v)
           → GroupAt l n (groups (number i ∷ number u ∷ membersAt n (drop at l))) gv.Broken
       unfolding groups
-      group-valueless o = go v (member-says l at n v e) o
+      group-valueless o = go v (e .here) o
         where
           none : (ps : List Plain) → Neither ps → groups (number i ∷ number u ∷ ps) ≡ notGroups
           none [] w = refl
@@ -140,7 +143,7 @@ one-not-allowed ks k js e =
 -- ---- the keys so far, and the set that holds them or is past holding them
 pub data Holds (ks : List Key) (s : KeySet) : Type 0 where
   held : length ks ≤ 8 → s ≡ keySetOf ks → Holds ks s
-  lost : ((js : List Key) → allowed (ks ++ js) ≡ false) → s ≡ overfull → Holds ks s
+  lost : ((js : List Key) → allowed (ks ++ js) ≡ false) → s .count ≡ 9 → Holds ks s
 
 pub holds-none : (s : KeySet) → s ≡ noKeys → Holds [] s
 holds-none s e = held (omega arith) e
@@ -225,21 +228,17 @@ module _ (s : KeySet) (i u n : ℕ) (l : List ℕ) (p : ℕ) (h : p + n ≤ leng
   whole : length content ≡ n
   whole = length-take-le n (drop p l) (omega (arith, length-drop p l))
 
-  pub add-full : 8 ≤ s .count → overfull ≡ addKey s (keyOf i u content)
+  pub add-none : (ltb (s .count) 8 && storable i u n) ≡ false → _≡_ {A = KeySet} (record { count = 9; keys = s .keys }) (addKey s (keyOf i u content))
   unfolding addKey
-  add-full f = rw (le-ltb (s .count) 8 f)
+  add-none f = rw (whole, f)
 
-  pub add-unstorable : storable i u n ≡ false → overfull ≡ addKey s (keyOf i u content)
-  unfolding addKey
-  add-unstorable f = rw (whole, f, and-false (ltb (s .count) 8))
-
-  pub add-stored : s .count < 8 → storable i u n ≡ true → (b : List ℕ) → b ≡ copiedFrom l p n
+  pub add-stored : (ltb (s .count) 8 && storable i u n) ≡ true → (b : List ℕ) → b ≡ copiedFrom l p n
       → _≡_ {A = KeySet} (record { count = s .count + 1; keys = set (s .keys) (s .count) (keyOf i u b) }) (addKey s (keyOf i u content))
   unfolding addKey
-  add-stored f g b e =
-      let z : n ≡ 16 = storable-parts i u n g .2 in
+  add-stored g b e =
+      let z : n ≡ 16 = storable-parts i u n (both-right (ltb (s .count) 8) (storable i u n) g) .2 in
       let w : b ≡ content = e ∙ copied-inside l p n (omega arith) h ∙ unpadded content (whole ∙ z) in
-      rw (w, whole, lt-ltb (s .count) 8 f, g)
+      rw (w, whole, g)
 
 -- ---- the loop over the groups: the keys so far, the set that holds them, and the groups that are left
 pub record Gathering (s : List ℕ) (from count at left : ℕ) (k : KeySet) : Type 0 where
@@ -247,9 +246,10 @@ pub record Gathering (s : List ℕ) (from count at left : ℕ) (k : KeySet) : Ty
   pub holds : Holds keys k
   pub so-far : groups (membersAt count (drop from s)) ≡ after keys (groups (membersAt left (drop at s)))
   pub inside : at ≤ length s
+  pub rest : afterMembers count (drop from s) ≡ afterMembers left (drop at s)
 
 pub gathering-none : (s : List ℕ) (from count : ℕ) (k : KeySet) → from ≤ length s → k ≡ noKeys → Gathering s from count from count k
-gathering-none s from count k h e = record { keys = []; holds = holds-none k e; so-far = after-none _; inside = h }
+gathering-none s from count k h e = record { keys = []; holds = holds-none k e; so-far = after-none _; inside = h; rest = refl }
 
 module _ (s : List ℕ) (from count at n : ℕ) (k : KeySet) (w : Gathering s from count at n k) where
   pub gathering-done : n ≤ 0 → (r : Reading KeysParameter) → r ≡ keysConcluded (cond (allowedSet k) (good k) unfit)
@@ -260,6 +260,9 @@ module _ (s : List ℕ) (from count at n : ℕ) (k : KeySet) (w : Gathering s fr
       let f : groups (membersAt count (drop from s)) ≡ groupsOf (w .keys) =
       w .so-far ∙ rw (members-none n (drop at s) z, append-nil) in
       e ∙ ap keysConcluded (holds-all (w .keys) k (w .holds) ∙ ap keysIn (sym f))
+
+  pub gathering-end : n ≤ 0 → drop at s ≡ afterMembers count (drop from s)
+  gathering-end h = sym (w .rest ∙ nothing-left n (drop at s) (omega arith))
 
   module _ (r : Group) (g : GroupAt (take (length s - at) (drop at s)) n (groups (membersAt n (take (length s - at) (drop at s)))) r) where
     part : take (length s - at) (drop at s) ≡ drop at s
@@ -284,19 +287,21 @@ module _ (s : List ℕ) (from count at n : ℕ) (k : KeySet) (w : Gathering s fr
       pub group-inside : (at + (p + a) ≤ length s) × (m < n)
       group-inside = (omega (arith, closed .0, length-drop at s, w .inside), closed .1)
 
-      pub gathering-more : (x : KeySet) → x ≡ addKey k (keyOf i u (take a (drop p (take (length s - at) (drop at s)))))
+      pub gathering-more : GroupRest (take (length s - at) (drop at s)) 0 n r → (x : KeySet) → x ≡ addKey k (keyOf i u (take a (drop p (take (length s - at) (drop at s)))))
           → Gathering s from count (at + (p + a)) m x
-      gathering-more x f =
+      gathering-more y x f =
           let v : List ℕ = take a (drop p (drop at s)) in
+          let z : GroupRest (drop at s) 0 n (gv.Closed i u p a m) = rw e at (rw part at y) in
           record {
             keys = w .keys ++ (keyOf i u v ∷ []);
             holds = rw (f, part) (holds-more (w .keys) (keyOf i u v) k (w .holds));
             so-far = w .so-far ∙ rw (closed .2, drop-drop (p + a) at s) (after-more (w .keys) i u v (groups (membersAt m (drop (at + (p + a)) s))));
             inside = group-inside .0;
+            rest = w .rest ∙ z ∙ ap (afterMembers m) (drop-drop (p + a) at s);
           }
 
 -- ---- the value
-module _ (s : List ℕ) (at : ℕ) (v : Value) (e : v ≡ valueAnswer (length s) (heading (drop at s))) (r : Reading KeysParameter) where
+module _ (s : List ℕ) (at : ℕ) (v : Value) (e : ValueSays s at v) (r : Reading KeysParameter) where
   pub keys-array : (p n : ℕ) → v ≡ vv.Array p n → r ≡ keysConcluded (keysIn (groups (membersAt n (drop p s))))
       → r ≡ keysRead (valueView (drop at s))
   keys-array p n g f = f ∙ rw (array-here s at v e p n g .1)

@@ -4,12 +4,11 @@ use mathlib.Core.Path.{_≡_}
 use mathlib.Core.Bool.{Bool, cond, _&&_}
 use mathlib.Core.List.{List, _++_}
 use lib.Dec.{leb, ltb, eqb}
-use lib.ListN.{length, take, drop, set, replicate}
+use lib.ListN.{length, take, drop, set}
 use Rattle.cbor.specs.View.{Plain}
-use Rattle.link_key.specs.Key.{noKey}
 use Rattle.link_key.specs.declared.Key.{Key}
 use Rattle.link_key_set.specs.declared.key_set.KeySet.{KeySet}
-use Rattle.cojp.specs.Bytes.{membersAt}
+use Rattle.cojp.specs.Bytes.{membersAt, afterMembers}
 use Rattle.cojp.specs.KeySet.{Groups, notGroups, group, groups}
 use Rattle.cojp_key_set_read.specs.declared.Group.{Group}
 use Rattle.cojp_key_set_read.specs.declared.Group.the-variants as gv
@@ -24,16 +23,18 @@ GroupAt s n gs (gv.Closed i u p a m) =
 abbrev pub GroupAfter : List Plain → List ℕ → ℕ → ℕ → Group → Type 0
 GroupAfter read s at n r = GroupAt s n (groups (read ++ membersAt n (drop at s))) r
 
+-- where the bytes go on after a group that begins at a place, n members being left
+abbrev pub GroupRest : List ℕ → ℕ → ℕ → Group → Type 0
+GroupRest s at n gv.Broken = Unit {0}
+GroupRest s at n (gv.Closed i u p a m) = afterMembers n (drop at s) ≡ afterMembers m (drop (p + a) s)
+
 -- a place of a set can hold the key
 abbrev pub storable : ℕ → ℕ → ℕ → Bool
 storable identifier usage len = (leb identifier 255 && leb usage 255 && eqb len 16)
 
--- a set that is outside the limits whatever comes after
-abbrev pub overfull : KeySet
-overfull = record { count = 9; keys = replicate 8 noKey }
-
+-- the set with one key more; one of nine keys, which is outside the limits whatever comes after, where no place can hold it
 unfoldable pub addKey : KeySet → Key → KeySet
 addKey s k =
     cond (ltb (s .count) 8 && storable (k .identifier) (k .usage) (length (k .value)))
     (record { count = s .count + 1; keys = set (s .keys) (s .count) k })
-    overfull
+    (record { count = 9; keys = s .keys })

@@ -9,21 +9,22 @@ use cojp::copied;
 use cojp::member_at;
 use cojp::no_key_set;
 use link_key::Key;
+use link_key::no_key;
 use link_key_set::KeySet;
-use link_key_set::key_set::no_keys;
 use refusal::Refusal;
 use refusal::Verdict;
 ghost use mathlib.Core.Path.{_≡_};
-ghost use mathlib.Core.Bool.{cond};
+ghost use mathlib.Core.Bool.{cond, _&&_};
+ghost use lib.Dec.{ltb};
 ghost use mathlib.Core.List.{[], _∷_};
-ghost use Prim.Native.Nat.{_+_, _≤_, _<_};
-ghost use lib.ListN.{length, take, drop};
+ghost use Prim.Native.Nat.{_≤_, _<_};
+ghost use lib.ListN.{length, drop};
 ghost use Rattle.cbor.specs.View.{number};
 ghost use Rattle.link_key_set.specs.KeySet.{allowedSet};
-ghost use Rattle.cojp.specs.Bytes.{valueView, membersAt};
-ghost use Rattle.cojp.specs.KeySet.{keyOf, groups, keysIn, keysConcluded, keysRead, keysAnswer};
-ghost use Rattle.cojp.specs.Reading.{refused, unfit, good};
-ghost use Rattle.cojp_key_set_read.specs.Groups.{GroupAt, GroupAfter, storable, overfull, addKey};
+ghost use Rattle.cojp.specs.Bytes.{valueView, membersAt, afterValue, afterMembers};
+ghost use Rattle.cojp.specs.KeySet.{groups, keysIn, keysConcluded, keysRead, keysAnswer};
+ghost use Rattle.cojp.specs.Reading.{refused, unfit, good, Accepting};
+ghost use Rattle.cojp_key_set_read.specs.Groups.{GroupAt, GroupAfter, GroupRest, storable};
 
 // A group: where its value stands in the part, and how many members are left after it.
 enum Group {
@@ -38,12 +39,13 @@ enum Group {
 }
 
 fn refused_keys(why: Refusal) -> KeysRead
-    ensures { λ r. ⌜ r ≡ keysAnswer (refused why) ⌝ }
+    ensures { λ r. ⌜ r ≡ keysAnswer (refused why) 0 ⌝ }
 {
     let none = no_key_set(Report::Absent);
     KeysRead {
         verdict: Verdict::Refused(why),
         parameter: none,
+        next: 0,
     }
 }
 
@@ -51,6 +53,7 @@ fn refused_keys(why: Refusal) -> KeysRead
 fn read_group(part: &[u8], left: u64) -> Group
     requires { ⌜ 0 < left ⌝ }
     ensures { λ r. ⌜ GroupAt (now (part .entry)) left (groups (membersAt left (now (part .entry)))) r ⌝ }
+    ensures rest { λ r. ⌜ GroupRest (now (part .entry)) 0 left r ⌝ }
 {
     let first = member_at(part, 0, left);
     match first {
@@ -62,6 +65,7 @@ fn read_group(part: &[u8], left: u64) -> Group
 // The rest of a group after its identifier: a value, or a usage and a value.
 fn after_identifier(part: &[u8], at: usize, left: u64, identifier: u64) -> Group
     ensures { λ r. ⌜ GroupAfter (number identifier ∷ []) (now (part .entry)) at left r ⌝ }
+    ensures rest { λ r. ⌜ GroupRest (now (part .entry)) at left r ⌝ }
 {
     let second = member_at(part, at, left);
     match second {
@@ -80,6 +84,7 @@ fn after_identifier(part: &[u8], at: usize, left: u64, identifier: u64) -> Group
 // The rest of a group after its usage: a value.
 fn after_usage(part: &[u8], at: usize, left: u64, identifier: u64, usage: u64) -> Group
     ensures { λ r. ⌜ GroupAfter (number identifier ∷ number usage ∷ []) (now (part .entry)) at left r ⌝ }
+    ensures rest { λ r. ⌜ GroupRest (now (part .entry)) at left r ⌝ }
 {
     let third = member_at(part, at, left);
     match third {
@@ -94,10 +99,13 @@ fn after_usage(part: &[u8], at: usize, left: u64, identifier: u64, usage: u64) -
     }
 }
 
-// Whether a place of a key set can hold a key of these numbers and this length.
-fn is_storable(identifier: u64, usage: u64, len: usize) -> bool
-    ensures { λ r. ⌜ r ≡ storable identifier usage len ⌝ }
+// Whether a key set of `n` keys has a place that can hold a key of these numbers and this length.
+fn is_storable(n: usize, identifier: u64, usage: u64, len: usize) -> bool
+    ensures { λ r. ⌜ r ≡ (ltb n 8 && storable identifier usage len) ⌝ }
 {
+    if 8 <= n {
+        return false;
+    }
     if 255 < identifier {
         return false;
     }
@@ -107,54 +115,10 @@ fn is_storable(identifier: u64, usage: u64, len: usize) -> bool
     len == 16
 }
 
-// A set of nine keys: outside the limits, whatever comes after.
-fn no_place() -> KeySet
-    ensures { λ r. ⌜ r ≡ overfull ⌝ }
-{
-    let none = no_keys();
-    let keys = none.keys;
-    KeySet {
-        count: 9,
-        keys: keys,
-    }
-}
-
-// The set with one key more, whose value is `len` bytes from `start` on.
-fn add_key(
-    part: &[u8],
-    set: KeySet,
-    identifier: u64,
-    usage: u64,
-    start: usize,
-    len: usize,
-) -> KeySet
-    requires { ⌜ start + len ≤ length (now part) ⌝ }
-    ensures { λ r. ⌜ r ≡ addKey set (keyOf identifier usage (take len (drop start (now (part .entry))))) ⌝ }
-{
-    let n = set.count;
-    if 8 <= n {
-        return no_place();
-    }
-    if !is_storable(identifier, usage, len) {
-        return no_place();
-    }
-    let value = copied(part, start, len);
-    let key = Key {
-        identifier: identifier as u8,
-        usage: usage as u8,
-        value: value,
-    };
-    let mut keys = set.keys;
-    keys[n] = key;
-    KeySet {
-        count: n + 1,
-        keys: keys,
-    }
-}
-
-// The parameter that a gathered set is, if it is within the limits.
-fn close_set(set: KeySet) -> KeysRead
-    ensures { λ r. ⌜ r ≡ keysAnswer (keysConcluded (cond (allowedSet set) (good set) unfit)) ⌝ }
+// The parameter that a gathered set is, if it is within the limits; the set ends at `next`.
+fn close_set(set: KeySet, next: usize) -> KeysRead
+    ensures { λ r. ⌜ r ≡ keysAnswer (keysConcluded (cond (allowedSet set) (good set) unfit)) (r .next) ⌝ }
+    ensures rest { λ r. ⌜ Accepting (r .verdict) (r .next ≡ next) ⌝ }
 {
     if !set.allowed() {
         return refused_keys(Refusal::Keys);
@@ -166,17 +130,21 @@ fn close_set(set: KeySet) -> KeysRead
     KeysRead {
         verdict: Verdict::Accepted,
         parameter: parameter,
+        next: next,
     }
 }
 
 // The key set whose `count` members begin at a place: the pattern to its end, and then the limits.
 fn gather_keys(s: &[u8], from: usize, count: u64) -> KeysRead
     requires { ⌜ from ≤ length (now s) ⌝ }
-    ensures { λ r. ⌜ r ≡ keysAnswer (keysConcluded (keysIn (groups (membersAt count (drop from (now (s .entry))))))) ⌝ }
+    ensures { λ r. ⌜ r ≡ keysAnswer (keysConcluded (keysIn (groups (membersAt count (drop from (now (s .entry))))))) (r .next) ⌝ }
+    ensures rest { λ r. ⌜ Accepting (r .verdict) (drop (r .next) (now (s .entry)) ≡ afterMembers count (drop from (now (s .entry)))) ⌝ }
 {
     let mut at = from;
     let mut remaining = count;
-    let mut set = no_keys();
+    let none = no_key();
+    let mut n: usize = 0;
+    let mut keys = [none; 8];
     while 0 < remaining {
         let part = &s[at..];
         let g = read_group(part, remaining);
@@ -189,18 +157,34 @@ fn gather_keys(s: &[u8], from: usize, count: u64) -> KeysRead
                 len,
                 left,
             } => {
-                set = add_key(part, set, identifier, usage, start, len);
+                if is_storable(n, identifier, usage, len) {
+                    let value = copied(part, start, len);
+                    let key = Key {
+                        identifier: identifier as u8,
+                        usage: usage as u8,
+                        value: value,
+                    };
+                    keys[n] = key;
+                    n += 1;
+                } else {
+                    n = 9;
+                }
                 at = at + (start + len);
                 remaining = left;
             }
         }
     }
-    close_set(set)
+    let set = KeySet {
+        count: n,
+        keys: keys,
+    };
+    close_set(set, at)
 }
 
 // The key set at a place.
 pub fn read_keys(s: &[u8], at: usize) -> KeysRead
-    ensures { λ r. ⌜ r ≡ keysAnswer (keysRead (valueView (drop at (now (s .entry))))) ⌝ }
+    ensures { λ r. ⌜ r ≡ keysAnswer (keysRead (valueView (drop at (now (s .entry))))) (r .next) ⌝ }
+    ensures rest { λ r. ⌜ Accepting (r .verdict) (drop (r .next) (now (s .entry)) ≡ afterValue (drop at (now (s .entry)))) ⌝ }
 {
     let v = value_at(s, at);
     match v {

@@ -14,14 +14,14 @@ pub enum Start {
     Pairs { count: u64, start: usize },
 }
 
-// The payload's map: LONG, what the item scan refuses, or TYPE where it is no map.
-pub fn open_payload(payload: &[u8]) -> Start
-    ensures { λ r. ⌜ r ≡ startAnswer (now (payload .entry)) ⌝ }
+// The payload's map: LONG, what the item scan, strict or not, refuses, or TYPE where it is no map.
+pub fn open_payload(payload: &[u8], strict: bool) -> Start
+    ensures { λ r. ⌜ r ≡ startAnswer strict (now (payload .entry)) ⌝ }
 {
     if PAYLOAD_BYTES < payload.len() {
         return Start::Refused(Refusal::Long);
     }
-    let opened = open_map(payload);
+    let opened = open_map(payload, strict);
     match opened {
         Opened::Refused(k) => Start::Refused(k),
         Opened::NoMap => Start::Refused(Refusal::Type),

@@ -2,3 +2,4 @@
 mod request;
 
 pub use request::read_request;
+pub use request::read_strict_request;

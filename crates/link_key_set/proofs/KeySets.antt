@@ -2,13 +2,13 @@
 use Prim.Native.Nat.{ℕ, _≤_, _<_}
 use native.Mathlib.Omega.{arith}
 use mathlib.Core.Path.{_≡_, refl, sym}
-use mathlib.Core.Bool.{Bool, true, false, cond, not, _&&_, _||_, and-false}
+use mathlib.Core.Bool.{Bool, true, false, not, _&&_, _||_, and-false}
 use mathlib.Core.List.{List, [], _∷_, _++_, List·Memᴰ, List·Memᴰ·head, List·Memᴰ·tail}
-use mathlib.Core.Option.{Option, none, some}
+use mathlib.Core.Option.{none, some}
 use borrow.Author.Tests.{leb-true, eqb-true, eqb-false, eq-eqb, ne-eqb, le-leb, lt-leb, not-true}
 use lib.Dec.{leb, eqb}
 use lib.ListN.{length, length-take}
-use Rattle.link_key.specs.Key.{inLimits, sameKey, covers, foundKey}
+use Rattle.link_key.specs.Key.{inLimits, sameKey, covers}
 use Rattle.link_key_set.specs.KeySet.{keysOf, noKeys, named, has, allowed, allowedSet, allInLimits, noneTwice, sameKeys, shares, Apart}
 use Rattle.link_key_set.specs.KeySet.{Covers, firstCover, findKey}
 use Rattle.link_key.specs.declared.Key.{Key}
@@ -92,16 +92,6 @@ find-found identifier ks k e =
 
 pub find-none : (identifier : ℕ) (ks : List Key) → findKey identifier ks ≡ none → has identifier ks ≡ false
 find-none identifier ks e = first-none (named identifier) ks e
-
--- a key is found where one has the identifier
-found-step : (b c : Bool) (k : Key) (o : Option Key) → foundKey o .found ≡ c → foundKey (cond b (some k) o) .found ≡ (b || c)
-found-step true c k o e = refl
-found-step false c k o e = e
-
-pub found-has : (identifier : ℕ) (ks : List Key) → foundKey (findKey identifier ks) .found ≡ has identifier ks
-found-has identifier [] = refl
-found-has identifier (k ∷ ks) =
-    found-step (named identifier k) (has identifier ks) k (findKey identifier ks) (found-has identifier ks)
 
 pub none-find : (identifier : ℕ) (ks : List Key) → has identifier ks ≡ false → findKey identifier ks ≡ none
 none-find identifier ks e = none-first (named identifier) ks e

@@ -20,6 +20,9 @@ keysOf set = take (set .count) (set .keys)
 abbrev pub noKeys : KeySet
 noKeys = record { count = 0; keys = replicate 8 noKey }
 
+abbrev pub identifierOf : Key → ℕ
+identifierOf k = k .identifier
+
 -- a key has the identifier
 abbrev pub named : ℕ → Key → Bool
 named identifier k = eqb (k .identifier) identifier

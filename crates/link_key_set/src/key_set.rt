@@ -3,12 +3,15 @@ use link_key::FoundKey;
 use link_key::Key;
 use link_key::no_key;
 ghost use mathlib.Core.Path.{_≡_};
-ghost use Prim.Native.Nat.{_≤_};
+ghost use Prim.Native.Nat.{ℕ, _≤_};
 ghost use mathlib.Core.Bool.{_&&_};
 ghost use mathlib.Core.Option.{none};
-ghost use lib.ListN.{length, drop, getD};
-ghost use Rattle.link_key_set.specs.KeySet.{keysOf, noKeys, has, allInLimits, noneTwice, allowedSet, sameKeys, shares, findKey, firstCover};
-ghost use Rattle.link_key.specs.Key.{noKey, foundKey, sameKey};
+ghost use lib.Dec.{eqb};
+ghost use mathlib.Core.List.{map};
+ghost use lib.ListN.{length, take, drop};
+ghost use Rattle.link_key_set.specs.Lists.{anyOf};
+ghost use Rattle.link_key_set.specs.KeySet.{keysOf, identifierOf, noKeys, has, allInLimits, noneTwice, allowedSet, sameKeys, shares, findKey, firstCover};
+ghost use Rattle.link_key.specs.Key.{foundKey};
 
 pub struct KeySet {
     // How many keys the set has; 0 is no set.
@@ -39,6 +42,21 @@ fn not_found() -> FoundKey
     }
 }
 
+// Whether one of the identifiers from one place on, up to another, is this one.
+fn among(ids: [u8; 8], from: usize, to: usize, identifier: u8) -> bool
+    requires { ⌜ to ≤ 8 ⌝ }
+    ensures { λ r. ⌜ r ≡ anyOf (λ (x : ℕ). eqb x identifier) (drop from (take to ids)) ⌝ }
+{
+    let mut i = from;
+    while i < to {
+        if ids[i] == identifier {
+            return true;
+        }
+        i += 1;
+    }
+    false
+}
+
 impl KeySet {
     // How many keys there are: the count, and 8 where the count is over 8.
     pub fn len(self) -> usize
@@ -51,14 +69,19 @@ impl KeySet {
         8
     }
 
-    // The key at a place; all zero past the eighth.
-    fn key_at(self, i: usize) -> Key
-        ensures { λ r. ⌜ r ≡ getD (self .keys) i noKey ⌝ }
+    // The identifiers at the eight places.
+    fn identifiers(self) -> [u8; 8]
+        ensures { λ r. ⌜ r ≡ map identifierOf (self .keys) ⌝ }
     {
-        if i < 8 {
-            return self.keys[i];
+        let keys = self.keys;
+        let mut ids = [0u8; 8];
+        let mut i: usize = 0;
+        while i < 8 {
+            let key = keys[i];
+            ids[i] = key.identifier;
+            i += 1;
         }
-        no_key()
+        ids
     }
 
     // Whether the set is within document 01's limits (KEYS): 1 to 8 keys, each in its limits, no identifier twice.
@@ -76,10 +99,12 @@ impl KeySet {
         ensures { λ r. ⌜ r ≡ (allInLimits (keysOf self) && noneTwice (keysOf self)) ⌝ }
     {
         let n = self.len();
+        let keys = self.keys;
+        let ids = self.identifiers();
         let mut i: usize = 0;
         while i < n {
-            let key = self.key_at(i);
-            if !key.in_limits() || self.has_from(i + 1, key.identifier) {
+            let key = keys[i];
+            if !key.in_limits() || among(ids, i + 1, n, key.identifier) {
                 return false;
             }
             i += 1;
@@ -91,30 +116,9 @@ impl KeySet {
     pub fn has(self, identifier: u8) -> bool
         ensures { λ r. ⌜ r ≡ has identifier (keysOf self) ⌝ }
     {
-        self.has_from(0, identifier)
-    }
-
-    // Whether a key from this place on has the identifier.
-    fn has_from(self, from: usize, identifier: u8) -> bool
-        ensures { λ r. ⌜ r ≡ has identifier (drop from (keysOf self)) ⌝ }
-    {
-        self.find_from(from, identifier).found
-    }
-
-    // The key with the identifier from this place on.
-    fn find_from(self, from: usize, identifier: u8) -> FoundKey
-        ensures { λ r. ⌜ r ≡ foundKey (findKey identifier (drop from (keysOf self))) ⌝ }
-    {
         let n = self.len();
-        let mut i = from;
-        while i < n {
-            let key = self.key_at(i);
-            if key.identifier == identifier {
-                return FoundKey { found: true, key };
-            }
-            i += 1;
-        }
-        not_found()
+        let ids = self.identifiers();
+        among(ids, 0, n, identifier)
     }
 
     // Whether two sets have the same keys in the same order.
@@ -125,9 +129,12 @@ impl KeySet {
         if n != other.len() {
             return false;
         }
+        let mine = self.keys;
+        let theirs = other.keys;
         let mut i: usize = 0;
         while i < n {
-            if !self.same_at(other, i) {
+            let key = mine[i];
+            if !key.same_key(theirs[i]) {
                 return false;
             }
             i += 1;
@@ -135,23 +142,17 @@ impl KeySet {
         true
     }
 
-    // Whether the keys at a place are equal.
-    fn same_at(self, other: KeySet, i: usize) -> bool
-        ensures { λ r. ⌜ r ≡ sameKey (getD (self .keys) i noKey) (getD (other .keys) i noKey) ⌝ }
-    {
-        let key = self.key_at(i);
-        key.same_key(other.key_at(i))
-    }
-
     // Whether some identifier is in both sets.
     pub fn shares(self, other: KeySet) -> bool
         ensures { λ r. ⌜ r ≡ shares (keysOf self) (keysOf other) ⌝ }
     {
         let n = self.len();
+        let m = other.len();
+        let mine = self.identifiers();
+        let theirs = other.identifiers();
         let mut i: usize = 0;
         while i < n {
-            let key = self.key_at(i);
-            if other.has(key.identifier) {
+            if among(theirs, 0, m, mine[i]) {
                 return true;
             }
             i += 1;
@@ -163,7 +164,17 @@ impl KeySet {
     pub fn find_key(self, identifier: u8) -> FoundKey
         ensures { λ r. ⌜ r ≡ foundKey (findKey identifier (keysOf self)) ⌝ }
     {
-        self.find_from(0, identifier)
+        let n = self.len();
+        let keys = self.keys;
+        let mut i: usize = 0;
+        while i < n {
+            let key = keys[i];
+            if key.identifier == identifier {
+                return FoundKey { found: true, key };
+            }
+            i += 1;
+        }
+        not_found()
     }
 
     // The first key that covers the frame type.
@@ -171,9 +182,10 @@ impl KeySet {
         ensures { λ r. ⌜ r ≡ foundKey (firstCover «frame_type» (keysOf self)) ⌝ }
     {
         let n = self.len();
+        let keys = self.keys;
         let mut i: usize = 0;
         while i < n {
-            let key = self.key_at(i);
+            let key = keys[i];
             if key.covers(frame_type) {
                 return FoundKey { found: true, key };
             }

@@ -28,7 +28,7 @@ use Rattle.node_parameters.specs.declared.address.HeldAddress.{HeldAddress}
 use Rattle.node_attempt.proofs.Attempts.{moved-valid, joined-valid}
 use Rattle.node_parameters.proofs.Leases.{later}
 use Rattle.cojp.specs.Reading.{ifTaken}
-use Rattle.cojp.specs.Address.{isAddress}
+use Rattle.short_address.specs.Address.{isAddress}
 use Rattle.cojp.specs.InRange.{InRange, ReadsInRange}
 use Rattle.cojp.specs.declared.address.ShortAddress.{ShortAddress}
 use Rattle.cojp.specs.declared.configuration.Configuration.{Configuration}

@@ -8,3 +8,4 @@ mod Untouched
 mod GivesUp
 mod NodeLaws
 mod Answers
+mod Waiting

@@ -6,7 +6,7 @@ use mathlib.Core.Bool.{Bool, true, false, cond, _&&_}
 use borrow.Author.Tests.{leb-true, le-leb}
 use lib.Dec.{leb}
 use Rattle.logic_facts.specs.Tests.{both-left, both-right}
-use Rattle.cojp.specs.Address.{isAddress}
+use Rattle.short_address.specs.Address.{isAddress}
 use Rattle.node_parameters.specs.Lease.{validAddress}
 use Rattle.node_parameters.specs.declared.address.HeldAddress.{HeldAddress}
 use Rattle.logic_facts.specs.Tests.{both}

@@ -2,7 +2,8 @@
 use Prim.Native.Nat.{ℕ, _-_, _/_}
 use mathlib.Core.Bool.{Bool, true, false, cond, _&&_}
 use lib.Dec.{leb, ltb}
-use Rattle.cojp.specs.Address.{noAddress, isAddress}
+use Rattle.cojp.specs.Address.{noAddress}
+use Rattle.short_address.specs.Address.{isAddress}
 use Rattle.cojp.specs.Reading.{ifTaken}
 use Rattle.cojp.specs.declared.address.AddressParameter.{AddressParameter}
 use Rattle.node_parameters.specs.declared.address.HeldAddress.{HeldAddress}

@@ -2,9 +2,9 @@
 use cojp::AddressParameter;
 use cojp::Report;
 use cojp::ShortAddress;
-use cojp::is_address;
 use cojp::no_address;
 use cojp_range::is_taken;
+use short_address::is_address;
 ghost use mathlib.Core.Path.{_≡_};
 ghost use Prim.Native.Nat.{_-_};
 ghost use Rattle.node_parameters.specs.Lease.{absentAddress, validAddress, holdsAt, addressAfter};

@@ -1,6 +1,7 @@
 -- A value closes the group, a number is its usage, anything else breaks the pattern.
-use Rattle.cojp.proofs.Arrays.{number-left, bytes-left}
-use Rattle.cojp_key_set_read.proofs.KeySets.{group-used, group-pair, group-open}
+use Prim.Native.Nat.{_-_}
+use Rattle.cojp.proofs.Arrays.{number-left, bytes-left, number-after, bytes-after}
+use Rattle.cojp_key_set_read.proofs.KeySets.{rest-on, group-used, group-pair, group-open}
 use borrow.Author.Needs.{needs}
 use Rattle.cojp_key_set_read.proofs.after_identifier.Statement.{statement}
 use Rattle.cojp_key_set_read.proofs.after_identifier.Tie as tie
@@ -37,20 +38,20 @@ returns c =
     let a = c .before .before .before .before .before .before .args in
     let m = c .before .before .before .before .member-at in
     let g = c .before .before .second .given in
-    group-used (a .part .now) (a .left) (m .result) (a .at) (a .identifier) (m .ensures) (g .0 .0) (g .0 .1 .0) (g .1) (c .after-usage .result) (c .after-usage .ensures)
+    (group-used (a .part .now) (a .left) (m .result) (a .at) (a .identifier) (m .ensures) (g .0 .0) (g .0 .1 .0) (g .1) (c .after-usage .result) (c .after-usage .ensures .0), rest-on (a .part .now) (a .at) (a .left) (g .0 .1 .0) (a .left - 1) (c .after-usage .result) (number-after (a .part .now) (a .at) (a .left) (m .result) (m .ensures) (g .0 .0) (g .0 .1 .0) (g .1)) (c .after-usage .ensures .1))
 
 returns-2 : tie.Need-returns-2
 returns-2 c =
     let a = c .before .before .before .before .before .args in
     let m = c .before .before .before .member-at in
     let g = c .before .second2 .given in
-    group-pair (a .part .now) (a .left) (m .result) (a .at) (a .identifier) (m .ensures) (g .0 .0) (g .0 .1 .0) (g .1)
+    (group-pair (a .part .now) (a .left) (m .result) (a .at) (a .identifier) (m .ensures) (g .0 .0) (g .0 .1 .0) (g .1), bytes-after (a .part .now) (a .at) (a .left) (m .result) (m .ensures) (g .0 .0) (g .0 .1 .0) (g .1))
 
 returns-3 : tie.Need-returns-3
 returns-3 c =
     let a = c .before .before .before .before .args in
     let m = c .before .before .member-at in
-    group-open (a .part .now) (a .left) (m .result) (a .at) (a .identifier) (m .ensures) (c .enum-told .given .1)
+    (group-open (a .part .now) (a .left) (m .result) (a .at) (a .identifier) (m .ensures) (c .enum-told .given .1), tt)
 
 pub after-identifier-spec : {M : Type 1} → statement M
 after-identifier-spec =

@@ -1,5 +1,5 @@
 -- A value closes the group; anything else breaks the pattern.
-use Rattle.cojp.proofs.Arrays.{bytes-left}
+use Rattle.cojp.proofs.Arrays.{bytes-left, bytes-after}
 use Rattle.cojp_key_set_read.proofs.KeySets.{group-triple, group-valueless}
 use borrow.Author.Needs.{needs}
 use Rattle.cojp_key_set_read.proofs.after_usage.Statement.{statement}
@@ -21,13 +21,13 @@ returns c =
     let a = c .before .before .before .before .before .args in
     let m = c .before .before .before .member-at in
     let g = c .before .third .given in
-    group-triple (a .part .now) (a .left) (m .result) (a .at) (a .identifier) (m .ensures) (a .usage) (g .0 .0) (g .0 .1 .0) (g .1)
+    (group-triple (a .part .now) (a .left) (m .result) (a .at) (a .identifier) (m .ensures) (a .usage) (g .0 .0) (g .0 .1 .0) (g .1), bytes-after (a .part .now) (a .at) (a .left) (m .result) (m .ensures) (g .0 .0) (g .0 .1 .0) (g .1))
 
 returns-2 : tie.Need-returns-2
 returns-2 c =
     let a = c .before .before .before .args in
     let m = c .before .member-at in
-    group-valueless (a .part .now) (a .left) (m .result) (a .at) (a .identifier) (m .ensures) (a .usage) (c .match .keys2)
+    (group-valueless (a .part .now) (a .left) (m .result) (a .at) (a .identifier) (m .ensures) (a .usage) (c .match .keys2), tt)
 
 pub after-usage-spec : {M : Type 1} → statement M
 after-usage-spec =

@@ -1,6 +1,7 @@
 -- A group begins with its identifier.
-use Rattle.cojp.proofs.Arrays.{number-left}
-use Rattle.cojp_key_set_read.proofs.KeySets.{group-begun, group-headless}
+use Prim.Native.Nat.{_-_}
+use Rattle.cojp.proofs.Arrays.{number-left, number-after}
+use Rattle.cojp_key_set_read.proofs.KeySets.{rest-on, group-begun, group-headless}
 use borrow.Author.Needs.{needs}
 use Rattle.cojp_key_set_read.proofs.read_group.Statement.{statement}
 use Rattle.cojp_key_set_read.proofs.read_group.Tie as tie
@@ -25,13 +26,13 @@ returns c =
     let a = c .before .before .before .before .before .before .args in
     let m = c .before .before .before .before .member-at in
     let g = c .before .before .first .given in
-    group-begun (a .part .now) (a .left) (m .result) (c .before .before .before .before .before .before .pre) (m .ensures) (g .0 .0) (g .0 .1 .0) (g .1) (c .after-identifier .result) (c .after-identifier .ensures)
+    (group-begun (a .part .now) (a .left) (m .result) (c .before .before .before .before .before .before .pre) (m .ensures) (g .0 .0) (g .0 .1 .0) (g .1) (c .after-identifier .result) (c .after-identifier .ensures .0), rest-on (a .part .now) 0 (a .left) (g .0 .1 .0) (a .left - 1) (c .after-identifier .result) (number-after (a .part .now) 0 (a .left) (m .result) (m .ensures) (g .0 .0) (g .0 .1 .0) (g .1)) (c .after-identifier .ensures .1))
 
 returns-2 : tie.Need-returns-2
 returns-2 c =
     let a = c .before .before .before .args in
     let m = c .before .member-at in
-    group-headless (a .part .now) (a .left) (m .result) (c .before .before .before .pre) (m .ensures) (c .match .keys2)
+    (group-headless (a .part .now) (a .left) (m .result) (c .before .before .before .pre) (m .ensures) (c .match .keys2), tt)
 
 pub read-group-spec : {M : Type 1} → statement M
 read-group-spec =

@@ -1,7 +1,7 @@
 -- A key set is an array.
-use mathlib.Core.Path.{refl, ap, _∙_}
-use Rattle.cojp.specs.KeySet.{keysAnswer}
-use Rattle.cojp.proofs.Arrays.{array-here}
+use mathlib.Core.Path.{refl, sym, _∙_}
+use Rattle.cojp.proofs.Nexts.{keys-settled, accepting-on}
+use Rattle.cojp.proofs.Arrays.{array-here, array-after}
 use Rattle.cojp_key_set_read.proofs.KeySets.{keys-array, keys-broken}
 use borrow.Author.Needs.{needs}
 use Rattle.cojp_key_set_read.proofs.read_keys.Statement.{statement}
@@ -28,13 +28,13 @@ returns c =
     let a = c .before .before .before .before .before .before .args in
     let v = c .before .before .before .before .value-at in
     let g = c .before .before .v .given in
-    c .gather-keys .ensures ∙ ap keysAnswer (keys-array (a .s .now) (a .at) (v .result) (v .ensures) _ (g .0 .0) (g .0 .1 .0) (g .1) refl)
+    (keys-settled (c .gather-keys .result) _ _ (c .gather-keys .ensures .0) _ (keys-array (a .s .now) (a .at) (v .result) (v .ensures) _ (g .0 .0) (g .0 .1 .0) (g .1) refl), accepting-on (c .gather-keys .result .verdict) (λ e. e ∙ sym (array-after (a .s .now) (a .at) (v .result) (v .ensures) (g .0 .0) (g .0 .1 .0) (g .1))) (c .gather-keys .ensures .1))
 
 returns-2 : tie.Need-returns-2
 returns-2 c =
     let a = c .before .before .before .before .args in
     let v = c .before .before .value-at in
-    c .refused-keys .ensures ∙ ap keysAnswer (keys-broken (a .s .now) (a .at) (v .result) (v .ensures) _ (c .before .match .keys2) refl)
+    (keys-settled (c .refused-keys .result) _ _ (c .refused-keys .ensures) _ (keys-broken (a .s .now) (a .at) (v .result) (v .ensures) _ (c .before .match .keys2) refl), rw (c .refused-keys .ensures) tt)
 
 pub read-keys-spec : {M : Type 1} → statement M
 read-keys-spec =

@@ -4,7 +4,7 @@ use mathlib.Core.Path.{_≡_, refl, sym, _∙_}
 use native.Mathlib.Omega.{arith}
 use lib.ListN.{take, drop, getD}
 use Rattle.cbor.specs.Decode.{digits, bigEndian}
-use Rattle.cbor.proofs.Heads.{argument-none, argument-whole}
+use Rattle.cbor.proofs.Heads.{argument-whole}
 use Rattle.cbor.proofs.Numbers.{digits-step, digits-none, grows, grown-fits}
 use Rattle.cbor.proofs.head.argument_at.Statement.{statement}
 use Rattle.cbor.proofs.head.argument_at.Tie as tie
@@ -16,21 +16,16 @@ Inv-loop s info at₀ end value₀ at value =
 abbrev μ-loop : tie.MeasureT-loop
 μ-loop s info at₀ end value₀ at value = end - at
 
-returns : tie.Need-returns Inv-loop μ-loop
-returns c =
-    let a = c .before .args in
-    argument-none (a .s .now) (a .info) (a .at) (a .end) (c .before .pre .1) (c .if1 .taken)
-
 loop-holds : tie.Need-loop-holds Inv-loop μ-loop
 loop-holds c =
-    let a = c .before .args in
+    let a = c .args in
     let e : a .at - a .at ≡ 0 = omega arith in
     (omega arith, omega arith, rw e (omega arith), refl)
 
 mul-value : tie.Need-mul-value Inv-loop μ-loop
 mul-value c =
     let l = c .before .loop in
-    let a = c .before .before .before .args in
+    let a = c .before .before .args in
     let f = grown-fits (l .value) 0 (l .at - a .at) (l .inv .2) (omega arith) (omega arith) in
     omega arith
 
@@ -43,7 +38,7 @@ cast-value c = omega (arith, c .shared-slice-known .given (c .before .before .lo
 add-value : tie.Need-add-value Inv-loop μ-loop
 add-value c =
     let l = c .before .before .loop in
-    let a = c .before .before .before .before .args in
+    let a = c .before .before .before .args in
     let b = c .shared-slice-known .given (l .at) in
     record { fits = grown-fits (l .value) (getD (a .s .now) (l .at) 0) (l .at - a .at) (l .inv .2) (omega (arith, b)) (omega arith) }
 
@@ -56,7 +51,7 @@ loop-less c = omega arith
 loop-again : tie.Need-loop-again Inv-loop μ-loop
 loop-again c =
     let l = c .before .before .loop in
-    let a = c .before .before .before .before .args in
+    let a = c .before .before .before .args in
     let b = c .shared-slice-known .given (l .at) in
     let e : l .at + 1 - a .at ≡ l .at - a .at + 1 = omega arith in (
       omega arith,
@@ -65,12 +60,12 @@ loop-again c =
       sym (digits-step (a .s .now) (l .value) (l .at) (a .end) (omega arith) (omega arith)) ∙ l .inv .3,
     )
 
-returns-2 : tie.Need-returns-2 Inv-loop μ-loop
-returns-2 c =
+returns : tie.Need-returns Inv-loop μ-loop
+returns c =
     let l = c .before .loop in
-    let n = c .before .before .before in
+    let n = c .before .before in
     let a = n .args in
-    argument-whole (a .s .now) (a .info) (a .at) (a .end) (n .pre .1) (l .value) (omega arith) (n .pre .0) (n .pre .3)
+    argument-whole (a .s .now) (a .info) (a .at) (a .end) (n .pre .1) (l .value) (n .pre .4) (n .pre .0) (n .pre .3)
     (sym (digits-none (l .value) (a .end - l .at) (drop (l .at) (a .s .now)) (omega arith)) ∙ l .inv .3)
 
 pub argument-at-spec : {M : Type 1} → statement M
@@ -79,7 +74,6 @@ argument-at-spec =
     (tie.spec
     Inv-loop
     μ-loop
-    returns
     loop-holds
     mul-value
     shared-slice-read-value
@@ -88,4 +82,4 @@ argument-at-spec =
     add-at
     loop-less
     loop-again
-    returns-2)
+    returns)

@@ -7,11 +7,11 @@ use borrow.Author.Needs.{needs}
 use borrow.Fn.Kinds.{In, Out}
 use borrow.Fn.PlainCycle.{Measures, is, falls, and}
 use lib.ListN.{length, drop}
-use Rattle.cbor.specs.Decode.{decode, members}
+use Rattle.cbor.specs.Decode.{members}
 use Rattle.cbor.specs.declared.head.HeadRead.the-variants as hv
 use Rattle.cbor.specs.declared.item.Skip.the-variants as sv
 use Rattle.cbor.proofs.Answers.{skip-answer, head-says, passed-item, passed-members}
-use Rattle.cbor_scan.proofs.Items.{item-deep, item-refused, item-alone, item-string, item-short, item-array, item-map-refused, item-map, item-tag, members-refused, members-before, members-done}
+use Rattle.cbor_scan.proofs.Items.{itemBy, item-deep, item-refused, item-alone, item-string, item-short, item-array, item-map-refused, item-map, item-tag, members-refused, members-before, members-done}
 use Rattle.cbor.proofs.Places.{HeadAt, Passed, forget}
 use Rattle.cbor_scan.proofs.item.skip_item.Reads as skip-item
 use Rattle.cbor_scan.proofs.item.skip_item.Kinds as skip-item-kinds
@@ -19,8 +19,8 @@ use Rattle.cbor_scan.proofs.item.+skip_item+skip_members.Lts-skip_item 
 use Rattle.cbor_scan.proofs.item.skip_members.Reads as skip-members
 use Rattle.cbor_scan.proofs.item.skip_members.Kinds as skip-members-kinds
 use Rattle.cbor_scan.proofs.item.+skip_item+skip_members.Lts-skip_members as skip-members-lts
-use Rattle.cbor.proofs.head.read_head.Reads as read-head-reads
-use Rattle.cbor.proofs.head.read_head.Kinds as read-head-kinds
+use Rattle.cbor.proofs.head.read_head_by.Reads as read-head-by-reads
+use Rattle.cbor.proofs.head.read_head_by.Kinds as read-head-by-kinds
 use Rattle.cbor_scan.proofs.item.inside.Reads as inside-reads
 use Rattle.cbor_scan.proofs.item.inside.Kinds as inside-kinds
 use Rattle.cbor_scan.proofs.item.+skip_item+skip_members.{statement}
@@ -47,12 +47,12 @@ skip-members-below t = and 1 skip-members-kinds.ps (falls 1 skip-members-kinds.p
 -- what the calls are asked and teach, at the measure t
 abbrev Item-calls : Type 1
 Item-calls =
-    In 1 read-head-kinds.ps × Out 1 read-head-kinds.ps read-head-kinds.r
+    In 1 read-head-by-kinds.ps × Out 1 read-head-by-kinds.ps read-head-by-kinds.r
     × In 1 skip-members-kinds.ps × Out 1 skip-members-kinds.ps skip-members-kinds.r
     × In 1 skip-item-kinds.ps × Out 1 skip-item-kinds.ps skip-item-kinds.r
 
 abbrev item-calls : ℕ → Item-calls
-item-calls t = (read-head-reads.Asked, read-head-reads.Learnt, skip-members-below t, skip-members.Post, skip-item-below t, skip-item.Post)
+item-calls t = (read-head-by-reads.Asked, read-head-by-reads.Learnt, skip-members-below t, skip-members.Post, skip-item-below t, skip-item.Post)
 
 abbrev Members-calls : Type 1
 Members-calls =
@@ -67,36 +67,36 @@ item-need N = (t : ℕ) → N (item-calls t) (skip-item-at t) skip-item.Post
 
 -- in the arm of a head that was got
 head-of : (t : ℕ) (k : skip-item-lts.After-h2 (item-calls t) (skip-item-at t) skip-item.Post)
-    → let a = k .before .before .before .before .before .args in HeadAt (a .s .now) (a .at) (hv.Got (k .h2 .given .0 .0))
+    → let a = k .before .before .before .before .before .args in HeadAt (a .strict) (a .s .now) (a .at) (hv.Got (k .h2 .given .0 .0))
 head-of t k =
     let a = k .before .before .before .before .before .args in
-    rw (k .h2 .given .1) at (head-says (a .s .now) (a .at) (k .before .before .read-head .result) (k .before .before .read-head .ensures))
+    rw (k .h2 .given .1) at (head-says (a .strict) (a .s .now) (a .at) (k .before .before .read-head-by .result) (k .before .before .read-head-by .ensures))
 
 -- a map's first half was passed over
 half-of : (t : ℕ) (k : skip-item-lts.After-half2 (item-calls t) (skip-item-at t) skip-item.Post)
     → let arm = k .before .before .before .before .before in
     let a = arm .before .before .before .before .before .args in
     let h = arm .h2 .given .0 .0 in
-    Passed (a .s .now) (members (decode (a .levels - 1)) (h .argument) (drop (h .next) (a .s .now))) (sv.Next (k .half2 .given .0 .0))
+    Passed (a .s .now) (members (itemBy (a .strict) (a .levels - 1)) (h .argument) (drop (h .next) (a .s .now))) (sv.Next (k .half2 .given .0 .0))
 half-of t k =
     let arm = k .before .before .before .before .before in
     let a = arm .before .before .before .before .before .args in
     let h = arm .h2 .given .0 .0 in
     let m = k .before .before .skip-members2 in
     rw (k .half2 .given .1) at
-    (passed-members (a .s .now) (h .next) (a .levels - 1) (h .argument) (m .result) (head-of t arm .inside) (m .ensures))
+    (passed-members (a .strict) (a .s .now) (h .next) (a .levels - 1) (h .argument) (m .result) (head-of t arm .inside) (m .ensures))
 
 skip-item-returns : item-need skip-item-lts.Need-returns
 skip-item-returns t c =
     let a = c .before .before .args in
-    skip-answer (a .s .now) (decode (a .levels) (drop (a .at) (a .s .now))) _
-    (item-deep (a .s .now) (a .at) (a .levels) (c .if1 .taken))
+    skip-answer (a .s .now) (itemBy (a .strict) (a .levels) (drop (a .at) (a .s .now))) _
+    (item-deep (a .strict) (a .s .now) (a .at) (a .levels) (c .if1 .taken))
 
 skip-item-sub-below : item-need skip-item-lts.Need-sub-below
 skip-item-sub-below t c = omega arith
 
-skip-item-read-head-requires : item-need skip-item-lts.Need-read-head-requires
-skip-item-read-head-requires t c κs = tt
+skip-item-read-head-by-requires : item-need skip-item-lts.Need-read-head-by-requires
+skip-item-read-head-by-requires t c κs = tt
 
 skip-item-enum-known-h : item-need skip-item-lts.Need-enum-known-h
 skip-item-enum-known-h t c = search needs
@@ -145,8 +145,8 @@ skip-item-sub-if4 t c =
     let h = arm .h2 .given .0 .0 in
     omega (arith, head-of t arm .inside)
 
-skip-item-add-t25 : item-need skip-item-lts.Need-add-t25
-skip-item-add-t25 t c =
+skip-item-add-end : item-need skip-item-lts.Need-add-end
+skip-item-add-end t c =
     let arm = c .before .before .before .before .before in
     let a = arm .before .before .before .before .before .args in
     let h = arm .h2 .given .0 .0 in
@@ -156,28 +156,28 @@ skip-item-returns-2 : item-need skip-item-lts.Need-returns-2
 skip-item-returns-2 t c =
     let k = c .before in
     let a = k .before .before .before .before .before .args in
-    skip-answer (a .s .now) (decode (a .levels) (drop (a .at) (a .s .now))) _
-    (item-refused (a .s .now) (a .at) (a .levels) (k .h .given .0 .0) (k .before .before .before .if1 .left)
-    (rw (k .h .given .1) at (head-says (a .s .now) (a .at) (k .before .before .read-head .result) (k .before .before .read-head .ensures))))
+    skip-answer (a .s .now) (itemBy (a .strict) (a .levels) (drop (a .at) (a .s .now))) _
+    (item-refused (a .strict) (a .s .now) (a .at) (a .levels) (k .h .given .0 .0) (k .before .before .before .if1 .left)
+    (rw (k .h .given .1) at (head-says (a .strict) (a .s .now) (a .at) (k .before .before .read-head-by .result) (k .before .before .read-head-by .ensures))))
 
 skip-item-returns-3 : item-need skip-item-lts.Need-returns-3
 skip-item-returns-3 t c =
     let arm = c .before .before .before in
     let a = arm .before .before .before .before .before .args in
     let h = arm .h2 .given .0 .0 in
-    skip-answer (a .s .now) (decode (a .levels) (drop (a .at) (a .s .now))) _
-    (item-array (a .s .now) (a .at) (a .levels) h (arm .before .before .before .if1 .left) (head-of t arm) (omega arith) _
-    (passed-members (a .s .now) (h .next) (a .levels - 1) (h .argument) (c .skip-members .result) (head-of t arm .inside) (c .skip-members .ensures)))
+    skip-answer (a .s .now) (itemBy (a .strict) (a .levels) (drop (a .at) (a .s .now))) _
+    (item-array (a .strict) (a .s .now) (a .at) (a .levels) h (arm .before .before .before .if1 .left) (head-of t arm) (omega arith) _
+    (passed-members (a .strict) (a .s .now) (h .next) (a .levels - 1) (h .argument) (c .skip-members .result) (head-of t arm .inside) (c .skip-members .ensures)))
 
 skip-item-returns-4 : item-need skip-item-lts.Need-returns-4
 skip-item-returns-4 t c =
     let arm = c .before .before .before .before .before .before in
     let a = arm .before .before .before .before .before .args in
     let h = arm .h2 .given .0 .0 in
-    skip-answer (a .s .now) (decode (a .levels) (drop (a .at) (a .s .now))) _
-    (item-map-refused (a .s .now) (a .at) (a .levels) h (arm .before .before .before .if1 .left) (head-of t arm) (omega arith) (c .before .half .given .0 .0)
+    skip-answer (a .s .now) (itemBy (a .strict) (a .levels) (drop (a .at) (a .s .now))) _
+    (item-map-refused (a .strict) (a .s .now) (a .at) (a .levels) h (arm .before .before .before .if1 .left) (head-of t arm) (omega arith) (c .before .half .given .0 .0)
     (rw (c .before .half .given .1) at
-    (passed-members (a .s .now) (h .next) (a .levels - 1) (h .argument) (c .before .before .before .skip-members2 .result) (head-of t arm .inside) (c .before .before .before .skip-members2 .ensures))))
+    (passed-members (a .strict) (a .s .now) (h .next) (a .levels - 1) (h .argument) (c .before .before .before .skip-members2 .result) (head-of t arm .inside) (c .before .before .before .skip-members2 .ensures))))
 
 skip-item-returns-5 : item-need skip-item-lts.Need-returns-5
 skip-item-returns-5 t c =
@@ -185,57 +185,57 @@ skip-item-returns-5 t c =
     let a = arm .before .before .before .before .before .args in
     let h = arm .h2 .given .0 .0 in
     let half = c .before .before in
-    skip-answer (a .s .now) (decode (a .levels) (drop (a .at) (a .s .now))) _
-    (item-map (a .s .now) (a .at) (a .levels) h (arm .before .before .before .if1 .left) (head-of t arm) (omega arith) (half .half2 .given .0 .0) _ (half-of t half)
-    (passed-members (a .s .now) (half .half2 .given .0 .0) (a .levels - 1) (h .argument) (c .skip-members3 .result) (half-of t half .inside) (c .skip-members3 .ensures)))
+    skip-answer (a .s .now) (itemBy (a .strict) (a .levels) (drop (a .at) (a .s .now))) _
+    (item-map (a .strict) (a .s .now) (a .at) (a .levels) h (arm .before .before .before .if1 .left) (head-of t arm) (omega arith) (half .half2 .given .0 .0) _ (half-of t half)
+    (passed-members (a .strict) (a .s .now) (half .half2 .given .0 .0) (a .levels - 1) (h .argument) (c .skip-members3 .result) (half-of t half .inside) (c .skip-members3 .ensures)))
 
 skip-item-returns-6 : item-need skip-item-lts.Need-returns-6
 skip-item-returns-6 t c =
     let arm = c .before .before .before in
     let a = arm .before .before .before .before .before .args in
     let h = arm .h2 .given .0 .0 in
-    skip-answer (a .s .now) (decode (a .levels) (drop (a .at) (a .s .now))) _
-    (item-tag (a .s .now) (a .at) (a .levels) h (arm .before .before .before .if1 .left) (head-of t arm) (omega arith) _
-    (passed-item (a .s .now) (h .next) (a .levels - 1) (c .skip-item .result) (c .skip-item .ensures)))
+    skip-answer (a .s .now) (itemBy (a .strict) (a .levels) (drop (a .at) (a .s .now))) _
+    (item-tag (a .strict) (a .s .now) (a .at) (a .levels) h (arm .before .before .before .if1 .left) (head-of t arm) (omega arith) _
+    (passed-item (a .strict) (a .s .now) (h .next) (a .levels - 1) (c .skip-item .result) (c .skip-item .ensures)))
 
 skip-item-returns-7 : item-need skip-item-lts.Need-returns-7
 skip-item-returns-7 t c =
     let arm = c .before .before .before .before .before in
     let a = arm .before .before .before .before .before .args in
     let h = arm .h2 .given .0 .0 in
-    skip-answer (a .s .now) (decode (a .levels) (drop (a .at) (a .s .now))) _
-    (item-string (a .s .now) (a .at) (a .levels) h (arm .before .before .before .if1 .left) (head-of t arm) (omega arith) (omega arith) (omega arith))
+    skip-answer (a .s .now) (itemBy (a .strict) (a .levels) (drop (a .at) (a .s .now))) _
+    (item-string (a .strict) (a .s .now) (a .at) (a .levels) h (arm .before .before .before .if1 .left) (head-of t arm) (omega arith) (omega arith) (omega arith))
 
 skip-item-returns-8 : item-need skip-item-lts.Need-returns-8
 skip-item-returns-8 t c =
     let arm = c .before .before .before .before .before in
     let a = arm .before .before .before .before .before .args in
     let h = arm .h2 .given .0 .0 in
-    skip-answer (a .s .now) (decode (a .levels) (drop (a .at) (a .s .now))) _
-    (item-short (a .s .now) (a .at) (a .levels) h (arm .before .before .before .if1 .left) (head-of t arm) (omega arith) (omega arith) (omega arith))
+    skip-answer (a .s .now) (itemBy (a .strict) (a .levels) (drop (a .at) (a .s .now))) _
+    (item-short (a .strict) (a .s .now) (a .at) (a .levels) h (arm .before .before .before .if1 .left) (head-of t arm) (omega arith) (omega arith) (omega arith))
 
 skip-item-returns-9 : item-need skip-item-lts.Need-returns-9
 skip-item-returns-9 t c =
     let arm = c .before .before .before in
     let a = arm .before .before .before .before .before .args in
     let h = arm .h2 .given .0 .0 in
-    skip-answer (a .s .now) (decode (a .levels) (drop (a .at) (a .s .now))) _
-    (item-alone (a .s .now) (a .at) (a .levels) h (arm .before .before .before .if1 .left) (head-of t arm) (λ l u. omega arith))
+    skip-answer (a .s .now) (itemBy (a .strict) (a .levels) (drop (a .at) (a .s .now))) _
+    (item-alone (a .strict) (a .s .now) (a .at) (a .levels) h (arm .before .before .before .if1 .left) (head-of t arm) (λ l u. omega arith))
 
 skip-item-returns-10 : item-need skip-item-lts.Need-returns-10
 skip-item-returns-10 t c =
     let arm = c .before .before .before .before in
     let a = arm .before .before .before .before .before .args in
     let h = arm .h2 .given .0 .0 in
-    skip-answer (a .s .now) (decode (a .levels) (drop (a .at) (a .s .now))) _
-    (item-alone (a .s .now) (a .at) (a .levels) h (arm .before .before .before .if1 .left) (head-of t arm) (λ l u. omega arith))
+    skip-answer (a .s .now) (itemBy (a .strict) (a .levels) (drop (a .at) (a .s .now))) _
+    (item-alone (a .strict) (a .s .now) (a .at) (a .levels) h (arm .before .before .before .if1 .left) (head-of t arm) (λ l u. omega arith))
 
 abbrev skip-members-Inv-loop : skip-members-lts.InvT-loop
-skip-members-Inv-loop s at levels count p₀ left₀ p left =
-    (p ≤ length s) × (forget (members (decode levels) left (drop p s)) ≡ forget (members (decode levels) count (drop at s)))
+skip-members-Inv-loop s at levels count strict p₀ left₀ p left =
+    (p ≤ length s) × (forget (members (itemBy strict levels) left (drop p s)) ≡ forget (members (itemBy strict levels) count (drop at s)))
 
 abbrev skip-members-μ-loop : skip-members-lts.MeasureT-loop
-skip-members-μ-loop s at levels count p₀ left₀ p left = left
+skip-members-μ-loop s at levels count strict p₀ left₀ p left = left
 
 -- a need of the members
 abbrev members-need : (Members-calls → In 1 skip-members-kinds.ps → Out 1 skip-members-kinds.ps skip-members-kinds.r → skip-members-lts.InvT-loop → skip-members-lts.MeasureT-loop → Type 0) → Type 0
@@ -245,17 +245,17 @@ members-need N = (t : ℕ) → N (members-calls t) (skip-members-at t) skip-memb
 one-of : (t : ℕ) (k : skip-members-lts.After-one2 (members-calls t) (skip-members-at t) skip-members.Post skip-members-Inv-loop skip-members-μ-loop)
     → let turn = k .before .before .before .before in
     let a = turn .before .before .before .args in
-    Passed (a .s .now) (decode (a .levels) (drop (turn .loop .p) (a .s .now))) (sv.Next (k .one2 .given .0 .0))
+    Passed (a .s .now) (itemBy (a .strict) (a .levels) (drop (turn .loop .p) (a .s .now))) (sv.Next (k .one2 .given .0 .0))
 one-of t k =
     let turn = k .before .before .before .before in
     let a = turn .before .before .before .args in
-    rw (k .one2 .given .1) at (passed-item (a .s .now) (turn .loop .p) (a .levels) (k .before .before .skip-item .result) (k .before .before .skip-item .ensures))
+    rw (k .one2 .given .1) at (passed-item (a .strict) (a .s .now) (turn .loop .p) (a .levels) (k .before .before .skip-item .result) (k .before .before .skip-item .ensures))
 
 skip-members-inside-requires : members-need skip-members-lts.Need-inside-requires
 skip-members-inside-requires t c κs = tt
 
 skip-members-loop-holds : members-need skip-members-lts.Need-loop-holds
-skip-members-loop-holds t c = (c .inside .ensures .0, ap (λ l. forget (members (decode (c .before .before .args .levels)) (c .before .before .args .count) l)) (c .inside .ensures .1))
+skip-members-loop-holds t c = (c .inside .ensures .0, ap (λ l. forget (members (itemBy (c .before .before .args .strict) (c .before .before .args .levels)) (c .before .before .args .count) l)) (c .inside .ensures .1))
 
 skip-members-skip-item-requires : members-need skip-members-lts.Need-skip-item-requires
 skip-members-skip-item-requires t c κs = (omega (arith, c .before .before .before .before .pre .0), tt)
@@ -268,11 +268,11 @@ skip-members-returns t c =
     let turn = c .before .before .before .before .before in
     let a = turn .before .before .before .args in
     let l = turn .loop in
-    skip-answer (a .s .now) (members (decode (a .levels)) (a .count) (drop (a .at) (a .s .now))) _
+    skip-answer (a .s .now) (members (itemBy (a .strict) (a .levels)) (a .count) (drop (a .at) (a .s .now))) _
     (record {
       says =
-          sym (members-refused (a .s .now) (l .p) (a .levels) (l .left) (omega arith) (c .before .one .given .0 .0)
-          (rw (c .before .one .given .1) at (passed-item (a .s .now) (l .p) (a .levels) (c .before .before .before .skip-item .result) (c .before .before .before .skip-item .ensures))))
+          sym (members-refused (a .strict) (a .s .now) (l .p) (a .levels) (l .left) (omega arith) (c .before .one .given .0 .0)
+          (rw (c .before .one .given .1) at (passed-item (a .strict) (a .s .now) (l .p) (a .levels) (c .before .before .before .skip-item .result) (c .before .before .before .skip-item .ensures))))
           ∙ l .inv .1;
       inside = tt;
     })
@@ -291,14 +291,14 @@ skip-members-loop-again t c =
     let turn = c .before .before .before .before .before in
     let a = turn .before .before .before .args in
     let l = turn .loop in
-    (one-of t (c .before) .inside, members-before (a .s .now) (l .p) (a .levels) (l .left) (omega arith) (c .before .one2 .given .0 .0) (one-of t (c .before)) ∙ l .inv .1)
+    (one-of t (c .before) .inside, members-before (a .strict) (a .s .now) (l .p) (a .levels) (l .left) (omega arith) (c .before .one2 .given .0 .0) (one-of t (c .before)) ∙ l .inv .1)
 
 skip-members-returns-2 : members-need skip-members-lts.Need-returns-2
 skip-members-returns-2 t c =
     let l = c .before .loop in
     let a = c .before .before .before .before .args in
-    skip-answer (a .s .now) (members (decode (a .levels)) (a .count) (drop (a .at) (a .s .now))) _
-    (record { says = sym (members-done (a .s .now) (l .p) (a .levels) (l .left) (c .loop-test .left)) ∙ l .inv .1; inside = l .inv .0 })
+    skip-answer (a .s .now) (members (itemBy (a .strict) (a .levels)) (a .count) (drop (a .at) (a .s .now))) _
+    (record { says = sym (members-done (a .strict) (a .s .now) (l .p) (a .levels) (l .left) (c .loop-test .left)) ∙ l .inv .1; inside = l .inv .0 })
 
 pub +skip-item+skip-members-spec : {M : Type 1} → statement M
 +skip-item+skip-members-spec =
@@ -306,22 +306,22 @@ pub +skip-item+skip-members-spec : {M : Type 1} → statement M
     (λ t. skip-item-lts.spec (item-calls t) (skip-item-at t) skip-item.Post
     (skip-item-returns t)
     (skip-item-sub-below t)
-    (skip-item-read-head-requires t)
+    (skip-item-read-head-by-requires t)
     (skip-item-enum-known-h t)
+    (skip-item-returns-2 t)
     (skip-item-enum-known-h-2 t)
     (skip-item-skip-members-requires t)
+    (skip-item-returns-3 t)
     (skip-item-skip-members-requires-2 t)
     (skip-item-enum-known-half t)
+    (skip-item-returns-4 t)
     (skip-item-enum-known-half-2 t)
     (skip-item-skip-members-requires-3 t)
-    (skip-item-skip-item-requires t)
-    (skip-item-sub-if4 t)
-    (skip-item-add-t25 t)
-    (skip-item-returns-2 t)
-    (skip-item-returns-3 t)
-    (skip-item-returns-4 t)
     (skip-item-returns-5 t)
+    (skip-item-skip-item-requires t)
     (skip-item-returns-6 t)
+    (skip-item-sub-if4 t)
+    (skip-item-add-end t)
     (skip-item-returns-7 t)
     (skip-item-returns-8 t)
     (skip-item-returns-9 t)

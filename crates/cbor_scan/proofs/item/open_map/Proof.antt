@@ -25,28 +25,28 @@ enum-known-h-2 c = search needs
 returns : tie.Need-returns
 returns c =
     let v = c .before .before .before in
-    open-refused (v .before .before .args .s .now) (v .scan .result) (v .scan .ensures) (c .before .scanned .given .0 .0) (c .before .scanned .given .1)
+    open-refused (v .before .before .args .strict) (v .before .before .args .s .now) (v .scan .result) (v .scan .ensures) (c .before .scanned .given .0 .0) (c .before .scanned .given .1)
 
 returns-2 : tie.Need-returns-2
 returns-2 c =
     let r = c .before .before .before in
     let v = r .before .before .before in
     let s = v .before .before .args .s .now in
-    open-unheaded s (v .scan .result) (v .scan .ensures) (r .before .enum-told .given .1) (r .read-head .result) (r .read-head .ensures) (c .before .h .given .0 .0) (c .before .h .given .1)
+    open-unheaded (v .before .before .args .strict) s (v .scan .result) (v .scan .ensures) (r .before .enum-told .given .1) (r .read-head .result) (r .read-head .ensures) (c .before .h .given .0 .0) (c .before .h .given .1)
 
 returns-3 : tie.Need-returns-3
 returns-3 c =
     let r = c .before .before .before .before in
     let v = r .before .before .before in
     let s = v .before .before .args .s .now in
-    open-map s (v .scan .result) (v .scan .ensures) (r .before .enum-told .given .1) (r .read-head .result) (r .read-head .ensures) (c .before .before .h2 .given .0 .0) (c .before .before .h2 .given .1) (c .if1 .taken)
+    open-map (v .before .before .args .strict) s (v .scan .result) (v .scan .ensures) (r .before .enum-told .given .1) (r .read-head .result) (r .read-head .ensures) (c .before .before .h2 .given .0 .0) (c .before .before .h2 .given .1) (c .if1 .taken)
 
 returns-4 : tie.Need-returns-4
 returns-4 c =
     let r = c .before .before .before .before in
     let v = r .before .before .before in
     let s = v .before .before .args .s .now in
-    open-other s (v .scan .result) (v .scan .ensures) (r .before .enum-told .given .1) (r .read-head .result) (r .read-head .ensures) (c .before .before .h2 .given .0 .0) (c .before .before .h2 .given .1) (c .if1 .left)
+    open-other (v .before .before .args .strict) s (v .scan .result) (v .scan .ensures) (r .before .enum-told .given .1) (r .read-head .result) (r .read-head .ensures) (c .before .before .h2 .given .0 .0) (c .before .before .h2 .given .1) (c .if1 .left)
 
 pub open-map-spec : {M : Type 1} → statement M
 open-map-spec =

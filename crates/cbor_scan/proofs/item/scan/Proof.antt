@@ -18,22 +18,25 @@ returns : tie.Need-returns
 returns c =
     let k = c .before .before .before in
     let s = k .before .before .args .s .now in
-    scan-refused s (c .before .r .given .0 .0)
-    (rw (c .before .r .given .1) at (passed-item s 0 8 (k .skip-item .result) (k .skip-item .ensures)))
+    let b = k .before .before .args .strict in
+    scan-refused b s (c .before .r .given .0 .0)
+    (rw (c .before .r .given .1) at (passed-item b s 0 8 (k .skip-item .result) (k .skip-item .ensures)))
 
 returns-2 : tie.Need-returns-2
 returns-2 c =
     let k = c .before .before .before .before in
     let s = k .before .before .args .s .now in
+    let b = k .before .before .args .strict in
     let r = c .before .before .r2 in
-    scan-extra s (r .given .0 .0) (rw (r .given .1) at (passed-item s 0 8 (k .skip-item .result) (k .skip-item .ensures))) (c .if1 .taken)
+    scan-extra b s (r .given .0 .0) (rw (r .given .1) at (passed-item b s 0 8 (k .skip-item .result) (k .skip-item .ensures))) (c .if1 .taken)
 
 returns-3 : tie.Need-returns-3
 returns-3 c =
     let k = c .before .before .before .before in
     let s = k .before .before .args .s .now in
+    let b = k .before .before .args .strict in
     let r = c .before .before .r2 in
-    scan-whole s (r .given .0 .0) (rw (r .given .1) at (passed-item s 0 8 (k .skip-item .result) (k .skip-item .ensures))) (c .if1 .left)
+    scan-whole b s (r .given .0 .0) (rw (r .given .1) at (passed-item b s 0 8 (k .skip-item .result) (k .skip-item .ensures))) (c .if1 .left)
 
 pub scan-spec : {M : Type 1} → statement M
 scan-spec =

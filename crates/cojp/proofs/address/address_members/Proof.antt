@@ -1,8 +1,8 @@
 -- The first member is the byte string.
-use mathlib.Core.Path.{refl, ap, _∙_}
-use Rattle.cojp.specs.Address.{addressAnswer}
+use mathlib.Core.Path.{refl, sym, _∙_}
+use Rattle.cojp.proofs.Nexts.{address-settled, accepting-on}
 use Rattle.cojp.proofs.Addresses.{address-begun, address-headless}
-use Rattle.cojp.proofs.Arrays.{bytes-left, bytes-inside}
+use Rattle.cojp.proofs.Arrays.{bytes-left, bytes-inside, bytes-after}
 use borrow.Author.Needs.{needs}
 use Rattle.cojp.proofs.address.address_members.Statement.{statement}
 use Rattle.cojp.proofs.address.address_members.Tie as tie
@@ -35,13 +35,13 @@ returns c =
     let a = c .before .before .before .before .before .before .args in
     let m = c .before .before .before .before .member-at in
     let g = c .before .before .first .given in
-    c .lease-after .ensures ∙ ap addressAnswer (address-begun (a .s .now) (a .at) (a .count) (m .result) (m .ensures) _ (g .0 .0) (g .0 .1 .0) (g .1) refl)
+    (address-settled (c .lease-after .result) _ _ (c .lease-after .ensures .0) _ (address-begun (a .s .now) (a .at) (a .count) (m .result) (m .ensures) _ (g .0 .0) (g .0 .1 .0) (g .1) refl), accepting-on (c .lease-after .result .verdict) (λ e. e ∙ sym (bytes-after (a .s .now) (a .at) (a .count) (m .result) (m .ensures) (g .0 .0) (g .0 .1 .0) (g .1))) (c .lease-after .ensures .1))
 
 returns-2 : tie.Need-returns-2
 returns-2 c =
     let a = c .before .before .before .before .args in
     let m = c .before .before .member-at in
-    c .broken-address .ensures ∙ ap addressAnswer (address-headless (a .s .now) (a .at) (a .count) (m .result) (m .ensures) _ (c .before .match .keys2) refl)
+    (address-settled (c .broken-address .result) _ _ (c .broken-address .ensures) _ (address-headless (a .s .now) (a .at) (a .count) (m .result) (m .ensures) _ (c .before .match .keys2) refl), rw (c .broken-address .ensures) tt)
 
 pub address-members-spec : {M : Type 1} → statement M
 address-members-spec =

@@ -1,12 +1,17 @@
 -- Nothing follows, or one number.
-use mathlib.Core.Path.{refl, ap, _∙_}
-use Prim.Native.Nat.{_+_}
+use mathlib.Core.Path.{refl, sym, _∙_}
+use Prim.Native.Nat.{_+_, _-_}
+use native.Mathlib.Omega.{arith}
 use lib.ListN.{take, drop}
-use Rattle.cojp.specs.Address.{addressAnswer}
+use Rattle.cojp.proofs.Arrays.{nothing-left, number-after}
+use Rattle.cojp.proofs.Nexts.{address-settled, address-told}
 use Rattle.cojp.proofs.Addresses.{lease-none, lease-one, lease-many, lease-other}
 use borrow.Author.Needs.{needs}
 use Rattle.cojp.proofs.address.lease_after.Statement.{statement}
 use Rattle.cojp.proofs.address.lease_after.Tie as tie
+
+add-end : tie.Need-add-end
+add-end c = search needs
 
 address-from-requires : tie.Need-address-from-requires
 address-from-requires c κs = search needs
@@ -15,10 +20,7 @@ returns : tie.Need-returns
 returns c =
     let a = c .before .before .before .args in
     let b = take (a .len) (drop (a .start) (a .s .now)) in
-    c .address-from .ensures ∙ ap addressAnswer (lease-none (a .s .now) b (a .start + a .len) (a .left) _ (c .before .if1 .taken) refl)
-
-add-member-at : tie.Need-add-member-at
-add-member-at c = search needs
+    address-told (c .address-from .result) _ _ (c .address-from .ensures) _ (lease-none (a .s .now) b (a .start + a .len) (a .left) _ (c .before .if1 .taken) refl) (a .s .now) _ (sym (nothing-left (a .left) (drop (a .start + a .len) (a .s .now)) (c .before .if1 .taken)))
 
 member-at-requires : tie.Need-member-at-requires
 member-at-requires c κs = search needs
@@ -41,7 +43,7 @@ returns-2 c =
     let b = take (a .len) (drop (a .start) (a .s .now)) in
     let m = c .before .before .before .before .before .member-at in
     let g = c .before .before .before .second .given in
-    c .address-from2 .ensures ∙ ap addressAnswer (lease-one (a .s .now) b (a .start + a .len) (a .left) _ (m .result) (m .ensures) (g .0 .0) (g .0 .1 .0) (g .1) (c .before .if2 .taken) refl)
+    address-told (c .address-from2 .result) _ _ (c .address-from2 .ensures) _ (lease-one (a .s .now) b (a .start + a .len) (a .left) _ (m .result) (m .ensures) (g .0 .0) (g .0 .1 .0) (g .1) (c .before .if2 .taken) refl) (a .s .now) _ (sym (number-after (a .s .now) (a .start + a .len) (a .left) (m .result) (m .ensures) (g .0 .0) (g .0 .1 .0) (g .1) ∙ nothing-left (a .left - 1) (drop (g .0 .1 .0) (a .s .now)) (omega (arith, c .before .if2 .taken))))
 
 returns-3 : tie.Need-returns-3
 returns-3 c =
@@ -49,22 +51,22 @@ returns-3 c =
     let b = take (a .len) (drop (a .start) (a .s .now)) in
     let m = c .before .before .before .before .before .member-at in
     let g = c .before .before .before .second .given in
-    c .broken-address .ensures ∙ ap addressAnswer (lease-many (a .s .now) b (a .start + a .len) (a .left) _ (m .result) (m .ensures) (g .0 .0) (g .0 .1 .0) (g .1) (c .before .before .before .before .before .before .if1 .left) (c .before .if2 .left) refl)
+    (address-settled (c .broken-address .result) _ _ (c .broken-address .ensures) _ (lease-many (a .s .now) b (a .start + a .len) (a .left) _ (m .result) (m .ensures) (g .0 .0) (g .0 .1 .0) (g .1) (c .before .before .before .before .before .before .if1 .left) (c .before .if2 .left) refl), rw (c .broken-address .ensures) tt)
 
 returns-4 : tie.Need-returns-4
 returns-4 c =
     let a = c .before .before .before .before .before .args in
     let b = take (a .len) (drop (a .start) (a .s .now)) in
     let m = c .before .before .member-at in
-    c .broken-address2 .ensures ∙ ap addressAnswer (lease-other (a .s .now) b (a .start + a .len) (a .left) _ (m .result) (m .ensures) (c .before .before .before .if1 .left) (c .before .match .keys2) refl)
+    (address-settled (c .broken-address2 .result) _ _ (c .broken-address2 .ensures) _ (lease-other (a .s .now) b (a .start + a .len) (a .left) _ (m .result) (m .ensures) (c .before .before .before .if1 .left) (c .before .match .keys2) refl), rw (c .broken-address2 .ensures) tt)
 
 pub lease-after-spec : {M : Type 1} → statement M
 lease-after-spec =
     tie.close
     (tie.spec
+    add-end
     address-from-requires
     returns
-    add-member-at
     member-at-requires
     enum-known-second
     address-from-requires-2

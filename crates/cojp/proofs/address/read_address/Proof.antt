@@ -1,6 +1,7 @@
 -- A short address is an array.
-use mathlib.Core.Path.{refl, ap, _∙_}
-use Rattle.cojp.specs.Address.{addressAnswer}
+use mathlib.Core.Path.{refl, sym, _∙_}
+use Rattle.cojp.proofs.Arrays.{array-after}
+use Rattle.cojp.proofs.Nexts.{address-settled, accepting-on}
 use Rattle.cojp.proofs.Addresses.{address-array, address-broken}
 use borrow.Author.Needs.{needs}
 use Rattle.cojp.proofs.address.read_address.Statement.{statement}
@@ -23,13 +24,13 @@ returns c =
     let a = c .before .before .before .before .before .before .args in
     let v = c .before .before .before .before .value-at in
     let g = c .before .before .v .given in
-    c .address-members .ensures ∙ ap addressAnswer (address-array (a .s .now) (a .at) (v .result) (v .ensures) _ (g .0 .0) (g .0 .1 .0) (g .1) refl)
+    (address-settled (c .address-members .result) _ _ (c .address-members .ensures .0) _ (address-array (a .s .now) (a .at) (v .result) (v .ensures) _ (g .0 .0) (g .0 .1 .0) (g .1) refl), accepting-on (c .address-members .result .verdict) (λ e. e ∙ sym (array-after (a .s .now) (a .at) (v .result) (v .ensures) (g .0 .0) (g .0 .1 .0) (g .1))) (c .address-members .ensures .1))
 
 returns-2 : tie.Need-returns-2
 returns-2 c =
     let a = c .before .before .before .before .args in
     let v = c .before .before .value-at in
-    c .broken-address .ensures ∙ ap addressAnswer (address-broken (a .s .now) (a .at) (v .result) (v .ensures) _ (c .before .match .keys2) refl)
+    (address-settled (c .broken-address .result) _ _ (c .broken-address .ensures) _ (address-broken (a .s .now) (a .at) (v .result) (v .ensures) _ (c .before .match .keys2) refl), rw (c .broken-address .ensures) tt)
 
 pub read-address-spec : {M : Type 1} → statement M
 read-address-spec =

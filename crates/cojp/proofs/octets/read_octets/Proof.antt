@@ -1,7 +1,13 @@
 -- The length decides.
-use mathlib.Core.Path.{refl, ap, _∙_}
+use Prim.Native.Nat.{_+_}
+use native.Mathlib.Omega.{arith}
+use mathlib.Core.Path.{refl, ap}
 use Rattle.cojp.specs.Octets.{octetsAnswer}
-use Rattle.cojp.proofs.Strings.{octets-few, octets-many, octets-taken, octets-broken}
+use Rattle.cojp.proofs.Arrays.{string-after}
+use Rattle.cojp.proofs.Nexts.{octets-told}
+use Rattle.cojp.specs.Reading.{Reading}
+use Rattle.cojp.specs.declared.octets.OctetsParameter.{OctetsParameter}
+use Rattle.cojp.proofs.Strings.{string-inside, octets-few, octets-many, octets-taken, octets-broken}
 use borrow.Author.Needs.{needs}
 use Rattle.cojp.proofs.octets.read_octets.Statement.{statement}
 use Rattle.cojp.proofs.octets.read_octets.Tie as tie
@@ -12,6 +18,13 @@ value-at-requires c κs = search needs
 enum-known-v : tie.Need-enum-known-v
 enum-known-v c = search needs
 
+add-next : tie.Need-add-next
+add-next c =
+    let a = c .before .before .before .before .before .args in
+    let v = c .before .before .before .value-at in
+    let g = c .before .v .given in
+    omega (arith, string-inside (a .s .now) (a .at) (a .least) (v .result) (v .ensures) (g .0 .0) (g .0 .1 .0) (g .1), c .before .before .before .before .before .good)
+
 discarded-requires : tie.Need-discarded-requires
 discarded-requires c κs = search needs
 
@@ -20,7 +33,7 @@ returns c =
     let a = c .before .before .before .before .before .before .before .args in
     let v = c .before .before .before .before .before .value-at in
     let g = c .before .before .before .v .given in
-    c .discarded .ensures ∙ ap octetsAnswer (octets-few (a .s .now) (a .at) (a .least) (v .result) (v .ensures) (g .0 .0) (g .0 .1 .0) (g .1) _ refl (c .before .if1 .taken))
+    octets-told (c .discarded .result) _ _ (c .discarded .ensures) _ (octets-few (a .s .now) (a .at) (a .least) (v .result) (v .ensures) (g .0 .0) (g .0 .1 .0) (g .1) _ refl (c .before .if1 .taken)) (a .s .now) _ (string-after (a .s .now) (a .at) (v .result) (v .ensures) (g .0 .0) (g .0 .1 .0) (g .1))
 
 discarded-requires-2 : tie.Need-discarded-requires-2
 discarded-requires-2 c κs = search needs
@@ -30,7 +43,7 @@ returns-2 c =
     let a = c .before .before .before .before .before .before .before .before .args in
     let v = c .before .before .before .before .before .before .value-at in
     let g = c .before .before .before .before .v .given in
-    c .discarded2 .ensures ∙ ap octetsAnswer (octets-many (a .s .now) (a .at) (a .least) (v .result) (v .ensures) (g .0 .0) (g .0 .1 .0) (g .1) _ refl (c .before .before .if1 .left) (c .before .if2 .taken))
+    octets-told (c .discarded2 .result) _ _ (c .discarded2 .ensures) _ (octets-many (a .s .now) (a .at) (a .least) (v .result) (v .ensures) (g .0 .0) (g .0 .1 .0) (g .1) _ refl (c .before .before .if1 .left) (c .before .if2 .taken)) (a .s .now) _ (string-after (a .s .now) (a .at) (v .result) (v .ensures) (g .0 .0) (g .0 .1 .0) (g .1))
 
 copied-requires : tie.Need-copied-requires
 copied-requires c κs = search needs
@@ -43,13 +56,13 @@ returns-3 c =
     let a = c .before .before .before .before .before .before .before .before .args in
     let v = c .before .before .before .before .before .before .value-at in
     let g = c .before .before .before .before .v .given in
-    ap octetsAnswer (octets-taken (a .s .now) (a .at) (a .least) (v .result) (v .ensures) (g .0 .0) (g .0 .1 .0) (g .1) (c .copied .result) (c .before .before .if1 .left) (c .before .if2 .left) (c .copied .ensures))
+    (ap (λ (x : Reading OctetsParameter). octetsAnswer x (g .0 .0 + g .0 .1 .0)) (octets-taken (a .s .now) (a .at) (a .least) (v .result) (v .ensures) (g .0 .0) (g .0 .1 .0) (g .1) (c .copied .result) (c .before .before .if1 .left) (c .before .if2 .left) (c .copied .ensures)), string-after (a .s .now) (a .at) (v .result) (v .ensures) (g .0 .0) (g .0 .1 .0) (g .1))
 
 returns-4 : tie.Need-returns-4
 returns-4 c =
     let a = c .before .before .before .before .args in
     let v = c .before .before .value-at in
-    rw (c .no-octets .ensures) (ap octetsAnswer (octets-broken (a .s .now) (a .at) (a .least) (v .result) (v .ensures) (c .before .match .keys2)))
+    (rw (c .no-octets .ensures) (ap (λ (x : Reading OctetsParameter). octetsAnswer x 0) (octets-broken (a .s .now) (a .at) (a .least) (v .result) (v .ensures) (c .before .match .keys2))), tt)
 
 pub read-octets-spec : {M : Type 1} → statement M
 read-octets-spec =
@@ -57,6 +70,7 @@ read-octets-spec =
     (tie.spec
     value-at-requires
     enum-known-v
+    add-next
     discarded-requires
     returns
     discarded-requires-2

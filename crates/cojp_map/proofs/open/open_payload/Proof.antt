@@ -7,7 +7,7 @@ use Rattle.cojp_map.proofs.open.open_payload.Statement.{statement}
 use Rattle.cojp_map.proofs.open.open_payload.Tie as tie
 
 returns : tie.Need-returns
-returns c = start-long (c .before .before .args .payload .now) (omega (arith, c .if1 .taken))
+returns c = start-long (c .before .before .args .strict) (c .before .before .args .payload .now) (omega (arith, c .if1 .taken))
 
 open-map-requires : tie.Need-open-map-requires
 open-map-requires c κs = search needs
@@ -27,14 +27,14 @@ returns-2 c =
     let map = at-opened .before .before in
     let test = map .before in
     let start = test .before .before in
-    start-opened (start .args .payload .now) (test .if1 .left) (map .open-map .result) (map .open-map .ensures) (ov.Refused (at-opened .opened .given .0 .0)) (at-opened .opened .given .1)
+    start-opened (start .args .strict) (start .args .payload .now) (test .if1 .left) (map .open-map .result) (map .open-map .ensures) (ov.Refused (at-opened .opened .given .0 .0)) (at-opened .opened .given .1)
 
 returns-3 : tie.Need-returns-3
 returns-3 c =
     let map = c .before .before in
     let test = map .before in
     let start = test .before .before in
-    start-opened (start .args .payload .now) (test .if1 .left) (map .open-map .result) (map .open-map .ensures) ov.NoMap (c .enum-told .given .1)
+    start-opened (start .args .strict) (start .args .payload .now) (test .if1 .left) (map .open-map .result) (map .open-map .ensures) ov.NoMap (c .enum-told .given .1)
 
 returns-4 : tie.Need-returns-4
 returns-4 c =
@@ -42,7 +42,7 @@ returns-4 c =
     let map = at-opened .before .before in
     let test = map .before in
     let start = test .before .before in
-    start-opened (start .args .payload .now) (test .if1 .left) (map .open-map .result) (map .open-map .ensures) (ov.Map (at-opened .opened2 .given .0 .0) (at-opened .opened2 .given .0 .1 .0)) (at-opened .opened2 .given .1)
+    start-opened (start .args .strict) (start .args .payload .now) (test .if1 .left) (map .open-map .result) (map .open-map .ensures) (ov.Map (at-opened .opened2 .given .0 .0) (at-opened .opened2 .given .0 .1 .0)) (at-opened .opened2 .given .1)
 
 pub open-payload-spec : {M : Type 1} → statement M
 open-payload-spec =

@@ -4,19 +4,19 @@ use native.Mathlib.Omega.{arith}
 use mathlib.Core.Path.{_≡_, refl, sym, _∙_}
 use borrow.Author.Needs.{needs}
 use borrow.Author.Tests.{not-true, not-false}
-use lib.ListN.{drop}
+use lib.ListN.{length, take, drop, length-take}
 use Rattle.link_key.specs.Key.{sameKey}
 use Rattle.link_key_set.specs.KeySet.{keysOf, sameKeys}
 use Rattle.link_key.proofs.Same.{differ, same-stop}
-use Rattle.link_key_set.proofs.Places.{same-keys-turn}
+use Rattle.link_key_set.proofs.Places.{same-keys-turn, firsts, within, past}
 use Rattle.link_key_set.proofs.key_set.KeySet.same_keys.Statement.{statement}
 use Rattle.link_key_set.proofs.key_set.KeySet.same_keys.Tie as tie
 
 abbrev Inv-loop : tie.InvT-loop
-Inv-loop self other n i₀ i = sameKeys (keysOf self) (keysOf other) ≡ sameKeys (drop i (keysOf self)) (drop i (keysOf other))
+Inv-loop n mine theirs i₀ i = sameKeys (take n mine) (take n theirs) ≡ sameKeys (drop i (take n mine)) (drop i (take n theirs))
 
 abbrev μ-loop : tie.MeasureT-loop
-μ-loop self other n i₀ i = n - i
+μ-loop n mine theirs i₀ i = n - i
 
 len-requires : tie.Need-len-requires Inv-loop μ-loop
 len-requires c κs = search needs
@@ -32,15 +32,31 @@ returns c =
 loop-holds : tie.Need-loop-holds Inv-loop μ-loop
 loop-holds c = refl
 
-same-at-requires : tie.Need-same-at-requires Inv-loop μ-loop
-same-at-requires c κs = search needs
+mul-key : tie.Need-mul-key Inv-loop μ-loop
+mul-key c = search needs
+
+array-copy-out-key : tie.Need-array-copy-out-key Inv-loop μ-loop
+array-copy-out-key c = search needs
+
+mul-same-key : tie.Need-mul-same-key Inv-loop μ-loop
+mul-same-key c = search needs
+
+array-copy-out-same-key : tie.Need-array-copy-out-same-key Inv-loop μ-loop
+array-copy-out-same-key c = search needs
+
+same-key-requires : tie.Need-same-key-requires Inv-loop μ-loop
+same-key-requires c κs = search needs
 
 returns-2 : tie.Need-returns-2 Inv-loop μ-loop
 returns-2 c =
-    let loop = c .before .before .before .loop in
-    let args = c .before .before .before .before .before .before .before .args in
-    let unequal = sym (c .before .same-at .ensures) ∙ not-true _ (c .if2 .taken) in
-    rw (loop .inv, same-keys-turn (args .self) (args .other) (loop .i) (omega arith) (omega arith), unequal)
+    let loop = c .before .before .before .before .before .loop in
+    let n = c .before .before .before .before .before .before .before .before .before .before .len in
+    let a = c .before .before .before .before .before .before .before .before .before .before .before .args .self in
+    let b = c .before .before .before .before .before .before .before .before .before .before .before .args .other in
+    let size : n .result ≡ length (keysOf a) = n .ensures .0 in
+    let other : n .result ≡ length (keysOf b) = c .before .before .before .before .before .before .before .before .if1 .left ∙ c .before .before .before .before .before .before .before .before .before .len2 .ensures .0 in
+    let unequal = sym (c .before .same-key .ensures) ∙ not-true _ (c .if2 .taken) in
+    rw (← firsts a (n .result) size, ← firsts b (n .result) other, loop .inv, same-keys-turn (a .keys) (b .keys) (n .result) (loop .i) past past (within a (n .result) size) (within b (n .result) other) (c .before .before .before .before .loop-test .taken), unequal)
 
 add-i : tie.Need-add-i Inv-loop μ-loop
 add-i c = search needs
@@ -50,16 +66,24 @@ loop-less c = search needs
 
 loop-again : tie.Need-loop-again Inv-loop μ-loop
 loop-again c =
-    let loop = c .before .before .before .loop in
-    let args = c .before .before .before .before .before .before .before .args in
-    let equal = sym (c .before .same-at .ensures) ∙ not-false _ (c .if2 .left) in
-    rw (loop .inv, same-keys-turn (args .self) (args .other) (loop .i) (omega arith) (omega arith), equal)
+    let loop = c .before .before .before .before .before .loop in
+    let n = c .before .before .before .before .before .before .before .before .before .before .len in
+    let a = c .before .before .before .before .before .before .before .before .before .before .before .args .self in
+    let b = c .before .before .before .before .before .before .before .before .before .before .before .args .other in
+    let size : n .result ≡ length (keysOf a) = n .ensures .0 in
+    let other : n .result ≡ length (keysOf b) = c .before .before .before .before .before .before .before .before .if1 .left ∙ c .before .before .before .before .before .before .before .before .before .len2 .ensures .0 in
+    let equal = sym (c .before .same-key .ensures) ∙ not-false _ (c .if2 .left) in
+    rw (loop .inv, same-keys-turn (a .keys) (b .keys) (n .result) (loop .i) past past (within a (n .result) size) (within b (n .result) other) (c .before .before .before .before .loop-test .taken), equal)
 
 returns-3 : tie.Need-returns-3 Inv-loop μ-loop
 returns-3 c =
-    let args = c .before .before .before .before .before .args in
     let loop = c .before .loop in
-    rw (loop .inv, same-stop sameKey (keysOf (args .self)) (keysOf (args .other)) (loop .i) (omega arith) (omega arith))
+    let n = c .before .before .before .before .before .before .len in
+    let a = c .before .before .before .before .before .before .before .args .self in
+    let b = c .before .before .before .before .before .before .before .args .other in
+    let size : n .result ≡ length (keysOf a) = n .ensures .0 in
+    let other : n .result ≡ length (keysOf b) = c .before .before .before .before .if1 .left ∙ c .before .before .before .before .before .len2 .ensures .0 in
+    rw (← firsts a (n .result) size, ← firsts b (n .result) other, loop .inv, same-stop sameKey (take (n .result) (a .keys)) (take (n .result) (b .keys)) (loop .i) (omega (arith, length-take (n .result) (a .keys))) (omega (arith, length-take (n .result) (b .keys))))
 
 pub same-keys-spec : {M : Type 1} → statement M
 same-keys-spec =
@@ -71,7 +95,11 @@ same-keys-spec =
     len-requires-2
     returns
     loop-holds
-    same-at-requires
+    mul-key
+    array-copy-out-key
+    mul-same-key
+    array-copy-out-same-key
+    same-key-requires
     returns-2
     add-i
     loop-less

@@ -3,44 +3,49 @@ use Prim.Native.Nat.{_-_}
 use native.Mathlib.Omega.{arith}
 use mathlib.Core.Path.{_≡_, refl, sym, _∙_}
 use borrow.Author.Needs.{needs}
-use mathlib.Core.Bool.{Bool}
-use mathlib.Core.List.{List}
-use lib.ListN.{drop}
-use Rattle.link_key_set.specs.KeySet.{keysOf, shares}
-use Rattle.link_key.specs.declared.Key.{Key}
-use Rattle.link_key_set.proofs.Places.{turn, stop}
+use lib.ListN.{length, take, drop}
+use Rattle.link_key_set.proofs.Places.{turn, stop, meet, meet-keys}
 use Rattle.link_key_set.proofs.key_set.KeySet.shares.Statement.{statement}
 use Rattle.link_key_set.proofs.key_set.KeySet.shares.Tie as tie
 
--- the question of the loop, which goes over the first set
-abbrev sharesWith : List Key → List Key → Bool
-sharesWith ys xs = shares xs ys
-
 abbrev Inv-loop : tie.InvT-loop
-Inv-loop self other n i₀ i = shares (keysOf self) (keysOf other) ≡ shares (drop i (keysOf self)) (keysOf other)
+Inv-loop n m mine theirs i₀ i = meet (take m theirs) (take n mine) ≡ meet (take m theirs) (drop i (take n mine))
 
 abbrev μ-loop : tie.MeasureT-loop
-μ-loop self other n i₀ i = n - i
+μ-loop n m mine theirs i₀ i = n - i
 
 len-requires : tie.Need-len-requires Inv-loop μ-loop
 len-requires c κs = search needs
 
+len-requires-2 : tie.Need-len-requires-2 Inv-loop μ-loop
+len-requires-2 c κs = search needs
+
+identifiers-requires : tie.Need-identifiers-requires Inv-loop μ-loop
+identifiers-requires c κs = search needs
+
+identifiers-requires-2 : tie.Need-identifiers-requires-2 Inv-loop μ-loop
+identifiers-requires-2 c κs = search needs
+
 loop-holds : tie.Need-loop-holds Inv-loop μ-loop
 loop-holds c = refl
 
-key-at-requires : tie.Need-key-at-requires Inv-loop μ-loop
-key-at-requires c κs = search needs
+array-read-among : tie.Need-array-read-among Inv-loop μ-loop
+array-read-among c = search needs
 
-has-requires : tie.Need-has-requires Inv-loop μ-loop
-has-requires c κs = search needs
+among-requires : tie.Need-among-requires Inv-loop μ-loop
+among-requires c κs = search needs
 
 returns : tie.Need-returns Inv-loop μ-loop
 returns c =
-    let read = c .before .before in
-    let loop = read .before .before .loop in
-    let args = read .before .before .before .before .args in
-    let yes = sym (c .before .has .ensures) ∙ c .if1 .taken in
-    rw (loop .inv, turn (args .self) (sharesWith (keysOf (args .other))) (loop .i) _ (read .key-at .ensures) (omega arith), yes)
+    let loop = c .before .before .before .loop in
+    let theirs = c .before .before .before .before .identifiers2 in
+    let mine = c .before .before .before .before .before .identifiers in
+    let m = c .before .before .before .before .before .before .len2 in
+    let n = c .before .before .before .before .before .before .before .len in
+    let args = c .before .before .before .before .before .before .before .before .args in
+    let places : length (mine .result) ≡ 8 = search needs in
+    let yes = sym (c .before .among .ensures) ∙ c .if1 .taken in
+    rw (← meet-keys (args .self) (args .other) (mine .result) (theirs .result) (n .result) (m .result) (mine .ensures) (theirs .ensures) (n .ensures .0) (m .ensures .0), loop .inv, turn (mine .result) (meet (take (m .result) (theirs .result))) (n .result) (loop .i) 0 (omega arith) (c .before .before .loop-test .taken), yes)
 
 add-i : tie.Need-add-i Inv-loop μ-loop
 add-i c = search needs
@@ -50,17 +55,24 @@ loop-less c = search needs
 
 loop-again : tie.Need-loop-again Inv-loop μ-loop
 loop-again c =
-    let read = c .before .before in
-    let loop = read .before .before .loop in
-    let args = read .before .before .before .before .args in
-    let no = sym (c .before .has .ensures) ∙ c .if1 .left in
-    rw (loop .inv, turn (args .self) (sharesWith (keysOf (args .other))) (loop .i) _ (read .key-at .ensures) (omega arith), no)
+    let loop = c .before .before .before .loop in
+    let theirs = c .before .before .before .before .identifiers2 in
+    let mine = c .before .before .before .before .before .identifiers in
+    let m = c .before .before .before .before .before .before .len2 in
+    let n = c .before .before .before .before .before .before .before .len in
+    let places : length (mine .result) ≡ 8 = search needs in
+    let no = sym (c .before .among .ensures) ∙ c .if1 .left in
+    rw (loop .inv, turn (mine .result) (meet (take (m .result) (theirs .result))) (n .result) (loop .i) 0 (omega arith) (c .before .before .loop-test .taken), no)
 
 returns-2 : tie.Need-returns-2 Inv-loop μ-loop
 returns-2 c =
     let loop = c .before .loop in
-    let args = c .before .before .before .args in
-    rw (loop .inv, stop (args .self) (sharesWith (keysOf (args .other))) (loop .i) (omega arith))
+    let theirs = c .before .before .identifiers2 in
+    let mine = c .before .before .before .identifiers in
+    let m = c .before .before .before .before .len2 in
+    let n = c .before .before .before .before .before .len in
+    let args = c .before .before .before .before .before .before .args in
+    rw (← meet-keys (args .self) (args .other) (mine .result) (theirs .result) (n .result) (m .result) (mine .ensures) (theirs .ensures) (n .ensures .0) (m .ensures .0), loop .inv, stop (mine .result) (meet (take (m .result) (theirs .result))) (n .result) (loop .i) (c .loop-test .left))
 
 pub shares-spec : {M : Type 1} → statement M
 shares-spec =
@@ -69,9 +81,12 @@ shares-spec =
     Inv-loop
     μ-loop
     len-requires
+    len-requires-2
+    identifiers-requires
+    identifiers-requires-2
     loop-holds
-    key-at-requires
-    has-requires
+    array-read-among
+    among-requires
     returns
     add-i
     loop-less

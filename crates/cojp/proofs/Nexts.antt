@@ -1,0 +1,67 @@
+-- The answer about a parameter, and where the bytes go on after it.
+use Prim.Native.Nat.{ℕ}
+use mathlib.Core.Path.{_≡_, refl, ap, sym, _∙_}
+use mathlib.Core.List.{List}
+use lib.ListN.{drop}
+use Rattle.refusal.specs.declared.Verdict.{Verdict}
+use Rattle.refusal.specs.declared.Verdict.the-variants as verdict
+use Rattle.cojp.specs.Address.{addressAnswer}
+use Rattle.cojp.specs.KeySet.{keysAnswer}
+use Rattle.cojp.specs.Octets.{octetsAnswer}
+use Rattle.cojp.specs.Reading.{Reading, refused, read, Accepting}
+use Rattle.cojp.specs.declared.address.AddressParameter.{AddressParameter}
+use Rattle.cojp.specs.declared.address.AddressRead.{AddressRead}
+use Rattle.cojp.specs.declared.key_set.KeysParameter.{KeysParameter}
+use Rattle.cojp.specs.declared.key_set.KeysRead.{KeysRead}
+use Rattle.cojp.specs.declared.octets.OctetsParameter.{OctetsParameter}
+use Rattle.cojp.specs.declared.octets.OctetsRead.{OctetsRead}
+
+pub accepting-on : (v : Verdict) {P Q : Type 0} → (P → Q) → Accepting v P → Accepting v Q
+accepting-on verdict.Accepted f p = f p
+accepting-on (verdict.Refused k) f p = tt
+
+module _ (r : OctetsRead) (x : Reading OctetsParameter) (n : ℕ) (e : r ≡ octetsAnswer x n) where
+  pub octets-settled : (y : Reading OctetsParameter) → x ≡ y → r ≡ octetsAnswer y (r .next)
+  octets-settled y f = let g : r .next ≡ n = ap (λ (q : OctetsRead). q .next) e ∙ own x in e ∙ ap (λ (z : Reading OctetsParameter). octetsAnswer z n) f ∙ ap (octetsAnswer y) (sym g)
+    where
+      own : (x : Reading OctetsParameter) → octetsAnswer x n .next ≡ n
+      own (refused k) = refl
+      own (read p) = refl
+
+  octets-rest : (s t : List ℕ) → drop n s ≡ t → Accepting (r .verdict) (drop (r .next) s ≡ t)
+  octets-rest s t f = rw e (go x)
+    where
+      go : (x : Reading OctetsParameter) → Accepting (octetsAnswer x n .verdict) (drop (octetsAnswer x n .next) s ≡ t)
+      go (refused k) = tt
+      go (read p) = f
+
+  pub octets-told : (y : Reading OctetsParameter) → x ≡ y → (s t : List ℕ) → drop n s ≡ t
+      → (r ≡ octetsAnswer y (r .next)) × Accepting (r .verdict) (drop (r .next) s ≡ t)
+  octets-told y f s t g = (octets-settled y f, octets-rest s t g)
+
+module _ (r : AddressRead) (x : Reading AddressParameter) (n : ℕ) (e : r ≡ addressAnswer x n) where
+  pub address-settled : (y : Reading AddressParameter) → x ≡ y → r ≡ addressAnswer y (r .next)
+  address-settled y f = let g : r .next ≡ n = ap (λ (q : AddressRead). q .next) e ∙ own x in e ∙ ap (λ (z : Reading AddressParameter). addressAnswer z n) f ∙ ap (addressAnswer y) (sym g)
+    where
+      own : (x : Reading AddressParameter) → addressAnswer x n .next ≡ n
+      own (refused k) = refl
+      own (read p) = refl
+
+  address-rest : (s t : List ℕ) → drop n s ≡ t → Accepting (r .verdict) (drop (r .next) s ≡ t)
+  address-rest s t f = rw e (go x)
+    where
+      go : (x : Reading AddressParameter) → Accepting (addressAnswer x n .verdict) (drop (addressAnswer x n .next) s ≡ t)
+      go (refused k) = tt
+      go (read p) = f
+
+  pub address-told : (y : Reading AddressParameter) → x ≡ y → (s t : List ℕ) → drop n s ≡ t
+      → (r ≡ addressAnswer y (r .next)) × Accepting (r .verdict) (drop (r .next) s ≡ t)
+  address-told y f s t g = (address-settled y f, address-rest s t g)
+
+module _ (r : KeysRead) (x : Reading KeysParameter) (n : ℕ) (e : r ≡ keysAnswer x n) where
+  pub keys-settled : (y : Reading KeysParameter) → x ≡ y → r ≡ keysAnswer y (r .next)
+  keys-settled y f = let g : r .next ≡ n = ap (λ (q : KeysRead). q .next) e ∙ own x in e ∙ ap (λ (z : Reading KeysParameter). keysAnswer z n) f ∙ ap (keysAnswer y) (sym g)
+    where
+      own : (x : Reading KeysParameter) → keysAnswer x n .next ≡ n
+      own (refused k) = refl
+      own (read p) = refl
