@@ -6,7 +6,7 @@ use mathlib.Core.List.{List, [], _∷_, _++_}
 use lib.ListN.{length, replicate}
 use Rattle.refusal.specs.declared.Refusal.the-variants.{Keys}
 use Rattle.cbor.specs.View.{Plain, number, string, other, View, plain, list}
-use Rattle.link_key.specs.Key.{noKey}
+use Rattle.link_key.specs.Key.{keyOf, noKey}
 use Rattle.link_key_set.specs.KeySet.{noKeys, allowed}
 use Rattle.link_key.specs.declared.Key.{Key}
 use Rattle.link_key_set.specs.declared.key_set.KeySet.{KeySet}
@@ -16,9 +16,6 @@ use Rattle.cojp.specs.Reading.{Reading, refused, read, Judgement, broken
 use Rattle.cojp.specs.declared.key_set.KeysParameter.{KeysParameter}
 use Rattle.cojp.specs.declared.report.Report.{Report}
 use Rattle.cojp.specs.declared.report.Report.the-variants.{Absent, Taken}
-
-abbrev pub keyOf : ℕ → ℕ → List ℕ → Key
-keyOf identifier usage value = record { identifier = identifier; usage = usage; value = value }
 
 -- the set of these keys, zeros in its other places
 abbrev pub keySetOf : List Key → KeySet

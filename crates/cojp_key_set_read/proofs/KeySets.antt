@@ -16,13 +16,13 @@ use Rattle.cbor.specs.View.{Plain, number, string, other, ValueSays}
 use Rattle.cbor.specs.declared.value.Value.{Value}
 use Rattle.cbor.specs.declared.value.Value.the-variants as vv
 use Rattle.cbor.proofs.value.Value as value
-use Rattle.link_key.specs.Key.{noKey, inLimits}
+use Rattle.link_key.specs.Key.{keyOf, noKey, inLimits}
 use Rattle.link_key_set.specs.KeySet.{noKeys, allInLimits, allowed, allowedSet}
 use Rattle.link_key.specs.declared.Key.{Key}
 use Rattle.link_key_set.specs.declared.key_set.KeySet.{KeySet}
 use Rattle.cojp_key_set_read.specs.Groups.{GroupAt, GroupRest, storable, addKey}
 use Rattle.cojp.specs.Bytes.{valueView, membersAt, afterMembers, Neither, MemberAt, MemberSays}
-use Rattle.cojp.specs.KeySet.{keyOf, keySetOf, Groups, notGroups, groupsOf, group, groups, keysIn, keysConcluded, keysRead}
+use Rattle.cojp.specs.KeySet.{keySetOf, Groups, notGroups, groupsOf, group, groups, keysIn, keysConcluded, keysRead}
 use Rattle.cojp.specs.Octets.{padded, copiedFrom}
 use Rattle.cojp.specs.Reading.{Reading, refused, unfit, good}
 use Rattle.cojp_key_set_read.specs.declared.Group.{Group}

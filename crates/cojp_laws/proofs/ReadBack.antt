@@ -19,7 +19,8 @@ use Rattle.link_key.specs.declared.Key.{Key}
 use Rattle.link_key_set.proofs.KeySets.{set-allowed}
 use Rattle.short_address.specs.Address.{isAddress}
 use Rattle.cojp.specs.Address.{addressOf, addressParameter, noAddressParameter, addressIn, addressRead}
-use Rattle.cojp.specs.KeySet.{keyOf, keySetOf, keysParameter, noKeysParameter, groups, groupsOf, keysRead}
+use Rattle.link_key.specs.Key.{keyOf}
+use Rattle.cojp.specs.KeySet.{keySetOf, keysParameter, noKeysParameter, groups, groupsOf, keysRead}
 use Rattle.cojp.specs.Laws.{Kept}
 use Rattle.cojp.specs.Octets.{bytesIn, padded, octetsOf, octetsParameter, noOctetsParameter, octetsJudged, octetsRead}
 use Rattle.cojp.specs.Reading.{Reading, refused, read, onward, put, ifTaken}

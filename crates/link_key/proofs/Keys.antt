@@ -10,7 +10,7 @@ use lib.Dec.{leb, eqb}
 use lib.ListN.{length}
 use Rattle.refusal.specs.declared.Refusal.the-variants.{Range}
 use Rattle.link_key_usage.specs.Usage.{usageOf, familyOf, familyCovers, listed, knownType, entryAt, entrySays}
-use Rattle.link_key.specs.Key.{inLimits, sameKey, sameValue, covers, coverageOf, coverageSays, foundKey}
+use Rattle.link_key.specs.Key.{keyOf, inLimits, sameKey, sameValue, covers, coverageOf, coverageSays, foundKey}
 use Rattle.link_key.specs.declared.Key.{Key}
 use Rattle.link_key_usage.specs.declared.Coverage.the-variants.{Covered, Refused}
 use Rattle.link_key_usage.specs.declared.Entry.the-variants as entry
@@ -24,9 +24,6 @@ pub same-key-self : (k : Key) → sameKey k k ≡ true
 unfolding sameKey
 same-key-self k =
     rw (eq-eqb (k .identifier) (k .identifier) refl, eq-eqb (k .usage) (k .usage) refl, same-self eqb (λ n. eq-eqb n n refl) (k .value))
-
-abbrev keyOf : ℕ → ℕ → List ℕ → Key
-keyOf i u v = record { identifier = i; usage = u; value = v }
 
 alike : {i j t u : ℕ} {v w : List ℕ} → i ≡ j → t ≡ u → v ≡ w → keyOf i t v ≡ keyOf j u w
 alike p q r = rw (p, q, r)

@@ -14,9 +14,13 @@ use Rattle.link_key.specs.declared.FoundKey.{FoundKey}
 use Rattle.link_key_usage.specs.declared.Coverage.{Coverage}
 use Rattle.link_key_usage.specs.declared.Coverage.the-variants as coverage
 
+-- the one place that makes a key
+abbrev pub keyOf : ℕ → ℕ → List ℕ → Key
+keyOf identifier usage value = record { identifier = identifier; usage = usage; value = value }
+
 -- all zero: what stands where there is no key
 abbrev pub noKey : Key
-noKey = record { identifier = 0; usage = 0; value = replicate 16 0 }
+noKey = keyOf 0 0 (replicate 16 0)
 
 -- a key that was looked for
 abbrev pub foundKey : Option Key → FoundKey

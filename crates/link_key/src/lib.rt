@@ -4,7 +4,7 @@ use link_key_usage::Entry;
 use link_key_usage::entry_at;
 use refusal::Refusal;
 ghost use mathlib.Core.Path.{_≡_};
-ghost use Rattle.link_key.specs.Key.{noKey, inLimits, sameKey, sameValue, covers, coverageOf};
+ghost use Rattle.link_key.specs.Key.{keyOf, noKey, inLimits, sameKey, sameValue, covers, coverageOf};
 ghost use Rattle.link_key.specs.Laws.{SameKeyLaws};
 
 pub struct Key {
@@ -21,15 +21,22 @@ pub struct FoundKey {
     pub key: Key,
 }
 
+// The one place that makes a key.
+pub fn key_of(identifier: u8, usage: u8, value: [u8; 16]) -> Key
+    ensures { λ r. ⌜ r ≡ keyOf identifier usage value ⌝ }
+{
+    Key {
+        identifier,
+        usage,
+        value,
+    }
+}
+
 // The key that is all zero, which stands where there is none.
 pub fn no_key() -> Key
     ensures { λ r. ⌜ r ≡ noKey ⌝ }
 {
-    Key {
-        identifier: 0,
-        usage: 0,
-        value: [0u8; 16],
-    }
+    key_of(0, 0, [0u8; 16])
 }
 
 impl Key {

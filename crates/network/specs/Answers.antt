@@ -1,5 +1,5 @@
--- What a turn's answer says in document 01's numbers and values: a refusal ends the turn with its number; else the frame was verified exactly where the
--- two keys found are equal, and the receiver switched exactly where its key was pending.
+-- What a turn's answer says in document 01's numbers and values: a refusal ends the turn with its number; else the frame was verified
+-- exactly where the two keys found are equal, and the receiver switched exactly where its key was pending.
 use Prim.Native.Nat.{ℕ}
 use mathlib.Core.Path.{_≡_}
 use mathlib.Core.Bool.{not, _&&_}

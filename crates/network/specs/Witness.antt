@@ -7,7 +7,8 @@ use lib.ListN.{replicate}
 use Rattle.link_key_set.specs.KeySet.{noKeys}
 use Rattle.link_key.specs.declared.Key.{Key}
 use Rattle.link_key_set.specs.declared.key_set.KeySet.{KeySet}
-use Rattle.cojp.specs.KeySet.{keyOf, keySetOf}
+use Rattle.link_key.specs.Key.{keyOf}
+use Rattle.cojp.specs.KeySet.{keySetOf}
 use Rattle.cojp.specs.Octets.{octetsOf}
 use Rattle.node_key_sets.specs.Sets.{twoSets}
 use Rattle.node_attempt.specs.Attempt.{attempt}

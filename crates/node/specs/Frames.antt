@@ -30,4 +30,5 @@ abbrev pub reportedBy : Node → Effect → Reported
 reportedBy n h = reported (h .change) (keyed n (h .sets))
 
 unfoldable pub verified : Node → ℕ → ℕ → Reported
-verified n type identifier = cond (valid n) (reportedBy n (verifiedIn (n .sets) type identifier)) (reported (change.Refused refusal.Range) n)
+verified n type identifier =
+    cond (valid n) (reportedBy n (verifiedIn (n .sets) type identifier)) (reported (change.Refused refusal.Range) n)

@@ -1,4 +1,4 @@
--- Demand 1 for deliveries: an attempt outside its limits answers RANGE (13). The answer is a verdict alone, so a refusal has no object to empty.
+-- Demand 1 for deliveries: an attempt outside its limits answers RANGE (13). The answer is a verdict alone, so a refusal has no object.
 use Prim.Native.Nat.{ℕ}
 use mathlib.Core.Path.{_≡_}
 use mathlib.Core.Bool.{false}

@@ -1,5 +1,5 @@
-// Deliveries: a configuration comes in a join answer (join response) or in a parameter update. When one may be handed over, and what it does to
-// the join attempt.
+// Deliveries: a configuration comes in a join answer (join response) or in a parameter update. When one may be handed over, and what it
+// does to the join attempt.
 use node_attempt::Attempt;
 use node_attempt::Phase;
 use node_attempt::attempt::is_joined;

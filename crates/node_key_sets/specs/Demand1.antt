@@ -1,5 +1,5 @@
--- Demand 1 for the two key sets: a refusal leaves them and stands beside the key that is all zero; a set outside its limits, an unknown frame type
--- and identifier 0 are RANGE (13).
+-- Demand 1 for the two key sets: a refusal leaves them and stands beside the key that is all zero; a set outside its limits, an unknown
+-- frame type and identifier 0 are RANGE (13).
 use Prim.Native.Nat.{ℕ}
 use mathlib.Core.Path.{_≡_}
 use mathlib.Core.Bool.{Bool, false, not, _&&_}
@@ -17,7 +17,8 @@ use Rattle.node_key_sets.specs.declared.sets.KeySets.{KeySets}
 
 pub record KeySetsDemand1 : Type 0 where
   pub install-refused :
-      (border : Bool) (s : KeySets) (set : KeySet) (k : Refusal) → install border s set .verdict ≡ Refused k → install border s set .sets ≡ s
+      (border : Bool) (s : KeySets) (set : KeySet) (k : Refusal) → install border s set .verdict ≡ Refused k →
+      install border s set .sets ≡ s
   pub install-invalid :
       (border : Bool) (s : KeySets) (set : KeySet) → allowedSet set ≡ false → verdictNumber (install border s set .verdict) ≡ 13
   pub send-refused : (s : KeySets) (type : ℕ) (k : Refusal) → sendingKey s type .verdict ≡ Refused k → sendingKey s type .key ≡ noKey

@@ -55,8 +55,8 @@ fn answer(held: bool, key: Key) -> KeyAnswer
     without_key(Refusal::Silent)
 }
 
-// The three calls for frames are parts of a node's calls, which judge the node with its key sets first: no set is judged twice. They are total all
-// the same: of sets outside their limits they answer the first key that is found.
+// The three calls for frames are parts of a node's calls, which judge the node with its key sets first: no set is judged twice.
+// They are total all the same: of sets outside their limits they answer the first key that is found.
 impl KeySets {
     // The key to send a frame of this type with: the first active one that covers it. RANGE: the type; SILENT.
     pub fn sending_key(self, frame_type: u8) -> KeyAnswer

@@ -62,7 +62,8 @@ use Rattle.node.specs.declared.frames.Reported.{Reported}
 use Rattle.node.specs.declared.lease.Holding.the-variants as holding
 use Rattle.node.specs.declared.node.Made.{Made}
 use Rattle.node.specs.declared.node.Node.{Node}
-use Rattle.node_laws.specs.Answers.{early, waits, reached, isPolled, isDue, clashes, isMissing, isUncovered, writtenNumber, AnswersSay}
+use Rattle.node_laws.specs.Answers.{early, reached, isPolled, isDue, clashes, isMissing, isUncovered, writtenNumber, AnswersSay}
+use Rattle.node_laws.specs.Phases.{waits}
 use Rattle.node_laws.specs.Calls.{NodeCall, starting, polling, delivering, asking, sending, receiving, reporting, perform}
 use Rattle.node_laws.proofs.Deliveries.{accepted-reports}
 use Rattle.node_laws.proofs.Valid.{attempt-valid}

@@ -1,4 +1,5 @@
--- What the answers of a node's calls say in document 01's numbers and values: each number in 01's order, each value exactly when 01 gives it.
+-- What the answers of a node's calls say in document 01's numbers and values: each number in 01's order, each value exactly when 01
+-- gives it.
 use Prim.Native.Nat.{ℕ, _-_}
 use mathlib.Core.Path.{_≡_}
 use mathlib.Core.Bool.{Bool, true, false, not, _&&_}
@@ -21,7 +22,7 @@ use Rattle.cojp.specs.Reading.{ifTaken}
 use Rattle.cojp.specs.Writing.{requestPlan}
 use Rattle.cojp.specs.declared.key_set.KeysParameter.{KeysParameter}
 use Rattle.node_key_sets.specs.Frames.{heldKey, changeNumber, hasSwitched, hasKept}
-use Rattle.node_attempt.specs.Attempt.{isWaiting, firstTimeout}
+use Rattle.node_attempt.specs.Attempt.{firstTimeout}
 use Rattle.node_attempt.specs.Poll.{dueNumber, notYet, sendsAgain, givesUp}
 use Rattle.node_delivery.specs.Delivery.{belongs}
 use Rattle.node_delivery.specs.declared.Delivery.{Delivery}
@@ -37,14 +38,12 @@ use Rattle.node.specs.Range.{valid}
 use Rattle.node.specs.Timing.{requestOf, start, poll}
 use Rattle.node.specs.declared.node.Node.{Node}
 use Rattle.node_laws.specs.Calls.{NodeCall, perform}
+use Rattle.node_laws.specs.Phases.{waits}
 
 -- ---- the tests in 01's words
 -- "the time given is before the last accepted one"
 abbrev pub early : Node → ℕ → Bool
 early n time = not (leb (clockOf n) time)
-
-abbrev pub waits : Node → Bool
-waits n = isWaiting (n .attempt .phase)
 
 -- "the time since the last sending has reached the timeout"
 abbrev pub reached : Node → ℕ → Bool
@@ -83,7 +82,8 @@ pub record AnswersSay : Type 0 where
   pub invalid : (c : NodeCall) (n : Node) → valid n ≡ false → verdictNumber (perform c n .verdict) ≡ 13
   -- ---- the numbers, in the order of the tests: RANGE 13, CLOCK 11, PHASE 16, LONG 15, OWED 9, CLASH 10, SILENT 14
   pub made-number :
-      (role : ℕ) (network : HeldOctets) → verdictNumber (made role network .verdict) ≡ refusedIf (not (validRole role && validOctets network)) 13
+      (role : ℕ) (network : HeldOctets) →
+      verdictNumber (made role network .verdict) ≡ refusedIf (not (validRole role && validOctets network)) 13
   -- then as the request's writer: OWED, ROOM
   pub start-number :
       (n : Node) (time timeout : ℕ) (d : List ℕ) →
@@ -97,7 +97,8 @@ pub record AnswersSay : Type 0 where
       ∷ [])
   pub poll-number :
       (n : Node) (time : ℕ) →
-      dueNumber (poll n time .due) ≡ inOrder (refusedIf (not (valid n)) 13 ∷ refusedIf (early n time) 11 ∷ refusedIf (not (waits n)) 16 ∷ [])
+      dueNumber (poll n time .due)
+      ≡ inOrder (refusedIf (not (valid n)) 13 ∷ refusedIf (early n time) 11 ∷ refusedIf (not (waits n)) 16 ∷ [])
   pub delivery-number :
       (delivery : Delivery) (n : Node) (time : ℕ) (payload : List ℕ) →
       verdictNumber (deliver delivery n time payload .verdict)
@@ -127,7 +128,8 @@ pub record AnswersSay : Type 0 where
       ∷ [])
   -- a report is judged as receiving is
   pub report-number :
-      (n : Node) (type identifier : ℕ) → changeNumber (verified n type identifier .change) ≡ verdictNumber (receive n type identifier .verdict)
+      (n : Node) (type identifier : ℕ) →
+      changeNumber (verified n type identifier .change) ≡ verdictNumber (receive n type identifier .verdict)
   -- ---- the values
   -- a start wrote what the request's writer answers
   pub start-length :

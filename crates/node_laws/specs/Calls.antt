@@ -105,7 +105,8 @@ perform (starting time timeout d) n =
     (startAfter n time timeout d)
 perform (polling time) n = performed (dueVerdict (poll n time .due)) (poll n time .node) (dueObject (poll n time .due)) []
 perform (delivering delivery time payload) n =
-    performed (deliver delivery n time payload .verdict) (deliver delivery n time payload .node) (reports (deliver delivery n time payload .reports)) payload
+    performed (deliver delivery n time payload .verdict) (deliver delivery n time payload .node)
+    (reports (deliver delivery n time payload .reports)) payload
 perform (asking time) n = performed (holdingVerdict (holds n time)) n (holdingObject (holds n time)) []
 perform (sending type) n = performed (send n type .verdict) (afterSend n type) (key (send n type .key)) []
 perform (receiving type identifier) n = performed (receive n type identifier .verdict) n (key (receive n type identifier .key)) []
@@ -122,4 +123,5 @@ pub record Untouched (c : NodeCall) (n : Node) (p : Performed) : Type 0 where
 pub record Demand1 : Type 0 where
   pub calls : (c : NodeCall) (n : Node) (k : Refusal) → perform c n .verdict ≡ Refused k → Untouched c n (perform c n)
   -- a node that is not made is the empty one
-  pub made-empty : (role : ℕ) (network : HeldOctets) (k : Refusal) → made role network .verdict ≡ Refused k → made role network .node ≡ emptyNode
+  pub made-empty :
+      (role : ℕ) (network : HeldOctets) (k : Refusal) → made role network .verdict ≡ Refused k → made role network .node ≡ emptyNode

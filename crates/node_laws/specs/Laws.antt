@@ -117,7 +117,8 @@ pub record NodeLaws : Type 0 where
       verified n type identifier .node ≡ n
   -- the answer says which of the two
   pub verified-says :
-      (n : Node) (type identifier : ℕ) → verified n type identifier .change ≡ change.Switched → Switched n (verified n type identifier .node)
+      (n : Node) (type identifier : ℕ) → verified n type identifier .change ≡ change.Switched →
+      Switched n (verified n type identifier .node)
   -- a key equals itself
   pub same-key-self : (k : Key) → sameKey k k ≡ true
   -- starts and polls, refused or not, leave the keys; a refused join answer or update leaves the node
@@ -128,7 +129,8 @@ pub record NodeLaws : Type 0 where
       deliver delivery n time payload .node ≡ n
   -- a border node that accepts a payload and takes its key set has that set active
   pub border-takes :
-      (delivery : Delivery) (n : Node) (time : ℕ) (payload : List ℕ) (ks : List Key) → Valid n → n .role ≡ 1 → Takes delivery n time payload ks →
+      (delivery : Delivery) (n : Node) (time : ℕ) (payload : List ℕ) (ks : List Key) → Valid n → n .role ≡ 1 →
+      Takes delivery n time payload ks →
       Installed ks n (deliver delivery n time payload .node)
 
 -- ---- giving up
@@ -145,8 +147,8 @@ abbrev pub answersDue : ℕ → Node → List Due
 answersDue zero n = []
 answersDue (suc polls) n = poll n (dueAt n) .due ∷ answersDue polls (poll n (dueAt n) .node)
 
--- the node has sent its request with first timeout t at that time: polled exactly when due, it sends four times more, and gives up 31t after,
--- which is 310,000 to 465,000 ms
+-- the node has sent its request with first timeout t at that time: polled exactly when due, it sends four times more, and gives up 31t
+-- after, which is 310,000 to 465,000 ms
 pub record GaveUpAfter (n : Node) (time timeout : ℕ) : Type 0 where
   pub answers : answersDue 5 n ≡ SendAgain ∷ SendAgain ∷ SendAgain ∷ SendAgain ∷ GaveUp ∷ []
   pub end : afterDue 5 n .attempt .phase ≡ phase.GaveUp

@@ -1,5 +1,5 @@
--- Demand 1 for what a node holds of its configurations: a parameter that is not taken, absent or discarded, leaves what is held. Nothing is refused
--- here: the node was judged before its call came here, and the configuration by its reader.
+-- Demand 1 for what a node holds of its configurations: a parameter that is not taken, absent or discarded, leaves what is held.
+-- Nothing is refused here: the node was judged before its call came here, and the configuration by its reader.
 use Prim.Native.Nat.{ℕ}
 use mathlib.Core.Path.{_≡_}
 use mathlib.Core.Bool.{true, false}
