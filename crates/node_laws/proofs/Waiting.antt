@@ -13,41 +13,40 @@ use Rattle.refusal.specs.declared.Verdict.the-variants as verdict
 use Rattle.cbor.specs.Answer.{answer}
 use Rattle.cbor.specs.declared.write.Written.{Written}
 use Rattle.cbor.specs.declared.write.Written.the-variants as written
-use Rattle.cojp.specs.Configuration.{readConfiguration}
+use Rattle.refusal.specs.Verdict.{refused-not}
 use Rattle.cojp.specs.declared.configuration.Configuration.{Configuration}
 use Rattle.cojp.specs.declared.configuration.ConfigurationRead.{ConfigurationRead}
-use Rattle.node_attempt.specs.Attempt.{isWaiting, fits}
+use Rattle.node_attempt.specs.Attempt.{isWaiting}
+use Rattle.node_attempt.specs.Attempt as attempts
 use Rattle.node_attempt.specs.Poll as attempt
 use Rattle.node_attempt.specs.declared.attempt.Attempt.{Attempt}
 use Rattle.node_attempt.specs.declared.poll.Due.the-variants as due
 use Rattle.node_attempt.specs.declared.poll.Step.{Step}
-use Rattle.node_delivery.specs.Call.{attemptAfter, belongs, mayCome}
-use Rattle.node_delivery.specs.declared.Call.{Call}
-use Rattle.node_delivery.specs.declared.Call.the-variants.{JoinAnswer, Update}
-use Rattle.node_key_sets.specs.Frames.{hears}
+use Rattle.node_delivery.specs.Delivery.{attemptAfter, belongs, mayCome}
+use Rattle.node_delivery.specs.declared.Delivery.{Delivery}
+use Rattle.node_delivery.specs.declared.Delivery.the-variants.{JoinAnswer, Update}
+use Rattle.node_key_sets.specs.Frames.{verifiedIn}
 use Rattle.node_key_sets.specs.declared.frames.Change.the-variants as change
-use Rattle.node_key_sets.specs.declared.frames.Hearing.{Hearing}
-use Rattle.node_parameters.specs.Octets.{octetsInRange, knownOctets}
+use Rattle.node_key_sets.specs.declared.sets.KeySets.{KeySets}
+use Rattle.node_key_sets.specs.declared.frames.Effect.{Effect}
+use Rattle.node_parameters.specs.Octets.{validOctets, knownOctets}
 use Rattle.node_parameters.specs.Reports.{reportsOf}
 use Rattle.node_parameters.specs.declared.octets.HeldOctets.{HeldOctets}
-use Rattle.node.specs.Node.{isBorder, roleInRange, freshNode, unmade, made, attempting}
+use Rattle.node.specs.Node.{isBorder, validRole, freshNode, unmade, made, attempting}
 use Rattle.node.specs.Range.{valid}
 use Rattle.node.specs.Timing.{startPlan, startedFrom, startedBy, start, polled, polledBy, poll}
-use Rattle.node.specs.Delivery.{placementOf, configured, undelivered, delivered, owesIdentifier, apply, deliverVerdict, applyRead, deliverBy, deliver}
-use Rattle.node.specs.Frames.{heard, heardBy, verified}
+use Rattle.node.specs.Delivery.{placementOf, placedBy, configured, undelivered, owesIdentifier, apply, deliverVerdict, applyRead, deliverBy, readFor, deliver}
+use Rattle.node.specs.Frames.{reported, reportedBy, verified}
 use Rattle.node.specs.declared.delivery.Delivered.{Delivered}
 use Rattle.node.specs.declared.node.Made.{Made}
 use Rattle.node.specs.declared.node.Node.{Node}
 use Rattle.node_laws.specs.Phases.{waits, PhaseLaws}
 use Rattle.node_laws.proofs.Deliveries.{deliver-leaves}
 
-refused-not : {A : Type 0} (k : Refusal) → verdict.Refused k ≡ verdict.Accepted → A
-refused-not k e = absurd (let z : _≡_ {A = ℕ} 0 1 = cc in omega arith)
-
 -- ---- making, starting, polling, verified frames
 made-idle : (role : ℕ) (network : HeldOctets) → waits (made role network .node) ≡ false
 unfolding made
-made-idle role network = go (roleInRange role) (octetsInRange network)
+made-idle role network = go (validRole role) (validOctets network)
   where
     go :
         (r o : Bool) →
@@ -68,7 +67,7 @@ start-refused n time timeout d k e = go (answer (startPlan n time timeout) d) e
 
 attempt-idle : (a : Attempt) (time : ℕ) → isWaiting (a .phase) ≡ false → attempt.poll a time .attempt ≡ a
 unfolding attempt.poll
-attempt-idle a time w = rw w (go (fits a) (leb (a .clock) time))
+attempt-idle a time w = rw w (go (attempts.valid a) (leb (a .clock) time))
   where
     go :
         (f t : Bool) →
@@ -88,14 +87,14 @@ poll-idle n time w = go (valid n) (attempt.poll (n .attempt) time) (attempt-idle
 
 verified-keeps : (n : Node) (type identifier : ℕ) → waits (verified n type identifier .node) ≡ waits n
 unfolding verified
-verified-keeps n type identifier = go (valid n) (hears (n .sets) type identifier)
+verified-keeps n type identifier = go (valid n) (verifiedIn (n .sets) type identifier)
   where
-    go : (v : Bool) (h : Hearing) → waits (cond v (heardBy n h) (heard (change.Refused refusal.Range) n) .node) ≡ waits n
+    go : (v : Bool) (h : Effect) → waits (cond v (reportedBy n h) (reported (change.Refused refusal.Range) n) .node) ≡ waits n
     go true h = refl
     go false h = refl
 
 -- ---- join answers and updates: an accepted one leaves the attempt that the call names
-module _ (call : Call) (n : Node) (time : ℕ) where
+module _ (call : Delivery) (n : Node) (time : ℕ) where
   abbrev Moves : Delivered → Type 0
   Moves m = m .verdict ≡ verdict.Accepted → m .node .attempt ≡ attemptAfter call (n .attempt) time
 
@@ -106,11 +105,16 @@ module _ (call : Call) (n : Node) (time : ℕ) where
   cond-moves true x y p q = p
   cond-moves false x y p q = q
 
+  placed-moves : (c : Configuration) (v : Verdict) (sets : KeySets) → Moves (placedBy v call n time c sets)
+  unfolding configured
+  placed-moves c (verdict.Refused k) sets = no-moves k
+  placed-moves c verdict.Accepted sets = λ e. refl
+
   apply-moves : (c : Configuration) → Moves (apply call n time c)
-  unfolding apply configured
+  unfolding apply
   apply-moves c =
       cond-moves (owesIdentifier call n (c .network .report)) _ _ (no-moves refusal.Owed)
-      (cond-moves (placementOf n (c .keys) .clash) _ _ (no-moves refusal.Clash) (λ e. refl))
+      (placed-moves c (placementOf n (c .keys) .verdict) (placementOf n (c .keys) .sets))
 
   read-moves : (v : Verdict) (c : Configuration) → Moves (applyRead v call n time c)
   read-moves (verdict.Refused k) c = no-moves k
@@ -122,7 +126,7 @@ module _ (call : Call) (n : Node) (time : ℕ) where
 
   deliver-moves : (payload : List ℕ) → Moves (deliver call n time payload)
   unfolding deliver
-  deliver-moves payload = by-moves (deliverVerdict call n time (length payload)) (readConfiguration payload)
+  deliver-moves payload = by-moves (deliverVerdict call n time (length payload)) (readFor n payload)
 
   may-come : (v : Verdict) (r : ConfigurationRead) → deliverBy v call n time r .verdict ≡ verdict.Accepted → v ≡ verdict.Accepted
   may-come (verdict.Refused k) r e = refused-not k e
@@ -130,27 +134,30 @@ module _ (call : Call) (n : Node) (time : ℕ) where
 
   in-phase : (len : ℕ) → deliverVerdict call n time len ≡ verdict.Accepted → belongs call (n .attempt .phase) ≡ true
   unfolding deliverVerdict mayCome
-  in-phase len = go (valid n) (leb len 256) (leb (n .attempt .clock) time) (belongs call (n .attempt .phase))
+  in-phase len = go (valid n) (attempts.valid (n .attempt)) (leb len 256) (leb (n .attempt .clock) time) (belongs call (n .attempt .phase))
     where
       go :
-          (v l t b : Bool) →
-          cond v (cond l (cond t (cond b verdict.Accepted (verdict.Refused refusal.Phase)) (verdict.Refused refusal.Clock)) (verdict.Refused refusal.Long)) (verdict.Refused refusal.Range)
+          (v a l t b : Bool) →
+          cond v
+          (cond a (cond l (cond t (cond b verdict.Accepted (verdict.Refused refusal.Phase)) (verdict.Refused refusal.Clock)) (verdict.Refused refusal.Long)) (verdict.Refused refusal.Range))
+          (verdict.Refused refusal.Range)
           ≡ verdict.Accepted → b ≡ true
-      go false l t b e = refused-not refusal.Range e
-      go true false t b e = refused-not refusal.Long e
-      go true true false b e = refused-not refusal.Clock e
-      go true true true true e = refl
-      go true true true false e = refused-not refusal.Phase e
+      go false a l t b e = refused-not refusal.Range e
+      go true false l t b e = refused-not refusal.Range e
+      go true true false t b e = refused-not refusal.Long e
+      go true true true false b e = refused-not refusal.Clock e
+      go true true true true true e = refl
+      go true true true true false e = refused-not refusal.Phase e
 
   belongs-then : (payload : List ℕ) → deliver call n time payload .verdict ≡ verdict.Accepted → belongs call (n .attempt .phase) ≡ true
   unfolding deliver
-  belongs-then payload e = in-phase (length payload) (may-come (deliverVerdict call n time (length payload)) (readConfiguration payload) e)
+  belongs-then payload e = in-phase (length payload) (may-come (deliverVerdict call n time (length payload)) (readFor n payload) e)
 
-phase-after : (call : Call) (a : Attempt) (time : ℕ) → isWaiting (a .phase) ≡ false → isWaiting (attemptAfter call a time .phase) ≡ false
+phase-after : (call : Delivery) (a : Attempt) (time : ℕ) → isWaiting (a .phase) ≡ false → isWaiting (attemptAfter call a time .phase) ≡ false
 phase-after JoinAnswer a time w = refl
 phase-after Update a time w = w
 
-deliver-idle : (call : Call) (n : Node) (time : ℕ) (payload : List ℕ) → waits n ≡ false → waits (deliver call n time payload .node) ≡ false
+deliver-idle : (call : Delivery) (n : Node) (time : ℕ) (payload : List ℕ) → waits n ≡ false → waits (deliver call n time payload .node) ≡ false
 deliver-idle call n time payload w = go (deliver call n time payload .verdict) refl
   where
     go : (v : Verdict) → deliver call n time payload .verdict ≡ v → waits (deliver call n time payload .node) ≡ false

@@ -6,8 +6,8 @@ use mathlib.Core.List.{List}
 use Rattle.refusal.specs.declared.Refusal.{Refusal}
 use Rattle.refusal.specs.declared.Verdict.the-variants.{Accepted, Refused}
 use Rattle.node_attempt.specs.Attempt.{isWaiting}
-use Rattle.node_delivery.specs.declared.Call.{Call}
-use Rattle.node_delivery.specs.declared.Call.the-variants.{JoinAnswer}
+use Rattle.node_delivery.specs.declared.Delivery.{Delivery}
+use Rattle.node_delivery.specs.declared.Delivery.the-variants.{JoinAnswer}
 use Rattle.node_parameters.specs.declared.octets.HeldOctets.{HeldOctets}
 use Rattle.node.specs.Node.{made}
 use Rattle.node.specs.Timing.{start, poll}
@@ -25,7 +25,7 @@ pub record PhaseLaws : Type 0 where
       (n : Node) (time timeout : ℕ) (d : List ℕ) (k : Refusal) → start n time timeout d .verdict ≡ Refused k →
       waits (start n time timeout d .node) ≡ waits n
   pub deliver-idle :
-      (call : Call) (n : Node) (time : ℕ) (payload : List ℕ) → waits n ≡ false → waits (deliver call n time payload .node) ≡ false
+      (call : Delivery) (n : Node) (time : ℕ) (payload : List ℕ) → waits n ≡ false → waits (deliver call n time payload .node) ≡ false
   pub verified-keeps : (n : Node) (type identifier : ℕ) → waits (verified n type identifier .node) ≡ waits n
   pub poll-idle : (n : Node) (time : ℕ) → waits n ≡ false → waits (poll n time .node) ≡ false
   -- an accepted join answer comes to a node that waits, and it waits no more

@@ -10,7 +10,7 @@ use borrow.Author.Tests.{ltb-true, ltb-false, lt-ltb, le-ltb}
 use Rattle.refusal.specs.declared.Refusal.{Refusal}
 use Rattle.refusal.specs.declared.Verdict.{Verdict}
 use Rattle.refusal.specs.declared.Verdict.the-variants.{Accepted, Refused}
-use Rattle.node_delivery.specs.declared.Call.the-variants as call
+use Rattle.node_delivery.specs.declared.Delivery.the-variants as call
 use Rattle.node.specs.Timing as timing
 use Rattle.node.specs.Delivery as delivery
 use Rattle.node.specs.declared.node.Node.{Node}

@@ -105,11 +105,11 @@ pub(crate) fn verified(node: Node, frame_type: u8, identifier: u8) -> Done
 {
     let heard = node.verified(frame_type, identifier);
     let change = heard.change;
-    let hearer = heard.node;
+    let reported = heard.node;
     Done {
         verdict: change_verdict(change),
         switched: has_switched(change),
-        node: hearer,
+        node: reported,
     }
 }
 
