@@ -1,13 +1,13 @@
 #!/usr/bin/env python3
 """Adds to crates/simulate/stdin and stdout, after the vectors, the story examples/rekey.txt with the answers of rekey.out, the networks of
 tools/rekey.py, and lines at the edges of the tool's rules: missing and extra words, numbers and bytes around their limits, `-`, lines far longer
-than any buffer.
+than any buffer, and the bench command.
 
 What they are answered follows from the rules of the desk tools and document 01, by hand: nothing is taken from the program.
 """
 import os
 
-from rekey import networks
+from rekey import networks, payload
 
 ROOT = os.path.dirname(os.path.dirname(os.path.abspath(__file__)))
 MARK = b"# Lines of tools/simulate_edges.py\n"
@@ -104,6 +104,68 @@ def edges():
     yield "turn 9 8 1", SILENT
 
 
+def shown(node):
+    """What `show` writes of a node without key sets, whose fields are these."""
+    hidden = node["address"] == "none"
+    return " ".join(
+        "%s=%s" % (name, "none" if hidden and name in ("lease", "received") else "h'%s'" % value if name == "address" and not hidden else value)
+        for name, value in node.items()
+    )
+
+
+def bench():
+    """The bench command `set`: what is wrong with a line, in order, and what a node shows after each good one."""
+    yield "node 7 0 CAFE", "made"
+    for text, answer in [
+        ("set", COMMAND), ("set 7", COMMAND), ("set 7 clock", COMMAND), ("set 7 clock 1 2", COMMAND), ("set 7 address 12 34", COMMAND),
+        ("set 7 nothing 1", COMMAND), ("set x phase nothing", COMMAND), ("set 7 phase", COMMAND), ("set 7 phase none", COMMAND),
+        ("set 7 phase waitin", COMMAND), ("set 7 active active", COMMAND), ("set 7 pending pending", COMMAND),
+        ("set x clock 1", NUMBER), ("set 7 clock x", NUMBER), ("set 7 clock none", NUMBER), ("set 7 role 256", NUMBER), ("set 7 count 256", NUMBER),
+        ("set 7 lease -", NUMBER), ("set 7 lease %d" % (MOST + 1), NUMBER), ("set x address zz", NUMBER), ("set 17 clock x", NUMBER),
+        ("set 7 address zz", HEX), ("set 7 address 123", HEX), ("set 7 address 12", HEX), ("set 7 address 123456", HEX), ("set 7 address -", HEX),
+        ("set 17 address zz", HEX), ("set 17 address 1234", NODE), ("set 16 phase idle", NODE), ("set 17 active none", NODE), ("set %d role 0" % MOST, NODE),
+    ]:
+        yield text, answer
+    node = dict(
+        role="0", phase="idle", clock="0", sent="0", timeout="0", count="0", active="none", pending="none", address="none", lease="none",
+        received="0", jrc="none", network="h'cafe'", prefix="none",
+    )
+    yield "show 7", shown(node)
+    for field, value in [
+        ("role", "255"), ("role", "1"), ("phase", "waiting"), ("phase", "joined"), ("phase", "gave-up"), ("phase", "idle"), ("clock", str(MOST)), ("sent", "7"),
+        ("timeout", "10000"), ("count", "255"), ("count", "4"), ("address", "1234"), ("lease", "3600"), ("received", "9"), ("address", "none"), ("lease", "0"),
+        ("address", "feFF"), ("lease", "none"), ("active", "pending"), ("pending", "active"), ("active", "none"), ("pending", "none"), ("  clock", " 100"),
+    ]:
+        yield "set 7 %s %s" % (field, value), "set"
+        if field.strip() in ("active", "pending"):
+            value = "none"
+        node[field.strip()] = value.strip().lower()
+        yield "show 7", shown(node)
+    # a node that document 01 refuses answers RANGE to every call, and is as before once the value is
+    yield "set 7 count 5", "set"
+    for call in ["start 7 100 10000", "poll 7 100", "answer 7 100", "update 7 100", "holds 7 100", "send 7 0", "receive 7 0 1", "verified 7 0 1", "turn 7 8 0"]:
+        yield call, RANGE
+    yield "set 7 count 0", "set"
+    yield "poll 7 100", PHASE
+    # copies of key sets
+    keys = [(3, 6, b"a key of beacons"), (200, 13, b"and one of data.")]
+    beacons, data = ("key %d/%d/h'%s'" % (identifier, usage, value.hex()) for identifier, usage, value in keys)
+    yield "node 6 0 CAFE", "made"
+    yield "start 6 0 10000", "sent h'a10542cafe'"
+    yield "answer 6 0 " + payload(keys), "accepted keys=taken address=absent jrc=absent network=absent prefix=absent passed=0"
+    yield "send 6 1", SILENT
+    yield "set 6 active pending", "set"
+    yield "send 6 1", RANGE
+    yield "set 6 pending none", "set"
+    yield "send 6 1", data
+    yield "set 6 pending active", "set"
+    yield "set 6 active none", "set"
+    yield "receive 6 0 3", beacons
+    yield "send 6 0", SILENT
+    yield "set 6 pending none", "set"
+    yield "receive 6 0 3", SILENT
+
+
 def is_silent(line):
     """Whether the line is not answered: it is empty, or a comment."""
     text = (line[:-1] if line.endswith(b"\r") else line).strip(b" ")
@@ -116,7 +178,7 @@ def main():
         vectors = f.read().split(MARK)[0]
     with open(stdout, "rb") as f:
         answers = f.read().splitlines(keepends=True)[: sum(not is_silent(line) for line in vectors.split(b"\n"))]
-    every = [*story("rekey"), *networks(), *edges()]
+    every = [*story("rekey"), *networks(), *bench(), *edges()]
     with open(stdin, "wb") as f:
         f.write(vectors + MARK + b"\n".join(line.encode() for line, _ in every))
     with open(stdout, "wb") as f:

@@ -1,4 +1,5 @@
 // The desk tool simulate: up to 16 nodes, made and called by lines of standard input (docs/TOOLS.md).
+mod bench;
 mod nodes;
 mod perform;
 
@@ -67,7 +68,8 @@ fn main() {
     let session = Session::begin(
         b"simulate: up to 16 nodes and their life, joining, updates, frames (docs/TOOLS.md).\n\
 node I ROLE NETWORK, start I TIME TIMEOUT, poll I TIME, answer I TIME HEX, update I TIME HEX,\n\
-holds I TIME, send I TYPE, receive I TYPE IDENTIFIER, verified I TYPE IDENTIFIER, turn I J TYPE, show I\n",
+holds I TIME, send I TYPE, receive I TYPE IDENTIFIER, verified I TYPE IDENTIFIER, turn I J TYPE, show I,\n\
+set I FIELD VALUE\n",
         &mut buffer,
     );
     let nodes = no_nodes();

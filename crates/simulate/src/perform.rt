@@ -1,4 +1,5 @@
 // What a command does to one node, and what it is answered.
+use crate::bench::edited;
 use cojp::Octets;
 use node::Delivered;
 use node::Node;
@@ -65,6 +66,7 @@ fn start(node: Node, command: Command, request: &mut tool_notation::Payload) -> 
 fn call(node: Node, command: Command, payload: &[u8]) -> Done {
     let verb = command.verb;
     match verb {
+        Verb::Set(edit) => with_reply(edited(node, edit, command.third, payload), Reply::Set),
         Verb::Make => make(node, command, payload),
         Verb::Answer => delivered(node.join_answer(command.second, payload)),
         Verb::Update => delivered(node.update(command.second, payload)),

@@ -42,6 +42,7 @@ fn put_reply(out: Output, reply: Reply, payload: &[u8], buffer: &mut Buffer) -> 
         Reply::Wrong(fault) => put_fault(out, fault, buffer),
         Reply::Refused(refusal) => put_refusal(out, refusal, buffer),
         Reply::Made => out.text(b"made", buffer),
+        Reply::Set => out.text(b"set", buffer),
         Reply::Sent(length) => put_sent(out, payload, length, buffer),
         Reply::Polled(due) => put_due(out, due, buffer),
         Reply::Delivered(reports) => put_reports(out, reports, buffer),

@@ -15,6 +15,7 @@ pub enum Reply {
     Wrong(Fault),
     Refused(Refusal),
     Made,
+    Set,
     // a join request of so many bytes
     Sent(usize),
     Polled(Due),

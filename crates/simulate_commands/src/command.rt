@@ -1,11 +1,13 @@
 // What a line asks for: its command, with its numbers and HEX, or what is wrong with it.
 ghost use Prim.Native.Nat.{_<_};
-use crate::verb::ANY;
+use crate::verb::Bytes;
+use crate::verb::Number;
 use crate::verb::Shape;
 use crate::verb::Verb;
 use crate::verb::shape_of;
 use crate::verb::verb_of;
 use tool_numerals::decimal::Decimal;
+use tool_numerals::hex::Hex;
 use tool_numerals::hex::Payload;
 use tool_text::fault::Fault;
 use tool_text::line::Line;
@@ -15,7 +17,7 @@ pub type Made = [bool; 16];
 
 pub struct Command {
     pub verb: Verb,
-    // its numbers in order; 0 where there is none
+    // its numbers in order; 0 where there is none, or where a word is no number
     pub first: u64,
     pub second: u64,
     pub third: u64,
@@ -66,7 +68,7 @@ fn verb_in(line: Line, made: Made) -> Verb {
     if line.is_silent() {
         return Verb::Nothing;
     }
-    judged(line, verb_of(line.head.command), made)
+    judged(line, verb_of(line), made)
 }
 
 // The command, or the first thing that is wrong with its line.
@@ -78,7 +80,7 @@ fn judged(line: Line, verb: Verb, made: Made) -> Verb {
     if !has_numbers(line, shape) {
         return Verb::Wrong(Fault::Number);
     }
-    if shape.hex && !has_hex(line, verb) {
+    if !has_bytes(line, shape, verb) {
         return Verb::Wrong(Fault::Hex);
     }
     if !names_nodes(line, verb, made) {
@@ -92,7 +94,8 @@ fn has_words(line: Line, shape: Shape) -> bool {
     if shape.words == 0 {
         return false;
     }
-    if shape.hex {
+    let bytes = shape.bytes;
+    if let Bytes::Rest = bytes {
         return shape.words <= line.words();
     }
     shape.words == line.words()
@@ -105,30 +108,47 @@ fn has_numbers(line: Line, shape: Shape) -> bool {
     let first = head.first;
     let second = head.second;
     let third = tail.number;
-    fits(true, first, ANY)
-        && fits(2 < shape.words, second, shape.second)
-        && fits(3 < shape.words, third, shape.third)
+    let of_second = shape.second;
+    let of_third = shape.third;
+    is_number(first) && fits(of_second, second) && fits(of_third, third)
 }
 
-// Whether the word is a number up to `most`, where it is asked for.
-fn fits(asked: bool, number: Decimal, most: u64) -> bool {
-    if !asked {
-        return true;
+fn is_number(number: Decimal) -> bool {
+    fits(Number::UpTo(u64::MAX), number)
+}
+
+// Whether the word is what is asked of it as a number.
+fn fits(asked: Number, number: Decimal) -> bool {
+    match asked {
+        Number::No => true,
+        Number::UpTo(most) => is_within(number, most),
     }
+}
+
+fn is_within(number: Decimal, most: u64) -> bool {
     match number {
         Decimal::Number(value) => value <= most,
         _ => false,
     }
 }
 
-// Whether HEX stands for bytes, or `-` in its place for none, where the command is one that takes it.
-fn has_hex(line: Line, verb: Verb) -> bool {
+// Whether the bytes that the command asks for stand there; `-` in the place of a new node's HEX stands for none.
+fn has_bytes(line: Line, shape: Shape, verb: Verb) -> bool {
     if let Verb::Make = verb {
         if is_none(line) {
             return true;
         }
     }
     let hex = line.tail.hex;
+    let bytes = shape.bytes;
+    match bytes {
+        Bytes::No => true,
+        Bytes::Rest => is_hex(hex),
+        Bytes::Two => is_hex(hex) && hex.len == 2,
+    }
+}
+
+fn is_hex(hex: Hex) -> bool {
     match hex.payload() {
         Payload::Bytes(_) => true,
         Payload::Fault => false,

@@ -1,5 +1,8 @@
 // The commands by their first words, and which words stand after each.
+use crate::edit::Edit;
+use crate::edit::edit_of;
 use tool_text::fault::Fault;
+use tool_text::line::Line;
 use tool_text::word::Word;
 
 pub enum Verb {
@@ -7,6 +10,7 @@ pub enum Verb {
     Nothing,
     // a line that is no command
     Wrong(Fault),
+    Set(Edit),
     Make,
     Start,
     Poll,
@@ -20,24 +24,48 @@ pub enum Verb {
     Show,
 }
 
+// What is asked of a word as a number.
+pub enum Number {
+    // nothing: there is no such word, or it is none
+    No,
+    // that it is one, and no larger
+    UpTo(u64),
+}
+
+// What is asked of a word, or of the line's rest, as bytes.
+pub enum Bytes {
+    No,
+    // HEX to the line's end
+    Rest,
+    // a word of two bytes
+    Two,
+}
+
 // What is asked of the words of a line.
 pub struct Shape {
     // how many there are before HEX, the command among them; for what is no command, 0
     pub words: usize,
-    // the largest that the second and the third number may be
-    pub second: u64,
-    pub third: u64,
-    // whether HEX follows them
-    pub hex: bool,
+    pub second: Number,
+    pub third: Number,
+    pub bytes: Bytes,
 }
 
-pub const ANY: u64 = u64::MAX;
+const ANY: Number = Number::UpTo(u64::MAX);
 
-// A role, a frame type or a key identifier is a byte.
-const BYTE: u64 = 255;
+// A role, a frame type, a key identifier or a counter is a byte.
+const BYTE: Number = Number::UpTo(255);
 
-// The command that the word names.
-pub fn verb_of(word: Word) -> Verb {
+// The command that the line's first word names, with what a bench command's other words do.
+pub fn verb_of(line: Line) -> Verb {
+    let head = line.head;
+    let word = head.command;
+    if word.is(b"set") {
+        return Verb::Set(edit_of(head.name, line.tail.word));
+    }
+    named(word)
+}
+
+fn named(word: Word) -> Verb {
     if word.is(b"turn") {
         return Verb::Turn;
     }
@@ -86,24 +114,37 @@ fn framed(word: Word) -> Verb {
 
 pub fn shape_of(verb: Verb) -> Shape {
     match verb {
-        Verb::Nothing => shaped(0, ANY, ANY, false),
-        Verb::Wrong(_) => shaped(0, ANY, ANY, false),
-        Verb::Make => shaped(3, BYTE, ANY, true),
-        Verb::Start => shaped(4, ANY, ANY, false),
-        Verb::Poll | Verb::Holds => shaped(3, ANY, ANY, false),
-        Verb::Answer | Verb::Update => shaped(3, ANY, ANY, true),
-        Verb::Send => shaped(3, BYTE, ANY, false),
-        Verb::Receive | Verb::Verified => shaped(4, BYTE, BYTE, false),
-        Verb::Turn => shaped(4, ANY, BYTE, false),
-        Verb::Show => shaped(2, ANY, ANY, false),
+        Verb::Nothing => shaped(0, Number::No, Number::No, Bytes::No),
+        Verb::Wrong(_) => shaped(0, Number::No, Number::No, Bytes::No),
+        Verb::Set(edit) => edit_shape(edit),
+        Verb::Make => shaped(3, BYTE, Number::No, Bytes::Rest),
+        Verb::Start => shaped(4, ANY, ANY, Bytes::No),
+        Verb::Poll | Verb::Holds => shaped(3, ANY, Number::No, Bytes::No),
+        Verb::Answer | Verb::Update => shaped(3, ANY, Number::No, Bytes::Rest),
+        Verb::Send => shaped(3, BYTE, Number::No, Bytes::No),
+        Verb::Receive | Verb::Verified => shaped(4, BYTE, BYTE, Bytes::No),
+        Verb::Turn => shaped(4, ANY, BYTE, Bytes::No),
+        Verb::Show => shaped(2, Number::No, Number::No, Bytes::No),
     }
 }
 
-fn shaped(words: usize, second: u64, third: u64, hex: bool) -> Shape {
+// The field's name is no number; its value is one, or two bytes, or a word that stands for itself.
+fn edit_shape(edit: Edit) -> Shape {
+    match edit {
+        Edit::Unknown => shaped(0, Number::No, Number::No, Bytes::No),
+        Edit::Role | Edit::Count => shaped(4, Number::No, BYTE, Bytes::No),
+        Edit::Clock | Edit::Sent | Edit::Timeout => shaped(4, Number::No, ANY, Bytes::No),
+        Edit::Received | Edit::Lease => shaped(4, Number::No, ANY, Bytes::No),
+        Edit::Address => shaped(4, Number::No, Number::No, Bytes::Two),
+        _ => shaped(4, Number::No, Number::No, Bytes::No),
+    }
+}
+
+fn shaped(words: usize, second: Number, third: Number, bytes: Bytes) -> Shape {
     Shape {
         words,
         second,
         third,
-        hex,
+        bytes,
     }
 }

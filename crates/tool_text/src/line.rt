@@ -17,6 +17,8 @@ pub struct Head {
     // the first and the second word after the command, as numbers
     pub first: Decimal,
     pub second: Decimal,
+    // the second by its letters
+    pub name: Word,
 }
 
 // The line from the word on at which HEX begins.
@@ -60,6 +62,7 @@ impl Head {
             command: Word::new(),
             first: Decimal::Empty,
             second: Decimal::Empty,
+            name: Word::new(),
         }
     }
 
@@ -104,11 +107,15 @@ impl Head {
         let mut command = self.command;
         let mut first = self.first;
         let mut second = self.second;
+        let mut name = self.name;
         let words = self.words;
         match words {
             1 => command = command.more(part),
             2 => first = first.more(part),
-            3 => second = second.more(part),
+            3 => {
+                second = second.more(part);
+                name = name.more(part);
+            }
             _ => {}
         }
         Head {
@@ -118,6 +125,7 @@ impl Head {
             command,
             first,
             second,
+            name,
         }
     }
 }
