@@ -121,7 +121,7 @@ static void read_row(const char *name, const uint8_t *p, size_t n, reading *ours
 
 static void reads(void)
 {
-    printf("%-28s%10s%10s%10s%10s%10s%10s%10s\n", "read, ns", "ours", "C gcc", "C clang", "libcbor", "to gcc", "to clang", "libcbor to");
+    printf("%-28s%10s%10s%10s%10s%10s%10s%10s\n", "read, ns", "ours", "C gcc", "C clang", "libcbor", "ours/gcc", "/clang", "libcbor/");
     read_row("configuration, 232 bytes", big, big_len, bench_configuration, by_gcc, by_clang, by_libcbor);
     read_row("configuration, 26 bytes", appendix, sizeof appendix, bench_configuration, by_gcc, by_clang, by_libcbor);
     read_row("configuration, M8", m8, sizeof m8, bench_configuration, by_gcc, by_clang, by_libcbor);
