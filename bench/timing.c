@@ -13,8 +13,8 @@
 uint64_t bench_configuration(const uint8_t *, size_t);
 uint64_t bench_request(const uint8_t *, size_t);
 uint64_t bench_configuration_number(const uint8_t *, size_t, uint8_t);
-void bench_write_configuration(uint8_t *, size_t, const uint8_t *, size_t, uint64_t);
-void bench_write_request(uint8_t *, size_t, const uint8_t *, size_t, uint64_t);
+size_t bench_rewrite_configuration(uint8_t *, size_t, const uint8_t *, size_t);
+size_t bench_rewrite_request(uint8_t *, size_t, const uint8_t *, size_t);
 uint64_t bench_update(uint8_t *, size_t, const uint8_t *, size_t, const uint8_t *, size_t, uint8_t, uint64_t);
 typedef uint64_t node_call(uint8_t *, size_t, const uint8_t *, size_t, uint8_t, uint64_t);
 node_call bench_poll, bench_sending, bench_receiving, bench_verified;
@@ -100,7 +100,7 @@ static void cell(int is_there, double value, const char *format)
         printf("%10s", "-");
 }
 
-static double read_row(const char *name, const uint8_t *p, size_t n, reading *ours, reading *gcc, reading *clang, reading *libcbor)
+static void read_row(const char *name, const uint8_t *p, size_t n, reading *ours, reading *gcc, reading *clang, reading *libcbor)
 {
     double o = 1e18, g = 1e18, c = 1e18, l = 1e18;
     for (int i = 0; i < BATCHES; i++) {
@@ -117,19 +117,40 @@ static double read_row(const char *name, const uint8_t *p, size_t n, reading *ou
     cell(clang != 0, o / c, "%10.2f");
     cell(libcbor != 0, l / o, "%10.1f");
     puts("");
-    return o;
 }
 
 static void reads(void)
 {
-    printf("%-28s%10s%10s%10s%10s%10s%10s%10s\n", "read, ns", "ours", "C gcc", "C clang", "libcbor", "to gcc", "to clang", "of libcbor");
+    printf("%-28s%10s%10s%10s%10s%10s%10s%10s\n", "read, ns", "ours", "C gcc", "C clang", "libcbor", "ours/gcc", "/clang", "libcbor/");
     read_row("configuration, 232 bytes", big, big_len, bench_configuration, by_gcc, by_clang, by_libcbor);
     read_row("configuration, 26 bytes", appendix, sizeof appendix, bench_configuration, by_gcc, by_clang, by_libcbor);
     read_row("configuration, M8", m8, sizeof m8, bench_configuration, by_gcc, by_clang, by_libcbor);
     read_row("join request, M1", m1, sizeof m1, bench_request, request_by_gcc, request_by_clang, by_libcbor);
 }
 
-/* A call that is made n times on one object or node, which is made first: the time of n calls less that of none. */
+/* A writing takes what reading and writing again takes, less the reading. */
+static uint64_t rewrite(const uint8_t *p, size_t n) { return bench_rewrite_configuration(dst, sizeof dst, p, n); }
+static uint64_t rewrite_request(const uint8_t *p, size_t n) { return bench_rewrite_request(dst, sizeof dst, p, n); }
+
+static void write_row(const char *name, const uint8_t *p, size_t n, reading *reads, reading *rewrites)
+{
+    double r = 1e18, w = 1e18;
+    for (int i = 0; i < BATCHES; i++) {
+        batch(&r, reads, p, n);
+        batch(&w, rewrites, p, n);
+    }
+    printf("%-28s%10.0f%20.3f\n", name, w - r, (w - r) / r);
+}
+
+static void writes(void)
+{
+    printf("\n%-28s%10s%20s\n", "write, ns", "ours", "to reading it");
+    write_row("configuration, 232 bytes", big, big_len, bench_configuration, rewrite);
+    write_row("configuration, M8", m8, sizeof m8, bench_configuration, rewrite);
+    write_row("join request, M1", m1, sizeof m1, bench_request, rewrite_request);
+}
+
+/* A call that is made n times on one node, which is made first: the time of n calls less that of none. */
 struct repeated {
     const char *name;
     node_call *call;
@@ -146,27 +167,12 @@ static void repeat(const struct repeated *r, uint64_t n)
         sink += bench_update(dst, sizeof dst, big, big_len, r->update, r->len, FIRST_ID, n);
 }
 
-static uint64_t write_configuration(uint8_t *d, size_t room, const uint8_t *p, size_t n, uint8_t id, uint64_t times)
-{
-    (void)id;
-    bench_write_configuration(d, room, p, n, times);
-    return d[0];
-}
-
-static uint64_t write_request(uint8_t *d, size_t room, const uint8_t *p, size_t n, uint8_t id, uint64_t times)
-{
-    (void)p, (void)n, (void)id;
-    bench_write_request(d, room, m1, sizeof m1, times);
-    return d[0];
-}
-
 static void calls(void)
 {
     struct repeated r[] = {
         {"update, 232 bytes", 0, other, other_len, 1e18, 1e18}, {"update, M8", 0, m8, sizeof m8, 1e18, 1e18},
         {"poll", bench_poll, 0, 0, 1e18, 1e18},                 {"sending key", bench_sending, 0, 0, 1e18, 1e18},
-        {"receiving key", bench_receiving, 0, 0, 1e18, 1e18},   {"verified", bench_verified, 0, 0, 1e18, 1e18},
-        {"write, 232 bytes", write_configuration, 0, 0, 1e18, 1e18}, {"write, M1", write_request, 0, 0, 1e18, 1e18}};
+        {"receiving key", bench_receiving, 0, 0, 1e18, 1e18},   {"verified", bench_verified, 0, 0, 1e18, 1e18}};
     enum { KINDS = sizeof r / sizeof *r };
     for (int i = 0; i < BATCHES; i++)
         for (int k = 0; k < KINDS; k++) {
@@ -333,6 +339,7 @@ int main(int argc, char **argv)
     if (!strcmp(what, "copies"))
         return all_copies(), 0;
     reads();
+    writes();
     calls();
     return 0;
 }

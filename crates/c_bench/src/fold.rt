@@ -4,32 +4,32 @@ use cojp::Octets;
 use link_key_set::KeySet;
 use refusal::Verdict;
 
-pub fn wide(x: u8) -> u64 {
+pub(crate) fn wide(x: u8) -> u64 {
     x as u64
 }
 
 // Document 01's number, and 0 for accepted.
-pub fn verdict_number(verdict: Verdict) -> u64 {
+pub(crate) fn verdict_number(verdict: Verdict) -> u64 {
     match verdict {
         Verdict::Accepted => 0,
         Verdict::Refused(why) => wide(why.number()),
     }
 }
 
-pub fn is_accepted(verdict: Verdict) -> bool {
+pub(crate) fn is_accepted(verdict: Verdict) -> bool {
     match verdict {
         Verdict::Accepted => true,
         Verdict::Refused(_) => false,
     }
 }
 
-pub fn octets_number(o: Octets, pick: u8) -> u64 {
+pub(crate) fn octets_number(o: Octets, pick: u8) -> u64 {
     let bytes = o.bytes;
     let i = (pick % 16) as usize;
     wide(bytes[i])
 }
 
-pub fn keys_number(set: KeySet, pick: u8) -> u64 {
+pub(crate) fn keys_number(set: KeySet, pick: u8) -> u64 {
     let keys = set.keys;
     let i = (pick % 8) as usize;
     let key = keys[i];
@@ -38,7 +38,7 @@ pub fn keys_number(set: KeySet, pick: u8) -> u64 {
     wide(key.identifier) ^ wide(key.usage) ^ wide(value[j]) ^ (set.count as u64)
 }
 
-pub fn configuration_number(c: Configuration, pick: u8) -> u64 {
+pub(crate) fn configuration_number(c: Configuration, pick: u8) -> u64 {
     let keys = c.keys;
     let address = c.address;
     let value = address.value;

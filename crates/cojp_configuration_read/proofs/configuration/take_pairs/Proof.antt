@@ -28,11 +28,36 @@ Inv-loop s at₀ left₀ c₀ at left c =
 abbrev μ-loop : tie.MeasureT-loop
 μ-loop s at₀ left₀ c₀ at left c = left
 
--- what the pair that was met says, by its label
-turn : (m : lts.At-match-came (empty-configuration-reads.Asked, empty-configuration-reads.Learnt, labelled-at-reads.Asked, labelled-at-reads.Learnt, keys-once-reads.Asked, keys-once-reads.Learnt, address-once-reads.Asked, address-once-reads.Learnt, octets-once-reads.Asked, octets-once-reads.Learnt, item-end-reads.Asked, item-end-reads.Learnt, refused-configuration-reads.Asked, refused-configuration-reads.Learnt) reads.Pre reads.Post Inv-loop μ-loop)
-    → Turn (m .before .before .before .loop .c)
-    (m .before .before .before .before .before .before .args .s .now) (drop (m .before .before .before .loop .at) (m .before .before .before .before .before .before .args .s .now))
-    (m .before .labelled-at .result) (m .before .labelled-at .ensures) (m .match .c) (m .match .verdict) (m .match .at)
+-- after the match on a pair's label
+abbrev Met : Type 0
+Met =
+    lts.At-match-came (
+      empty-configuration-reads.Asked,
+      empty-configuration-reads.Learnt,
+      labelled-at-reads.Asked,
+      labelled-at-reads.Learnt,
+      keys-once-reads.Asked,
+      keys-once-reads.Learnt,
+      address-once-reads.Asked,
+      address-once-reads.Learnt,
+      octets-once-reads.Asked,
+      octets-once-reads.Learnt,
+      item-end-reads.Asked,
+      item-end-reads.Learnt,
+      refused-configuration-reads.Asked,
+      refused-configuration-reads.Learnt,
+    )
+    reads.Pre reads.Post Inv-loop μ-loop
+
+-- what the pair says
+abbrev Said : Met → Type 0
+Said m =
+    let walked = m .before .before .before .loop in
+    let s = m .before .before .before .before .before .before .args .s .now in
+    let pair = m .before .labelled-at in
+    Turn (walked .c) s (drop (walked .at) s) (pair .result) (pair .ensures) (m .match .c) (m .match .verdict) (m .match .at)
+
+turn : (m : Met) → Said m
 turn m =
     let p = m .before .labelled-at in
     let old = m .before .before .before .loop .c in

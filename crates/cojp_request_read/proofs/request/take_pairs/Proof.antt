@@ -28,12 +28,38 @@ Inv-loop s at₀ left₀ named₀ role₀ network₀ passed₀ at left named rol
 abbrev μ-loop : tie.MeasureT-loop
 μ-loop s at₀ left₀ named₀ role₀ network₀ passed₀ at left named role network passed = left
 
--- what the pair that was met says, by its label
-turn : (m : lts.At-match-came (no-octets-reads.Asked, no-octets-reads.Learnt, labelled-at-reads.Asked, labelled-at-reads.Learnt, role-once-reads.Asked, role-once-reads.Learnt, octets-once-reads.Asked, octets-once-reads.Learnt, item-end-reads.Asked, item-end-reads.Learnt, refused-request-reads.Asked, refused-request-reads.Learnt, settled-request-reads.Asked, settled-request-reads.Learnt) reads.Pre reads.Post Inv-loop μ-loop)
-    → Turn (m .before .before .before .loop .named) (m .before .before .before .loop .role) (m .before .before .before .loop .network) (m .before .before .before .loop .passed)
-    (m .before .before .before .before .before .before .args .s .now) (drop (m .before .before .before .loop .at) (m .before .before .before .before .before .before .args .s .now))
-    (m .before .labelled-at .result) (m .before .labelled-at .ensures)
-    (m .match .named) (m .match .role) (m .match .network) (m .match .passed) (m .match .verdict) (m .match .at)
+-- after the match on a pair's label
+abbrev Met : Type 0
+Met =
+    lts.At-match-came (
+      no-octets-reads.Asked,
+      no-octets-reads.Learnt,
+      labelled-at-reads.Asked,
+      labelled-at-reads.Learnt,
+      role-once-reads.Asked,
+      role-once-reads.Learnt,
+      octets-once-reads.Asked,
+      octets-once-reads.Learnt,
+      item-end-reads.Asked,
+      item-end-reads.Learnt,
+      refused-request-reads.Asked,
+      refused-request-reads.Learnt,
+      settled-request-reads.Asked,
+      settled-request-reads.Learnt,
+    )
+    reads.Pre reads.Post Inv-loop μ-loop
+
+-- what the pair says
+abbrev Said : Met → Type 0
+Said m =
+    let walked = m .before .before .before .loop in
+    let s = m .before .before .before .before .before .before .args .s .now in
+    let pair = m .before .labelled-at in
+    let now = m .match in
+    Turn (walked .named) (walked .role) (walked .network) (walked .passed) s (drop (walked .at) s) (pair .result) (pair .ensures)
+    (now .named) (now .role) (now .network) (now .passed) (now .verdict) (now .at)
+
+turn : (m : Met) → Said m
 turn m =
     let p = m .before .labelled-at in
     ⊎-elim (λ w. turn-role _ _ _ _ _ _ _ (p .ensures) _ _ _ _ _ _ (w .0 .keys1) (w .1 .result) (w .1 .ensures) (w .2) (w .3) (w .4) (w .5) (w .6) (w .7))
