@@ -8,16 +8,17 @@ use native.Mathlib.Omega.{arith}
 use native.Mathlib.Numerals.{add-one}
 use lib.ListN.{length, take, drop, getD, length-drop}
 use lib.Seq.{drop-cons, length-take-le}
-use borrow.Author.Tests.{eq-eqb, ne-eqb}
+use borrow.Author.Tests.{ne-eqb}
 use types.Run.{OneOf}
 use denote.Enum.Declared.{tagOf}
+use Rattle.short_address.specs.Address.{isAddress}
 use Rattle.cbor.specs.View.{Plain, number, string, other, ValueSays}
 use Rattle.cbor.specs.declared.value.Value.{Value}
 use Rattle.cbor.specs.declared.value.Value.the-variants as vv
 use Rattle.cbor.proofs.value.Value as value
 use Rattle.cojp.specs.Address.{addressOf, addressParameter, noAddressParameter, addressBy, addressIn, addressConcluded, addressRead}
 use Rattle.cojp.specs.Bytes.{valueView, membersAt, Neither, MemberAt, MemberSays}
-use Rattle.cojp.specs.Reading.{Reading, read, broken}
+use Rattle.cojp.specs.Reading.{Reading, read, broken, unfit}
 use Rattle.cojp.specs.declared.address.AddressParameter.{AddressParameter}
 use Rattle.cojp.specs.declared.members.Member.{Member}
 use Rattle.cojp.specs.declared.members.Member.the-variants as mv
@@ -30,9 +31,8 @@ module _ (s : List ℕ) (p a : ℕ) (i : p + a ≤ length s) (b : Bool) (n : ℕ
   whole : length (take a (drop p s)) ≡ a
   whole = length-take-le a (drop p s) (omega (arith, length-drop p s))
 
-  pub address-unfit : ¬ (a ≡ 2) → (x : AddressParameter) → x ≡ noAddressParameter Discarded
-      → read x ≡ addressConcluded (addressBy (take a (drop p s)) b n)
-  address-unfit h x e = rw (whole, ne-eqb a 2 h, e)
+  pub address-short : ¬ (a ≡ 2) → addressConcluded unfit ≡ addressConcluded (addressBy (take a (drop p s)) b n)
+  address-short h = rw (whole, ne-eqb a 2 h)
 
   two : a ≡ 2 → take a (drop p s) ≡ getD s p 0 ∷ getD s (p + 1) 0 ∷ []
   two e =
@@ -40,9 +40,15 @@ module _ (s : List ℕ) (p a : ℕ) (i : p + a ≤ length s) (b : Bool) (n : ℕ
       let k : suc p < length s = omega arith in
       rw (e, add-one, drop-cons s p 0 h, drop-cons s (suc p) 0 k)
 
-  pub address-good : a ≡ 2
-      → read (addressParameter Taken (addressOf (getD s p 0 ∷ getD s (p + 1) 0 ∷ []) b n)) ≡ addressConcluded (addressBy (take a (drop p s)) b n)
-  address-good e = rw (whole, eq-eqb a 2 e, two e)
+  abbrev pair : List ℕ
+  pair = getD s p 0 ∷ getD s (p + 1) 0 ∷ []
+
+  pub address-reserved : a ≡ 2 → isAddress pair ≡ false → addressConcluded unfit ≡ addressConcluded (addressBy (take a (drop p s)) b n)
+  address-reserved e h = rw (two e, h)
+
+  pub address-good : a ≡ 2 → isAddress pair ≡ true
+      → read (addressParameter Taken (addressOf pair b n)) ≡ addressConcluded (addressBy (take a (drop p s)) b n)
+  address-good e h = rw (two e, h)
 
 -- ---- after its bytes b
 module _ (s b : List ℕ) (at n : ℕ) (r : Reading AddressParameter) where

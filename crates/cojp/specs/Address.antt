@@ -2,8 +2,8 @@
 use Prim.Native.Nat.{ℕ}
 use mathlib.Core.Bool.{Bool, true, false, cond}
 use mathlib.Core.List.{List, [], _∷_}
-use lib.Dec.{eqb}
-use lib.ListN.{length, replicate}
+use lib.ListN.{replicate}
+use Rattle.short_address.specs.Address.{isAddress}
 use Rattle.cbor.specs.View.{Plain, number, string, other, View, plain, list}
 use Rattle.refusal.specs.declared.Verdict.the-variants as verdict
 use Rattle.cojp.specs.declared.address.AddressRead.{AddressRead}
@@ -12,10 +12,6 @@ use Rattle.cojp.specs.declared.address.ShortAddress.{ShortAddress}
 use Rattle.cojp.specs.declared.address.AddressParameter.{AddressParameter}
 use Rattle.cojp.specs.declared.report.Report.{Report}
 use Rattle.cojp.specs.declared.report.Report.the-variants.{Absent, Taken, Discarded}
-
--- any two bytes are an address
-abbrev pub isAddress : List ℕ → Bool
-isAddress s = eqb (length s) 2
 
 abbrev pub addressOf : List ℕ → Bool → ℕ → ShortAddress
 addressOf s leased lease = record { bytes = s; leased = leased; lease = lease }

@@ -12,7 +12,7 @@ use Rattle.link_key_set.specs.KeySet.{keysOf, allowedSet}
 use Rattle.link_key.specs.declared.Key.{Key}
 use Rattle.cojp.specs.Reading.{ifTaken}
 use Rattle.cojp.specs.Octets.{bytesIn}
-use Rattle.cojp.specs.Address.{isAddress}
+use Rattle.short_address.specs.Address.{isAddress}
 use Rattle.cojp.specs.Request.{owing}
 use Rattle.cojp.specs.declared.address.AddressParameter.{AddressParameter}
 use Rattle.cojp.specs.declared.configuration.Configuration.{Configuration}

@@ -6,12 +6,13 @@ use cbor::Value;
 use cbor::value_at;
 use refusal::Refusal;
 use refusal::Verdict;
+use short_address::is_address;
 ghost use mathlib.Core.Path.{_≡_};
 ghost use Prim.Native.Nat.{_+_, _≤_};
 ghost use lib.ListN.{length, take, drop};
-ghost use Rattle.cojp.specs.Address.{isAddress, noAddressParameter, addressBy, addressIn, addressConcluded, addressRead, addressAnswer};
+ghost use Rattle.cojp.specs.Address.{noAddressParameter, addressBy, addressIn, addressConcluded, addressRead, addressAnswer};
 ghost use Rattle.cojp.specs.Bytes.{valueView, membersAt, stringAnd, afterValue, afterMembers};
-ghost use Rattle.cojp.specs.Reading.{broken, Accepting};
+ghost use Rattle.cojp.specs.Reading.{broken, unfit, Accepting};
 
 // An address that is not leased has no end; its lease is 0 in a value that we make.
 pub struct ShortAddress {
@@ -31,13 +32,6 @@ pub struct AddressRead {
     pub verdict: Verdict,
     pub parameter: AddressParameter,
     pub next: usize,
-}
-
-// Any two bytes are an address.
-pub fn is_address(bytes: [u8; 2]) -> bool
-    ensures { λ r. ⌜ r ≡ isAddress bytes ⌝ }
-{
-    true
 }
 
 // A parameter with no value.
@@ -67,6 +61,18 @@ fn broken_address() -> AddressRead
     }
 }
 
+// A byte string that is no address: the parameter is discarded.
+fn discarded_address(next: usize) -> AddressRead
+    ensures { λ r. ⌜ r ≡ addressAnswer (addressConcluded unfit) next ⌝ }
+{
+    let none = no_address(Report::Discarded);
+    AddressRead {
+        verdict: Verdict::Accepted,
+        parameter: none,
+        next: next,
+    }
+}
+
 // The address that `len` bytes from `start` on are, if they are one.
 fn address_from(
     s: &[u8],
@@ -80,28 +86,26 @@ fn address_from(
     ensures { λ r. ⌜ r ≡ addressAnswer (addressConcluded (addressBy (take len (drop start (now (s .entry)))) leased lease)) next ⌝ }
 {
     if len != 2 {
-        let none = no_address(Report::Discarded);
+        return discarded_address(next);
+    }
+    let bytes = [s[start], s[start + 1]];
+    if is_address(bytes) {
+        let value = ShortAddress {
+            bytes: bytes,
+            leased: leased,
+            lease: lease,
+        };
+        let parameter = AddressParameter {
+            report: Report::Taken,
+            value: value,
+        };
         return AddressRead {
             verdict: Verdict::Accepted,
-            parameter: none,
+            parameter: parameter,
             next: next,
         };
     }
-    let bytes = [s[start], s[start + 1]];
-    let value = ShortAddress {
-        bytes: bytes,
-        leased: leased,
-        lease: lease,
-    };
-    let parameter = AddressParameter {
-        report: Report::Taken,
-        value: value,
-    };
-    AddressRead {
-        verdict: Verdict::Accepted,
-        parameter: parameter,
-        next: next,
-    }
+    discarded_address(next)
 }
 
 // The rest of a short address after its byte string: nothing, or a lease; `left` members are left.

@@ -13,7 +13,6 @@ pub mod walk;
 pub use address::AddressParameter;
 pub use address::AddressRead;
 pub use address::ShortAddress;
-pub use address::is_address;
 pub use address::no_address;
 pub use address::read_address;
 pub use configuration::Configuration;

@@ -1,133 +1,83 @@
--- Configurations: a label's standing, its value, and the answer, case by case.
-use Prim.Native.Nat.{ℕ, _+_, _-_, _≤_, _<_}
-use native.Mathlib.Omega.{arith}
+-- Configurations: a label's standing and its value, case by case.
+use Prim.Native.Nat.{ℕ, _+_, _≤_, _<_}
+use mathlib.Core.Path.{_≡_, _∙_}
 use mathlib.Core.List.{List}
-use mathlib.Core.Logic.{_⊎_, ⊎-elim}
+use native.Mathlib.Omega.{arith}
 use lib.ListN.{drop}
-use mathlib.Core.Path.{_≡_, refl, sym, _∙_}
-use mathlib.Core.Bool.{true, false, false≢true}
 use borrow.Author.Tests.{ne-eqb}
-use Rattle.refusal.specs.declared.Refusal.{Refusal}
-use Rattle.refusal.specs.declared.Verdict.the-variants as verdict
-use Rattle.cbor.specs.View.{View, labelAt}
-use Rattle.cbor.specs.declared.value.Label.{Label}
-use Rattle.cbor.specs.declared.value.Label.the-variants as label
-use Rattle.refusal.specs.declared.Refusal.the-variants as refusal
 use Rattle.refusal.specs.declared.Verdict.{Verdict}
-use Rattle.cojp.specs.Bytes.{valueView, afterValue}
+use Rattle.cbor.specs.View.{View}
 use Rattle.cojp.specs.Address.{addressRead}
-use Rattle.cojp.specs.Configuration.{configurationForm, configurationPassing, withKeys, withAddress, withJrc, withNetwork, withPrefix, configurationStanding, configurationTaking}
+use Rattle.cojp.specs.Bytes.{valueView, afterValue}
+use Rattle.cojp.specs.Configuration.{configurationForm, configurationPassing, configurationStanding, configurationTaking}
+use Rattle.cojp.specs.Configuration.{withKeys, withAddress, withJrc, withNetwork, withPrefix}
 use Rattle.cojp.specs.KeySet.{keysRead}
 use Rattle.cojp.specs.Octets.{octetsRead}
-use Rattle.cojp.specs.Reading.{Reading, refused, read, put, said, Accepting}
-use Rattle.cojp.specs.Walk.{standingOf, pairRead}
-use Rattle.cojp.specs.declared.report.Report.{Report}
-use Rattle.cojp.specs.declared.report.Report.the-variants.{Absent, Taken, Discarded}
-use Rattle.cojp_map.proofs.Maps.{Underway, underway-next, underway-done, pair-again, pair-fresh, pair-unknown}
+use Rattle.cojp.specs.Reading.{Reading, put, said, Accepting}
+use Rattle.cojp.specs.Walk.{standingOf, knownRead}
+use Rattle.cojp.specs.declared.address.AddressParameter.{AddressParameter}
 use Rattle.cojp.specs.declared.configuration.Configuration.{Configuration}
-use Rattle.cojp.specs.declared.walk.Standing.{Standing}
-use Rattle.cojp.specs.declared.walk.Standing.the-variants.{Unknown, Fresh, Again}
-use Rattle.cojp_configuration_read.specs.Configurations.{seen}
+use Rattle.cojp.specs.declared.key_set.KeysParameter.{KeysParameter}
+use Rattle.cojp.specs.declared.octets.OctetsParameter.{OctetsParameter}
+use Rattle.cojp.specs.declared.report.Report.{Report}
+use Rattle.cojp.specs.declared.walk.Standing.the-variants.{Unknown}
+use Rattle.cojp_map.specs.Pairs.{Told, seen, once}
+use Rattle.cojp_map.specs.declared.pair.Labelled.{Labelled}
+use Rattle.cojp_map.proofs.Maps.{put-said, known-put, standing-seen, Turned, turned-known, turned-passed}
 
-module _ (c : Configuration) (n : ℕ) where
-  -- ---- a label's standing
-  module _ (t : Standing) where
-    pub standing-keys : n ≡ 2 → t ≡ standingOf (c .keys .report) → t ≡ configurationStanding c n
-    unfolding configurationStanding
-    standing-keys h e = e ∙ rw h
+-- ---- a known label's value, as its reader says it
+module _ (c : Configuration) (n : ℕ) (v : View) where
+  -- what the label comes to
+  abbrev pub known : Reading Configuration
+  known = knownRead configurationForm (configurationStanding c n) c n v
 
-    pub standing-address : n ≡ 3 → t ≡ standingOf (c .address .report) → t ≡ configurationStanding c n
-    unfolding configurationStanding
-    standing-address h e = e ∙ rw h
+  known-by : {P : Type 0} (held : Report) (f : P → Configuration) (x : Reading P) → configurationStanding c n ≡ standingOf held
+      → configurationTaking c n v ≡ put f x → (w : Verdict) (p : P) → said w p ≡ once (seen held) x → said w (f p) ≡ known
+  known-by held f x a b w p e =
+      put-said f w p (once (seen held) x) e ∙ known-put configurationForm c n v (seen held) f x (a ∙ standing-seen held) b
 
-    pub standing-jrc : n ≡ 4 → t ≡ standingOf (c .jrc .report) → t ≡ configurationStanding c n
-    unfolding configurationStanding
-    standing-jrc h e = e ∙ rw h
+  pub keys-known : n ≡ 2 → (w : Verdict) (p : KeysParameter) → said w p ≡ once (seen (c .keys .report)) (keysRead v) → said w (withKeys c p) ≡ known
+  unfolding configurationStanding configurationTaking
+  keys-known h = known-by (c .keys .report) (withKeys c) (keysRead v) (rw h) (rw h)
 
-    pub standing-network : n ≡ 5 → t ≡ standingOf (c .network .report) → t ≡ configurationStanding c n
-    unfolding configurationStanding
-    standing-network h e = e ∙ rw h
+  pub address-known : n ≡ 3 → (w : Verdict) (p : AddressParameter) → said w p ≡ once (seen (c .address .report)) (addressRead v) → said w (withAddress c p) ≡ known
+  unfolding configurationStanding configurationTaking
+  address-known h = known-by (c .address .report) (withAddress c) (addressRead v) (rw h) (rw h)
 
-    pub standing-prefix : n ≡ 6 → t ≡ standingOf (c .prefix .report) → t ≡ configurationStanding c n
-    unfolding configurationStanding
-    standing-prefix h e = e ∙ rw h
+  pub jrc-known : n ≡ 4 → (w : Verdict) (p : OctetsParameter) → said w p ≡ once (seen (c .jrc .report)) (octetsRead 16 v) → said w (withJrc c p) ≡ known
+  unfolding configurationStanding configurationTaking
+  jrc-known h = known-by (c .jrc .report) (withJrc c) (octetsRead 16 v) (rw h) (rw h)
 
-  pub standing-unknown : ¬ (n ≡ 2) → ¬ (n ≡ 3) → ¬ (n ≡ 4) → ¬ (n ≡ 5) → ¬ (n ≡ 6) → Unknown ≡ configurationStanding c n
+  pub network-known : n ≡ 5 → (w : Verdict) (p : OctetsParameter) → said w p ≡ once (seen (c .network .report)) (octetsRead 0 v) → said w (withNetwork c p) ≡ known
+  unfolding configurationStanding configurationTaking
+  network-known h = known-by (c .network .report) (withNetwork c) (octetsRead 0 v) (rw h) (rw h)
+
+  pub prefix-known : n ≡ 6 → (w : Verdict) (p : OctetsParameter) → said w p ≡ once (seen (c .prefix .report)) (octetsRead 0 v) → said w (withPrefix c p) ≡ known
+  unfolding configurationStanding configurationTaking
+  prefix-known h = known-by (c .prefix .report) (withPrefix c) (octetsRead 0 v) (rw h) (rw h)
+
+  pub unknown : ¬ (n ≡ 2) → ¬ (n ≡ 3) → ¬ (n ≡ 4) → ¬ (n ≡ 5) → ¬ (n ≡ 6) → configurationStanding c n ≡ Unknown
   unfolding configurationStanding
-  standing-unknown h₂ h₃ h₄ h₅ h₆ = rw (ne-eqb n 2 h₂, ne-eqb n 3 h₃, ne-eqb n 4 h₄, ne-eqb n 5 h₅, ne-eqb n 6 h₆)
+  unknown h₂ h₃ h₄ h₅ h₆ = rw (ne-eqb n 2 h₂, ne-eqb n 3 h₃, ne-eqb n 4 h₄, ne-eqb n 5 h₅, ne-eqb n 6 h₆)
 
-  -- ---- its value
-  module _ (v : View) (r : Reading Configuration) where
-    pub taking-keys : n ≡ 2 → r ≡ put (withKeys c) (keysRead v) → r ≡ configurationTaking c n v
-    unfolding configurationTaking
-    taking-keys h e = e ∙ rw h
+-- ---- one turn of the walk: what is gathered after the pair, by its label; p is the answer about the label
+module _ (c : Configuration) (s l : List ℕ) (p : Labelled) (t : Told s l p) (c′ : Configuration) (w : Verdict) (next : ℕ) where
+  pub record Turn : Type 0 where
+    pub turned : Turned configurationForm c s l w c′ next
+    pub few : c′ .passed ≤ c .passed + 1
 
-    pub taking-address : n ≡ 3 → r ≡ put (withAddress c) (addressRead v) → r ≡ configurationTaking c n v
-    unfolding configurationTaking
-    taking-address h e = e ∙ rw h
+  -- a known label: w₀, c₀ and next₀ are what its reader gave
+  pub turn-known : 0 < p .label → (w₀ : Verdict) (c₀ : Configuration) (next₀ : ℕ)
+      → said w₀ c₀ ≡ known c (p .label) (valueView (drop (p .value) s)) → Accepting w₀ (drop next₀ s ≡ afterValue (drop (p .value) s))
+      → c₀ .passed ≡ c .passed → next ≡ next₀ → c′ ≡ c₀ → w ≡ w₀ → Turn
+  turn-known h w₀ c₀ next₀ e f g n-is c-is w-is = record {
+    turned = rw (n-is, c-is, w-is) (turned-known configurationForm c s l p t h w₀ c₀ next₀ e f);
+    few = rw c-is (omega (arith, g));
+  }
 
-    pub taking-jrc : n ≡ 4 → r ≡ put (withJrc c) (octetsRead 16 v) → r ≡ configurationTaking c n v
-    unfolding configurationTaking
-    taking-jrc h e = e ∙ rw h
-
-    pub taking-network : n ≡ 5 → r ≡ put (withNetwork c) (octetsRead 0 v) → r ≡ configurationTaking c n v
-    unfolding configurationTaking
-    taking-network h e = e ∙ rw h
-
-    pub taking-prefix : n ≡ 6 → r ≡ put (withPrefix c) (octetsRead 0 v) → r ≡ configurationTaking c n v
-    unfolding configurationTaking
-    taking-prefix h e = e ∙ rw h
-
--- ---- a label that came before, and one that did not
-pub seen-again : (r : Report) → seen r ≡ true → standingOf r ≡ Again
-seen-again Absent e = absurd (false≢true e)
-seen-again Taken e = refl
-seen-again Discarded e = refl
-
-pub seen-fresh : (r : Report) → seen r ≡ false → standingOf r ≡ Fresh
-seen-fresh Absent e = refl
-seen-fresh Taken e = absurd (false≢true (sym e))
-seen-fresh Discarded e = absurd (false≢true (sym e))
-
--- label 0 is unknown
-pub zero-unknown : (c : Configuration) → configurationStanding c 0 ≡ Unknown
-unfolding configurationStanding
-zero-unknown c = refl
-
--- ---- one turn of the walk, s being the payload and the value standing at a place
-module _ (total : Reading Configuration) (count : ℕ) {n : ℕ} (c : Configuration) (s : List ℕ) (at : ℕ)
-    (i : Underway configurationForm total count (c .passed) n verdict.Accepted c (drop at s)) (h : 0 < n)
-    (value : ℕ) (e : drop value s ≡ afterValue (drop at s)) (l : Label) (f : l ≡ labelAt (drop at s)) where
-  pub turn-stops : (k : Refusal) → refused k ≡ pairRead configurationForm c l (valueView (drop value s)) → refused k ≡ total
-  turn-stops k g =
-      underway-done configurationForm total count
-      (underway-next configurationForm total count s at i h value e l f (verdict.Refused k) c (c .passed) 0 g (omega arith) tt) (omega arith)
-
-  pub turn-goes : (d : Configuration) (next : ℕ) → read d ≡ pairRead configurationForm c l (valueView (drop value s)) → d .passed ≤ c .passed + 1
-      → drop next s ≡ afterValue (drop value s) → Underway configurationForm total count (d .passed) (n - 1) verdict.Accepted d (drop next s)
-  turn-goes d next g few o = underway-next configurationForm total count s at i h value e l f verdict.Accepted d (d .passed) next g few o
-
-  module _ (m : ℕ) (g : l ≡ label.Number m) (x : Report) (t : standingOf x ≡ configurationStanding c m) where
-    pub turn-again : seen x ≡ true → refused refusal.Twice ≡ total
-    turn-again z =
-        turn-stops refusal.Twice
-        (rw g (pair-again configurationForm c verdict.Accepted m (valueView (drop value s)) _ refl (standingOf x) t (seen-again x z) refl))
-
-    module _ (z : seen x ≡ false) (w : Verdict) (d : Configuration) (y : said w d ≡ configurationTaking c m (valueView (drop value s))) where
-      takes : said w d ≡ pairRead configurationForm c l (valueView (drop value s))
-      takes = rw g (pair-fresh configurationForm c verdict.Accepted m (valueView (drop value s)) _ refl (standingOf x) t (seen-fresh x z) y)
-
-      pub turn-refused : (k : Refusal) → w ≡ verdict.Refused k → refused k ≡ total
-      turn-refused k u = turn-stops k (rw u at takes)
-
-      pub turn-takes : (next : ℕ) → w ≡ verdict.Accepted → d .passed ≤ c .passed + 1 → Accepting w (drop next s ≡ afterValue (drop value s))
-          → Underway configurationForm total count (d .passed) (n - 1) verdict.Accepted d (drop next s)
-      turn-takes next u few o = turn-goes d next (rw u at takes) few (rw u at o)
-
-  pub turn-passes : (k : ℕ) → l ≡ label.Negative ⊎ ((m : ℕ) × (l ≡ label.Number m) × (Unknown ≡ configurationStanding c m)) → drop k s ≡ afterValue (drop value s)
-      → Underway configurationForm total count (c .passed + 1) (n - 1) verdict.Accepted (configurationPassing c) (drop k s)
-  turn-passes k o q =
-      turn-goes (configurationPassing c) k
-      (⊎-elim (λ g. rw g)
-      (λ g. rw (g .1) (pair-unknown configurationForm c verdict.Accepted (g .0) (valueView (drop value s)) _ refl Unknown (g .2) refl refl)) o)
-      (omega arith) q
+  pub turn-passed : configurationStanding c (p .label) ≡ Unknown → (end : ℕ) → drop end s ≡ afterValue (drop (p .value) s)
+      → next ≡ end → c′ ≡ configurationPassing c → w ≡ p .verdict → Turn
+  turn-passed h end e n-is c-is w-is = record {
+    turned = rw (n-is, c-is, w-is) (turned-passed configurationForm c s l p t h end e);
+    few = rw c-is (omega arith);
+  }

@@ -1,24 +1,32 @@
 // Configurations, which join responses and parameter updates carry.
-use cbor::Label;
-use cojp::Configuration;
+use cojp::AddressParameter;
+use cojp::AddressRead;
 use cojp::ConfigurationRead;
+use cojp::KeysParameter;
+use cojp::KeysRead;
 use cojp::Report;
 use cojp::empty_configuration;
+use cojp::no_address;
+use cojp::no_key_set;
 use cojp::read_address;
-use cojp::read_octets;
 use cojp_key_set_read::read_keys;
 use cojp_map::Start;
+use cojp_map::is_seen;
 use cojp_map::item_end;
 use cojp_map::labelled_at;
+use cojp_map::octets_once;
 use cojp_map::open_payload;
 use refusal::Refusal;
 use refusal::Verdict;
 ghost use mathlib.Core.Path.{_≡_};
 ghost use lib.ListN.{drop};
-ghost use Rattle.cojp_configuration_read.specs.Configurations.{seen};
+ghost use Rattle.cojp.specs.Address.{addressRead};
+ghost use Rattle.cojp.specs.Bytes.{valueView, afterValue};
 ghost use Rattle.cojp.specs.Configuration.{emptyConfiguration, configurationForm, refuseConfiguration, configurationAnswer, readConfigurationBy, readConfiguration, readStrictConfiguration};
+ghost use Rattle.cojp.specs.KeySet.{keysRead};
+ghost use Rattle.cojp.specs.Reading.{said, Accepting};
 ghost use Rattle.cbor.specs.Strict.{headBy};
-ghost use Rattle.cojp_map.specs.Pairs.{walkAt, Readable};
+ghost use Rattle.cojp_map.specs.Pairs.{seen, once, walkAt};
 
 fn refused_configuration(why: Refusal) -> ConfigurationRead
     ensures { λ r. ⌜ r ≡ refuseConfiguration why ⌝ }
@@ -30,129 +38,94 @@ fn refused_configuration(why: Refusal) -> ConfigurationRead
     }
 }
 
-// Whether a known label came before: its parameter was taken or discarded.
-fn seen(report: Report) -> bool
-    ensures { λ r. ⌜ r ≡ seen report ⌝ }
+// The key set at a place: TWICE where its label came before, with what is held.
+fn keys_once(s: &[u8], at: usize, held: KeysParameter) -> KeysRead
+    ensures { λ r. ⌜ said (r .verdict) (r .parameter) ≡ once (seen (held .report)) (keysRead (valueView (drop at (now (s .entry))))) ⌝ }
+    ensures rest { λ r. ⌜ Accepting (r .verdict) (drop (r .next) (now (s .entry)) ≡ afterValue (drop at (now (s .entry)))) ⌝ }
 {
-    match report {
-        Report::Absent => false,
-        Report::Taken => true,
-        Report::Discarded => true,
+    let report = held.report;
+    if is_seen(report) {
+        let none = no_key_set(Report::Absent);
+        return KeysRead {
+            verdict: Verdict::Refused(Refusal::Twice),
+            parameter: none,
+            next: 0,
+        };
     }
+    read_keys(s, at)
 }
 
-// The map's pairs in payload order, up to the first refusal: label kind, repetition, then the value, whose reader says where it ends.
-// Only the values of unknown labels are passed over.
-fn take_pairs(s: &[u8], start: usize, count: u64) -> ConfigurationRead
-    requires { ⌜ Readable count (drop start (now s)) ⌝ }
-    ensures { λ r. ⌜ r ≡ configurationAnswer (walkAt configurationForm count emptyConfiguration (drop start (now (s .entry)))) ⌝ }
+// The short address at a place: TWICE where its label came before, with what is held.
+fn address_once(s: &[u8], at: usize, held: AddressParameter) -> AddressRead
+    ensures { λ r. ⌜ said (r .verdict) (r .parameter) ≡ once (seen (held .report)) (addressRead (valueView (drop at (now (s .entry))))) ⌝ }
+    ensures rest { λ r. ⌜ Accepting (r .verdict) (drop (r .next) (now (s .entry)) ≡ afterValue (drop at (now (s .entry)))) ⌝ }
 {
-    let mut at = start;
-    let mut left = count;
+    let report = held.report;
+    if is_seen(report) {
+        let none = no_address(Report::Absent);
+        return AddressRead {
+            verdict: Verdict::Refused(Refusal::Twice),
+            parameter: none,
+            next: 0,
+        };
+    }
+    read_address(s, at)
+}
+
+// The next pairs in payload order, up to the first refusal. The parameters are stored where they stand: a Configuration that is
+// handed down and back for each pair costs a third of a short read.
+fn take_pairs(s: &[u8], mut at: usize, mut left: u64) -> ConfigurationRead
+    ensures { λ r. ⌜ r ≡ configurationAnswer (walkAt configurationForm left emptyConfiguration (drop at (now (s .entry)))) ⌝ }
+{
     let mut c = empty_configuration();
     while 0 < left {
         let pair = labelled_at(s, at);
+        let mut verdict = pair.verdict;
         let label = pair.label;
-        let value = pair.value;
         match label {
-            Label::NoInteger => return refused_configuration(Refusal::Type),
-            Label::Negative => {}
-            Label::Number(number) => match number {
-                2 => {
-                    let held = c.keys;
-                    let report = held.report;
-                    if seen(report) {
-                        return refused_configuration(Refusal::Twice);
-                    }
-                    let r = read_keys(s, value);
-                    let verdict = r.verdict;
-                    match verdict {
-                        Verdict::Refused(why) => return refused_configuration(why),
-                        Verdict::Accepted => {}
-                    }
-                    let parameter = r.parameter;
-                    c.keys = parameter;
-                    at = r.next;
-                    left -= 1;
-                    continue;
-                }
-                3 => {
-                    let held = c.address;
-                    let report = held.report;
-                    if seen(report) {
-                        return refused_configuration(Refusal::Twice);
-                    }
-                    let r = read_address(s, value);
-                    let verdict = r.verdict;
-                    match verdict {
-                        Verdict::Refused(why) => return refused_configuration(why),
-                        Verdict::Accepted => {}
-                    }
-                    let parameter = r.parameter;
-                    c.address = parameter;
-                    at = r.next;
-                    left -= 1;
-                    continue;
-                }
-                4 => {
-                    let held = c.jrc;
-                    let report = held.report;
-                    if seen(report) {
-                        return refused_configuration(Refusal::Twice);
-                    }
-                    let r = read_octets(s, value, 16);
-                    let verdict = r.verdict;
-                    match verdict {
-                        Verdict::Refused(why) => return refused_configuration(why),
-                        Verdict::Accepted => {}
-                    }
-                    let parameter = r.parameter;
-                    c.jrc = parameter;
-                    at = r.next;
-                    left -= 1;
-                    continue;
-                }
-                5 => {
-                    let held = c.network;
-                    let report = held.report;
-                    if seen(report) {
-                        return refused_configuration(Refusal::Twice);
-                    }
-                    let r = read_octets(s, value, 0);
-                    let verdict = r.verdict;
-                    match verdict {
-                        Verdict::Refused(why) => return refused_configuration(why),
-                        Verdict::Accepted => {}
-                    }
-                    let parameter = r.parameter;
-                    c.network = parameter;
-                    at = r.next;
-                    left -= 1;
-                    continue;
-                }
-                6 => {
-                    let held = c.prefix;
-                    let report = held.report;
-                    if seen(report) {
-                        return refused_configuration(Refusal::Twice);
-                    }
-                    let r = read_octets(s, value, 0);
-                    let verdict = r.verdict;
-                    match verdict {
-                        Verdict::Refused(why) => return refused_configuration(why),
-                        Verdict::Accepted => {}
-                    }
-                    let parameter = r.parameter;
-                    c.prefix = parameter;
-                    at = r.next;
-                    left -= 1;
-                    continue;
-                }
-                _ => {}
-            },
+            2 => {
+                let r = keys_once(s, pair.value, c.keys);
+                verdict = r.verdict;
+                let parameter = r.parameter;
+                c.keys = parameter;
+                at = r.next;
+            }
+            3 => {
+                let r = address_once(s, pair.value, c.address);
+                verdict = r.verdict;
+                let parameter = r.parameter;
+                c.address = parameter;
+                at = r.next;
+            }
+            4 => {
+                let r = octets_once(s, pair.value, c.jrc, 16);
+                verdict = r.verdict;
+                let parameter = r.parameter;
+                c.jrc = parameter;
+                at = r.next;
+            }
+            5 => {
+                let r = octets_once(s, pair.value, c.network, 0);
+                verdict = r.verdict;
+                let parameter = r.parameter;
+                c.network = parameter;
+                at = r.next;
+            }
+            6 => {
+                let r = octets_once(s, pair.value, c.prefix, 0);
+                verdict = r.verdict;
+                let parameter = r.parameter;
+                c.prefix = parameter;
+                at = r.next;
+            }
+            _ => {
+                c.passed += 1;
+                at = item_end(s, pair.value);
+            }
         }
-        at = item_end(s, value);
-        c.passed += 1;
+        if let Verdict::Refused(why) = verdict {
+            return refused_configuration(why);
+        }
         left -= 1;
     }
     ConfigurationRead {

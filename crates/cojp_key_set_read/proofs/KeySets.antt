@@ -30,7 +30,7 @@ use Rattle.cojp_key_set_read.specs.declared.Group.the-variants as gv
 use Rattle.cojp.specs.declared.key_set.KeysParameter.{KeysParameter}
 use Rattle.cojp.specs.declared.members.Member.{Member}
 use Rattle.cojp.specs.declared.members.Member.the-variants as mv
-use Rattle.link_key.proofs.Tests.{both-left, both-right}
+use Rattle.logic_facts.specs.Tests.{both-left, both-right}
 use Rattle.cojp.proofs.Arrays.{nothing-left, members-none, members-other, array-here, no-array}
 use Rattle.cojp.proofs.Strings.{copied-inside}
 use Rattle.cojp.proofs.members.Member as member

@@ -17,6 +17,7 @@ use Rattle.cbor.specs.Strict.{headBy}
 use Rattle.link_key_set.specs.KeySet.{keysOf}
 use Rattle.link_key.specs.declared.Key.{Key}
 use Rattle.link_key_set.proofs.KeySets.{set-allowed}
+use Rattle.short_address.specs.Address.{isAddress}
 use Rattle.cojp.specs.Address.{addressOf, addressParameter, noAddressParameter, addressIn, addressRead}
 use Rattle.cojp.specs.KeySet.{keyOf, keySetOf, keysParameter, noKeysParameter, groups, groupsOf, keysRead}
 use Rattle.cojp.specs.Laws.{Kept}
@@ -113,14 +114,14 @@ addressGood p = addressParameter Taken (addressOf (p .value .bytes) (p .value .l
 abbrev pub addressBack : AddressParameter → AddressParameter
 addressBack p = ifTaken (p .report) (addressGood p) (noAddressParameter Absent)
 
-address-read : (s : List ℕ) (b : Bool) (n : ℕ) → length s ≡ 2
+address-read : (s : List ℕ) (b : Bool) (n : ℕ) → isAddress s ≡ true
     → addressRead (viewOf (array (more (bytes s) (leaseItems b n)))) ≡ read (addressParameter Taken (addressOf s b (cond b n 0)))
 unfolding addressIn
-address-read s true n h = rw (eq-eqb (length s) 2 h)
-address-read s false n h = rw (eq-eqb (length s) 2 h)
+address-read s true n h = rw h
+address-read s false n h = rw h
 
 pub address-back : (p : AddressParameter) → addressInRange p ≡ true → p .report ≡ Taken → addressRead (viewOf (array (addressItems (p .value)))) ≡ read (addressGood p)
-address-back p h e = address-read (p .value .bytes) (p .value .leased) (p .value .lease) (eqb-true _ 2 (simp e at h))
+address-back p h e = address-read (p .value .bytes) (p .value .leased) (p .value .lease) (simp e at h)
 
 lease-same : (s : List ℕ) (b : Bool) (n : ℕ) → leaseOf (addressOf s b (cond b n 0)) ≡ leaseOf (addressOf s b n)
 lease-same s true n = refl

@@ -1,7 +1,7 @@
 -- What is in range takes few bytes and few levels, and its numbers fit their heads.
 use Prim.Native.Nat.{ℕ, _+_, _*_, _^_, _≤_, _<_}
 use mathlib.Core.Path.{_≡_, refl, ap, _∙_}
-use mathlib.Core.Bool.{Bool, true, false, cond, _&&_}
+use mathlib.Core.Bool.{Bool, true, false, cond, not, _&&_}
 use mathlib.Core.List.{List, [], _∷_, append-nil, List·Memᴰ, List·Memᴰ·head, List·Memᴰ·tail}
 use native.Mathlib.Omega.{arith}
 use borrow.Author.Tests.{leb-true, eqb-true}
@@ -14,7 +14,8 @@ use Rattle.link_key.specs.Key.{inLimits}
 use Rattle.link_key_set.specs.KeySet.{keysOf}
 use Rattle.link_key_usage.specs.Usage.{listed}
 use Rattle.link_key.specs.declared.Key.{Key}
-use Rattle.link_key.proofs.Tests.{both-left, both-right}
+use Rattle.short_address.specs.Address.{isReserved}
+use Rattle.logic_facts.specs.Tests.{both-left, both-right}
 use Rattle.link_key_set.proofs.KeySets.{set-allowed, allowed-few, allowed-in-limits}
 use Rattle.cojp.specs.Octets.{bytesIn}
 use Rattle.cojp.specs.Reading.{ifTaken}
@@ -144,7 +145,7 @@ fine-address p h l =
     let lease = leaseItems (p .value .leased) (p .value .lease) in
     let is = more (bytes s) lease in
     fine-if (p .report) (labelled 3 (array is)) 14 (λ e.
-    let two : length s ≡ 2 = eqb-true (length s) 2 (simp e at h) in
+    let two : length s ≡ 2 = eqb-true (length s) 2 (both-left (eqb (length s) 2) (not (isReserved s)) (simp e at h)) in
     let front = fine-item (bytes s) 3 (omega (arith, string-length s (omega arith))) (omega arith) (omega arith) in
     let f = fine-chain front (fine-lease (p .value .leased) (p .value .lease) l) in
     fine-array 3 is 2 12 1 (omega arith) (omega arith) (omega (arith, short-head 4 (count is) (omega (arith, f .few)))) f)

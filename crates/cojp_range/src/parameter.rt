@@ -3,7 +3,7 @@ use crate::report::is_taken;
 use cojp::AddressParameter;
 use cojp::KeysParameter;
 use cojp::OctetsParameter;
-use cojp::is_address;
+use short_address::is_address;
 ghost use mathlib.Core.Path.{_≡_};
 ghost use Rattle.cojp.specs.Writing.{octetsInRange, jrcInRange, addressInRange, keysInRange};
 

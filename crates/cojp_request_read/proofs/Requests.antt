@@ -1,6 +1,6 @@
 -- Join requests: a label's standing, its value, and the answer, case by case.
-use Prim.Native.Nat.{ℕ, _≤_, _<_}
-use mathlib.Core.Path.{_≡_, refl, _∙_}
+use Prim.Native.Nat.{ℕ, _+_, _≤_, _<_}
+use mathlib.Core.Path.{_≡_, refl, ap, sym, _∙_}
 use mathlib.Core.Bool.{Bool, true, false}
 use mathlib.Core.List.{List, [], _∷_}
 use mathlib.Core.Logic.{⊎-elim}
@@ -11,21 +11,27 @@ use types.Run.{OneOf}
 use denote.Enum.Declared.{tagOf}
 use Rattle.refusal.specs.declared.Refusal.{Refusal}
 use Rattle.refusal.specs.declared.Refusal.the-variants as refusal
+use Rattle.refusal.specs.declared.Verdict.{Verdict}
 use Rattle.refusal.specs.declared.Verdict.the-variants as verdict
-use Rattle.cbor.specs.View.{View, ValueAt, ValueSays}
+use Rattle.cbor.specs.View.{View, ValueAt, ValueSays, restOf}
 use Rattle.cbor.specs.declared.value.Value.{Value}
 use Rattle.cbor.specs.declared.value.Value.the-variants as vv
 use Rattle.cbor.proofs.value.Value as value
-use Rattle.cojp.specs.Bytes.{valueView}
+use Rattle.cojp.specs.Bytes.{valueView, afterValue}
 use Rattle.cojp.specs.Octets.{octetsRead}
-use Rattle.cojp.specs.Reading.{Reading, refused, read, onward, put, said}
-use Rattle.cojp.specs.Request.{roleJudged, roleRead, withRole, withNetwork, roleStanding, requestStanding, requestTaking, owing, settled, refuseRequest, acceptRequest, requestAnswer}
-use Rattle.cojp.specs.Walk.{standingOf}
+use Rattle.cojp.specs.Reading.{Reading, refused, read, onward, said, Accepting}
+use Rattle.cojp.specs.Request.{roleJudged, roleRead, roleStanding, withRole, withNetwork, requestStanding, requestTaking, requestForm, settled, requestAnswer}
+use Rattle.cojp.specs.Walk.{knownRead}
+use Rattle.cojp.specs.declared.octets.OctetsParameter.{OctetsParameter}
+use Rattle.cojp.specs.declared.octets.OctetsRead.{OctetsRead}
 use Rattle.cojp.specs.declared.request.Gathered.{Gathered}
-use Rattle.cojp_request_read.specs.declared.request.GatheredRead.{GatheredRead}
 use Rattle.cojp.specs.declared.request.RequestRead.{RequestRead}
-use Rattle.cojp.specs.declared.walk.Standing.{Standing}
 use Rattle.cojp.specs.declared.walk.Standing.the-variants.{Unknown}
+use Rattle.cojp_map.specs.Pairs.{Told, seen, once}
+use Rattle.cojp_map.specs.declared.pair.Labelled.{Labelled}
+use Rattle.cojp_map.proofs.Maps.{put-said, known-put, ifAgain, standing-seen, Turned, turned-known, turned-passed}
+use Rattle.cojp_request_read.specs.Requests.{gatheredOf}
+use Rattle.cojp_request_read.specs.declared.request.RoleRead.{RoleRead}
 
 -- ---- the role
 module _ (s : List ℕ) (at : ℕ) (v : Value) (e : ValueSays s at v) where
@@ -41,6 +47,9 @@ module _ (s : List ℕ) (at : ℕ) (v : Value) (e : ValueSays s at v) where
     unfolding roleJudged
     role-taken h = rw (role-here .view, le-leb n 1 h)
 
+    pub role-ends : drop p s ≡ afterValue (drop at s)
+    role-ends = let w : ValueAt 6 s at (vv.Number n p) = rw g at (e .says 6) in sym (ap restOf (w .rest .1))
+
   pub role-broken : OneOf (1 ∷ 2 ∷ 3 ∷ []) (tagOf value.the-type v) → refused refusal.«Type» ≡ roleRead (valueView (drop at s))
   unfolding roleJudged
   role-broken o = go v (e .says 5) o
@@ -52,49 +61,80 @@ module _ (s : List ℕ) (at : ℕ) (v : Value) (e : ValueSays s at v) where
       go (vv.Array p a) w o = rw (w .view)
       go vv.Other w o = rw (w .view)
 
--- ---- a label
-module _ (g : Gathered) (n : ℕ) where
-  pub standing-role : (b : Bool) → n ≡ 1 → g .named ≡ b → roleStanding b ≡ requestStanding g n
+-- a refusal of the role, s being the payload and l what is left after the value
+pub role-refused : (named : Bool) (x : Reading ℕ) (s l : List ℕ) (r : RoleRead) (k : Refusal) → r ≡ record { verdict = verdict.Refused k; role = 0; next = 0 }
+    → refused k ≡ once named x → (said (r .verdict) (r .role) ≡ once named x) × Accepting (r .verdict) (drop (r .next) s ≡ l)
+role-refused named x s l r k e f = rw e (f, tt)
+
+-- ---- a known label's value, as its reader says it
+module _ (g : Gathered) (n : ℕ) (v : View) where
+  -- what the label comes to
+  abbrev pub known : Reading Gathered
+  known = knownRead requestForm (requestStanding g n) g n v
+
+  standing-named : (b : Bool) → roleStanding b ≡ ifAgain b
+  standing-named true = refl
+  standing-named false = refl
+
+  role-known : n ≡ 1 → (w : Verdict) (role : ℕ) → said w role ≡ once (g .named) (roleRead v) → said w (withRole g role) ≡ known
+  unfolding requestStanding requestTaking
+  role-known h w role e =
+      put-said (withRole g) w role _ e
+      ∙ known-put requestForm g n v (g .named) (withRole g) (roleRead v) (rw h (standing-named (g .named))) (rw h)
+
+  network-known : n ≡ 5 → (w : Verdict) (p : OctetsParameter) → said w p ≡ once (seen (g .request .network .report)) (octetsRead 0 v)
+      → said w (withNetwork g p) ≡ known
+  unfolding requestStanding requestTaking
+  network-known h w p e =
+      put-said (withNetwork g) w p _ e
+      ∙ known-put requestForm g n v (seen (g .request .network .report)) (withNetwork g) (octetsRead 0 v) (rw h (standing-seen (g .request .network .report))) (rw h)
+
+  unknown : ¬ (n ≡ 1) → ¬ (n ≡ 5) → requestStanding g n ≡ Unknown
   unfolding requestStanding
-  standing-role b h e = rw (h, e)
+  unknown h k = rw (ne-eqb n 1 h, ne-eqb n 5 k)
 
-  pub standing-network : (t : Standing) → n ≡ 5 → t ≡ standingOf (g .request .network .report) → t ≡ requestStanding g n
-  unfolding requestStanding
-  standing-network t h e = e ∙ rw h
+-- ---- one turn of the walk: what is gathered after the pair, by its label; p is the answer about the label
+module _ (named : Bool) (role : ℕ) (network : OctetsParameter) (passed : ℕ)
+    (s l : List ℕ) (p : Labelled) (t : Told s l p)
+    (named′ : Bool) (role′ : ℕ) (network′ : OctetsParameter) (passed′ : ℕ) (w : Verdict) (next : ℕ) where
+  abbrev old : Gathered
+  old = gatheredOf named role network passed
 
-  pub standing-unknown : ¬ (n ≡ 1) → ¬ (n ≡ 5) → Unknown ≡ requestStanding g n
-  unfolding requestStanding
-  standing-unknown h k = rw (ne-eqb n 1 h, ne-eqb n 5 k)
+  abbrev new : Gathered
+  new = gatheredOf named′ role′ network′ passed′
 
-  pub taking-role : (v : View) (r : Reading Gathered) → n ≡ 1 → r ≡ put (withRole g) (roleRead v) → r ≡ requestTaking g n v
-  unfolding requestTaking
-  taking-role v r h e = e ∙ rw h
+  pub record Turn : Type 0 where
+    pub turned : Turned requestForm old s l w new next
+    pub few : passed′ ≤ passed + 1
 
-  pub taking-network : (v : View) (r : Reading Gathered) → ¬ (n ≡ 1) → r ≡ put (withNetwork g) (octetsRead 0 v) → r ≡ requestTaking g n v
-  unfolding requestTaking
-  taking-network v r h e = e ∙ rw (ne-eqb n 1 h)
+  abbrev here : View
+  here = valueView (drop (p .value) s)
 
--- ---- the answer
-module _ (r : GatheredRead) (x : RequestRead) where
-  pub answer-refused : (k : Refusal) → r .verdict ≡ verdict.Refused k → x ≡ refuseRequest k
-      → x ≡ requestAnswer (onward (said (r .verdict) (r .gathered)) settled)
-  answer-refused k h e = e ∙ rw h
+  abbrev after : List ℕ
+  after = afterValue (drop (p .value) s)
 
-  module _ (h : r .verdict ≡ verdict.Accepted) where
-    pub answer-owed : owing (r .gathered .request .role) (r .gathered .request .network .report) ≡ true → x ≡ refuseRequest refusal.Owed
-        → x ≡ requestAnswer (onward (said (r .verdict) (r .gathered)) settled)
-    answer-owed o e = e ∙ rw (h, o)
+  by-reader : 0 < p .label → said w new ≡ known old (p .label) here → Accepting w (drop next s ≡ after) → passed′ ≡ passed → Turn
+  by-reader h e f g = record { turned = turned-known requestForm old s l p t h w new next e f; few = omega arith }
 
-    pub answer-accepted : owing (r .gathered .request .role) (r .gathered .request .network .report) ≡ false
-        → x ≡ acceptRequest (r .gathered .request)
-        → x ≡ requestAnswer (onward (said (r .verdict) (r .gathered)) settled)
-    answer-accepted o e = e ∙ rw (h, o)
+  pub turn-role : p .label ≡ 1 → (r : RoleRead)
+      → (said (r .verdict) (r .role) ≡ once named (roleRead here)) × Accepting (r .verdict) (drop (r .next) s ≡ after)
+      → next ≡ r .next → named′ ≡ true → role′ ≡ r .role → network′ ≡ network → passed′ ≡ passed → w ≡ r .verdict → Turn
+  turn-role h r (e, f) n-is b-is r-is o-is p-is w-is =
+      by-reader (omega arith) (rw (w-is, b-is, r-is, o-is, p-is) (role-known old (p .label) here h (r .verdict) (r .role) e)) (rw (w-is, n-is) f) p-is
 
--- label 0 is unknown
-pub zero-unknown : (g : Gathered) → requestStanding g 0 ≡ Unknown
-unfolding requestStanding
-zero-unknown g = refl
+  pub turn-network : p .label ≡ 5 → (r : OctetsRead)
+      → (said (r .verdict) (r .parameter) ≡ once (seen (network .report)) (octetsRead 0 here)) × Accepting (r .verdict) (drop (r .next) s ≡ after)
+      → next ≡ r .next → named′ ≡ named → role′ ≡ role → network′ ≡ r .parameter → passed′ ≡ passed → w ≡ r .verdict → Turn
+  turn-network h r (e, f) n-is b-is r-is o-is p-is w-is =
+      by-reader (omega arith) (rw (w-is, b-is, r-is, o-is, p-is) (network-known old (p .label) here h (r .verdict) (r .parameter) e)) (rw (w-is, n-is) f) p-is
 
--- the answer to what was gathered
+  pub turn-passed : ¬ (p .label ≡ 1) → ¬ (p .label ≡ 5) → (end : ℕ) → drop end s ≡ after
+      → next ≡ end → named′ ≡ named → role′ ≡ role → network′ ≡ network → passed′ ≡ passed + 1 → w ≡ p .verdict → Turn
+  turn-passed h k end e n-is b-is r-is o-is p-is w-is = record {
+    turned = rw (w-is, b-is, r-is, o-is, p-is, n-is) (turned-passed requestForm old s l p t (unknown old (p .label) here h k) end e);
+    few = omega arith;
+  }
+
+-- ---- the answer to what was gathered
 abbrev pub answerTo : Reading Gathered → RequestRead
 answerTo x = requestAnswer (onward x settled)

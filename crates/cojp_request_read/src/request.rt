@@ -1,38 +1,35 @@
 // Join requests.
 use cbor::Value;
 use cbor::value_at;
-use cojp::Gathered;
+use cojp::JoinRequest;
+use cojp::OctetsParameter;
+use cojp::Report;
 use cojp::RequestRead;
-use cojp::Standing;
 use cojp::empty_request;
 use cojp::is_owing;
-use cojp::read_octets;
-use cojp_map::Pair;
+use cojp::no_octets;
 use cojp_map::Start;
-use cojp_map::left_after;
+use cojp_map::item_end;
+use cojp_map::labelled_at;
+use cojp_map::octets_once;
 use cojp_map::open_payload;
-use cojp_map::pair_at;
-use cojp_map::standing_of;
 use refusal::Refusal;
 use refusal::Verdict;
 ghost use mathlib.Core.Path.{_≡_};
-ghost use Prim.Native.Nat.{_+_, _^_, _<_};
+ghost use mathlib.Core.Bool.{true};
 ghost use lib.ListN.{drop};
-ghost use Rattle.cojp_map.specs.Pairs.{walkAt, pairTaken};
-ghost use Rattle.cojp_request_read.specs.Requests.{Stepped};
-ghost use Rattle.cojp.specs.Bytes.{valueView};
-ghost use Rattle.cojp.specs.Reading.{said, read, onward};
-ghost use Rattle.cojp.specs.Request.{roleRead, nothingGathered, requestStanding, requestPassing, requestTaking, requestForm, settled, refuseRequest, requestAnswer, readRequestBy, readRequest, readStrictRequest};
+ghost use Rattle.cojp.specs.Bytes.{valueView, afterValue};
+ghost use Rattle.cojp.specs.Reading.{said, onward, Accepting};
+ghost use Rattle.cojp.specs.Request.{roleRead, nothingGathered, requestForm, settled, refuseRequest, requestAnswer, readRequestBy, readRequest, readStrictRequest};
 ghost use Rattle.cbor.specs.Strict.{headBy};
+ghost use Rattle.cojp_map.specs.Pairs.{once, walkAt};
+ghost use Rattle.cojp_request_read.specs.Requests.{gatheredOf};
 
-struct GatheredRead {
-    verdict: Verdict,
-    gathered: Gathered,
-}
-
+// Beside a refusal the role and the next place say nothing.
 struct RoleRead {
     verdict: Verdict,
     role: u8,
+    next: usize,
 }
 
 fn refused_request(why: Refusal) -> RequestRead
@@ -45,193 +42,96 @@ fn refused_request(why: Refusal) -> RequestRead
     }
 }
 
-fn nothing_gathered() -> Gathered
-    ensures { λ r. ⌜ r ≡ nothingGathered ⌝ }
+fn refused_role(why: Refusal) -> RoleRead
+    ensures { λ r. ⌜ r ≡ record { verdict = Verdict.Refused why; role = 0; next = 0 } ⌝ }
 {
-    let none = empty_request();
-    Gathered {
-        named: false,
-        request: none,
-    }
-}
-
-fn refused_gathered(why: Refusal) -> GatheredRead
-    ensures { λ r. ⌜ r ≡ record { verdict = Verdict.Refused why; gathered = nothingGathered } ⌝ }
-{
-    let none = nothing_gathered();
-    GatheredRead {
+    RoleRead {
         verdict: Verdict::Refused(why),
-        gathered: none,
+        role: 0,
+        next: 0,
     }
 }
 
-fn nothing_read() -> GatheredRead
-    ensures { λ r. ⌜ r ≡ record { verdict = Verdict.Accepted; gathered = nothingGathered } ⌝ }
+// The role at a place: TWICE where one came before.
+fn role_once(s: &[u8], at: usize, named: bool) -> RoleRead
+    ensures { λ r. ⌜ said (r .verdict) (r .role) ≡ once named (roleRead (valueView (drop at (now (s .entry))))) ⌝ }
+    ensures rest { λ r. ⌜ Accepting (r .verdict) (drop (r .next) (now (s .entry)) ≡ afterValue (drop at (now (s .entry)))) ⌝ }
 {
-    let none = nothing_gathered();
-    GatheredRead {
-        verdict: Verdict::Accepted,
-        gathered: none,
+    if named {
+        return refused_role(Refusal::Twice);
     }
-}
-
-// The role at a place.
-fn read_role(s: &[u8], at: usize) -> RoleRead
-    ensures { λ r. ⌜ said (r .verdict) (r .role) ≡ roleRead (valueView (drop at (now (s .entry)))) ⌝ }
-{
     let v = value_at(s, at);
     match v {
-        Value::Number { number, next: _ } => {
+        Value::Number { number, next } => {
             if 1 < number {
-                return RoleRead {
-                    verdict: Verdict::Refused(Refusal::Role),
-                    role: 0,
-                };
+                return refused_role(Refusal::Role);
             }
             RoleRead {
                 verdict: Verdict::Accepted,
                 role: number as u8,
+                next: next,
             }
         }
-        _ => RoleRead {
-            verdict: Verdict::Refused(Refusal::Type),
-            role: 0,
-        },
+        _ => refused_role(Refusal::Type),
     }
 }
 
-// How a label stands to what was read so far.
-fn label_standing(g: Gathered, label: u64) -> Standing
-    ensures { λ r. ⌜ r ≡ requestStanding g label ⌝ }
+// The answer after the last pair: OWED where a network identifier is due.
+fn settled_request(role: u8, network: OctetsParameter, passed: u64) -> RequestRead
+    ensures { λ r. ⌜ r ≡ requestAnswer (settled (gatheredOf true role network passed)) ⌝ }
 {
-    match label {
-        1 => {
-            if g.named {
-                Standing::Again
-            } else {
-                Standing::Fresh
-            }
-        }
-        5 => {
-            let request = g.request;
-            let held = request.network;
-            let report = held.report;
-            standing_of(report)
-        }
-        _ => Standing::Unknown,
+    let report = network.report;
+    if is_owing(role, report) {
+        return refused_request(Refusal::Owed);
     }
-}
-
-// Reads the value of a known label into its place. Beside a refusal what is gathered says nothing.
-fn take_value(s: &[u8], at: usize, label: u64, g: Gathered) -> GatheredRead
-    ensures { λ r. ⌜ Stepped g r (requestTaking g label (valueView (drop at (now (s .entry))))) ⌝ }
-{
-    let mut request = g.request;
-    match label {
-        1 => {
-            let r = read_role(s, at);
-            let verdict = r.verdict;
-            request.role = r.role;
-            let gathered = Gathered {
-                named: true,
-                request: request,
-            };
-            GatheredRead {
-                verdict: verdict,
-                gathered: gathered,
-            }
-        }
-        _ => {
-            let r = read_octets(s, at, 0);
-            let verdict = r.verdict;
-            let parameter = r.parameter;
-            request.network = parameter;
-            let gathered = Gathered {
-                named: g.named,
-                request: request,
-            };
-            GatheredRead {
-                verdict: verdict,
-                gathered: gathered,
-            }
-        }
-    }
-}
-
-// A label that is not known here.
-fn pass_over(g: Gathered) -> GatheredRead
-    requires { ⌜ g .request .passed + 1 < 2 ^ 64 ⌝ }
-    ensures { λ r. ⌜ r ≡ record { verdict = Verdict.Accepted; gathered = requestPassing g } ⌝ }
-{
-    let mut request = g.request;
-    request.passed = request.passed + 1;
-    let gathered = Gathered {
-        named: g.named,
-        request: request,
+    let request = JoinRequest {
+        role: role,
+        network: network,
+        passed: passed,
     };
-    GatheredRead {
+    RequestRead {
         verdict: Verdict::Accepted,
-        gathered: gathered,
+        request: request,
     }
 }
 
-// One pair: label kind, repetition, then its value. Beside a refusal what is gathered says nothing.
-fn take_pair(s: &[u8], pair: Pair, g: Gathered) -> GatheredRead
-    requires { ⌜ g .request .passed + 1 < 2 ^ 64 ⌝ }
-    ensures { λ r. ⌜ Stepped g r (pairTaken requestForm g (pair .verdict) (pair .label) (valueView (drop (pair .value) (now (s .entry))))) ⌝ }
+// The next pairs in payload order, up to the first refusal.
+fn take_pairs(s: &[u8], mut at: usize, mut left: u64) -> RequestRead
+    ensures { λ r. ⌜ r ≡ requestAnswer (onward (walkAt requestForm left nothingGathered (drop at (now (s .entry)))) settled) ⌝ }
 {
-    let verdict = pair.verdict;
-    match verdict {
-        Verdict::Refused(k) => refused_gathered(k),
-        Verdict::Accepted => {
-            let standing = label_standing(g, pair.label);
-            match standing {
-                Standing::Unknown => pass_over(g),
-                Standing::Fresh => take_value(s, pair.value, pair.label, g),
-                Standing::Again => refused_gathered(Refusal::Twice),
-            }
-        }
-    }
-}
-
-// The map's pairs in payload order, up to the first refusal, beside which what is gathered says nothing.
-fn take_pairs(s: &[u8], start: usize, count: u64) -> GatheredRead
-    ensures { λ r. ⌜ said (r .verdict) (r .gathered) ≡ walkAt requestForm count nothingGathered (drop start (now (s .entry))) ⌝ }
-{
-    let mut at = start;
-    let mut left = count;
-    let mut read = nothing_read();
+    let mut named = false;
+    let mut role: u8 = 0;
+    let mut network = no_octets(Report::Absent);
+    let mut passed: u64 = 0;
     while 0 < left {
-        let pair = pair_at(s, at);
-        read = take_pair(s, pair, read.gathered);
-        let verdict = read.verdict;
-        at = pair.next;
-        left = left_after(verdict, left);
-    }
-    read
-}
-
-// The answer: the request, or the refusal beside the empty one, whatever was read before it.
-fn answered(r: GatheredRead) -> RequestRead
-    ensures { λ x. ⌜ x ≡ requestAnswer (onward (said (r .verdict) (r .gathered)) settled) ⌝ }
-{
-    let verdict = r.verdict;
-    match verdict {
-        Verdict::Refused(k) => refused_request(k),
-        Verdict::Accepted => {
-            let gathered = r.gathered;
-            let request = gathered.request;
-            let network = request.network;
-            let report = network.report;
-            if is_owing(request.role, report) {
-                return refused_request(Refusal::Owed);
+        let pair = labelled_at(s, at);
+        let mut verdict = pair.verdict;
+        let label = pair.label;
+        match label {
+            1 => {
+                let r = role_once(s, pair.value, named);
+                verdict = r.verdict;
+                role = r.role;
+                named = true;
+                at = r.next;
             }
-            RequestRead {
-                verdict: Verdict::Accepted,
-                request: request,
+            5 => {
+                let r = octets_once(s, pair.value, network, 0);
+                verdict = r.verdict;
+                network = r.parameter;
+                at = r.next;
+            }
+            _ => {
+                passed += 1;
+                at = item_end(s, pair.value);
             }
         }
+        if let Verdict::Refused(why) = verdict {
+            return refused_request(why);
+        }
+        left -= 1;
     }
+    settled_request(role, network, passed)
 }
 
 // Reads a join request from a payload, strictly or not.
@@ -241,10 +141,7 @@ fn read_by(payload: &[u8], strict: bool) -> RequestRead
     let opened = open_payload(payload, strict);
     match opened {
         Start::Refused(k) => refused_request(k),
-        Start::Pairs { count, start } => {
-            let r = take_pairs(payload, start, count);
-            answered(r)
-        }
+        Start::Pairs { count, start } => take_pairs(payload, start, count),
     }
 }
 

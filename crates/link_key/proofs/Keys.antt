@@ -16,7 +16,7 @@ use Rattle.link_key_usage.specs.declared.Entry.the-variants as entry
 use Rattle.link_key_usage.specs.declared.Usage.{Usage}
 use Rattle.link_key_usage.specs.declared.Family.{Family}
 use Rattle.link_key_usage.specs.declared.Family.the-variants.{K1K2Encrypted, K1K2, K1, K2, K2Encrypted}
-use Rattle.link_key.proofs.Tests.{both-left, both-right}
+use Rattle.logic_facts.specs.Tests.{both-left, both-right}
 use Rattle.link_key.proofs.Same.{same-self, same-equal}
 
 pub same-key-self : (k : Key) → sameKey k k ≡ true

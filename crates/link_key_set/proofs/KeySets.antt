@@ -13,7 +13,7 @@ use Rattle.link_key_set.specs.KeySet.{keysOf, noKeys, named, has, allowe
 use Rattle.link_key_set.specs.KeySet.{Covers, firstCover, findKey}
 use Rattle.link_key.specs.declared.Key.{Key}
 use Rattle.link_key_set.specs.declared.key_set.KeySet.{KeySet}
-use Rattle.link_key.proofs.Tests.{both-left, both-right}
+use Rattle.logic_facts.specs.Tests.{both-left, both-right}
 use Rattle.link_key.proofs.Same.{same-self, same-equal}
 use Rattle.link_key_set.proofs.Lists.{any-one, any-none, any-never, any-append, all-each, all-append, first-is, first-none, none-first, first-finds}
 use Rattle.link_key.proofs.Keys.{same-key-self, same-key-equal}

@@ -1,7 +1,8 @@
 mod Turns
-mod Hearing
+mod Receiving
 mod Places
 mod Flood
 mod Rekey
 mod Line
 mod Answers
+mod Untouched

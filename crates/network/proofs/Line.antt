@@ -21,7 +21,7 @@ use Rattle.cojp.specs.Configuration.{configurationStanding, configurationTaking
 use Rattle.cojp.specs.Writing.{requestInRange, requestPlan}
 use Rattle.node_key_sets.specs.Sets as sets
 use Rattle.node_key_sets.specs.Sets.{install}
-use Rattle.node_key_sets.specs.Frames.{sendingKey, receivingKey, hears}
+use Rattle.node_key_sets.specs.Frames.{sendingKey, receivingKey, verifiedIn}
 use Rattle.node_attempt.specs.Attempt as attempt
 use Rattle.node_attempt.specs.Attempt.{mayStart}
 use Rattle.node_attempt.specs.Poll as polling
@@ -34,8 +34,8 @@ use Rattle.node.specs.Delivery.{configured, apply, deliverVerdict, deliver}
 use Rattle.node.specs.Frames.{send, afterSend, receive, verified}
 use Rattle.node_laws.specs.Calls.{perform}
 use Rattle.node_laws.specs.Laws.{Takes}
-use Rattle.node_delivery.specs.Call.{mayCome}
-use Rattle.node_delivery.specs.declared.Call.the-variants.{Update}
+use Rattle.node_delivery.specs.Delivery.{mayCome}
+use Rattle.node_delivery.specs.declared.Delivery.the-variants.{Update}
 use Rattle.network.specs.Network.{nodeAt, withNode}
 use Rattle.network.specs.Turn.{judged, turn}
 use Rattle.network.specs.Events.{turning, step, run, Come, Comes}
@@ -49,7 +49,7 @@ computing : Unit {0}
 unfolding payloadBy decodeBy heading argument next digits members pairs majorOf bytesOf infoOf extraOf shortest
     inLimits sameKey covers allowed allowedSet
     padded octetsJudged addressIn groups owing payloadReadBy configurationStanding configurationTaking requestInRange requestPlan
-    sets.fits install sendingKey receivingKey hears attempt.fits mayStart stepped polling.poll
+    sets.valid install sendingKey receivingKey verifiedIn attempt.valid mayStart stepped polling.poll
     valid requestOf startVerdict startPlan start poll reportsOf configured apply mayCome deliverVerdict deliver send afterSend receive verified perform
     nodeAt withNode judged turn step run Come Comes
 computing = tt
@@ -189,7 +189,7 @@ witness claim =
       one-round-pending = refl;
       two-rounds-active = refl;
       two-rounds-pending = refl;
-      silent = said .0;
+      none-sends = said .0;
       rekeyed = said .1 Update 20000 Witness.payload takes lineLinks 2 twice after linked-twice rounds 2 (lit< tt) hops;
     }
   where

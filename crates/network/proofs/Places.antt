@@ -10,14 +10,14 @@ use Rattle.link_key_set.specs.KeySet.{Covers}
 use Rattle.link_key.specs.declared.Key.{Key}
 use Rattle.node.specs.Node.{emptyNode}
 use Rattle.node_laws.specs.Calls.{NodeCall, starting, polling, delivering, asking, sending, receiving, reporting, perform}
-use Rattle.node_laws.specs.Laws.{Kept, NodeLaws}
+use Rattle.node_laws.specs.Laws.{KeysStay, CanSend, NodeLaws}
 use Rattle.node.specs.declared.node.Node.{Node}
 use Rattle.network.specs.Network.{Network, nodeAt, withNode}
 use Rattle.network.specs.Events.{Event, turning, calling, step, run, Permitted, Comes, Come}
 use Rattle.network.specs.Rounds.{Links, Linked, AllLinked}
 use Rattle.network.specs.Turn.{turn}
-use Rattle.network.proofs.Turns.{kept-self, sender-kept, hearer-role}
-use Rattle.network.proofs.Hearing.{Kind, new, Quiet, Is, hearing, kept-is, hears}
+use Rattle.network.proofs.Turns.{stay-self, sender-stays, receiver-role}
+use Rattle.network.proofs.Receiving.{Kind, new, Quiet, Is, becomes, stays-is, turn-becomes, new-can}
 use Rattle.network.proofs.Flood.{Kinds, with, moves, flows, still}
 
 -- ---- one node replaced
@@ -50,8 +50,8 @@ all-with P Q net i n a q others k l = go (ℕ-discrete k i)
     go (yes e) = rw (e, at-same net i n (rw e at inside)) q
     go (no f) = rw (at-other net i n k f) (others k (nodeAt net k) f (a k inside))
 
-all-kept : (P : ℕ → Node → Type 0) (net : Network) (i : ℕ) (n : Node) → All P net → P i n → All P (withNode net i n)
-all-kept P net i n a p = all-with P P net i n a p (λ k m f q. q)
+all-still : (P : ℕ → Node → Type 0) (net : Network) (i : ℕ) (n : Node) → All P net → P i n → All P (withNode net i n)
+all-still P net i n a p = all-with P P net i n a p (λ k m f q. q)
 
 -- ---- each node is of the kind that its place says
 abbrev pub Are : List Key → Kinds → Network → Type 0
@@ -63,49 +63,49 @@ module _ (ks : List Key) (kinds : Kinds) (net : Network) (i : ℕ) (n : Node) (a
       all-with (λ k m. Is ks (kinds k) m) (λ k m. Is ks (with kinds i kind k) m) net i n a (rw (eq-eqb i i refl) p)
       (λ k m f q. rw (ne-eqb k i f) q)
 
-  are-kept : Is ks (kinds i) n → Are ks kinds (withNode net i n)
-  are-kept p = all-kept (λ k m. Is ks (kinds k) m) net i n a p
+  are-still : Is ks (kinds i) n → Are ks kinds (withNode net i n)
+  are-still p = all-still (λ k m. Is ks (kinds k) m) net i n a p
 
 -- ---- one event
 module _ (L : NodeLaws) (ks : List Key) where
   -- starts and polls leave the keys, and a call that is refused leaves the node
-  call-kept : (n : Node) (c : NodeCall) → Permitted n c → Kept n (perform c n .node)
-  call-kept n (starting time timeout d) h = unfold perform in L .start-kept n time timeout d
-  call-kept n (polling time) h = unfold perform in L .poll-kept n time
-  call-kept n (delivering call time payload) h =
-      rw (L .refused-stays (delivering call time payload) n (h .why) (h .refused)) (kept-self n)
-  call-kept n (asking time) h = absurd h
-  call-kept n (sending type) h = absurd h
-  call-kept n (receiving type identifier) h = absurd h
-  call-kept n (reporting type identifier) h = absurd h
+  call-stays : (n : Node) (c : NodeCall) → Permitted n c → KeysStay n (perform c n .node)
+  call-stays n (starting time timeout d) h = unfold perform in L .start-stays n time timeout d
+  call-stays n (polling time) h = unfold perform in L .poll-stays n time
+  call-stays n (delivering delivery time payload) h =
+      rw (L .refused-stays (delivering delivery time payload) n (h .why) (h .refused)) (stay-self n)
+  call-stays n (asking time) h = absurd h
+  call-stays n (sending type) h = absurd h
+  call-stays n (receiving type identifier) h = absurd h
+  call-stays n (reporting type identifier) h = absurd h
 
-  -- a node that has switched is asked for a type that the set covers
-  abbrev Fits : Kinds → Event → Type 0
-  Fits kinds (turning i j type) = kinds i ≡ new → Covers ks type
-  Fits kinds (calling i c) = Unit {0}
+  -- a node that has switched can send the type that it is asked for
+  abbrev Ready : Kinds → Network → Event → Type 0
+  Ready kinds net (turning i j type) = kinds i ≡ new → CanSend (nodeAt net i) type
+  Ready kinds net (calling i c) = Unit {0}
 
   step-are :
-      (kinds : Kinds) (net : Network) (e : Event) → Comes net e → Fits kinds e → Are ks kinds net →
+      (kinds : Kinds) (net : Network) (e : Event) → Comes net e → Ready kinds net e → Are ks kinds net →
       Are ks (moves kinds e) (step net e)
   unfolding step Comes
   step-are kinds net (turning i j type) h f a =
       let t = turn (nodeAt net i) (nodeAt net j) type in
-      let s = kept-is ks (kinds i) (sender-kept L (nodeAt net i) (nodeAt net j) type) (a i (h .0)) in
-      are-with ks kinds (withNode net i (t .sender)) j (t .hearer) (are-kept ks kinds net i (t .sender) a s) (hearing (kinds i) (kinds j))
-      (hears L ks (nodeAt net i) (nodeAt net j) type (kinds i) (kinds j) f (a i (h .0)) (a j (h .1)))
+      let s = stays-is ks (kinds i) (sender-stays L (nodeAt net i) (nodeAt net j) type) (a i (h .0)) in
+      are-with ks kinds (withNode net i (t .sender)) j (t .receiver) (are-still ks kinds net i (t .sender) a s) (becomes (kinds i) (kinds j))
+      (turn-becomes L ks (nodeAt net i) (nodeAt net j) type (kinds i) (kinds j) f (a i (h .0)) (a j (h .1)))
   step-are kinds net (calling i c) h f a =
-      are-kept ks kinds net i (perform c (nodeAt net i) .node) a
-      (kept-is ks (kinds i) (call-kept (nodeAt net i) c (h .1)) (a i (h .0)))
+      are-still ks kinds net i (perform c (nodeAt net i) .node) a
+      (stays-is ks (kinds i) (call-stays (nodeAt net i) c (h .1)) (a i (h .0)))
 
   -- ---- a list of events
   -- where no node has switched, each node's kind stays, whatever the frame types
   module _ (kinds : Kinds) (quiet : (k : ℕ) → Quiet (kinds k)) where
     pub step-quiet : (net : Network) (e : Event) → Comes net e → Are ks kinds net → Are ks kinds (step net e)
-    step-quiet net e h a k l = rw (still kinds quiet e k) at (step-are kinds net e h (fits e) a k l)
+    step-quiet net e h a k l = rw (still kinds quiet e k) at (step-are kinds net e h (ready e) a k l)
       where
-        fits : (e : Event) → Fits kinds e
-        fits (turning i j type) = λ w. absurd (rw w at (quiet i))
-        fits (calling i c) = tt
+        ready : (e : Event) → Ready kinds net e
+        ready (turning i j type) = λ w. absurd (rw w at (quiet i))
+        ready (calling i c) = tt
 
     pub run-quiet : (net : Network) (es : List Event) → Come net es → Are ks kinds net → Are ks kinds (run net es)
     unfolding run Come
@@ -114,9 +114,10 @@ module _ (L : NodeLaws) (ks : List Key) where
 
   -- with turns of a type that the set covers, the kinds flow
   module _ (links : Links) (type : ℕ) (covering : Covers ks type) where
-    fits : (kinds : Kinds) (e : Event) → Linked links type e → Fits kinds e
-    fits kinds (turning i j u) l = λ w. rw (l .1) covering
-    fits kinds (calling i c) l = tt
+    ready : (kinds : Kinds) (net : Network) (e : Event) → Comes net e → Linked links type e → Are ks kinds net → Ready kinds net e
+    unfolding Comes
+    ready kinds net (turning i j u) h l a = λ w. rw (l .1) (new-can L ks (nodeAt net i) type covering (rw w at (a i (h .0))))
+    ready kinds net (calling i c) h l a = tt
 
     pub run-flows :
         (kinds : Kinds) (net : Network) (es : List Event) → Come net es → AllLinked links type es → Are ks kinds net →
@@ -125,7 +126,7 @@ module _ (L : NodeLaws) (ks : List Key) where
     run-flows kinds net [] h l a = a
     run-flows kinds net (e ∷ es) h l a =
         run-flows (moves kinds e) (step net e) es (h .1) (λ x m. l x (List·Memᴰ·tail m))
-        (step-are kinds net e (h .0) (fits kinds e (l e (List·Memᴰ·head refl))) a)
+        (step-are kinds net e (h .0) (ready kinds net e (h .0) (l e (List·Memᴰ·head refl)) a) a)
 
 -- ---- sizes and roles stay
 pub size-step : (net : Network) (e : Event) → length (step net e) ≡ length net
@@ -146,10 +147,10 @@ module _ (L : NodeLaws) where
   unfolding step
   step-role net (turning i j type) =
       let t = turn (nodeAt net i) (nodeAt net j) type in
-      all-kept (RoleOf net) (withNode net i (t .sender)) j (t .hearer)
-      (all-kept (RoleOf net) net i (t .sender) (λ k l. refl) (sender-kept L (nodeAt net i) (nodeAt net j) type .role))
-      (hearer-role L (nodeAt net i) (nodeAt net j) type)
-  step-role net (calling i c) = all-kept (RoleOf net) net i (perform c (nodeAt net i) .node) (λ k l. refl) (L .role-stays c (nodeAt net i))
+      all-still (RoleOf net) (withNode net i (t .sender)) j (t .receiver)
+      (all-still (RoleOf net) net i (t .sender) (λ k l. refl) (sender-stays L (nodeAt net i) (nodeAt net j) type .role))
+      (receiver-role L (nodeAt net i) (nodeAt net j) type)
+  step-role net (calling i c) = all-still (RoleOf net) net i (perform c (nodeAt net i) .node) (λ k l. refl) (L .role-stays c (nodeAt net i))
 
   pub run-role : (net : Network) (es : List Event) (k : ℕ) → k < length net → nodeAt (run net es) k .role ≡ nodeAt net k .role
   unfolding run

@@ -16,14 +16,14 @@ use Rattle.node.specs.Node.{activeOf}
 use Rattle.node.specs.Range.{Valid}
 use Rattle.node.specs.Delivery.{deliver}
 use Rattle.node_laws.specs.Laws.{Takes, NodeLaws}
-use Rattle.node_delivery.specs.declared.Call.{Call}
+use Rattle.node_delivery.specs.declared.Delivery.{Delivery}
 use Rattle.node_key_sets.specs.declared.frames.KeyAnswer.{KeyAnswer}
 use Rattle.node.specs.declared.node.Node.{Node}
 use Rattle.network.specs.Network.{Network, nodeAt}
 use Rattle.network.specs.Events.{Event, turning, calling, step, run, Comes, Come, answers, Under}
 use Rattle.network.specs.Rounds.{Links, Neighbours, Hops, AllLinked, Rounds}
-use Rattle.network.specs.Demand3.{Supposed, Silent, Rekeyed, handed, Demand3}
-use Rattle.network.proofs.Hearing.{apart, old, new, Quiet, Holds, IsNew, Is, none-apart, kind-valid, quiet-sends}
+use Rattle.network.specs.Demand3.{Supposed, NoneSendsUnder, Rekeyed, handed, Demand3}
+use Rattle.network.proofs.Receiving.{apart, old, new, Quiet, Carries, IsNew, Is, none-apart, kind-valid, new-can, quiet-sends}
 use Rattle.network.proofs.Flood.{Kinds, with, flows, far}
 use Rattle.network.proofs.Places.{Are, are-with, size-with, size-run, run-role, step-quiet, run-quiet, run-flows}
 
@@ -41,31 +41,31 @@ start-quiet border k = go (eqb k border)
     go true = tt
     go false = tt
 
-step-holds : (border k : ℕ) → Holds (atStep border k)
-step-holds border k = go (eqb k border)
+step-carries : (border k : ℕ) → Carries (atStep border k)
+step-carries border k = go (eqb k border)
   where
-    go : (x : Bool) → Holds (cond x new (cond x apart old))
+    go : (x : Bool) → Carries (cond x new (cond x apart old))
     go true = tt
     go false = tt
 
 module _ (L : NodeLaws) where
   -- ---- before: no node sends under the set
   module _ (ks : List Key) (kinds : Kinds) (quiet : (k : ℕ) → Quiet (kinds k)) where
-    answers-silent :
+    answers-none :
         (net : Network) (es : List Event) → Come net es → Are ks kinds net →
         (a : KeyAnswer) → List·Memᴰ a (answers net es) → Under ks a → ⊥
     unfolding answers Come Comes
-    answers-silent net [] h s a m = absurd (List·Memᴰ·not-nil m)
-    answers-silent net (turning i j type ∷ es) h s a (List·Memᴰ·head q) =
+    answers-none net [] h s a m = absurd (List·Memᴰ·not-nil m)
+    answers-none net (turning i j type ∷ es) h s a (List·Memᴰ·head q) =
         rw q (quiet-sends L ks (nodeAt net i) type (kinds i) (quiet i) (s i (h .0 .0)))
-    answers-silent net (turning i j type ∷ es) h s a (List·Memᴰ·tail m) =
-        answers-silent (step net (turning i j type)) es (h .1) (step-quiet L ks kinds quiet net (turning i j type) (h .0) s) a m
-    answers-silent net (calling i c ∷ es) h s a m =
-        answers-silent (step net (calling i c)) es (h .1) (step-quiet L ks kinds quiet net (calling i c) (h .0) s) a m
+    answers-none net (turning i j type ∷ es) h s a (List·Memᴰ·tail m) =
+        answers-none (step net (turning i j type)) es (h .1) (step-quiet L ks kinds quiet net (turning i j type) (h .0) s) a m
+    answers-none net (calling i c ∷ es) h s a m =
+        answers-none (step net (calling i c)) es (h .1) (step-quiet L ks kinds quiet net (calling i c) (h .0) s) a m
 
-    silent : (net : Network) (es : List Event) → Come net es → Are ks kinds net → Silent ks net es
-    silent net es h s = record {
-      in-list = answers-silent net es h s;
+    none-sends : (net : Network) (es : List Event) → Come net es → Are ks kinds net → NoneSendsUnder ks net es
+    none-sends net es h s = record {
+      in-list = answers-none net es h s;
       at-end = λ i type l.
           quiet-sends L ks (nodeAt (run net es) i) type (kinds i) (quiet i)
           (run-quiet L ks kinds quiet net es h s i (rw (size-run net es) l));
@@ -74,7 +74,7 @@ module _ (L : NodeLaws) where
   -- ---- after: a node that has switched is as demand 3 says
   rekeyed : (ks : List Key) (type : ℕ) (n : Node) → Covers ks type → IsNew ks n → Rekeyed ks type n
   rekeyed ks type n covering w =
-      let s = L .can-send n type (w .valid) (L .covers-can n type (rw (w .active) covering)) in
+      let s = L .can-send n type (w .valid) (new-can L ks n type covering w) in
       record {
         active = w .active;
         none-pending = w .pending;
@@ -104,41 +104,41 @@ module _ (L : NodeLaws) where
 
     -- the border router is handed the set in a network where all kinds are as at the start
     module _ (out : Network) (same : length out ≡ length net) (are : Are ks (atStart border) out) (role : nodeAt out border .role ≡ 1)
-        (call : Call) (time : ℕ) (payload : List ℕ) (takes : Takes call (nodeAt out border) time payload ks) where
+        (delivery : Delivery) (time : ℕ) (payload : List ℕ) (takes : Takes delivery (nodeAt out border) time payload ks) where
       border-valid : Valid (nodeAt out border)
       border-valid = kind-valid ks (nodeAt out border) (atStart border border) (are border (rw same (g .inside)))
 
-      step-are : Are ks (atStep border) (handed out border call time payload)
+      step-are : Are ks (atStep border) (handed out border delivery time payload)
       step-are =
-          let d = L .border-takes call (nodeAt out border) time payload ks border-valid role takes in
-          are-with ks (atStart border) out border (deliver call (nodeAt out border) time payload .node) are new
+          let d = L .border-takes delivery (nodeAt out border) time payload ks border-valid role takes in
+          are-with ks (atStart border) out border (deliver delivery (nodeAt out border) time payload .node) are new
           (record { valid = d .valid; active = d .active; pending = d .pending })
 
       followed :
-          (links : Links) (h : ℕ) (es : List Event) → Come (handed out border call time payload) es → AllLinked links type es →
+          (links : Links) (h : ℕ) (es : List Event) → Come (handed out border delivery time payload) es → AllLinked links type es →
           Rounds links type h es → (i : ℕ) → i < length net → Hops (Neighbours links) h border i →
-          Rekeyed ks type (nodeAt (run (handed out border call time payload) es) i)
+          Rekeyed ks type (nodeAt (run (handed out border delivery time payload) es) i)
       followed links h es come linked rounds i l hops =
           rekeyed ks type (nodeAt (run next es) i) (g .covering)
           (rw reached at (run-flows L ks links type (g .covering) (atStep border) next es come linked step-are i (rw size l)))
         where
           next : Network
-          next = handed out border call time payload
+          next = handed out border delivery time payload
 
           reached : flows (atStep border) es i ≡ new
           reached =
-              far links type (Neighbours links) (λ x y n. n) (atStep border) rounds hops (λ x y n. step-holds border y)
+              far links type (Neighbours links) (λ x y n. n) (atStep border) rounds hops (λ x y n. step-carries border y)
               (rw (eq-eqb border border refl))
 
           size : length (run next es) ≡ length net
-          size = size-run next es ∙ size-with out border (deliver call (nodeAt out border) time payload .node) ∙ same
+          size = size-run next es ∙ size-with out border (deliver delivery (nodeAt out border) time payload .node) ∙ same
 
   pub demand3 : Demand3
   unfolding Demand3
   demand3 net border ks type g before come =
       let quiet = start-quiet border in
       let start = start-are net border ks type g in (
-        silent ks (atStart border) quiet net before come start,
+        none-sends ks (atStart border) quiet net before come start,
         followed net border ks type g (run net before) (size-run net before) (run-quiet L ks (atStart border) quiet net before come start)
             (run-role L net before border (g .inside) ∙ g .is-border),
       )

@@ -1,31 +1,47 @@
 -- What a turn's answer says in document 01's numbers and values: a refusal ends the turn with its number; else the frame was verified exactly where the
--- two keys found are equal.
+-- two keys found are equal, and the receiver switched exactly where its key was pending.
 use Prim.Native.Nat.{ℕ}
 use mathlib.Core.Path.{_≡_}
-use mathlib.Core.Bool.{true, false}
+use mathlib.Core.Bool.{not, _&&_}
 use Rattle.refusal.specs.Refusal.{numberOf}
 use Rattle.refusal.specs.declared.Refusal.{Refusal}
 use Rattle.refusal.specs.declared.Verdict.the-variants.{Refused, Accepted}
 use Rattle.link_key.specs.Key.{sameKey}
-use Rattle.node.specs.Frames.{send, receive, verified}
+use Rattle.link_key.specs.declared.Key.{Key}
+use Rattle.link_key_set.specs.KeySet.{has}
+use Rattle.node.specs.Frames.{send, receive}
+use Rattle.node.specs.Node.{activeOf}
 use Rattle.node.specs.declared.node.Node.{Node}
-use Rattle.network.specs.Turn.{answerOf, turn, answerNumber, wasVerified}
+use Rattle.node_key_sets.specs.declared.frames.KeyAnswer.{KeyAnswer}
+use Rattle.network.specs.Turn.{turn, answerNumber, wasVerified, hasSwitched}
 
-pub record TurnsSay (sender hearer : Node) (type : ℕ) : Type 0 where
-  pub sender-refused : (k : Refusal) → send sender type .verdict ≡ Refused k → answerNumber (turn sender hearer type .answer) ≡ numberOf k
-  pub hearer-refused :
-      (k : Refusal) → send sender type .verdict ≡ Accepted → receive hearer type (send sender type .key .identifier) .verdict ≡ Refused k →
-      answerNumber (turn sender hearer type .answer) ≡ numberOf k
-  -- other keys: the frame failed, which is no refusal
-  pub failed :
-      send sender type .verdict ≡ Accepted → receive hearer type (send sender type .key .identifier) .verdict ≡ Accepted →
-      sameKey (send sender type .key) (receive hearer type (send sender type .key .identifier) .key) ≡ false →
-      (answerNumber (turn sender hearer type .answer) ≡ 0) × (wasVerified (turn sender hearer type .answer) ≡ false)
-  -- equal keys: the hearer's answer to the report of a verified frame
-  pub heard :
-      send sender type .verdict ≡ Accepted → receive hearer type (send sender type .key .identifier) .verdict ≡ Accepted →
-      sameKey (send sender type .key) (receive hearer type (send sender type .key .identifier) .key) ≡ true →
-      turn sender hearer type .answer ≡ answerOf (verified hearer type (send sender type .key .identifier) .change)
+module _ (sender receiver : Node) (type : ℕ) where
+  -- the key that the sender answers, and what the receiver answers to a frame with its identifier
+  abbrev pub sentKey : Key
+  sentKey = send sender type .key
+
+  abbrev pub found : KeyAnswer
+  found = receive receiver type (sentKey .identifier)
+
+pub record TurnsSay (sender receiver : Node) (type : ℕ) : Type 0 where
+  pub sender-refused : (k : Refusal) → send sender type .verdict ≡ Refused k → answerNumber (turn sender receiver type .answer) ≡ numberOf k
+  pub receiver-refused :
+      (k : Refusal) → send sender type .verdict ≡ Accepted → found sender receiver type .verdict ≡ Refused k →
+      answerNumber (turn sender receiver type .answer) ≡ numberOf k
+  -- a frame that failed is no refusal
+  pub no-refusal :
+      send sender type .verdict ≡ Accepted → found sender receiver type .verdict ≡ Accepted →
+      answerNumber (turn sender receiver type .answer) ≡ 0
+  -- verified exactly where the two keys are equal
+  pub verified :
+      send sender type .verdict ≡ Accepted → found sender receiver type .verdict ≡ Accepted →
+      wasVerified (turn sender receiver type .answer) ≡ sameKey (sentKey sender receiver type) (found sender receiver type .key)
+  -- switched where the receiver's key was pending: no active key has its identifier; else kept
+  pub switched :
+      send sender type .verdict ≡ Accepted → found sender receiver type .verdict ≡ Accepted →
+      hasSwitched (turn sender receiver type .answer)
+      ≡ (sameKey (sentKey sender receiver type) (found sender receiver type .key)
+      && not (has (sentKey sender receiver type .identifier) (activeOf receiver)))
 
 abbrev pub EveryTurnSays : Type 0
-EveryTurnSays = (sender hearer : Node) (type : ℕ) → TurnsSay sender hearer type
+EveryTurnSays = (sender receiver : Node) (type : ℕ) → TurnsSay sender receiver type

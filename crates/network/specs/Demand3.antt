@@ -10,7 +10,7 @@ use Rattle.node.specs.Range.{Valid}
 use Rattle.node.specs.Delivery.{deliver}
 use Rattle.node.specs.Frames.{send}
 use Rattle.node_laws.specs.Laws.{Takes}
-use Rattle.node_delivery.specs.declared.Call.{Call}
+use Rattle.node_delivery.specs.declared.Delivery.{Delivery}
 use Rattle.node_key_sets.specs.declared.frames.KeyAnswer.{KeyAnswer}
 use Rattle.node.specs.declared.node.Node.{Node}
 use Rattle.network.specs.Network.{Network, nodeAt, withNode}
@@ -35,7 +35,7 @@ pub record Supposed (net : Network) (border : ℕ) (new : List Key) (type : ℕ)
   pub former-apart : Apart (activeOf (nodeAt net border)) new
 
 -- "no node sends anything under it,"
-pub record Silent (new : List Key) (net : Network) (es : List Event) : Type 0 where
+pub record NoneSendsUnder (new : List Key) (net : Network) (es : List Event) : Type 0 where
   -- "in the list"
   pub in-list : (a : KeyAnswer) → List·Memᴰ a (answers net es) → Under new a → ⊥
   -- "or if asked at its end"
@@ -53,8 +53,8 @@ pub record Rekeyed (new : List Key) (type : ℕ) (n : Node) : Type 0 where
   pub sends : Under new (send n type)
 
 -- the step between the two lists: the border router is handed an update or a join answer
-abbrev pub handed : Network → ℕ → Call → ℕ → List ℕ → Network
-handed net border call time payload = withNode net border (deliver call (nodeAt net border) time payload .node)
+abbrev pub handed : Network → ℕ → Delivery → ℕ → List ℕ → Network
+handed net border delivery time payload = withNode net border (deliver delivery (nodeAt net border) time payload .node)
 
 unfoldable pub Demand3 : Type 0
 Demand3 =
@@ -62,13 +62,13 @@ Demand3 =
     -- "before the border router accepts it, for every list of 01's events, with turns of any two nodes and whatever frames pass,"
     (before : List Event) → Come net before →
     -- "no node sends anything under it, in the list or if asked at its end."
-    Silent new net before
+    NoneSendsUnder new net before
     -- "then the border router accepts it;"
-    × ((call : Call) (time : ℕ) (payload : List ℕ) → Takes call (nodeAt (run net before) border) time payload new →
+    × ((delivery : Delivery) (time : ℕ) (payload : List ℕ) → Takes delivery (nodeAt (run net before) border) time payload new →
     -- "from there radio links are fixed"
     (links : Links) →
     -- "for every h, take every further list of such events,"
-    (h : ℕ) (after : List Event) → Come (handed (run net before) border call time payload) after →
+    (h : ℕ) (after : List Event) → Come (handed (run net before) border delivery time payload) after →
     -- "with turns only of neighbours," "and every turn asks for that type",
     AllLinked links type after →
     -- "that holds h rounds one after another."
@@ -76,4 +76,4 @@ Demand3 =
     -- "after it every node at most h hops from the border router"
     (i : ℕ) → i < length net → Hops (Neighbours links) h border i →
     -- "has the new set active, none pending and no old key, and sends that type under the new set."
-    Rekeyed new type (nodeAt (run (handed (run net before) border call time payload) after) i))
+    Rekeyed new type (nodeAt (run (handed (run net before) border delivery time payload) after) i))

@@ -15,7 +15,7 @@ use Rattle.network.specs.Turn.{turn}
 use Rattle.network.specs.declared.turn.Turned.{Turned}
 
 pub data Event : Type 0 where
-  -- a turn: the first node is asked to send the frame type, the second hears it
+  -- a turn: the first node is asked to send the frame type, the second receives it
   turning : ℕ → ℕ → ℕ → Event
   -- a call at a node
   calling : ℕ → NodeCall → Event
@@ -23,7 +23,7 @@ pub data Event : Type 0 where
 -- ---- what events do
 -- both nodes of a turn are as it left them
 abbrev pub withTurned : Network → ℕ → ℕ → Turned → Network
-withTurned net i j t = withNode (withNode net i (t .sender)) j (t .hearer)
+withTurned net i j t = withNode (withNode net i (t .sender)) j (t .receiver)
 
 unfoldable pub step : Network → Event → Network
 step net (turning i j type) = withTurned net i j (turn (nodeAt net i) (nodeAt net j) type)
@@ -43,7 +43,7 @@ pub record Refuses (n : Node) (c : NodeCall) : Type 0 where
 abbrev pub Permitted : Node → NodeCall → Type 0
 Permitted n (starting time timeout d) = Unit {0}
 Permitted n (polling time) = Unit {0}
-Permitted n (delivering call time payload) = Refuses n (delivering call time payload)
+Permitted n (delivering delivery time payload) = Refuses n (delivering delivery time payload)
 Permitted n (asking time) = ⊥
 Permitted n (sending type) = ⊥
 Permitted n (receiving type identifier) = ⊥

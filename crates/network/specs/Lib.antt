@@ -5,3 +5,4 @@ pub mod Rounds
 pub mod Demand3
 pub mod Witness
 pub mod Answers
+pub mod Demand1

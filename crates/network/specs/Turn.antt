@@ -9,7 +9,7 @@ use Rattle.link_key.specs.declared.Key.{Key}
 use Rattle.node.specs.Frames.{send, afterSend, receive, verified}
 use Rattle.node_key_sets.specs.declared.frames.Change.{Change}
 use Rattle.node_key_sets.specs.declared.frames.Change.the-variants as change
-use Rattle.node.specs.declared.frames.Heard.{Heard}
+use Rattle.node.specs.declared.frames.Reported.{Reported}
 use Rattle.node_key_sets.specs.declared.frames.KeyAnswer.{KeyAnswer}
 use Rattle.node.specs.declared.node.Node.{Node}
 use Rattle.network.specs.declared.turn.Answer.{Answer}
@@ -17,41 +17,41 @@ use Rattle.network.specs.declared.turn.Answer.the-variants.{Refused, Fai
 use Rattle.network.specs.declared.turn.Turned.{Turned}
 
 abbrev pub turned : Node → Node → Answer → Turned
-turned sender hearer answer = record { sender = sender; hearer = hearer; answer = answer }
+turned sender receiver answer = record { sender = sender; receiver = receiver; answer = answer }
 
--- what the hearer answers to the report of a verified frame
+-- what the receiver answers to the report of a verified frame
 abbrev pub answerOf : Change → Answer
 answerOf (change.Refused k) = Refused k
 answerOf change.Switched = Switched
 answerOf change.Kept = Kept
 
--- the hearer was told that the frame is verified
-abbrev pub told : Node → Heard → Turned
-told sender h = turned sender (h .node) (answerOf (h .change))
+-- the receiver was told that the frame is verified: what the report made of it
+abbrev pub told : Node → Node → Reported → Turned
+told sender receiver report = turned sender (report .node) (answerOf (report .change))
 
 -- the radio: a frame is verified exactly where the key sent with and the key found are equal; one that failed is no call
 unfoldable pub judged : Node → Node → ℕ → Key → Key → Turned
-judged sender hearer type sent found =
-    cond (sameKey sent found) (told sender (verified hearer type (sent .identifier))) (turned sender hearer Failed)
+judged sender receiver type sent found =
+    cond (sameKey sent found) (told sender receiver (verified receiver type (sent .identifier))) (turned sender receiver Failed)
 
--- the hearer's answer; a refusal ends the turn
+-- the receiver's answer; a refusal ends the turn
 abbrev pub received : Node → Node → ℕ → Key → Verdict → Key → Turned
-received sender hearer type sent (verdict.Refused k) found = turned sender hearer (Refused k)
-received sender hearer type sent verdict.Accepted found = judged sender hearer type sent found
+received sender receiver type sent (verdict.Refused k) found = turned sender receiver (Refused k)
+received sender receiver type sent verdict.Accepted found = judged sender receiver type sent found
 
 abbrev pub receives : Node → Node → ℕ → Key → KeyAnswer → Turned
-receives sender hearer type sent found = received sender hearer type sent (found .verdict) (found .key)
+receives sender receiver type sent found = received sender receiver type sent (found .verdict) (found .key)
 
--- the sender's answer, with the sender after it was asked; a refusal ends the turn, and the hearer is not asked
+-- the sender's answer, with the sender after it was asked; a refusal ends the turn, and the receiver is not asked
 abbrev pub sent : Node → Node → ℕ → Verdict → Key → Turned
-sent sender hearer type (verdict.Refused k) key = turned sender hearer (Refused k)
-sent sender hearer type verdict.Accepted key = receives sender hearer type key (receive hearer type (key .identifier))
+sent sender receiver type (verdict.Refused k) key = turned sender receiver (Refused k)
+sent sender receiver type verdict.Accepted key = receives sender receiver type key (receive receiver type (key .identifier))
 
 unfoldable pub turn : Node → Node → ℕ → Turned
-turn sender hearer type = sent (afterSend sender type) hearer type (send sender type .verdict) (send sender type .key)
+turn sender receiver type = sent (afterSend sender type) receiver type (send sender type .verdict) (send sender type .key)
 
 -- the answer in document 01's terms: the refusal's number, 0 where there is none;
--- whether the frame was verified, and whether the hearer switched
+-- whether the frame was verified, and whether the receiver switched
 abbrev pub answerNumber : Answer → ℕ
 answerNumber (Refused k) = numberOf k
 answerNumber Failed = 0

@@ -11,19 +11,17 @@ use Rattle.cojp.specs.KeySet.{keyOf, keySetOf}
 use Rattle.cojp.specs.Octets.{octetsOf}
 use Rattle.node_key_sets.specs.Sets.{twoSets}
 use Rattle.node_attempt.specs.Attempt.{attempt}
-use Rattle.node_parameters.specs.Lease.{absentAddress}
-use Rattle.node_parameters.specs.Octets.{absentOctets}
 use Rattle.node_attempt.specs.declared.attempt.Phase.the-variants.{Joined}
-use Rattle.node.specs.Node.{activeOf, pendingOf}
+use Rattle.node.specs.Node.{activeOf, pendingOf, freshNode, attempting, keyed}
 use Rattle.node_laws.specs.Calls.{starting, polling, delivering}
 use Rattle.node_laws.specs.Laws.{Takes}
-use Rattle.node_delivery.specs.declared.Call.the-variants.{JoinAnswer, Update}
+use Rattle.node_delivery.specs.declared.Delivery.the-variants.{JoinAnswer, Update}
 use Rattle.node_parameters.specs.declared.octets.HeldOctets.{HeldOctets}
 use Rattle.node.specs.declared.node.Node.{Node}
 use Rattle.network.specs.Network.{Network, nodeAt}
 use Rattle.network.specs.Events.{Event, turning, calling, run, Come}
 use Rattle.network.specs.Rounds.{Links, Neighbours, Hops, AllLinked, Rounds}
-use Rattle.network.specs.Demand3.{Supposed, Silent, Rekeyed, handed}
+use Rattle.network.specs.Demand3.{Supposed, NoneSendsUnder, Rekeyed, handed}
 
 -- ---- the nodes: the old set is one key with identifier 1, the new one a key with identifier 5, both for all frames
 abbrev pub oldKeys : List Key
@@ -37,15 +35,8 @@ cafe = record { held = true; value = octetsOf (0xCA ∷ 0xFE ∷ []) }
 
 -- a node that joined at time 12,000
 abbrev pub joined : ℕ → KeySet → Node
-joined role pending = record {
-  role = role;
-  attempt = attempt Joined 12000 10000 10000 0;
-  sets = twoSets (keySetOf oldKeys) pending;
-  address = absentAddress;
-  jrc = absentOctets;
-  network = cafe;
-  prefix = absentOctets;
-}
+joined role pending =
+    attempting (keyed (freshNode role cafe) (twoSets (keySetOf oldKeys) pending)) (attempt Joined 12000 10000 10000 0)
 
 -- the border router, one in the middle, and one far from it
 abbrev pub line : Network
@@ -100,5 +91,5 @@ pub record Witness : Type 0 where
   pub two-rounds-active : activeOf (nodeAt (run taken twice) 2) ≡ newKeys
   pub two-rounds-pending : pendingOf (nodeAt (run taken twice) 2) ≡ []
   -- by demand 3
-  pub silent : Silent newKeys line first
+  pub none-sends : NoneSendsUnder newKeys line first
   pub rekeyed : Rekeyed newKeys 1 (nodeAt (run taken twice) 2)

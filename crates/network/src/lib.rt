@@ -4,8 +4,16 @@ pub mod turn;
 pub use turn::Answer;
 pub use turn::Turned;
 ghost use Rattle.network.specs.Answers.{EveryTurnSays};
+ghost use Rattle.network.specs.Demand1.{TurnDemand1};
 ghost use Rattle.network.specs.Demand3.{Demand3};
 ghost use Rattle.network.specs.Witness.{Witness};
+
+// Demand 1 for a turn: refused by the sender it leaves both nodes, refused by the receiver or failed it leaves the receiver.
+pub fn demand1()
+    ensures { λ r. ⌜ TurnDemand1 ⌝ }
+{
+    node_laws::laws();
+}
 
 // Demand 3: before the border router accepts a new key set that waits at all other nodes, nobody sends under it;
 // h rounds after it, every node at most h hops away has followed.
@@ -25,4 +33,6 @@ pub fn rekey_of_a_line()
 // A turn's answer in document 01's numbers and values.
 pub fn turns_say()
     ensures { λ r. ⌜ EveryTurnSays ⌝ }
-{}
+{
+    node_laws::answers_say();
+}

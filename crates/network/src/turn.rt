@@ -1,9 +1,9 @@
-// How a turn ends: one node is asked to send a frame, another hears it. The definition is carried out in `network_turn`.
+// How a turn ends: one node is asked to send a frame, another receives it. The definition is carried out in `network_turn`.
 use node::Node;
 use refusal::Refusal;
 
-// How a turn ended: refused by the sender or the hearer, failed because their keys differ, or verified;
-// then the hearer kept its active set or switched to the pending one.
+// How a turn ended: refused by the sender or the receiver, failed because their keys differ, or verified;
+// then the receiver kept its active set or switched to the pending one.
 pub enum Answer {
     Refused(Refusal),
     Failed,
@@ -14,6 +14,6 @@ pub enum Answer {
 // Both nodes as the turn left them.
 pub struct Turned {
     pub sender: Node,
-    pub hearer: Node,
+    pub receiver: Node,
     pub answer: Answer,
 }

@@ -9,7 +9,7 @@ use Rattle.link_key.specs.declared.Key.{Key}
 use Rattle.node.specs.Frames.{send, afterSend, receive, verified}
 use Rattle.node_key_sets.specs.declared.frames.Change.{Change}
 use Rattle.node_key_sets.specs.declared.frames.Change.the-variants as change
-use Rattle.node.specs.declared.frames.Heard.{Heard}
+use Rattle.node.specs.declared.frames.Reported.{Reported}
 use Rattle.node_key_sets.specs.declared.frames.KeyAnswer.{KeyAnswer}
 use Rattle.node.specs.declared.node.Node.{Node}
 use Rattle.network.specs.Turn.{turned, answerOf, judged, receives, turn}
@@ -27,22 +27,22 @@ module _ (a b : Node) (type : ℕ) where
   radio-failed k l same e t = rw (sym e, t)
 
   pub radio-verified :
-      (k l : Key) (same : Bool) (h : Heard) (x : Answer) → same ≡ sameKey k l → same ≡ true → h ≡ verified b type (k .identifier) →
+      (k l : Key) (same : Bool) (h : Reported) (x : Answer) → same ≡ sameKey k l → same ≡ true → h ≡ verified b type (k .identifier) →
       x ≡ answerOf (h .change) → turned a (h .node) x ≡ judged a b type k l
   unfolding judged
   radio-verified k l same h x e t v w = rw (sym e, t, sym v, w)
 
-  -- the hearer, which answered `found`
+  -- the receiver, which answered `found`
   module _ (key : Key) (found : KeyAnswer) (e : found ≡ receive b type (key .identifier)) where
-    pub hearer-refuses :
+    pub receiver-refuses :
         (why : Refusal) → found .verdict ≡ verdict.Refused why →
         turned a b (Refused why) ≡ receives a b type key (receive b type (key .identifier))
-    hearer-refuses why v = rw (sym e, v)
+    receiver-refuses why v = rw (sym e, v)
 
-    pub hearer-finds :
+    pub receiver-finds :
         (t : Turned) → found .verdict ≡ verdict.Accepted → t ≡ judged a b type key (found .key) →
         t ≡ receives a b type key (receive b type (key .identifier))
-    hearer-finds t v w = rw (sym e, v) w
+    receiver-finds t v w = rw (sym e, v) w
 
   -- the sender, which answered `sent`
   module _ (sent : KeyAnswer) (e : sent ≡ send a type) where

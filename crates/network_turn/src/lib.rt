@@ -1,4 +1,4 @@
-// Turns carried out: one node is asked to send a frame, another hears it.
+// Turns carried out: one node is asked to send a frame, another receives it.
 use link_key::Key;
 use network::Answer;
 use network::Turned;
@@ -9,67 +9,67 @@ ghost use mathlib.Core.Path.{_≡_};
 ghost use Rattle.node.specs.Frames.{receive};
 ghost use Rattle.network.specs.Turn.{answerOf, judged, receives, turn};
 
-// The sender is asked for a frame of this type, and the hearer receives it with the identifier of the key answered. The radio
+// The sender is asked for a frame of this type, and the receiver receives it with the identifier of the key answered. The radio
 // reports the frame verified exactly where their keys are equal. A refusal ends the turn.
-pub fn turn(sender: Node, hearer: Node, frame_type: u8) -> Turned
-    ensures { λ r. ⌜ r ≡ turn sender hearer «frame_type» ⌝ }
+pub fn turn(sender: Node, receiver: Node, frame_type: u8) -> Turned
+    ensures { λ r. ⌜ r ≡ turn sender receiver «frame_type» ⌝ }
 {
     let sent = sender.sending_key(frame_type);
     let verdict = sent.verdict;
     match verdict {
         Verdict::Refused(why) => Turned {
             sender,
-            hearer,
+            receiver,
             answer: Answer::Refused(why),
         },
         Verdict::Accepted => {
             let key = sent.key;
-            received(sender, hearer, frame_type, key)
+            received(sender, receiver, frame_type, key)
         }
     }
 }
 
-// The hearer receives a frame that was sent with the key.
-fn received(sender: Node, hearer: Node, frame_type: u8, key: Key) -> Turned
-    ensures { λ r. ⌜ r ≡ receives sender hearer «frame_type» key (receive hearer «frame_type» (key .identifier)) ⌝ }
+// The receiver receives a frame that was sent with the key.
+fn received(sender: Node, receiver: Node, frame_type: u8, key: Key) -> Turned
+    ensures { λ r. ⌜ r ≡ receives sender receiver «frame_type» key (receive receiver «frame_type» (key .identifier)) ⌝ }
 {
-    let found = hearer.receiving_key(frame_type, key.identifier);
+    let found = receiver.receiving_key(frame_type, key.identifier);
     let verdict = found.verdict;
     match verdict {
         Verdict::Refused(why) => Turned {
             sender,
-            hearer,
+            receiver,
             answer: Answer::Refused(why),
         },
         Verdict::Accepted => {
             let held = found.key;
-            judged(sender, hearer, frame_type, key, held)
+            judged(sender, receiver, frame_type, key, held)
         }
     }
 }
 
 // The radio compares the key that was sent with and the key that was found; a frame that failed is no call.
-fn judged(sender: Node, hearer: Node, frame_type: u8, key: Key, found: Key) -> Turned
-    ensures { λ r. ⌜ r ≡ judged sender hearer «frame_type» key found ⌝ }
+fn judged(sender: Node, receiver: Node, frame_type: u8, key: Key, found: Key) -> Turned
+    ensures { λ r. ⌜ r ≡ judged sender receiver «frame_type» key found ⌝ }
 {
     if key.same_key(found) {
-        let heard = hearer.verified(frame_type, key.identifier);
-        let change = heard.change;
-        let node = heard.node;
+        let reported = receiver.verified(frame_type, key.identifier);
+        let change = reported.change;
+        let node = reported.node;
         return Turned {
             sender,
-            hearer: node,
+            receiver: node,
             answer: answer_of(change),
         };
     }
     Turned {
         sender,
-        hearer,
+        receiver,
         answer: Answer::Failed,
     }
 }
 
-// What the hearer's answer to the report of a verified frame is in a turn.
+// What the receiver's answer to the report of a verified frame is in a turn.
 fn answer_of(change: Change) -> Answer
     ensures { λ r. ⌜ r ≡ answerOf change ⌝ }
 {

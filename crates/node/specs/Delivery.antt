@@ -10,8 +10,8 @@ use Rattle.refusal.specs.declared.Verdict.the-variants as verdict
 use Rattle.node_key_sets.specs.Sets.{placed, install}
 use Rattle.node_key_sets.specs.declared.sets.KeySets.{KeySets}
 use Rattle.node_key_sets.specs.declared.sets.Placement.{Placement}
-use Rattle.node_delivery.specs.Call.{attemptAfter, asksIdentifier, mayCome}
-use Rattle.node_delivery.specs.declared.Call.{Call}
+use Rattle.node_delivery.specs.Delivery.{attemptAfter, asksIdentifier, mayCome}
+use Rattle.node_delivery.specs.declared.Delivery.{Delivery}
 use Rattle.cojp.specs.Reading.{ifTaken}
 use Rattle.cojp.specs.Configuration.{readConfiguration}
 use Rattle.cojp.specs.declared.configuration.Configuration.{Configuration}
@@ -29,13 +29,13 @@ use Rattle.node.specs.declared.node.Node.{Node}
 
 -- ---- key sets: one that is absent or discarded leaves both
 abbrev pub placementOf : Node → KeysParameter → Placement
-placementOf n p = ifTaken (p .report) (install (isBorder n) (n .sets) (p .value)) (placed false (n .sets))
+placementOf n p = ifTaken (p .report) (install (isBorder n) (n .sets) (p .value)) (placed (n .sets))
 
 -- ---- the node afterwards: a parameter absent or discarded leaves what it holds
-unfoldable pub configured : Call → Node → ℕ → Configuration → KeySets → Reports → Node
-configured call n time c sets reports = record {
+unfoldable pub configured : Delivery → Node → ℕ → Configuration → KeySets → Reports → Node
+configured delivery n time c sets reports = record {
   role = n .role;
-  attempt = attemptAfter call (n .attempt) time;
+  attempt = attemptAfter delivery (n .attempt) time;
   sets = sets;
   address = addressAfter time (c .address) (n .address);
   jrc = octetsAfter (reports .jrc) (c .jrc .value) (n .jrc);
@@ -51,31 +51,39 @@ abbrev pub delivered : Reports → Node → Delivered
 delivered reports n = record { verdict = verdict.Accepted; reports = reports; node = n }
 
 -- a border node's join answer owes a network identifier when the request had none and none was taken
-abbrev pub owesIdentifier : Call → Node → Report → Bool
-owesIdentifier call n r = (asksIdentifier call && isBorder n && not (n .network .held) && not (ifTaken r true false))
+abbrev pub owesIdentifier : Delivery → Node → Report → Bool
+owesIdentifier delivery n r = (asksIdentifier delivery && isBorder n && not (n .network .held) && not (ifTaken r true false))
 
--- a configuration is applied: OWED, CLASH, the change
-unfoldable pub apply : Call → Node → ℕ → Configuration → Delivered
-apply call n time c =
-    cond (owesIdentifier call n (c .network .report))
+-- the key sets are placed, and all else is changed with them
+abbrev pub placedBy : Verdict → Delivery → Node → ℕ → Configuration → KeySets → Delivered
+placedBy (verdict.Refused k) delivery n time c sets = undelivered k n
+placedBy verdict.Accepted delivery n time c sets =
+    delivered (reportsOf (isBorder n) c) (configured delivery n time c sets (reportsOf (isBorder n) c))
+
+-- a configuration is applied: OWED, CLASH (RANGE, where its key set is outside the limits: none that was read is), the change
+unfoldable pub apply : Delivery → Node → ℕ → Configuration → Delivered
+apply delivery n time c =
+    cond (owesIdentifier delivery n (c .network .report))
     (undelivered refusal.Owed n)
-    (cond (placementOf n (c .keys) .clash)
-    (undelivered refusal.Clash n)
-    (delivered (reportsOf (isBorder n) c) (configured call n time c (placementOf n (c .keys) .sets) (reportsOf (isBorder n) c))))
+    (placedBy (placementOf n (c .keys) .verdict) delivery n time c (placementOf n (c .keys) .sets))
 
 -- whether a payload of so many bytes may be handed over: RANGE: the node; LONG, CLOCK, PHASE
-unfoldable pub deliverVerdict : Call → Node → ℕ → ℕ → Verdict
-deliverVerdict call n time len = cond (valid n) (mayCome call (n .attempt) time len) (verdict.Refused refusal.Range)
+unfoldable pub deliverVerdict : Delivery → Node → ℕ → ℕ → Verdict
+deliverVerdict delivery n time len = cond (valid n) (mayCome delivery (n .attempt) time len) (verdict.Refused refusal.Range)
 
 -- nothing of a payload that is refused is applied
-abbrev pub applyRead : Verdict → Call → Node → ℕ → Configuration → Delivered
-applyRead (verdict.Refused k) call n time c = undelivered k n
-applyRead verdict.Accepted call n time c = apply call n time c
+abbrev pub applyRead : Verdict → Delivery → Node → ℕ → Configuration → Delivered
+applyRead (verdict.Refused k) delivery n time c = undelivered k n
+applyRead verdict.Accepted delivery n time c = apply delivery n time c
 
-abbrev pub deliverBy : Verdict → Call → Node → ℕ → ConfigurationRead → Delivered
-deliverBy (verdict.Refused k) call n time r = undelivered k n
-deliverBy verdict.Accepted call n time r = applyRead (r .verdict) call n time (r .configuration)
+abbrev pub deliverBy : Verdict → Delivery → Node → ℕ → ConfigurationRead → Delivered
+deliverBy (verdict.Refused k) delivery n time r = undelivered k n
+deliverBy verdict.Accepted delivery n time r = applyRead (r .verdict) delivery n time (r .configuration)
+
+-- how the node reads a payload: every node reads the same form
+abbrev pub readFor : Node → List ℕ → ConfigurationRead
+readFor n payload = readConfiguration payload
 
 -- a payload is handed over: then reading and applying
-unfoldable pub deliver : Call → Node → ℕ → List ℕ → Delivered
-deliver call n time payload = deliverBy (deliverVerdict call n time (length payload)) call n time (readConfiguration payload)
+unfoldable pub deliver : Delivery → Node → ℕ → List ℕ → Delivered
+deliver delivery n time payload = deliverBy (deliverVerdict delivery n time (length payload)) delivery n time (readFor n payload)

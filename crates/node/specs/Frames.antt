@@ -2,14 +2,14 @@
 use Prim.Native.Nat.{ℕ}
 use mathlib.Core.Bool.{cond}
 use Rattle.refusal.specs.declared.Refusal.the-variants as refusal
-use Rattle.node_key_sets.specs.Frames.{withoutKey, sendingKey, receivingKey, hears}
+use Rattle.node_key_sets.specs.Frames.{withoutKey, sendingKey, receivingKey, verifiedIn}
 use Rattle.node_key_sets.specs.declared.frames.Change.{Change}
 use Rattle.node_key_sets.specs.declared.frames.Change.the-variants as change
-use Rattle.node_key_sets.specs.declared.frames.Hearing.{Hearing}
+use Rattle.node_key_sets.specs.declared.frames.Effect.{Effect}
 use Rattle.node_key_sets.specs.declared.frames.KeyAnswer.{KeyAnswer}
 use Rattle.node.specs.Node.{keyed}
 use Rattle.node.specs.Range.{valid}
-use Rattle.node.specs.declared.frames.Heard.{Heard}
+use Rattle.node.specs.declared.frames.Reported.{Reported}
 use Rattle.node.specs.declared.node.Node.{Node}
 
 -- each: RANGE: the node; then as its key sets
@@ -23,11 +23,11 @@ afterSend n type = n
 unfoldable pub receive : Node → ℕ → ℕ → KeyAnswer
 receive n type identifier = cond (valid n) (receivingKey (n .sets) type identifier) (withoutKey refusal.Range)
 
-abbrev pub heard : Change → Node → Heard
-heard change n = record { change = change; node = n }
+abbrev pub reported : Change → Node → Reported
+reported change n = record { change = change; node = n }
 
-abbrev pub heardBy : Node → Hearing → Heard
-heardBy n h = heard (h .change) (keyed n (h .sets))
+abbrev pub reportedBy : Node → Effect → Reported
+reportedBy n h = reported (h .change) (keyed n (h .sets))
 
-unfoldable pub verified : Node → ℕ → ℕ → Heard
-verified n type identifier = cond (valid n) (heardBy n (hears (n .sets) type identifier)) (heard (change.Refused refusal.Range) n)
+unfoldable pub verified : Node → ℕ → ℕ → Reported
+verified n type identifier = cond (valid n) (reportedBy n (verifiedIn (n .sets) type identifier)) (reported (change.Refused refusal.Range) n)

@@ -10,27 +10,27 @@ use Rattle.node_parameters.specs.Lease.{holdsAt}
 use Rattle.node.specs.Node.{clockOf}
 use Rattle.node.specs.Range.{valid}
 use Rattle.node.specs.declared.lease.Holding.{Holding}
-use Rattle.node.specs.declared.lease.Holding.the-variants.{Refused, Holds, Lapsed}
+use Rattle.node.specs.declared.lease.Holding.the-variants.{Refused, Yes, No}
 use Rattle.node.specs.declared.node.Node.{Node}
 
 -- RANGE: the node; CLOCK; the question changes nothing
 unfoldable pub holds : Node → ℕ → Holding
 holds n time =
-    cond (valid n) (cond (leb (clockOf n) time) (cond (holdsAt (n .address) time) Holds Lapsed) (Refused refusal.Clock)) (Refused refusal.Range)
+    cond (valid n) (cond (leb (clockOf n) time) (cond (holdsAt (n .address) time) Yes No) (Refused refusal.Clock)) (Refused refusal.Range)
 
 -- the answer in document 01's terms
 abbrev pub holdingVerdict : Holding → Verdict
 holdingVerdict (Refused k) = verdict.Refused k
-holdingVerdict Holds = verdict.Accepted
-holdingVerdict Lapsed = verdict.Accepted
+holdingVerdict Yes = verdict.Accepted
+holdingVerdict No = verdict.Accepted
 
 abbrev pub holdingNumber : Holding → ℕ
 holdingNumber (Refused k) = numberOf k
-holdingNumber Holds = 0
-holdingNumber Lapsed = 0
+holdingNumber Yes = 0
+holdingNumber No = 0
 
 -- yes, and no
 abbrev pub holdsNow : Holding → Bool
 holdsNow (Refused k) = false
-holdsNow Holds = true
-holdsNow Lapsed = false
+holdsNow Yes = true
+holdsNow No = false

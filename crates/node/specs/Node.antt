@@ -11,7 +11,7 @@ use Rattle.node_key_sets.specs.declared.sets.KeySets.{KeySets}
 use Rattle.node_attempt.specs.Attempt.{idle}
 use Rattle.node_attempt.specs.declared.attempt.Attempt.{Attempt}
 use Rattle.node_parameters.specs.Lease.{absentAddress}
-use Rattle.node_parameters.specs.Octets.{absentOctets, knownOctets, octetsInRange}
+use Rattle.node_parameters.specs.Octets.{absentOctets, knownOctets, validOctets}
 use Rattle.node_parameters.specs.declared.octets.HeldOctets.{HeldOctets}
 use Rattle.node.specs.declared.node.Made.{Made}
 use Rattle.node.specs.declared.node.Node.{Node}
@@ -47,8 +47,8 @@ abbrev pub emptyNode : Node
 emptyNode = freshNode 0 absentOctets
 
 -- a role is 0 or 1
-abbrev pub roleInRange : ℕ → Bool
-roleInRange role = leb role 1
+abbrev pub validRole : ℕ → Bool
+validRole role = leb role 1
 
 -- the answer: RANGE for the role or the network identifier, and the empty node beside it
 abbrev pub unmade : Made
@@ -56,8 +56,8 @@ unmade = record { verdict = verdict.Refused Range; node = emptyNode }
 
 unfoldable pub made : ℕ → HeldOctets → Made
 made role network =
-    cond (roleInRange role)
-    (cond (octetsInRange network)
+    cond (validRole role)
+    (cond (validOctets network)
     (record { verdict = verdict.Accepted; node = freshNode role (knownOctets network) })
     unmade)
     unmade

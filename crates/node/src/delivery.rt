@@ -6,7 +6,7 @@ use cojp::KeysParameter;
 use cojp::Report;
 use cojp_configuration_read::read_configuration;
 use cojp_range::is_taken;
-use node_delivery::Call;
+use node_delivery::Delivery;
 use node_key_sets::KeySets;
 use node_key_sets::Placement;
 use node_parameters::Reports;
@@ -15,8 +15,9 @@ use node_parameters::reports::reports_of;
 use refusal::Refusal;
 use refusal::Verdict;
 ghost use mathlib.Core.Path.{_≡_};
-ghost use Rattle.node.specs.Delivery.{placementOf, configured, undelivered, owesIdentifier, apply, deliverVerdict, applyRead, deliver};
-ghost use Rattle.node_delivery.specs.declared.Call.the-variants as call;
+ghost use Rattle.node.specs.Delivery.{placementOf, configured, undelivered, owesIdentifier, placedBy, apply, deliverVerdict, applyRead, deliver};
+ghost use Rattle.node_delivery.specs.declared.Delivery.the-variants as delivery;
+ghost use Rattle.refusal.specs.declared.Verdict.the-variants as verdict;
 
 // Beside a refusal stand the empty report and the node as it was.
 pub struct Delivered {
@@ -45,26 +46,29 @@ impl Node {
             return self.sets.install(self.role == 1, parameter.value);
         }
         let sets = self.sets;
-        Placement { clash: false, sets }
+        Placement {
+            verdict: Verdict::Accepted,
+            sets,
+        }
     }
 
     // The node after a configuration that is not refused.
     fn configured(
         self,
-        call: Call,
+        delivery: Delivery,
         time: u64,
         c: Configuration,
         sets: KeySets,
         reports: Reports,
     ) -> Node
-        ensures { λ r. ⌜ r ≡ configured call self time c sets reports ⌝ }
+        ensures { λ r. ⌜ r ≡ configured delivery self time c sets reports ⌝ }
     {
         let jrc = reports.jrc;
         let network = reports.network;
         let prefix = reports.prefix;
         Node {
             role: self.role,
-            attempt: call.attempt_after(self.attempt, time),
+            attempt: delivery.attempt_after(self.attempt, time),
             sets,
             address: self.address.after(time, c.address),
             jrc: self.jrc.after(jrc, c.jrc),
@@ -73,77 +77,85 @@ impl Node {
         }
     }
 
-    // A border node's join answer owes a network identifier that neither the request nor the answer had.
-    fn owes_identifier(self, call: Call, report: Report) -> bool
-        ensures { λ r. ⌜ r ≡ owesIdentifier call self report ⌝ }
+    // The answer to a configuration that is not refused, with the key sets placed.
+    fn changed(self, delivery: Delivery, time: u64, c: Configuration, sets: KeySets) -> Delivered
+        ensures { λ r. ⌜ r ≡ placedBy verdict.Accepted delivery self time c sets ⌝ }
     {
-        let network = self.network;
-        call.asks_identifier() && self.role == 1 && !network.held && !is_taken(report)
-    }
-
-    // Applies a configuration: OWED, CLASH, the change.
-    fn apply(self, call: Call, time: u64, c: Configuration) -> Delivered
-        ensures { λ r. ⌜ r ≡ apply call self time c ⌝ }
-    {
-        let network = c.network;
-        let report = network.report;
-        if self.owes_identifier(call, report) {
-            return self.undelivered(Refusal::Owed);
-        }
-        let placed = self.placement(c.keys);
-        if placed.clash {
-            return self.undelivered(Refusal::Clash);
-        }
         let reports = reports_of(self.role == 1, c);
         Delivered {
             verdict: Verdict::Accepted,
             reports,
-            node: self.configured(call, time, c, placed.sets, reports),
+            node: self.configured(delivery, time, c, sets, reports),
+        }
+    }
+
+    // A border node's join answer owes a network identifier that neither the request nor the answer had.
+    fn owes_identifier(self, delivery: Delivery, report: Report) -> bool
+        ensures { λ r. ⌜ r ≡ owesIdentifier delivery self report ⌝ }
+    {
+        let network = self.network;
+        delivery.asks_identifier() && self.role == 1 && !network.held && !is_taken(report)
+    }
+
+    // Applies a configuration: OWED, CLASH, the change.
+    fn apply(self, delivery: Delivery, time: u64, c: Configuration) -> Delivered
+        ensures { λ r. ⌜ r ≡ apply delivery self time c ⌝ }
+    {
+        let network = c.network;
+        let report = network.report;
+        if self.owes_identifier(delivery, report) {
+            return self.undelivered(Refusal::Owed);
+        }
+        let placed = self.placement(c.keys);
+        let verdict = placed.verdict;
+        match verdict {
+            Verdict::Refused(why) => self.undelivered(why),
+            Verdict::Accepted => self.changed(delivery, time, c, placed.sets),
         }
     }
 
     // Whether a payload of so many bytes may be handed over. RANGE: the node; LONG, CLOCK, PHASE.
-    fn may_deliver(self, call: Call, time: u64, len: usize) -> Verdict
-        ensures { λ r. ⌜ r ≡ deliverVerdict call self time len ⌝ }
+    fn may_deliver(self, delivery: Delivery, time: u64, len: usize) -> Verdict
+        ensures { λ r. ⌜ r ≡ deliverVerdict delivery self time len ⌝ }
     {
         if self.valid() {
-            return call.may_come(self.attempt, time, len);
+            return delivery.may_come(self.attempt, time, len);
         }
         Verdict::Refused(Refusal::Range)
     }
 
     // What was read is applied.
-    fn apply_read(self, call: Call, time: u64, read: ConfigurationRead) -> Delivered
-        ensures { λ r. ⌜ r ≡ applyRead (read .verdict) call self time (read .configuration) ⌝ }
+    fn apply_read(self, delivery: Delivery, time: u64, read: ConfigurationRead) -> Delivered
+        ensures { λ r. ⌜ r ≡ applyRead (read .verdict) delivery self time (read .configuration) ⌝ }
     {
         let verdict = read.verdict;
         match verdict {
             Verdict::Refused(why) => self.undelivered(why),
-            Verdict::Accepted => self.apply(call, time, read.configuration),
+            Verdict::Accepted => self.apply(delivery, time, read.configuration),
         }
     }
 
     // A payload with a configuration: RANGE: the node; LONG, CLOCK, PHASE; then reading, OWED, CLASH.
-    fn deliver(self, call: Call, time: u64, payload: &[u8]) -> Delivered
-        ensures { λ r. ⌜ r ≡ deliver call self time (now (payload .entry)) ⌝ }
+    fn deliver(self, delivery: Delivery, time: u64, payload: &[u8]) -> Delivered
+        ensures { λ r. ⌜ r ≡ deliver delivery self time (now (payload .entry)) ⌝ }
     {
-        match self.may_deliver(call, time, payload.len()) {
+        match self.may_deliver(delivery, time, payload.len()) {
             Verdict::Refused(why) => self.undelivered(why),
-            Verdict::Accepted => self.apply_read(call, time, read_configuration(payload)),
+            Verdict::Accepted => self.apply_read(delivery, time, read_configuration(payload)),
         }
     }
 
     // A join answer, which belongs to a waiting node and makes it joined.
     pub fn join_answer(self, time: u64, payload: &[u8]) -> Delivered
-        ensures { λ r. ⌜ r ≡ deliver call.JoinAnswer self time (now (payload .entry)) ⌝ }
+        ensures { λ r. ⌜ r ≡ deliver delivery.JoinAnswer self time (now (payload .entry)) ⌝ }
     {
-        self.deliver(Call::JoinAnswer, time, payload)
+        self.deliver(Delivery::JoinAnswer, time, payload)
     }
 
     // A parameter update, which belongs to a joined node.
     pub fn update(self, time: u64, payload: &[u8]) -> Delivered
-        ensures { λ r. ⌜ r ≡ deliver call.Update self time (now (payload .entry)) ⌝ }
+        ensures { λ r. ⌜ r ≡ deliver delivery.Update self time (now (payload .entry)) ⌝ }
     {
-        self.deliver(Call::Update, time, payload)
+        self.deliver(Delivery::Update, time, payload)
     }
 }

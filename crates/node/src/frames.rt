@@ -7,7 +7,7 @@ use refusal::Refusal;
 ghost use mathlib.Core.Path.{_≡_};
 ghost use Rattle.node.specs.Frames.{send, receive, verified};
 
-pub struct Heard {
+pub struct Reported {
     pub change: Change,
     pub node: Node,
 }
@@ -34,20 +34,20 @@ impl Node {
     }
 
     // The radio reports a frame of this type and key identifier verified. Refused as `receiving_key` is.
-    pub fn verified(self, frame_type: u8, identifier: u8) -> Heard
+    pub fn verified(self, frame_type: u8, identifier: u8) -> Reported
         ensures { λ r. ⌜ r ≡ verified self «frame_type» identifier ⌝ }
     {
         if !self.valid() {
-            return Heard {
+            return Reported {
                 change: Change::Refused(Refusal::Range),
                 node: self,
             };
         }
-        let hearing = self.sets.verified(frame_type, identifier);
-        let change = hearing.change;
-        let sets = hearing.sets;
+        let effect = self.sets.verified(frame_type, identifier);
+        let change = effect.change;
+        let sets = effect.sets;
         let mut node = self;
         node.sets = sets;
-        Heard { change, node }
+        Reported { change, node }
     }
 }

@@ -4,10 +4,11 @@ use refusal::Refusal;
 ghost use mathlib.Core.Path.{_≡_};
 ghost use Rattle.node.specs.Lease.{holds};
 
+// The answer to the question whether the address holds. No: its lease has run out, or there is no address.
 pub enum Holding {
     Refused(Refusal),
-    Holds,
-    Lapsed,
+    Yes,
+    No,
 }
 
 impl Node {
@@ -23,8 +24,8 @@ impl Node {
             return Holding::Refused(Refusal::Clock);
         }
         if self.address.holds_at(time) {
-            return Holding::Holds;
+            return Holding::Yes;
         }
-        Holding::Lapsed
+        Holding::No
     }
 }

@@ -7,10 +7,10 @@ mod range;
 mod timing;
 
 pub use delivery::Delivered;
-pub use frames::Heard;
+pub use frames::Reported;
 pub use lease::Holding;
 pub use node::Made;
 pub use node::Node;
-pub use node_delivery::Call;
+pub use node_delivery::Delivery;
 pub use timing::Polled;
 pub use timing::Started;

@@ -10,7 +10,7 @@ use node_parameters::octets::absent_octets;
 use refusal::Refusal;
 use refusal::Verdict;
 ghost use mathlib.Core.Path.{_≡_};
-ghost use Rattle.node.specs.Node.{freshNode, unmade, made, attempting};
+ghost use Rattle.node.specs.Node.{freshNode, unmade, made};
 
 pub struct Node {
     // 0 ordinary, 1 border (6LBR).
@@ -68,21 +68,12 @@ impl Node {
         if 1 < role {
             return not_made();
         }
-        if !network.in_range() {
+        if !network.valid() {
             return not_made();
         }
         Made {
             verdict: Verdict::Accepted,
             node: fresh_node(role, network.known()),
         }
-    }
-
-    // The node with another join attempt.
-    pub fn attempting(self, attempt: Attempt) -> Node
-        ensures { λ r. ⌜ r ≡ attempting self attempt ⌝ }
-    {
-        let mut node = self;
-        node.attempt = attempt;
-        node
     }
 }

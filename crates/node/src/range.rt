@@ -1,16 +1,13 @@
 // Which nodes may be handed in.
 use crate::node::Node;
 ghost use mathlib.Core.Path.{_≡_};
-ghost use Rattle.node.specs.Range.{othersFit, valid};
+ghost use Rattle.node.specs.Range.{othersValid, valid};
 
 impl Node {
-    fn others_fit(self) -> bool
-        ensures { λ r. ⌜ r ≡ othersFit self ⌝ }
+    fn others_valid(self) -> bool
+        ensures { λ r. ⌜ r ≡ othersValid self ⌝ }
     {
-        self.role <= 1
-            && self.jrc.jrc_in_range()
-            && self.network.in_range()
-            && self.prefix.in_range()
+        self.role <= 1 && self.jrc.valid_jrc() && self.network.valid() && self.prefix.valid()
     }
 
     // Whether the node may be handed in; where it may not, each call answers RANGE.
@@ -18,9 +15,9 @@ impl Node {
         ensures { λ r. ⌜ r ≡ valid self ⌝ }
     {
         let attempt = self.attempt;
-        self.sets.fit(self.role == 1)
-            && attempt.fit()
-            && self.address.in_range(attempt.clock)
-            && self.others_fit()
+        self.sets.valid(self.role == 1)
+            && attempt.valid()
+            && self.address.valid(attempt.clock)
+            && self.others_valid()
     }
 }

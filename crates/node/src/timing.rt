@@ -3,11 +3,13 @@ use crate::node::Node;
 use cbor::Written;
 use cojp::JoinRequest;
 use cojp_request_write::write_request;
+use node_attempt::Attempt;
 use node_attempt::Due;
 use node_attempt::attempt::waiting_from;
 use refusal::Refusal;
 use refusal::Verdict;
 ghost use mathlib.Core.Path.{_≡_};
+ghost use Rattle.node.specs.Node.{attempting};
 ghost use Rattle.node.specs.Timing.{requestOf, startVerdict, startedFrom, startedBy, unstarted, StartDid, poll};
 
 // A start wrote `length` bytes of the join request; beside a refusal stand 0 and the node as it was.
@@ -32,6 +34,15 @@ impl Node {
             network: self.network.parameter(),
             passed: 0,
         }
+    }
+
+    // The node with another join attempt.
+    fn attempting(self, attempt: Attempt) -> Node
+        ensures { λ r. ⌜ r ≡ attempting self attempt ⌝ }
+    {
+        let mut node = self;
+        node.attempt = attempt;
+        node
     }
 
     fn unstarted(self, why: Refusal) -> Started

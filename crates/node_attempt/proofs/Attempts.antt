@@ -1,4 +1,4 @@
--- An attempt that fits: what that says of its counter, its times and its timeout, and back; and what starts and polls make of it.
+-- A valid attempt: what that says of its counter, its times and its timeout, and back; and what starts and polls make of it.
 use Prim.Native.Nat.{ℕ, zero, suc, _+_, _-_, _*_, _/_, _%_, _≤_, _<_}
 use native.Mathlib.Numerals.{add-one}
 use native.Mathlib.Omega.{arith}
@@ -6,68 +6,67 @@ use mathlib.Core.Path.{_≡_, refl, sym}
 use mathlib.Core.Bool.{Bool, true, false, _&&_}
 use borrow.Author.Tests.{leb-true, le-leb, ltb-true, eqb-true}
 use lib.Dec.{leb, ltb, eqb}
+use Rattle.refusal.specs.Verdict.{refused-not, accepted-not}
 use Rattle.refusal.specs.declared.Refusal.{Refusal}
 use Rattle.refusal.specs.declared.Refusal.the-variants as refusal
 use Rattle.refusal.specs.declared.Verdict.the-variants as verdict
-use Rattle.link_key.proofs.Tests.{both-left, both-right}
-use Rattle.node_attempt.specs.Attempt.{isWaiting, attempt, firstTimeout, timeoutAfter, timeoutInRange, fits, mayStart, waitingFrom}
+use Rattle.logic_facts.specs.Tests.{both-left, both-right}
+use Rattle.node_attempt.specs.Attempt.{isWaiting, attempt, firstTimeout, timeoutAfter, validTimeout, valid, mayStart, waitingFrom}
 use Rattle.node_attempt.specs.Poll.{step, stepped, poll, dueVerdict}
 use Rattle.node_attempt.specs.declared.attempt.Attempt.{Attempt}
 use Rattle.node_attempt.specs.declared.attempt.Phase.the-variants as phase
 use Rattle.node_attempt.specs.declared.poll.Due.the-variants.{Refused, NotYet, SendAgain, GaveUp}
 use Rattle.node_attempt.specs.declared.poll.Step.{Step}
-use Rattle.link_key.proofs.Tests.{then-so}
+use Rattle.logic_facts.specs.Tests.{then-so}
 
 -- ---- what it says, part by part, and back
-module _ (a : Attempt) (e : fits a ≡ true) where
+module _ (a : Attempt) (e : valid a ≡ true) where
   front : (leb (a .count) 4 && leb (a .sent) (a .clock)) ≡ true
-  unfolding fits
-  front = both-left (leb (a .count) 4 && leb (a .sent) (a .clock)) (timeoutInRange a) e
+  unfolding valid
+  front = both-left (leb (a .count) 4 && leb (a .sent) (a .clock)) (validTimeout a) e
 
-  pub count-fits : a .count ≤ 4
-  count-fits = leb-true (a .count) 4 (both-left (leb (a .count) 4) (leb (a .sent) (a .clock)) front)
+  pub count-valid : a .count ≤ 4
+  count-valid = leb-true (a .count) 4 (both-left (leb (a .count) 4) (leb (a .sent) (a .clock)) front)
 
-  pub sent-fits : a .sent ≤ a .clock
-  sent-fits = leb-true (a .sent) (a .clock) (both-right (leb (a .count) 4) (leb (a .sent) (a .clock)) front)
+  pub sent-valid : a .sent ≤ a .clock
+  sent-valid = leb-true (a .sent) (a .clock) (both-right (leb (a .count) 4) (leb (a .sent) (a .clock)) front)
 
-  pub timeout-fits : timeoutInRange a ≡ true
-  unfolding fits
-  timeout-fits = both-right (leb (a .count) 4 && leb (a .sent) (a .clock)) (timeoutInRange a) e
+  pub timeout-valid : validTimeout a ≡ true
+  unfolding valid
+  timeout-valid = both-right (leb (a .count) 4 && leb (a .sent) (a .clock)) (validTimeout a) e
 
-pub fits-by : (a : Attempt) → a .count ≤ 4 → a .sent ≤ a .clock → timeoutInRange a ≡ true → fits a ≡ true
-unfolding fits
-fits-by a k s t = rw (le-leb _ _ k, le-leb _ _ s) t
+pub valid-by : (a : Attempt) → a .count ≤ 4 → a .sent ≤ a .clock → validTimeout a ≡ true → valid a ≡ true
+unfolding valid
+valid-by a k s t = rw (le-leb _ _ k, le-leb _ _ s) t
 
 -- ---- a later clock, as of a join answer or an update
-module _ (a : Attempt) (time : ℕ) (c : a .clock ≤ time) (e : fits a ≡ true) where
+module _ (a : Attempt) (time : ℕ) (c : a .clock ≤ time) (e : valid a ≡ true) where
   pub sent-before : a .sent ≤ time
-  sent-before = omega (arith, sent-fits a e)
+  sent-before = omega (arith, sent-valid a e)
 
-  pub moved-fits : fits (attempt (a .phase) time (a .sent) (a .timeout) (a .count)) ≡ true
-  moved-fits = fits-by (attempt (a .phase) time (a .sent) (a .timeout) (a .count)) (count-fits a e) sent-before (timeout-fits a e)
+  pub moved-valid : valid (attempt (a .phase) time (a .sent) (a .timeout) (a .count)) ≡ true
+  moved-valid = valid-by (attempt (a .phase) time (a .sent) (a .timeout) (a .count)) (count-valid a e) sent-before (timeout-valid a e)
 
-  pub joined-fits : fits (attempt phase.Joined time (a .sent) (a .timeout) (a .count)) ≡ true
-  joined-fits = fits-by (attempt phase.Joined time (a .sent) (a .timeout) (a .count)) (count-fits a e) sent-before refl
+  pub joined-valid : valid (attempt phase.Joined time (a .sent) (a .timeout) (a .count)) ≡ true
+  joined-valid = valid-by (attempt phase.Joined time (a .sent) (a .timeout) (a .count)) (count-valid a e) sent-before refl
 
 -- ---- starting
-not-both : {A : Type 0} (k : Refusal) → verdict.Refused k ≡ verdict.Accepted → A
-not-both k e = absurd (let z : _≡_ {A = ℕ} 0 1 = cc in omega arith)
-
 module _ (a : Attempt) (time timeout : ℕ) (e : mayStart a time timeout ≡ verdict.Accepted) where
   started-by :
-      (c w f : Bool) → leb (a .clock) time ≡ c → isWaiting (a .phase) ≡ w → firstTimeout timeout ≡ f →
+      (v c w f : Bool) → valid a ≡ v → leb (a .clock) time ≡ c → isWaiting (a .phase) ≡ w → firstTimeout timeout ≡ f →
       (c ≡ true) × (w ≡ false) × (f ≡ true)
   unfolding mayStart
-  started-by false w f p q r = not-both refusal.Clock (rw p at e)
-  started-by true true f p q r = not-both refusal.Phase (rw (p, q) at e)
-  started-by true false false p q r = not-both refusal.Range (rw (p, q, r) at e)
-  started-by true false true p q r = (refl, refl, refl)
+  started-by false c w f o p q r = refused-not refusal.Range (rw o at e)
+  started-by true false w f o p q r = refused-not refusal.Clock (rw (o, p) at e)
+  started-by true true true f o p q r = refused-not refusal.Phase (rw (o, p, q) at e)
+  started-by true true false false o p q r = refused-not refusal.Range (rw (o, p, q, r) at e)
+  started-by true true false true o p q r = (refl, refl, refl)
 
   pub may-start : (leb (a .clock) time ≡ true) × (isWaiting (a .phase) ≡ false) × (firstTimeout timeout ≡ true)
-  may-start = started-by (leb (a .clock) time) (isWaiting (a .phase)) (firstTimeout timeout) refl refl refl
+  may-start = started-by (valid a) (leb (a .clock) time) (isWaiting (a .phase)) (firstTimeout timeout) refl refl refl refl
 
-pub waiting-fits : (time timeout : ℕ) → firstTimeout timeout ≡ true → fits (waitingFrom time timeout) ≡ true
-waiting-fits time timeout f = fits-by (waitingFrom time timeout) (omega arith) (omega arith) f
+pub waiting-valid : (time timeout : ℕ) → firstTimeout timeout ≡ true → valid (waitingFrom time timeout) ≡ true
+waiting-valid time timeout f = valid-by (waitingFrom time timeout) (omega arith) (omega arith) f
 
 -- ---- polling: the arithmetic is exact
 twice :
@@ -97,9 +96,9 @@ small (suc (suc (suc (suc zero)))) t h e =
     )
 small (suc (suc (suc (suc (suc count))))) t h e = absurd (omega arith)
 
-pub timeout-small : (a : Attempt) → fits a ≡ true → isWaiting (a .phase) ≡ true → a .timeout ≤ 240000
+pub timeout-small : (a : Attempt) → valid a ≡ true → isWaiting (a .phase) ≡ true → a .timeout ≤ 240000
 timeout-small a e w =
-    small (a .count) (a .timeout) (count-fits a e) (then-so (isWaiting (a .phase)) (timeoutAfter (a .count) (a .timeout)) (timeout-fits a e) w)
+    small (a .count) (a .timeout) (count-valid a e) (then-so (isWaiting (a .phase)) (timeoutAfter (a .count) (a .timeout)) (timeout-valid a e) w)
 
 -- ---- polling: what holds of each step that is answered holds of a poll
 module _ (a : Attempt) (time : ℕ) (P : Step → Type 0)
@@ -113,7 +112,7 @@ module _ (a : Attempt) (time : ℕ) (P : Step → Type 0)
   stepped-cases false e c w = rw e (over c)
 
   polled-cases :
-      (f c w d : Bool) → fits a ≡ f → leb (a .clock) time ≡ c → isWaiting (a .phase) ≡ w → leb (a .timeout) (time - a .sent) ≡ d →
+      (f c w d : Bool) → valid a ≡ f → leb (a .clock) time ≡ c → isWaiting (a .phase) ≡ w → leb (a .timeout) (time - a .sent) ≡ d →
       P (poll a time)
   unfolding poll
   polled-cases false c w d p q r s = rw p (refused refusal.Range)
@@ -123,7 +122,7 @@ module _ (a : Attempt) (time : ℕ) (P : Step → Type 0)
   polled-cases true true true true p q r s = rw (p, q, r, s) (stepped-cases (ltb (a .count) 4) refl (leb-true _ _ q) r)
 
   pub poll-cases : P (poll a time)
-  poll-cases = polled-cases (fits a) (leb (a .clock) time) (isWaiting (a .phase)) (leb (a .timeout) (time - a .sent)) refl refl refl refl
+  poll-cases = polled-cases (valid a) (leb (a .clock) time) (isWaiting (a .phase)) (leb (a .timeout) (time - a .sent)) refl refl refl refl
 
 halves : (t : ℕ) → 2 * t % 2 ≡ 0
 halves t = omega arith
@@ -134,19 +133,19 @@ half t = omega arith
 doubled-once : (count timeout : ℕ) → timeoutAfter count timeout ≡ true → timeoutAfter (count + 1) (2 * timeout) ≡ true
 doubled-once count timeout e = rw (add-one count, halves timeout, half timeout) e
 
-again-fits :
-    (a : Attempt) (time : ℕ) → isWaiting (a .phase) ≡ true → a .count < 4 → fits a ≡ true →
-    fits (attempt (a .phase) time time (2 * a .timeout) (a .count + 1)) ≡ true
-again-fits a time w h e =
-    fits-by (attempt (a .phase) time time (2 * a .timeout) (a .count + 1)) (omega arith) (omega arith)
+again-valid :
+    (a : Attempt) (time : ℕ) → isWaiting (a .phase) ≡ true → a .count < 4 → valid a ≡ true →
+    valid (attempt (a .phase) time time (2 * a .timeout) (a .count + 1)) ≡ true
+again-valid a time w h e =
+    valid-by (attempt (a .phase) time time (2 * a .timeout) (a .count + 1)) (omega arith) (omega arith)
     (rw w
-    (doubled-once (a .count) (a .timeout) (then-so (isWaiting (a .phase)) (timeoutAfter (a .count) (a .timeout)) (timeout-fits a e) w)))
+    (doubled-once (a .count) (a .timeout) (then-so (isWaiting (a .phase)) (timeoutAfter (a .count) (a .timeout)) (timeout-valid a e) w)))
 
 module _ (a : Attempt) (time : ℕ) where
-  pub poll-fits : fits a ≡ true → fits (poll a time .attempt) ≡ true
-  poll-fits e =
-      poll-cases a time (λ (s : Step). fits (s .attempt) ≡ true) (λ k. e) (λ c. moved-fits a time c e) (λ c w h. again-fits a time w h e)
-      (λ c. fits-by (attempt phase.GaveUp time (a .sent) (a .timeout) (a .count)) (count-fits a e) (sent-before a time c e) refl)
+  pub poll-valid : valid a ≡ true → valid (poll a time .attempt) ≡ true
+  poll-valid e =
+      poll-cases a time (λ (s : Step). valid (s .attempt) ≡ true) (λ k. e) (λ c. moved-valid a time c e) (λ c w h. again-valid a time w h e)
+      (λ c. valid-by (attempt phase.GaveUp time (a .sent) (a .timeout) (a .count)) (count-valid a e) (sent-before a time c e) refl)
 
   pub poll-later : a .clock ≤ poll a time .attempt .clock
   poll-later = poll-cases a time (λ (s : Step). a .clock ≤ s .attempt .clock) (λ k. omega arith) (λ c. c) (λ c w h. c) (λ c. c)
@@ -155,7 +154,7 @@ module _ (a : Attempt) (time : ℕ) where
   pub poll-untouched : (k : Refusal) → dueVerdict (poll a time .due) ≡ verdict.Refused k → (poll a time .attempt ≡ a) × (poll a time .due ≡ Refused k)
   poll-untouched =
       poll-cases a time (λ (s : Step). (k : Refusal) → dueVerdict (s .due) ≡ verdict.Refused k → (s .attempt ≡ a) × (s .due ≡ Refused k))
-      (λ l k e. (refl, same l k e)) (λ c k e. not-both k (sym e)) (λ c w h k e. not-both k (sym e)) (λ c k e. not-both k (sym e))
+      (λ l k e. (refl, same l k e)) (λ c k e. accepted-not k e) (λ c w h k e. accepted-not k e) (λ c k e. accepted-not k e)
     where
       same : (l k : Refusal) → verdict.Refused l ≡ verdict.Refused k → Refused l ≡ Refused k
       same l k e = cc

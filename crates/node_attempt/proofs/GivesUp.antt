@@ -3,18 +3,19 @@ use Prim.Native.Nat.{ℕ, _+_, _-_, _*_, _<_}
 use native.Mathlib.Omega.{arith}
 use mathlib.Core.Path.{_≡_, refl, _∙_}
 use mathlib.Core.Bool.{true}
-use borrow.Author.Tests.{le-leb, lt-ltb, le-ltb}
+use borrow.Author.Tests.{le-leb, lt-ltb, le-ltb, leb-true}
 use lib.Dec.{leb}
-use Rattle.node_attempt.specs.Attempt.{attempt, fits, waitingFrom}
-use Rattle.node_attempt.specs.Poll.{step, stepped, poll, dueAt, AttemptGivesUp}
+use Rattle.logic_facts.specs.Tests.{both-left, both-right}
+use Rattle.node_attempt.specs.Attempt.{attempt, valid, waitingFrom}
+use Rattle.node_attempt.specs.Poll.{step, stepped, poll, dueAt, afterDue, AttemptGivesUp}
 use Rattle.node_attempt.specs.declared.attempt.Attempt.{Attempt}
 use Rattle.node_attempt.specs.declared.attempt.Phase.the-variants as phase
 use Rattle.node_attempt.specs.declared.poll.Due.the-variants.{SendAgain, GaveUp}
-use Rattle.node_attempt.proofs.Attempts.{waiting-fits, poll-fits}
+use Rattle.node_attempt.proofs.Attempts.{waiting-valid, poll-valid}
 
--- an attempt that fits, its request sent at the time s, with so long to wait, after so many retransmissions
+-- a valid attempt, its request sent at the time s, with so long to wait, after so many retransmissions
 record Waits (a : Attempt) (s t count : ℕ) : Type 0 where
-  fit : fits a ≡ true
+  is-valid : valid a ≡ true
   waiting : a .phase ≡ phase.Waiting
   clock : a .clock ≡ s
   sent : a .sent ≡ s
@@ -31,7 +32,7 @@ module _ (a : Attempt) (s t count : ℕ) (h : Waits a s t count) where
   -- what is due is done
   poll-due : poll a (dueAt a) ≡ stepped a (dueAt a)
   unfolding poll
-  poll-due = rw (h .fit, on-time, h .waiting, reached)
+  poll-due = rw (h .is-valid, on-time, h .waiting, reached)
 
   again-is : count < 4 → stepped a (dueAt a) ≡ step SendAgain (attempt (a .phase) (dueAt a) (dueAt a) (2 * a .timeout) (a .count + 1))
   unfolding stepped
@@ -47,7 +48,7 @@ module _ (a : Attempt) (s t count : ℕ) (h : Waits a s t count) where
       let at : dueAt a ≡ s + t = omega (arith, h .sent, h .timeout) in (
         rw e,
         record {
-          fit = poll-fits a (dueAt a) (h .fit);
+          is-valid = poll-valid a (dueAt a) (h .is-valid);
           waiting = rw e (h .waiting);
           clock = rw e at;
           sent = rw e at;
@@ -69,7 +70,7 @@ pub attempt-gives-up : AttemptGivesUp
 attempt-gives-up time t f =
     let a = waitingFrom time t in
     let s0 : Waits a time t 0 = record {
-      fit = waiting-fits time t f;
+      is-valid = waiting-valid time t f;
       waiting = refl;
       clock = refl;
       sent = refl;
@@ -81,8 +82,13 @@ attempt-gives-up time t f =
     let s3 = due-again (next (next a)) _ _ _ (s2 .1) (omega arith) in
     let s4 = due-again (next (next (next a))) _ _ _ (s3 .1) (omega arith) in
     let s5 = due-over (next (next (next (next a)))) _ _ _ (s4 .1) refl in
+    let at : afterDue 5 a .clock ≡ time + 31 * t = s5 .2 ∙ (omega arith) in
+    let least = leb-true 10000 t (both-left (leb 10000 t) (leb t 15000) f) in
+    let most = leb-true t 15000 (both-right (leb 10000 t) (leb t 15000) f) in
     record {
       answers = rw (s1 .0, s2 .0, s3 .0, s4 .0, s5 .0);
       end = s5 .1;
-      at = s5 .2 ∙ (omega arith);
+      at = at;
+      earliest = rw at (omega (arith, least));
+      latest = rw at (omega (arith, most));
     }

@@ -40,21 +40,23 @@ timeoutAfter zero timeout = firstTimeout timeout
 timeoutAfter (suc count) timeout = (eqb (timeout % 2) 0 && timeoutAfter count (timeout / 2))
 
 -- while waiting, doubled once per count; in another phase the timeout is not judged
-abbrev pub timeoutInRange : Attempt → Bool
-timeoutInRange a = (not (isWaiting (a .phase)) || timeoutAfter (a .count) (a .timeout))
+abbrev pub validTimeout : Attempt → Bool
+validTimeout a = (not (isWaiting (a .phase)) || timeoutAfter (a .count) (a .timeout))
 
 -- the counter is at most 4, and the last sending was not after the clock
-unfoldable pub fits : Attempt → Bool
-fits a = (leb (a .count) 4 && leb (a .sent) (a .clock) && timeoutInRange a)
+unfoldable pub valid : Attempt → Bool
+valid a = (leb (a .count) 4 && leb (a .sent) (a .clock) && validTimeout a)
 
--- ---- starting: CLOCK, PHASE, RANGE: the timeout
+-- ---- starting: RANGE: the attempt; CLOCK, PHASE; RANGE: the timeout
 unfoldable pub mayStart : Attempt → ℕ → ℕ → Verdict
 mayStart a time timeout =
-    cond (leb (a .clock) time)
+    cond (valid a)
+    (cond (leb (a .clock) time)
     (cond (isWaiting (a .phase))
     (verdict.Refused refusal.Phase)
     (cond (firstTimeout timeout) verdict.Accepted (verdict.Refused refusal.Range)))
-    (verdict.Refused refusal.Clock)
+    (verdict.Refused refusal.Clock))
+    (verdict.Refused refusal.Range)
 
 -- the attempt that starts: waiting, the counter 0
 abbrev pub waitingFrom : ℕ → ℕ → Attempt

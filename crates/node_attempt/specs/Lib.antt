@@ -1,2 +1,3 @@
 pub mod Attempt
 pub mod Poll
+pub mod Demand1

@@ -1,5 +1,5 @@
 -- Polling a join attempt: when the request is to be sent again, and when the node gives up.
-use Prim.Native.Nat.{ℕ, zero, suc, _+_, _-_, _*_}
+use Prim.Native.Nat.{ℕ, zero, suc, _+_, _-_, _*_, _≤_}
 use mathlib.Core.Path.{_≡_}
 use mathlib.Core.Bool.{Bool, true, false, cond}
 use mathlib.Core.List.{List, [], _∷_}
@@ -8,7 +8,7 @@ use Rattle.refusal.specs.Refusal.{numberOf}
 use Rattle.refusal.specs.declared.Refusal.the-variants as refusal
 use Rattle.refusal.specs.declared.Verdict.{Verdict}
 use Rattle.refusal.specs.declared.Verdict.the-variants as verdict
-use Rattle.node_attempt.specs.Attempt.{isWaiting, attempt, firstTimeout, fits, waitingFrom}
+use Rattle.node_attempt.specs.Attempt.{isWaiting, attempt, firstTimeout, valid, waitingFrom}
 use Rattle.node_attempt.specs.declared.attempt.Attempt.{Attempt}
 use Rattle.node_attempt.specs.declared.attempt.Phase.the-variants as phase
 use Rattle.node_attempt.specs.declared.poll.Due.{Due}
@@ -28,7 +28,7 @@ stepped a time =
 -- RANGE: the attempt; CLOCK, PHASE; a step is due once the time since the last sending has reached the timeout
 unfoldable pub poll : Attempt → ℕ → Step
 poll a time =
-    cond (fits a)
+    cond (valid a)
     (cond (leb (a .clock) time)
     (cond (isWaiting (a .phase))
     (cond (leb (a .timeout) (time - a .sent)) (stepped a time) (step NotYet (attempt (a .phase) time (a .sent) (a .timeout) (a .count))))
@@ -48,6 +48,13 @@ dueNumber (Refused k) = numberOf k
 dueNumber NotYet = 0
 dueNumber SendAgain = 0
 dueNumber GaveUp = 0
+
+-- nothing is due yet
+abbrev pub notYet : Due → Bool
+notYet (Refused k) = false
+notYet NotYet = true
+notYet SendAgain = false
+notYet GaveUp = false
 
 -- the request is to be sent again
 abbrev pub sendsAgain : Due → Bool
@@ -77,11 +84,13 @@ abbrev pub answersDue : ℕ → Attempt → List Due
 answersDue zero a = []
 answersDue (suc polls) a = poll a (dueAt a) .due ∷ answersDue polls (poll a (dueAt a) .attempt)
 
--- polled exactly when due, an attempt with first timeout t sends four times more, and gives up 31t after its start
+-- polled exactly when due, an attempt with first timeout t sends four times more, and gives up 31t after its start: 310,000 to 465,000 ms
 pub record GaveUpAfter (time timeout : ℕ) : Type 0 where
   pub answers : answersDue 5 (waitingFrom time timeout) ≡ SendAgain ∷ SendAgain ∷ SendAgain ∷ SendAgain ∷ GaveUp ∷ []
   pub end : afterDue 5 (waitingFrom time timeout) .phase ≡ phase.GaveUp
   pub at : afterDue 5 (waitingFrom time timeout) .clock ≡ time + 31 * timeout
+  pub earliest : time + 310000 ≤ afterDue 5 (waitingFrom time timeout) .clock
+  pub latest : afterDue 5 (waitingFrom time timeout) .clock ≤ time + 465000
 
 abbrev pub AttemptGivesUp : Type 0
 AttemptGivesUp = (time timeout : ℕ) → firstTimeout timeout ≡ true → GaveUpAfter time timeout

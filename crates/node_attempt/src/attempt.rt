@@ -2,7 +2,7 @@
 use refusal::Refusal;
 use refusal::Verdict;
 ghost use mathlib.Core.Path.{_≡_};
-ghost use Rattle.node_attempt.specs.Attempt.{isWaiting, isJoined, idle, firstTimeout, timeoutAfter, fits, mayStart, waitingFrom};
+ghost use Rattle.node_attempt.specs.Attempt.{isWaiting, isJoined, idle, firstTimeout, timeoutAfter, valid, mayStart, waitingFrom};
 
 // Where the node stands with its join attempt.
 pub enum Phase {
@@ -98,8 +98,8 @@ impl Attempt {
     pub const RETRANSMISSIONS: u8 = 4;
 
     // Whether the attempt may be handed in; where it may not, each call answers RANGE.
-    pub fn fit(self) -> bool
-        ensures { λ r. ⌜ r ≡ fits self ⌝ }
+    pub fn valid(self) -> bool
+        ensures { λ r. ⌜ r ≡ valid self ⌝ }
     {
         if Attempt::RETRANSMISSIONS < self.count {
             return false;
@@ -114,10 +114,13 @@ impl Attempt {
         true
     }
 
-    // Whether an attempt with this first timeout may start. CLOCK, PHASE; RANGE: the timeout.
+    // Whether an attempt with this first timeout may start. RANGE: the attempt; CLOCK, PHASE; RANGE: the timeout.
     pub fn may_start(self, time: u64, timeout: u64) -> Verdict
         ensures { λ r. ⌜ r ≡ mayStart self time timeout ⌝ }
     {
+        if !self.valid() {
+            return Verdict::Refused(Refusal::Range);
+        }
         if time < self.clock {
             return Verdict::Refused(Refusal::Clock);
         }

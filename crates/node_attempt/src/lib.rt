@@ -6,3 +6,9 @@ pub use attempt::Attempt;
 pub use attempt::Phase;
 pub use poll::Due;
 pub use poll::Step;
+ghost use Rattle.node_attempt.specs.Demand1.{AttemptDemand1};
+
+// Demand 1 for the join attempt.
+pub fn demand1()
+    ensures { λ r. ⌜ AttemptDemand1 ⌝ }
+{}

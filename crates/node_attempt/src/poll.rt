@@ -55,7 +55,7 @@ impl Attempt {
     pub fn poll(self, time: u64) -> Step
         ensures { λ r. ⌜ r ≡ poll self time ⌝ }
     {
-        if !self.fit() {
+        if !self.valid() {
             return Step {
                 due: Due::Refused(Refusal::Range),
                 attempt: self,

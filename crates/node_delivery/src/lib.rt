@@ -1,5 +1,5 @@
-// What a configuration comes in, a join answer (join response) or a parameter update: when one may be handed over, and what it does to the
-// join attempt.
+// Deliveries: a configuration comes in a join answer (join response) or in a parameter update. When one may be handed over, and what it does to
+// the join attempt.
 use node_attempt::Attempt;
 use node_attempt::Phase;
 use node_attempt::attempt::is_joined;
@@ -7,24 +7,25 @@ use node_attempt::attempt::is_waiting;
 use refusal::Refusal;
 use refusal::Verdict;
 ghost use mathlib.Core.Path.{_≡_};
-ghost use Rattle.node_delivery.specs.Call.{phaseAfter, attemptAfter, belongs, asksIdentifier, mayCome};
+ghost use Rattle.node_delivery.specs.Demand1.{DeliveryDemand1};
+ghost use Rattle.node_delivery.specs.Delivery.{phaseAfter, attemptAfter, belongs, asksIdentifier, mayCome};
 
 // A longer payload is LONG.
 const PAYLOAD_MOST: usize = 256;
 
-pub enum Call {
+pub enum Delivery {
     JoinAnswer,
     Update,
 }
 
-impl Call {
+impl Delivery {
     // An accepted join answer makes the node joined.
     fn phase_after(self, phase: Phase) -> Phase
         ensures { λ r. ⌜ r ≡ phaseAfter self phase ⌝ }
     {
         match self {
-            Call::JoinAnswer => Phase::Joined,
-            Call::Update => phase,
+            Delivery::JoinAnswer => Phase::Joined,
+            Delivery::Update => phase,
         }
     }
 
@@ -47,8 +48,8 @@ impl Call {
         ensures { λ r. ⌜ r ≡ belongs self phase ⌝ }
     {
         match self {
-            Call::JoinAnswer => is_waiting(phase),
-            Call::Update => is_joined(phase),
+            Delivery::JoinAnswer => is_waiting(phase),
+            Delivery::Update => is_joined(phase),
         }
     }
 
@@ -57,15 +58,18 @@ impl Call {
         ensures { λ r. ⌜ r ≡ asksIdentifier self ⌝ }
     {
         match self {
-            Call::JoinAnswer => true,
-            Call::Update => false,
+            Delivery::JoinAnswer => true,
+            Delivery::Update => false,
         }
     }
 
-    // Whether a payload of so many bytes may be handed over. LONG, CLOCK, PHASE.
+    // Whether a payload of so many bytes may be handed over. RANGE: the attempt; LONG, CLOCK, PHASE.
     pub fn may_come(self, attempt: Attempt, time: u64, len: usize) -> Verdict
         ensures { λ r. ⌜ r ≡ mayCome self attempt time len ⌝ }
     {
+        if !attempt.valid() {
+            return Verdict::Refused(Refusal::Range);
+        }
         if PAYLOAD_MOST < len {
             return Verdict::Refused(Refusal::Long);
         }
@@ -79,3 +83,8 @@ impl Call {
         Verdict::Refused(Refusal::Phase)
     }
 }
+
+// Demand 1 for deliveries.
+pub fn demand1()
+    ensures { λ r. ⌜ DeliveryDemand1 ⌝ }
+{}

@@ -12,7 +12,7 @@ use Rattle.link_key.specs.declared.FoundKey.{FoundKey}
 use Rattle.link_key.specs.declared.Key.{Key}
 use Rattle.link_key.proofs.Keys.{found-some, found-none}
 use Rattle.node_key_sets.specs.Sets.{activeIn}
-use Rattle.node_key_sets.specs.Frames.{withKey, withoutKey, keyOr, ifCovers, receivingKey, switched, hearing, hears}
+use Rattle.node_key_sets.specs.Frames.{withKey, withoutKey, keyOr, ifCovers, receivingKey, switched, effect, verifiedIn}
 use Rattle.node_key_sets.specs.declared.frames.Change.the-variants as change
 use Rattle.node_key_sets.specs.declared.frames.KeyAnswer.{KeyAnswer}
 use Rattle.node_key_sets.specs.declared.sets.KeySets.{KeySets}
@@ -52,15 +52,15 @@ module _ (o : Option Key) (x : FoundKey) (e : x ≡ foundKey o) where
 
 -- ---- the verified report
 module _ (s : KeySets) (type identifier : ℕ) (x : KeyAnswer) (e : x ≡ receivingKey s type identifier) where
-  pub report-refused : (k : Refusal) → x .verdict ≡ verdict.Refused k → hearing (change.Refused k) s ≡ hears s type identifier
-  unfolding hears
+  pub report-refused : (k : Refusal) → x .verdict ≡ verdict.Refused k → effect (change.Refused k) s ≡ verifiedIn s type identifier
+  unfolding verifiedIn
   report-refused k r = rw (← e, r)
 
-  pub report-kept : x .verdict ≡ verdict.Accepted → has identifier (activeIn s) ≡ true → hearing change.Kept s ≡ hears s type identifier
-  unfolding hears
+  pub report-kept : x .verdict ≡ verdict.Accepted → has identifier (activeIn s) ≡ true → effect change.Kept s ≡ verifiedIn s type identifier
+  unfolding verifiedIn
   report-kept r h = rw (← e, r, h)
 
   pub report-switched :
-      x .verdict ≡ verdict.Accepted → has identifier (activeIn s) ≡ false → hearing change.Switched (switched s) ≡ hears s type identifier
-  unfolding hears
+      x .verdict ≡ verdict.Accepted → has identifier (activeIn s) ≡ false → effect change.Switched (switched s) ≡ verifiedIn s type identifier
+  unfolding verifiedIn
   report-switched r h = rw (← e, r, h)

@@ -9,7 +9,7 @@ use mathlib.Core.List.{List, List·Memᴰ}
 use borrow.Author.Tests.{le-leb, leb-true, ne-eqb}
 use lib.Dec.{leb, eqb}
 use lib.ListN.{length}
-use Rattle.refusal.specs.declared.Refusal.{Refusal}
+use Rattle.refusal.specs.Verdict.{refused-not}
 use Rattle.refusal.specs.declared.Refusal.the-variants as refusal
 use Rattle.refusal.specs.declared.Verdict.{Verdict}
 use Rattle.refusal.specs.declared.Verdict.the-variants as verdict
@@ -19,20 +19,17 @@ use Rattle.link_key_usage.specs.Usage.{knownType, listed}
 use Rattle.link_key.specs.declared.Key.{Key}
 use Rattle.link_key.proofs.Keys.{covers-known-type}
 use Rattle.link_key_set.proofs.KeySets.{has-none, none-has, cover-found, cover-finds, find-found, find-own, none-find, allowed-none-twice, allowed-in-limits}
-use Rattle.node_key_sets.specs.Sets.{activeIn, pendingIn, fits}
-use Rattle.node_key_sets.specs.Frames.{withKey, withoutKey, keyOr, sendingKey, orElse, ifCovers, receivingKey, switched, reported, hears}
+use Rattle.node_key_sets.specs.Sets.{activeIn, pendingIn, valid}
+use Rattle.node_key_sets.specs.Frames.{withKey, withoutKey, keyOr, sendingKey, orElse, ifCovers, receivingKey, switched, effectBy, verifiedIn}
 use Rattle.node_key_sets.specs.declared.frames.Change.the-variants as change
 use Rattle.node_key_sets.specs.declared.frames.KeyAnswer.{KeyAnswer}
 use Rattle.node_key_sets.specs.declared.sets.KeySets.{KeySets}
-use Rattle.link_key.proofs.Tests.{first}
-use Rattle.node_key_sets.proofs.Fits.{pending-fits, member-allowed}
+use Rattle.logic_facts.specs.Tests.{first}
+use Rattle.node_key_sets.proofs.Valid.{pending-valid, member-allowed}
 
 -- no key of the list has the identifier
 abbrev pub Without : ℕ → List Key → Type 0
 Without identifier ks = (l : Key) → List·Memᴰ l ks → l .identifier ≡ identifier → ⊥
-
-refused-not : {A : Type 0} (k : Refusal) → withoutKey k .verdict ≡ verdict.Accepted → A
-refused-not k e = absurd (let z : _≡_ {A = ℕ} 0 1 = cc in omega arith)
 
 -- ---- sending
 pub can-send : (s : KeySets) (type : ℕ) → Covers (activeIn s) type → sendingKey s type .verdict ≡ verdict.Accepted
@@ -56,14 +53,14 @@ sent-from s type a =
     sent-by s type (knownType type) (firstCover type (activeIn s)) refl (sendingKey s type) (unfold sendingKey in refl) a
 
 -- ---- receiving
-module _ (border : Bool) (s : KeySets) (type : ℕ) (k : Key) (ok : fits border s ≡ true) (covering : covers k type ≡ true)
+module _ (border : Bool) (s : KeySets) (type : ℕ) (k : Key) (ok : valid border s ≡ true) (covering : covers k type ≡ true)
     (absent : Without (k .identifier) (activeIn s)) (member : List·Memᴰ k (pendingIn s)) where
   limits : inLimits k ≡ true
-  limits = allowed-in-limits (pendingIn s) (member-allowed (s .pending) k (pending-fits border s ok) member) k member
+  limits = allowed-in-limits (pendingIn s) (member-allowed (s .pending) k (pending-valid border s ok) member) k member
 
-  named : eqb (k .identifier) 0 ≡ false
+  not-zero : eqb (k .identifier) 0 ≡ false
   unfolding inLimits
-  named =
+  not-zero =
       let least = leb-true 1 (k .identifier) (first (leb 1 (k .identifier)) (leb (k .identifier) 255) (listed (k .usage)) (eqb (length (k .value)) 16) limits) in
       ne-eqb (k .identifier) 0 (omega arith)
 
@@ -71,10 +68,10 @@ module _ (border : Bool) (s : KeySets) (type : ℕ) (k : Key) (ok : fits border 
   unfolding receivingKey
   receive-pending =
       let known : knownType type ≡ true = le-leb type 1 (covers-known-type k type covering) in
-      let allowed = member-allowed (s .pending) k (pending-fits border s ok) member in
+      let allowed = member-allowed (s .pending) k (pending-valid border s ok) member in
       rw (
         known,
-        named,
+        not-zero,
         none-find (k .identifier) (activeIn s) (none-has (k .identifier) (activeIn s) absent),
         find-own member (allowed-none-twice (pendingIn s) allowed),
         covering,
@@ -83,14 +80,14 @@ module _ (border : Bool) (s : KeySets) (type : ℕ) (k : Key) (ok : fits border 
 -- a key that receiving answers
 record Received (s : KeySets) (type identifier : ℕ) (k : Key) : Type 0 where
   member : List·Memᴰ k (activeIn s) ⊎ List·Memᴰ k (pendingIn s)
-  named : k .identifier ≡ identifier
+  identified : k .identifier ≡ identifier
   covering : covers k type ≡ true
 
 module _ (s : KeySets) (type identifier : ℕ) (x : KeyAnswer) (a : x .verdict ≡ verdict.Accepted) where
   cover-cases :
       (k : Key) (b : Bool) → covers k type ≡ b → List·Memᴰ k (activeIn s) ⊎ List·Memᴰ k (pendingIn s) → k .identifier ≡ identifier →
       x ≡ cond b (withKey k) (withoutKey refusal.Silent) → Received s type identifier (x .key)
-  cover-cases k true c m i e = rw e (record { member = m; named = i; covering = c })
+  cover-cases k true c m i e = rw e (record { member = m; identified = i; covering = c })
   cover-cases k false c m i e = refused-not refusal.Silent (rw e at a)
 
   received-by :
@@ -117,13 +114,13 @@ pub receive-from :
     (List·Memᴰ (receivingKey s type identifier .key) (activeIn s) ⊎ List·Memᴰ (receivingKey s type identifier .key) (pendingIn s))
     × (receivingKey s type identifier .key .identifier ≡ identifier)
     × (covers (receivingKey s type identifier .key) type ≡ true)
-receive-from s type identifier a = let r = received s type identifier a in (r .member, r .named, r .covering)
+receive-from s type identifier a = let r = received s type identifier a in (r .member, r .identified, r .covering)
 
 -- ---- the verified report
 -- the key by which the pending set becomes active: pending, covering the type, its identifier not active
 pub record Switching (s : KeySets) (type identifier : ℕ) : Type 0 where
   pub key : Key
-  pub named : key .identifier ≡ identifier
+  pub identified : key .identifier ≡ identifier
   pub member : List·Memᴰ key (pendingIn s)
   pub covering : covers key type ≡ true
   pub absent : Without identifier (activeIn s)
@@ -134,41 +131,41 @@ switching-by :
 switching-by s type identifier k r e =
     record {
       key = k;
-      named = r .named;
-      member = ⊎-elim (λ m. absurd (has-none identifier (activeIn s) e k m (r .named))) (λ m. m) (r .member);
+      identified = r .identified;
+      member = ⊎-elim (λ m. absurd (has-none identifier (activeIn s) e k m (r .identified))) (λ m. m) (r .member);
       covering = r .covering;
       absent = has-none identifier (activeIn s) e;
     }
 
 either-by :
     (s : KeySets) (type identifier : ℕ) (w : Verdict) (b : Bool) → receivingKey s type identifier .verdict ≡ w → has identifier (activeIn s) ≡ b →
-    (reported w b s .sets ≡ s) ⊎ (Switching s type identifier × (reported w b s .sets ≡ switched s))
+    (effectBy w b s .sets ≡ s) ⊎ (Switching s type identifier × (effectBy w b s .sets ≡ switched s))
 either-by s type identifier (verdict.Refused k) b e f = inl refl
 either-by s type identifier verdict.Accepted true e f = inl refl
 either-by s type identifier verdict.Accepted false e f =
     inr (switching-by s type identifier (receivingKey s type identifier .key) (received s type identifier e) f, refl)
 
-pub hears-either :
+pub verified-either :
     (s : KeySets) (type identifier : ℕ) →
-    (hears s type identifier .sets ≡ s) ⊎ (Switching s type identifier × (hears s type identifier .sets ≡ switched s))
-unfolding hears
-hears-either s type identifier = either-by s type identifier (receivingKey s type identifier .verdict) (has identifier (activeIn s)) refl refl
+    (verifiedIn s type identifier .sets ≡ s) ⊎ (Switching s type identifier × (verifiedIn s type identifier .sets ≡ switched s))
+unfolding verifiedIn
+verified-either s type identifier = either-by s type identifier (receivingKey s type identifier .verdict) (has identifier (activeIn s)) refl refl
 
-pub hears-switches :
-    (border : Bool) (s : KeySets) (type identifier : ℕ) → fits border s ≡ true → Switching s type identifier →
-    hears s type identifier .sets ≡ switched s
-unfolding hears
-hears-switches border s type identifier ok w =
-    let absent : Without (w .key .identifier) (activeIn s) = rw (w .named) (w .absent) in
+pub verified-switches :
+    (border : Bool) (s : KeySets) (type identifier : ℕ) → valid border s ≡ true → Switching s type identifier →
+    verifiedIn s type identifier .sets ≡ switched s
+unfolding verifiedIn
+verified-switches border s type identifier ok w =
+    let absent : Without (w .key .identifier) (activeIn s) = rw (w .identified) (w .absent) in
     let r = receive-pending border s type (w .key) ok (w .covering) absent (w .member) in
-    let answer = subst (λ (i : ℕ). receivingKey s type i ≡ withKey (w .key)) (w .named) r in
+    let answer = subst (λ (i : ℕ). receivingKey s type i ≡ withKey (w .key)) (w .identified) r in
     rw (answer, none-has identifier (activeIn s) (w .absent))
 
-says-by : (s : KeySets) (w : Verdict) (b : Bool) → reported w b s .change ≡ change.Switched → reported w b s .sets ≡ switched s
+says-by : (s : KeySets) (w : Verdict) (b : Bool) → effectBy w b s .change ≡ change.Switched → effectBy w b s .sets ≡ switched s
 says-by s (verdict.Refused k) b e = absurd (let z : _≡_ {A = ℕ} 0 1 = cc in omega arith)
 says-by s verdict.Accepted true e = absurd (let z : _≡_ {A = ℕ} 0 1 = cc in omega arith)
 says-by s verdict.Accepted false e = refl
 
-pub hears-says : (s : KeySets) (type identifier : ℕ) → hears s type identifier .change ≡ change.Switched → hears s type identifier .sets ≡ switched s
-unfolding hears
-hears-says s type identifier e = says-by s (receivingKey s type identifier .verdict) (has identifier (activeIn s)) e
+pub verified-says : (s : KeySets) (type identifier : ℕ) → verifiedIn s type identifier .change ≡ change.Switched → verifiedIn s type identifier .sets ≡ switched s
+unfolding verifiedIn
+verified-says s type identifier e = says-by s (receivingKey s type identifier .verdict) (has identifier (activeIn s)) e

@@ -1,5 +1,5 @@
 mod Answers
-pub mod Fits
+pub mod Valid
 pub mod Alike
 pub mod FrameKeys
 pub mod Untouched

@@ -5,22 +5,22 @@ use mathlib.Core.Path.{_≡_, refl, ap}
 use mathlib.Core.Bool.{Bool, true, false, cond, not, _&&_}
 use mathlib.Core.Option.{Option, none, some}
 use lib.Dec.{eqb}
+use Rattle.refusal.specs.Verdict.{accepted-not}
 use Rattle.refusal.specs.declared.Refusal.{Refusal}
 use Rattle.refusal.specs.declared.Refusal.the-variants as refusal
 use Rattle.refusal.specs.declared.Verdict.{Verdict}
 use Rattle.refusal.specs.declared.Verdict.the-variants as verdict
 use Rattle.link_key.specs.Key.{noKey, covers}
-use Rattle.link_key_set.specs.KeySet.{has, firstCover}
+use Rattle.link_key_set.specs.KeySet.{keysOf, has, allowedSet, sameKeys, shares, firstCover}
+use Rattle.link_key_set.specs.declared.key_set.KeySet.{KeySet}
 use Rattle.link_key_usage.specs.Usage.{knownType}
 use Rattle.link_key.specs.declared.Key.{Key}
-use Rattle.node_key_sets.specs.Sets.{activeIn}
-use Rattle.node_key_sets.specs.Frames.{withKey, withoutKey, keyOr, sendingKey, heldKey, ifCovers, receivingKey, reported, hears, changeVerdict}
+use Rattle.node_key_sets.specs.Sets.{activeIn, install}
+use Rattle.node_key_sets.specs.Frames.{withKey, withoutKey, keyOr, sendingKey, heldKey, ifCovers, receivingKey, effectBy, verifiedIn, changeVerdict}
 use Rattle.node_key_sets.specs.declared.frames.Change.the-variants as change
 use Rattle.node_key_sets.specs.declared.frames.KeyAnswer.{KeyAnswer}
 use Rattle.node_key_sets.specs.declared.sets.KeySets.{KeySets}
-
-accepted-not : {A : Type 0} (k : Refusal) → verdict.Accepted ≡ verdict.Refused k → A
-accepted-not k e = absurd (let z : _≡_ {A = ℕ} 0 1 = cc in omega arith)
+use Rattle.node_key_sets.proofs.Valid.{placeBy}
 
 -- ---- keys
 abbrev pub Unanswered : KeyAnswer → Type 0
@@ -54,16 +54,32 @@ unfolding receivingKey
 receive-untouched s type identifier =
     cond-unanswered (knownType type && not (eqb identifier 0)) _ _ (if-covers type (heldKey s identifier)) (without-key refusal.Range)
 
+-- ---- a new set
+install-untouched-by :
+    (s : KeySets) (set : KeySet) (ok border same shared : Bool) (k : Refusal) →
+    placeBy s set ok border same shared .verdict ≡ verdict.Refused k → placeBy s set ok border same shared .sets ≡ s
+install-untouched-by s set false border same shared k e = refl
+install-untouched-by s set true true same shared k e = accepted-not k e
+install-untouched-by s set true false true shared k e = accepted-not k e
+install-untouched-by s set true false false true k e = refl
+install-untouched-by s set true false false false k e = accepted-not k e
+
+pub install-untouched :
+    (border : Bool) (s : KeySets) (set : KeySet) (k : Refusal) → install border s set .verdict ≡ verdict.Refused k → install border s set .sets ≡ s
+unfolding install
+install-untouched border s set k e =
+    install-untouched-by s set (allowedSet set) border (sameKeys (keysOf set) (activeIn s)) (shares (keysOf set) (activeIn s)) k e
+
 -- ---- the verified report
 report-untouched :
-    (s : KeySets) (w : Verdict) (b : Bool) (k : Refusal) → changeVerdict (reported w b s .change) ≡ verdict.Refused k →
-    (reported w b s .sets ≡ s) × (reported w b s .change ≡ change.Refused k)
+    (s : KeySets) (w : Verdict) (b : Bool) (k : Refusal) → changeVerdict (effectBy w b s .change) ≡ verdict.Refused k →
+    (effectBy w b s .sets ≡ s) × (effectBy w b s .change ≡ change.Refused k)
 report-untouched s (verdict.Refused j) b k e = (refl, ap change.Refused (cc))
 report-untouched s verdict.Accepted true k e = accepted-not k e
 report-untouched s verdict.Accepted false k e = accepted-not k e
 
-pub hears-untouched :
-    (s : KeySets) (type identifier : ℕ) (k : Refusal) → changeVerdict (hears s type identifier .change) ≡ verdict.Refused k →
-    (hears s type identifier .sets ≡ s) × (hears s type identifier .change ≡ change.Refused k)
-unfolding hears
-hears-untouched s type identifier k e = report-untouched s (receivingKey s type identifier .verdict) (has identifier (activeIn s)) k e
+pub verified-untouched :
+    (s : KeySets) (type identifier : ℕ) (k : Refusal) → changeVerdict (verifiedIn s type identifier .change) ≡ verdict.Refused k →
+    (verifiedIn s type identifier .sets ≡ s) × (verifiedIn s type identifier .change ≡ change.Refused k)
+unfolding verifiedIn
+verified-untouched s type identifier k e = report-untouched s (receivingKey s type identifier .verdict) (has identifier (activeIn s)) k e

@@ -15,7 +15,7 @@ use Rattle.link_key.specs.declared.Key.{Key}
 use Rattle.node_key_sets.specs.Sets.{activeIn, pendingIn, twoSets}
 use Rattle.node_key_sets.specs.declared.frames.Change.{Change}
 use Rattle.node_key_sets.specs.declared.frames.Change.the-variants as change
-use Rattle.node_key_sets.specs.declared.frames.Hearing.{Hearing}
+use Rattle.node_key_sets.specs.declared.frames.Effect.{Effect}
 use Rattle.node_key_sets.specs.declared.frames.KeyAnswer.{KeyAnswer}
 use Rattle.node_key_sets.specs.declared.sets.KeySets.{KeySets}
 
@@ -53,16 +53,16 @@ receivingKey s type identifier =
 abbrev pub switched : KeySets → KeySets
 switched s = twoSets (s .pending) noKeys
 
-abbrev pub hearing : Change → KeySets → Hearing
-hearing change s = record { change = change; sets = s }
+abbrev pub effect : Change → KeySets → Effect
+effect change s = record { change = change; sets = s }
 
-abbrev pub reported : Verdict → Bool → KeySets → Hearing
-reported (verdict.Refused k) active s = hearing (change.Refused k) s
-reported verdict.Accepted true s = hearing change.Kept s
-reported verdict.Accepted false s = hearing change.Switched (switched s)
+abbrev pub effectBy : Verdict → Bool → KeySets → Effect
+effectBy (verdict.Refused k) active s = effect (change.Refused k) s
+effectBy verdict.Accepted true s = effect change.Kept s
+effectBy verdict.Accepted false s = effect change.Switched (switched s)
 
-unfoldable pub hears : KeySets → ℕ → ℕ → Hearing
-hears s type identifier = reported (receivingKey s type identifier .verdict) (has identifier (activeIn s)) s
+unfoldable pub verifiedIn : KeySets → ℕ → ℕ → Effect
+verifiedIn s type identifier = effectBy (receivingKey s type identifier .verdict) (has identifier (activeIn s)) s
 
 -- the answer in document 01's terms
 abbrev pub changeVerdict : Change → Verdict
@@ -74,6 +74,12 @@ abbrev pub changeNumber : Change → ℕ
 changeNumber (change.Refused k) = numberOf k
 changeNumber change.Switched = 0
 changeNumber change.Kept = 0
+
+-- the frame's key was active, and the active set stays
+abbrev pub hasKept : Change → Bool
+hasKept (change.Refused k) = false
+hasKept change.Switched = false
+hasKept change.Kept = true
 
 -- the pending set became active
 abbrev pub hasSwitched : Change → Bool

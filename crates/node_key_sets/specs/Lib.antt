@@ -1,2 +1,3 @@
 pub mod Sets
 pub mod Frames
+pub mod Demand1

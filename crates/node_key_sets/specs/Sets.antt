@@ -1,7 +1,10 @@
 -- A node's two key sets: which may stand together, and where a new set goes.
-use mathlib.Core.Bool.{Bool, true, false, cond, not, _&&_, _||_}
+use mathlib.Core.Bool.{Bool, cond, not, _&&_, _||_}
 use mathlib.Core.List.{List}
 use lib.Dec.{eqb}
+use Rattle.refusal.specs.declared.Refusal.{Refusal}
+use Rattle.refusal.specs.declared.Refusal.the-variants as refusal
+use Rattle.refusal.specs.declared.Verdict.the-variants as verdict
 use Rattle.link_key_set.specs.KeySet.{keysOf, noKeys, allowedSet, sameKeys, shares}
 use Rattle.link_key.specs.declared.Key.{Key}
 use Rattle.link_key_set.specs.declared.key_set.KeySet.{KeySet}
@@ -26,24 +29,35 @@ noSets = twoSets noKeys noKeys
 abbrev pub isNone : KeySet → Bool
 isNone set = eqb (set .count) 0
 
-abbrev pub setInRange : KeySet → Bool
-setInRange set = (isNone set || allowedSet set)
+abbrev pub noneOrValid : KeySet → Bool
+noneOrValid set = (isNone set || allowedSet set)
 
 -- both are in range, they share no identifier, and a border node has no pending one
-unfoldable pub fits : Bool → KeySets → Bool
-fits border s =
-    (setInRange (s .active) && setInRange (s .pending) && not (shares (activeIn s) (pendingIn s)) && (not border || isNone (s .pending)))
+unfoldable pub valid : Bool → KeySets → Bool
+valid border s =
+    (noneOrValid (s .active) && noneOrValid (s .pending) && not (shares (activeIn s) (pendingIn s)) && (not border || isNone (s .pending)))
 
 -- ---- where a new set goes
-abbrev pub placed : Bool → KeySets → Placement
-placed clash s = record { clash = clash; sets = s }
+abbrev pub placed : KeySets → Placement
+placed s = record { verdict = verdict.Accepted; sets = s }
 
--- a border node's new set replaces its active set at once; at an ordinary node a set equal to the active one empties the pending place,
--- one that otherwise shares an identifier with the active one clashes, and any other replaces what is pending
+-- a refusal leaves the two
+abbrev pub unplaced : Refusal → KeySets → Placement
+unplaced k s = record { verdict = verdict.Refused k; sets = s }
+
+-- a border node's new set replaces its active set at once; at an ordinary node one that equals the active set empties the pending place,
+-- one that otherwise shares an identifier with the active set is CLASH, and any other replaces what is pending
+abbrev pub place : KeySets → KeySet → Bool → Bool → Bool → Placement
+place s set border equals shared =
+    cond border
+    (placed (twoSets set noKeys))
+    (cond equals
+    (placed (twoSets (s .active) noKeys))
+    (cond shared (unplaced refusal.Clash s) (placed (twoSets (s .active) set))))
+
+-- RANGE: the new set; CLASH
 unfoldable pub install : Bool → KeySets → KeySet → Placement
 install border s set =
-    cond border
-    (placed false (twoSets set noKeys))
-    (cond (sameKeys (keysOf set) (activeIn s))
-    (placed false (twoSets (s .active) noKeys))
-    (cond (shares (keysOf set) (activeIn s)) (placed true s) (placed false (twoSets (s .active) set))))
+    cond (allowedSet set)
+    (place s set border (sameKeys (keysOf set) (activeIn s)) (shares (keysOf set) (activeIn s)))
+    (unplaced refusal.Range s)

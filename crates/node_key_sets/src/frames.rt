@@ -10,7 +10,7 @@ ghost use mathlib.Core.Path.{_≡_};
 ghost use mathlib.Core.Bool.{cond};
 ghost use Rattle.refusal.specs.declared.Refusal.the-variants as refusal;
 ghost use Rattle.link_key.specs.Key.{foundKey};
-ghost use Rattle.node_key_sets.specs.Frames.{withKey, withoutKey, heldKey, sendingKey, receivingKey, switched, hearing, hears};
+ghost use Rattle.node_key_sets.specs.Frames.{withKey, withoutKey, heldKey, sendingKey, receivingKey, switched, effect, verifiedIn};
 ghost use Rattle.node_key_sets.specs.declared.frames.Change.the-variants as change;
 
 // Beside a refusal stands the key that is all zero.
@@ -27,7 +27,7 @@ pub enum Change {
 }
 
 // The sets after a verified frame, and what it did.
-pub struct Hearing {
+pub struct Effect {
     pub change: Change,
     pub sets: KeySets,
 }
@@ -55,6 +55,8 @@ fn answer(held: bool, key: Key) -> KeyAnswer
     without_key(Refusal::Silent)
 }
 
+// The three calls for frames are parts of a node's calls, which judge the node with its key sets first: no set is judged twice. They are total all
+// the same: of sets outside their limits they answer the first key that is found.
 impl KeySets {
     // The key to send a frame of this type with: the first active one that covers it. RANGE: the type; SILENT.
     pub fn sending_key(self, frame_type: u8) -> KeyAnswer
@@ -93,31 +95,31 @@ impl KeySets {
     }
 
     // The pending set becomes active, and the old one is gone.
-    fn switched(self) -> Hearing
-        ensures { λ r. ⌜ r ≡ hearing change.Switched (switched self) ⌝ }
+    fn switched(self) -> Effect
+        ensures { λ r. ⌜ r ≡ effect change.Switched (switched self) ⌝ }
     {
         let active = self.pending;
         let pending = no_keys();
-        Hearing {
+        Effect {
             change: Change::Switched,
             sets: KeySets { active, pending },
         }
     }
 
     // The radio reports a frame of this type and key identifier verified. Refused as `receiving_key` is.
-    pub fn verified(self, frame_type: u8, identifier: u8) -> Hearing
-        ensures { λ r. ⌜ r ≡ hears self «frame_type» identifier ⌝ }
+    pub fn verified(self, frame_type: u8, identifier: u8) -> Effect
+        ensures { λ r. ⌜ r ≡ verifiedIn self «frame_type» identifier ⌝ }
     {
         let answer = self.receiving_key(frame_type, identifier);
         let verdict = answer.verdict;
         match verdict {
-            Verdict::Refused(why) => Hearing {
+            Verdict::Refused(why) => Effect {
                 change: Change::Refused(why),
                 sets: self,
             },
             Verdict::Accepted => {
                 if self.active.has(identifier) {
-                    return Hearing {
+                    return Effect {
                         change: Change::Kept,
                         sets: self,
                     };

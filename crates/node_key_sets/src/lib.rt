@@ -3,9 +3,15 @@ pub mod frames;
 pub mod sets;
 
 pub use frames::Change;
-pub use frames::Hearing;
+pub use frames::Effect;
 pub use frames::KeyAnswer;
 pub use frames::without_key;
 pub use sets::KeySets;
 pub use sets::Placement;
 pub use sets::no_sets;
+ghost use Rattle.node_key_sets.specs.Demand1.{KeySetsDemand1};
+
+// Demand 1 for the two key sets.
+pub fn demand1()
+    ensures { λ r. ⌜ KeySetsDemand1 ⌝ }
+{}

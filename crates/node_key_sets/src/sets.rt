@@ -1,19 +1,20 @@
 // The two sets: which may stand together, and where a new one goes.
 use link_key_set::KeySet;
 use link_key_set::key_set::no_keys;
+use refusal::Refusal;
+use refusal::Verdict;
 ghost use mathlib.Core.Path.{_≡_};
-ghost use mathlib.Core.Bool.{false};
-ghost use Rattle.node_key_sets.specs.Sets.{noSets, setInRange, fits, twoSets, placed, install};
+ghost use Rattle.node_key_sets.specs.Sets.{noSets, noneOrValid, valid, twoSets, placed, unplaced, install};
 
-// One of count 0 is none.
+// A set whose count is 0 stands for no set.
 pub struct KeySets {
     pub active: KeySet,
     pub pending: KeySet,
 }
 
-// The sets after a new one came; where it clashes they are as they were.
+// The sets after a new one came; beside a refusal they are as they were.
 pub struct Placement {
-    pub clash: bool,
+    pub verdict: Verdict,
     pub sets: KeySets,
 }
 
@@ -28,37 +29,50 @@ pub fn no_sets() -> KeySets
 }
 
 // A set within the limits of KEYS, or none.
-fn set_in_range(set: KeySet) -> bool
-    ensures { λ r. ⌜ r ≡ setInRange set ⌝ }
+fn none_or_valid(set: KeySet) -> bool
+    ensures { λ r. ⌜ r ≡ noneOrValid set ⌝ }
 {
     set.count == 0 || set.allowed()
 }
 
-// The two sets where the new one does not clash.
+// The two sets after a new one that is not refused.
 fn placed(active: KeySet, pending: KeySet) -> Placement
-    ensures { λ r. ⌜ r ≡ placed false (twoSets active pending) ⌝ }
+    ensures { λ r. ⌜ r ≡ placed (twoSets active pending) ⌝ }
 {
     Placement {
-        clash: false,
+        verdict: Verdict::Accepted,
         sets: KeySets { active, pending },
     }
 }
 
 impl KeySets {
     // Whether a node may hold the two: each in range, no identifier in both, none pending at a border node.
-    pub fn fit(self, border: bool) -> bool
-        ensures { λ r. ⌜ r ≡ fits border self ⌝ }
+    pub fn valid(self, border: bool) -> bool
+        ensures { λ r. ⌜ r ≡ valid border self ⌝ }
     {
-        set_in_range(self.active)
-            && set_in_range(self.pending)
+        none_or_valid(self.active)
+            && none_or_valid(self.pending)
             && !self.active.shares(self.pending)
             && (!border || self.pending.count == 0)
     }
 
-    // The sets after a new set: a border node's is active at once; an ordinary node's is the active one, clashes, or waits.
+    fn unplaced(self, why: Refusal) -> Placement
+        ensures { λ r. ⌜ r ≡ unplaced why self ⌝ }
+    {
+        Placement {
+            verdict: Verdict::Refused(why),
+            sets: self,
+        }
+    }
+
+    // The sets after a new set: a border node's is active at once; an ordinary node's is the active one, or waits as the pending one.
+    // RANGE: the new set; CLASH. The two sets themselves are judged by the node's call that this is a part of.
     pub fn install(self, border: bool, set: KeySet) -> Placement
         ensures { λ r. ⌜ r ≡ install border self set ⌝ }
     {
+        if !set.allowed() {
+            return self.unplaced(Refusal::Range);
+        }
         if border {
             return placed(set, no_keys());
         }
@@ -66,10 +80,7 @@ impl KeySets {
             return placed(self.active, no_keys());
         }
         if set.shares(self.active) {
-            return Placement {
-                clash: true,
-                sets: self,
-            };
+            return self.unplaced(Refusal::Clash);
         }
         placed(self.active, set)
     }

@@ -6,7 +6,9 @@ use mathlib.Core.Bool.{Bool, true, false, cond, not, _&&_}
 use mathlib.Core.List.{List}
 use mathlib.Core.Option.{Option, none, some}
 use Rattle.refusal.specs.declared.Refusal.the-variants as refusal
-use Rattle.link_key_set.specs.KeySet.{keysOf}
+use Rattle.refusal.specs.declared.Verdict.{Verdict}
+use Rattle.refusal.specs.declared.Verdict.the-variants as verdict
+use Rattle.link_key_set.specs.KeySet.{keysOf, allowedSet}
 use Rattle.link_key_set.specs.declared.key_set.KeySet.{KeySet}
 use Rattle.node_key_sets.specs.Sets.{activeIn, pendingIn, placed, install}
 use Rattle.node_key_sets.specs.declared.sets.Placement.{Placement}
@@ -15,6 +17,7 @@ use Rattle.node_parameters.specs.declared.address.HeldAddress.{HeldAddress}
 use Rattle.cojp.specs.Reading.{ifTaken}
 use Rattle.cojp.specs.Octets.{bytesIn}
 use Rattle.cojp.specs.Same.{leaseOf, addressTaken, SameConfiguration}
+use Rattle.cojp.specs.Writing.{keysInRange}
 use Rattle.cojp.specs.declared.address.AddressParameter.{AddressParameter}
 use Rattle.cojp.specs.declared.address.ShortAddress.{ShortAddress}
 use Rattle.cojp.specs.declared.configuration.Configuration.{Configuration}
@@ -25,17 +28,17 @@ use Rattle.node_parameters.specs.Lease.{addressAfter}
 use Rattle.node_parameters.specs.Octets.{octetsAfter}
 use Rattle.node_parameters.specs.Reports.{discarded, reportsOf}
 use Rattle.node.specs.Node.{isBorder}
-use Rattle.node.specs.Delivery.{placementOf, configured, undelivered, delivered, owesIdentifier, apply}
-use Rattle.node_delivery.specs.Call.{asksIdentifier}
+use Rattle.node.specs.Delivery.{placementOf, configured, undelivered, owesIdentifier, placedBy, apply}
+use Rattle.node_delivery.specs.Delivery.{asksIdentifier}
 use Rattle.node_laws.specs.Same.{octetsHeld, addressHeld, SameNode, SameOutcome, AppliesAlike}
-use Rattle.node_delivery.specs.declared.Call.{Call}
+use Rattle.node_delivery.specs.declared.Delivery.{Delivery}
 use Rattle.node_parameters.specs.declared.octets.HeldOctets.{HeldOctets}
 use Rattle.node.specs.declared.node.Node.{Node}
 
 -- ---- two parameters that agree in what is taken
 alike :
     {A X : Type 0} (R : X → X → Type 0) (r s : Report) (a b : A) (x y k : X) → ifTaken r (some a) none ≡ ifTaken s (some b) none →
-    (a ≡ b → R x y) → R k k → R (ifTaken r x k) (ifTaken s y k)
+    (r ≡ Taken → s ≡ Taken → a ≡ b → R x y) → R k k → R (ifTaken r x k) (ifTaken s y k)
 alike R Absent Absent a b x y k e f g = g
 alike R Absent Discarded a b x y k e f g = g
 alike R Absent Taken a b x y k e f g = absurd (let z : _≡_ {A = ℕ} 0 1 = cc in omega arith)
@@ -44,17 +47,19 @@ alike R Discarded Discarded a b x y k e f g = g
 alike R Discarded Taken a b x y k e f g = absurd (let z : _≡_ {A = ℕ} 0 1 = cc in omega arith)
 alike R Taken Absent a b x y k e f g = absurd (let z : _≡_ {A = ℕ} 0 1 = cc in omega arith)
 alike R Taken Discarded a b x y k e f g = absurd (let z : _≡_ {A = ℕ} 0 1 = cc in omega arith)
-alike R Taken Taken a b x y k e f g = f (cc)
+alike R Taken Taken a b x y k e f g = f refl refl (cc)
 
 -- ---- key sets
 record SamePlace (p q : Placement) : Type 0 where
-  clash : p .clash ≡ q .clash
+  verdict : p .verdict ≡ q .verdict
   active : activeIn (p .sets) ≡ activeIn (q .sets)
   pending : pendingIn (p .sets) ≡ pendingIn (q .sets)
 
-install-same : (n : Node) (u v : KeySet) → keysOf u ≡ keysOf v → SamePlace (install (isBorder n) (n .sets) u) (install (isBorder n) (n .sets) v)
-install-same n u v e =
-    let a = install-alike (isBorder n) (n .sets) u v e in record { clash = a .0; active = a .1; pending = a .2 }
+install-same :
+    (n : Node) (u v : KeySet) → allowedSet u ≡ true → allowedSet v ≡ true → keysOf u ≡ keysOf v →
+    SamePlace (install (isBorder n) (n .sets) u) (install (isBorder n) (n .sets) v)
+install-same n u v p q e =
+    let a = install-alike (isBorder n) (n .sets) u v (p ∙ sym q) e in record { verdict = a .0; active = a .1; pending = a .2 }
 
 -- ---- the other parameters
 octets-same :
@@ -62,7 +67,7 @@ octets-same :
     octetsHeld (octetsAfter r o old) ≡ octetsHeld (octetsAfter s p old)
 octets-same r s o p old e =
     alike (λ (h g : HeldOctets). octetsHeld h ≡ octetsHeld g) r s (bytesIn o) (bytesIn p) (record { held = true; value = o })
-    (record { held = true; value = p }) old e (λ f. ap some f) refl
+    (record { held = true; value = p }) old e (λ p q f. ap some f) refl
 
 discarded-keeps : {X : Type 0} (r : Report) (x k : X) → ifTaken (discarded r) x k ≡ k
 discarded-keeps Absent x k = refl
@@ -89,7 +94,7 @@ unfolding heldAs
 address-same time p q old e =
     alike (λ (h g : HeldAddress). addressHeld h ≡ addressHeld g) (p .report) (q .report) (meant (p .value)) (meant (q .value))
     (record { held = true; value = p .value; received = time }) (record { held = true; value = q .value; received = time }) old e
-    (λ f. ap (λ (m : List ℕ × Option ℕ). heldAs m time) f) refl
+    (λ p q f. ap (λ (m : List ℕ × Option ℕ). heldAs m time) f) refl
 
 -- ---- applying
 same-self : (n : Node) → SameNode n n
@@ -104,23 +109,25 @@ same-self n = record {
   prefix = refl;
 }
 
-module _ (call : Call) (n : Node) (time : ℕ) (c d : Configuration) (h : SameConfiguration c d) where
+module _ (delivery : Delivery) (n : Node) (time : ℕ) (c d : Configuration)
+    (p : keysInRange (c .keys) ≡ true) (q : keysInRange (d .keys) ≡ true) (h : SameConfiguration c d) where
   places : SamePlace (placementOf n (c .keys)) (placementOf n (d .keys))
   places =
       alike SamePlace (c .keys .report) (d .keys .report) (keysOf (c .keys .value)) (keysOf (d .keys .value))
-      (install (isBorder n) (n .sets) (c .keys .value)) (install (isBorder n) (n .sets) (d .keys .value)) (placed false (n .sets)) (h .keys)
-      (install-same n (c .keys .value) (d .keys .value)) (record { clash = refl; active = refl; pending = refl })
+      (install (isBorder n) (n .sets) (c .keys .value)) (install (isBorder n) (n .sets) (d .keys .value)) (placed (n .sets)) (h .keys)
+      (λ e f. install-same n (c .keys .value) (d .keys .value) (rw e at p) (rw f at q))
+      (record { verdict = refl; active = refl; pending = refl })
 
   owing : ifTaken (c .network .report) true false ≡ ifTaken (d .network .report) true false
   owing =
       alike (λ (x y : Bool). x ≡ y) (c .network .report) (d .network .report) (bytesIn (c .network .value)) (bytesIn (d .network .value))
-      true true false (h .network) (λ f. refl) refl
+      true true false (h .network) (λ p q f. refl) refl
 
-  owes-same : owesIdentifier call n (c .network .report) ≡ owesIdentifier call n (d .network .report)
-  owes-same = ap (λ (b : Bool). asksIdentifier call && isBorder n && not (n .network .held) && not b) owing
+  owes-same : owesIdentifier delivery n (c .network .report) ≡ owesIdentifier delivery n (d .network .report)
+  owes-same = ap (λ (b : Bool). asksIdentifier delivery && isBorder n && not (n .network .held) && not b) owing
 
   node-same :
-      SameNode (configured call n time c (placementOf n (c .keys) .sets) (reportsOf (isBorder n) c)) (configured call n time d (placementOf n (d .keys) .sets) (reportsOf (isBorder n) d))
+      SameNode (configured delivery n time c (placementOf n (c .keys) .sets) (reportsOf (isBorder n) c)) (configured delivery n time d (placementOf n (d .keys) .sets) (reportsOf (isBorder n) d))
   unfolding configured reportsOf
   node-same = record {
     role = refl;
@@ -134,19 +141,17 @@ module _ (call : Call) (n : Node) (time : ℕ) (c d : Configuration) (h : SameCo
   }
 
   outcomes :
-      (o k : Bool) →
-      SameOutcome
-      (cond o (undelivered refusal.Owed n)
-      (cond k (undelivered refusal.Clash n) (delivered (reportsOf (isBorder n) c) (configured call n time c (placementOf n (c .keys) .sets) (reportsOf (isBorder n) c)))))
-      (cond o (undelivered refusal.Owed n)
-      (cond k (undelivered refusal.Clash n) (delivered (reportsOf (isBorder n) d) (configured call n time d (placementOf n (d .keys) .sets) (reportsOf (isBorder n) d)))))
-  outcomes true k = record { verdict = refl; node = same-self n }
-  outcomes false true = record { verdict = refl; node = same-self n }
-  outcomes false false = record { verdict = refl; node = node-same }
+      (o : Bool) (v : Verdict) →
+      SameOutcome (cond o (undelivered refusal.Owed n) (placedBy v delivery n time c (placementOf n (c .keys) .sets)))
+      (cond o (undelivered refusal.Owed n) (placedBy v delivery n time d (placementOf n (d .keys) .sets)))
+  outcomes true v = record { verdict = refl; node = same-self n }
+  outcomes false (verdict.Refused k) = record { verdict = refl; node = same-self n }
+  outcomes false verdict.Accepted = record { verdict = refl; node = node-same }
 
-  applied-alike : SameOutcome (apply call n time c) (apply call n time d)
+  applied-alike : SameOutcome (apply delivery n time c) (apply delivery n time d)
   unfolding apply
-  applied-alike = rw (owes-same, places .clash) (outcomes (owesIdentifier call n (d .network .report)) (placementOf n (d .keys) .clash))
+  applied-alike =
+      rw (owes-same, places .verdict) (outcomes (owesIdentifier delivery n (d .network .report)) (placementOf n (d .keys) .verdict))
 
 pub applies-alike : AppliesAlike
-applies-alike call n time c d h = applied-alike call n time c d h
+applies-alike delivery n time c d p q h = applied-alike delivery n time c d p q h

@@ -8,46 +8,47 @@ use mathlib.Core.List.{List}
 use borrow.Author.Tests.{leb-true, le-leb, eq-eqb}
 use lib.Dec.{leb, eqb}
 use lib.ListN.{length}
+use Rattle.refusal.specs.Verdict.{refused-not}
 use Rattle.refusal.specs.declared.Refusal.{Refusal}
 use Rattle.refusal.specs.declared.Refusal.the-variants as refusal
 use Rattle.refusal.specs.declared.Verdict.{Verdict}
 use Rattle.refusal.specs.declared.Verdict.the-variants as verdict
-use Rattle.link_key_set.specs.KeySet.{noKeys, allowedSet}
+use Rattle.link_key_set.specs.KeySet.{noKeys}
 use Rattle.link_key.specs.declared.Key.{Key}
 use Rattle.link_key_set.specs.declared.key_set.KeySet.{KeySet}
 use Rattle.node_key_sets.specs.Sets.{twoSets, placed, install}
 use Rattle.node_key_sets.specs.Sets as sets
-use Rattle.node_key_sets.proofs.Fits.{install-fits, border-installs}
+use Rattle.node_key_sets.specs.declared.sets.KeySets.{KeySets}
+use Rattle.node_key_sets.proofs.Valid.{install-valid, border-installs}
 use Rattle.node_attempt.specs.Attempt as attempt
-use Rattle.node_parameters.specs.Lease.{addressInRange}
+use Rattle.node_parameters.specs.Lease.{validAddress}
 use Rattle.node_attempt.specs.declared.attempt.Attempt.{Attempt}
 use Rattle.node_parameters.specs.declared.address.HeldAddress.{HeldAddress}
-use Rattle.node_attempt.proofs.Attempts.{moved-fits, joined-fits}
+use Rattle.node_attempt.proofs.Attempts.{moved-valid, joined-valid}
 use Rattle.node_parameters.proofs.Leases.{later}
 use Rattle.cojp.specs.Reading.{ifTaken}
-use Rattle.cojp.specs.Address.{isAddress}
-use Rattle.cojp.specs.Configuration.{readConfiguration}
+use Rattle.short_address.specs.Address.{isAddress}
 use Rattle.cojp.specs.declared.address.ShortAddress.{ShortAddress}
 use Rattle.cojp.specs.declared.configuration.Configuration.{Configuration}
 use Rattle.cojp.specs.declared.configuration.ConfigurationRead.{ConfigurationRead}
 use Rattle.cojp.specs.declared.octets.Octets.{Octets}
 use Rattle.cojp.specs.declared.report.Report.{Report}
 use Rattle.cojp.specs.declared.report.Report.the-variants.{Absent, Taken, Discarded}
-use Rattle.node_parameters.specs.Octets.{octetsInRange, jrcInRange, octetsAfter}
+use Rattle.node_parameters.specs.Octets.{validOctets, validJrc, octetsAfter}
 use Rattle.node_parameters.specs.Reports.{noReports, discarded, reportsOf}
-use Rattle.node.specs.Node.{isBorder, clockOf, roleInRange}
-use Rattle.node.specs.Range.{othersFit, valid, Valid}
-use Rattle.node.specs.Delivery.{placementOf, configured, undelivered, delivered, owesIdentifier, apply, deliverVerdict, applyRead, deliverBy, deliver}
-use Rattle.node_delivery.specs.Call.{attemptAfter, belongs, mayCome}
+use Rattle.node.specs.Node.{isBorder, clockOf, validRole}
+use Rattle.node.specs.Range.{othersValid, valid, Valid}
+use Rattle.node.specs.Delivery.{placementOf, configured, undelivered, delivered, owesIdentifier, placedBy, apply, deliverVerdict, applyRead, deliverBy, readFor, deliver}
+use Rattle.node_delivery.specs.Delivery.{attemptAfter, belongs, mayCome}
 use Rattle.node_laws.specs.Laws.{Takes, Installed}
-use Rattle.node_delivery.specs.declared.Call.{Call}
-use Rattle.node_delivery.specs.declared.Call.the-variants.{JoinAnswer, Update}
+use Rattle.node_delivery.specs.declared.Delivery.{Delivery}
+use Rattle.node_delivery.specs.declared.Delivery.the-variants.{JoinAnswer, Update}
 use Rattle.node.specs.declared.delivery.Delivered.{Delivered}
 use Rattle.node_parameters.specs.declared.reports.Reports.{Reports}
 use Rattle.node_parameters.specs.declared.octets.HeldOctets.{HeldOctets}
 use Rattle.node.specs.declared.node.Node.{Node}
-use Rattle.link_key.proofs.Tests.{all-four, first, second, third, fourth, both}
-use Rattle.node_laws.proofs.Valid.{keys-fit, attempt-fits, address-fits, others-fit, valid-by}
+use Rattle.logic_facts.specs.Tests.{all-four, first, second, third, fourth, both}
+use Rattle.node_laws.proofs.Valid.{keys-valid, attempt-valid, address-valid, others-valid, valid-by}
 use Rattle.node_laws.proofs.Reading.{InRange, read-in-range}
 
 -- ---- refusals
@@ -66,112 +67,127 @@ module _ (n : Node) where
   cond-leaves true x y p q = p
   cond-leaves false x y p q = q
 
-  apply-leaves : (call : Call) (time : ℕ) (c : Configuration) → Leaves n (apply call n time c)
+  placed-leaves : (v : Verdict) (delivery : Delivery) (time : ℕ) (c : Configuration) (s : KeySets) → Leaves n (placedBy v delivery n time c s)
+  placed-leaves (verdict.Refused k) delivery time c s = no-leaves k
+  placed-leaves verdict.Accepted delivery time c s = yes-leaves (reportsOf (isBorder n) c) (configured delivery n time c s (reportsOf (isBorder n) c))
+
+  apply-leaves : (delivery : Delivery) (time : ℕ) (c : Configuration) → Leaves n (apply delivery n time c)
   unfolding apply
-  apply-leaves call time c =
-      cond-leaves (owesIdentifier call n (c .network .report)) _ _ (no-leaves refusal.Owed)
-      (cond-leaves (placementOf n (c .keys) .clash) _ _ (no-leaves refusal.Clash)
-      (yes-leaves (reportsOf (isBorder n) c) (configured call n time c (placementOf n (c .keys) .sets) (reportsOf (isBorder n) c))))
+  apply-leaves delivery time c =
+      cond-leaves (owesIdentifier delivery n (c .network .report)) _ _ (no-leaves refusal.Owed)
+      (placed-leaves (placementOf n (c .keys) .verdict) delivery time c (placementOf n (c .keys) .sets))
 
-  read-leaves : (v : Verdict) (call : Call) (time : ℕ) (c : Configuration) → Leaves n (applyRead v call n time c)
-  read-leaves (verdict.Refused k) call time c = no-leaves k
-  read-leaves verdict.Accepted call time c = apply-leaves call time c
+  read-leaves : (v : Verdict) (delivery : Delivery) (time : ℕ) (c : Configuration) → Leaves n (applyRead v delivery n time c)
+  read-leaves (verdict.Refused k) delivery time c = no-leaves k
+  read-leaves verdict.Accepted delivery time c = apply-leaves delivery time c
 
-  by-leaves : (v : Verdict) (call : Call) (time : ℕ) (r : ConfigurationRead) → Leaves n (deliverBy v call n time r)
-  by-leaves (verdict.Refused k) call time r = no-leaves k
-  by-leaves verdict.Accepted call time r = read-leaves (r .verdict) call time (r .configuration)
+  by-leaves : (v : Verdict) (delivery : Delivery) (time : ℕ) (r : ConfigurationRead) → Leaves n (deliverBy v delivery n time r)
+  by-leaves (verdict.Refused k) delivery time r = no-leaves k
+  by-leaves verdict.Accepted delivery time r = read-leaves (r .verdict) delivery time (r .configuration)
 
-  pub deliver-leaves : (call : Call) (time : ℕ) (payload : List ℕ) → Leaves n (deliver call n time payload)
+  pub deliver-leaves : (delivery : Delivery) (time : ℕ) (payload : List ℕ) → Leaves n (deliver delivery n time payload)
   unfolding deliver
-  deliver-leaves call time payload = by-leaves (deliverVerdict call n time (length payload)) call time (readConfiguration payload)
+  deliver-leaves delivery time payload = by-leaves (deliverVerdict delivery n time (length payload)) delivery time (readFor n payload)
 
 -- ---- an accepted configuration
 -- the tests before it passed
-record Passed (call : Call) (n : Node) (time : ℕ) (payload : List ℕ) : Type 0 where
+record Passed (delivery : Delivery) (n : Node) (time : ℕ) (payload : List ℕ) : Type 0 where
   later : clockOf n ≤ time
-  read : readConfiguration payload .verdict ≡ verdict.Accepted
-  placed : placementOf n (readConfiguration payload .configuration .keys) .clash ≡ false
+  read : readFor n payload .verdict ≡ verdict.Accepted
+  placed : placementOf n (readFor n payload .configuration .keys) .verdict ≡ verdict.Accepted
   is :
-      deliver call n time payload
-      ≡ delivered (reportsOf (isBorder n) (readConfiguration payload .configuration))
-      (configured call n time (readConfiguration payload .configuration) (placementOf n (readConfiguration payload .configuration .keys) .sets)
-      (reportsOf (isBorder n) (readConfiguration payload .configuration)))
-
-refused-not : {A : Type 0} (k : Refusal) → verdict.Refused k ≡ verdict.Accepted → A
-refused-not k e = absurd (let z : _≡_ {A = ℕ} 0 1 = cc in omega arith)
+      deliver delivery n time payload
+      ≡ delivered (reportsOf (isBorder n) (readFor n payload .configuration))
+      (configured delivery n time (readFor n payload .configuration) (placementOf n (readFor n payload .configuration .keys) .sets)
+      (reportsOf (isBorder n) (readFor n payload .configuration)))
 
 -- a test that refuses where it is true did not
 failed : (b : Bool) (x : Delivered) (k : Refusal) (n : Node) → cond b (undelivered k n) x .verdict ≡ verdict.Accepted → b ≡ false
 failed true x k n e = refused-not k e
 failed false x k n e = refl
 
+accepted-placed :
+    (v : Verdict) (delivery : Delivery) (n : Node) (time : ℕ) (c : Configuration) (s : KeySets) →
+    placedBy v delivery n time c s .verdict ≡ verdict.Accepted → v ≡ verdict.Accepted
+accepted-placed (verdict.Refused k) delivery n time c s e = refused-not k e
+accepted-placed verdict.Accepted delivery n time c s e = refl
+
 accepted-read :
-    (v : Verdict) (call : Call) (n : Node) (time : ℕ) (c : Configuration) → applyRead v call n time c .verdict ≡ verdict.Accepted → v ≡ verdict.Accepted
-accepted-read (verdict.Refused k) call n time c e = refused-not k e
-accepted-read verdict.Accepted call n time c e = refl
+    (v : Verdict) (delivery : Delivery) (n : Node) (time : ℕ) (c : Configuration) → applyRead v delivery n time c .verdict ≡ verdict.Accepted → v ≡ verdict.Accepted
+accepted-read (verdict.Refused k) delivery n time c e = refused-not k e
+accepted-read verdict.Accepted delivery n time c e = refl
 
 accepted-by :
-    (v : Verdict) (call : Call) (n : Node) (time : ℕ) (r : ConfigurationRead) → deliverBy v call n time r .verdict ≡ verdict.Accepted → v ≡ verdict.Accepted
-accepted-by (verdict.Refused k) call n time r e = refused-not k e
-accepted-by verdict.Accepted call n time r e = refl
+    (v : Verdict) (delivery : Delivery) (n : Node) (time : ℕ) (r : ConfigurationRead) → deliverBy v delivery n time r .verdict ≡ verdict.Accepted → v ≡ verdict.Accepted
+accepted-by (verdict.Refused k) delivery n time r e = refused-not k e
+accepted-by verdict.Accepted delivery n time r e = refl
 
-not-early : (call : Call) (n : Node) (time len : ℕ) → deliverVerdict call n time len ≡ verdict.Accepted → leb (clockOf n) time ≡ true
+not-early : (delivery : Delivery) (n : Node) (time len : ℕ) → deliverVerdict delivery n time len ≡ verdict.Accepted → leb (clockOf n) time ≡ true
 unfolding deliverVerdict mayCome
-not-early call n time len = go (valid n) (leb len 256) (leb (clockOf n) time) (belongs call (n .attempt .phase))
+not-early delivery n time len = go (valid n) (attempt.valid (n .attempt)) (leb len 256) (leb (clockOf n) time) (belongs delivery (n .attempt .phase))
   where
     go :
-        (v l t b : Bool) →
-        cond v (cond l (cond t (cond b verdict.Accepted (verdict.Refused refusal.Phase)) (verdict.Refused refusal.Clock)) (verdict.Refused refusal.Long)) (verdict.Refused refusal.Range)
+        (v f l t b : Bool) →
+        cond v
+        (cond f
+        (cond l (cond t (cond b verdict.Accepted (verdict.Refused refusal.Phase)) (verdict.Refused refusal.Clock)) (verdict.Refused refusal.Long))
+        (verdict.Refused refusal.Range))
+        (verdict.Refused refusal.Range)
         ≡ verdict.Accepted → t ≡ true
-    go false l t b e = refused-not refusal.Range e
-    go true false t b e = refused-not refusal.Long e
-    go true true false b e = refused-not refusal.Clock e
-    go true true true b e = refl
+    go false f l t b e = refused-not refusal.Range e
+    go true false l t b e = refused-not refusal.Range e
+    go true true false t b e = refused-not refusal.Long e
+    go true true true false b e = refused-not refusal.Clock e
+    go true true true true b e = refl
 
-module _ (call : Call) (n : Node) (time : ℕ) (payload : List ℕ) where
+module _ (delivery : Delivery) (n : Node) (time : ℕ) (payload : List ℕ) where
   abbrev c : Configuration
-  c = readConfiguration payload .configuration
+  c = readFor n payload .configuration
 
-  accepted-passed : deliver call n time payload .verdict ≡ verdict.Accepted → Passed call n time payload
+  accepted-passed : deliver delivery n time payload .verdict ≡ verdict.Accepted → Passed delivery n time payload
   unfolding deliver apply
   accepted-passed e =
-      let v = accepted-by (deliverVerdict call n time (length payload)) call n time (readConfiguration payload) e in
+      let v = accepted-by (deliverVerdict delivery n time (length payload)) delivery n time (readFor n payload) e in
       let e1 = rw v at e in
-      let r = accepted-read (readConfiguration payload .verdict) call n time c e1 in
+      let r = accepted-read (readFor n payload .verdict) delivery n time c e1 in
       let e2 = rw r at e1 in
-      let o = failed (owesIdentifier call n (c .network .report)) _ refusal.Owed n e2 in
+      let o = failed (owesIdentifier delivery n (c .network .report)) _ refusal.Owed n e2 in
       let e3 = rw o at e2 in
-      let p = failed (placementOf n (c .keys) .clash) _ refusal.Clash n e3 in
-      record { later = leb-true (clockOf n) time (not-early call n time (length payload) v); read = r; placed = p; is = rw (v, r, o, p) }
+      let p = accepted-placed (placementOf n (c .keys) .verdict) delivery n time c (placementOf n (c .keys) .sets) e3 in
+      record { later = leb-true (clockOf n) time (not-early delivery n time (length payload) v); read = r; placed = p; is = rw (v, r, o, p) }
+
+pub accepted-reports :
+    (delivery : Delivery) (n : Node) (time : ℕ) (payload : List ℕ) → deliver delivery n time payload .verdict ≡ verdict.Accepted →
+    deliver delivery n time payload .reports ≡ reportsOf (isBorder n) (readFor n payload .configuration)
+accepted-reports delivery n time payload e = ap (λ (m : Delivered). m .reports) (accepted-passed delivery n time payload e .is)
 
 -- ---- key sets
-placement-fits :
-    (n : Node) (r : Report) (set : KeySet) → sets.fits (isBorder n) (n .sets) ≡ true → ifTaken r (allowedSet set) true ≡ true →
-    ifTaken r (install (isBorder n) (n .sets) set) (placed false (n .sets)) .clash ≡ false →
-    sets.fits (isBorder n) (ifTaken r (install (isBorder n) (n .sets) set) (placed false (n .sets)) .sets) ≡ true
-placement-fits n Absent set fits ok e = fits
-placement-fits n Discarded set fits ok e = fits
-placement-fits n Taken set fits ok e = install-fits (isBorder n) (n .sets) set fits ok e
+placement-valid :
+    (n : Node) (r : Report) (set : KeySet) → sets.valid (isBorder n) (n .sets) ≡ true →
+    sets.valid (isBorder n) (ifTaken r (install (isBorder n) (n .sets) set) (placed (n .sets)) .sets) ≡ true
+placement-valid n Absent set v = v
+placement-valid n Discarded set v = v
+placement-valid n Taken set v = install-valid (isBorder n) (n .sets) set v
 
 -- ---- the other parameters
 address-after :
     (clock time : ℕ) (r : Report) (value : ShortAddress) (old : HeldAddress) → clock ≤ time → ifTaken r (isAddress (value .bytes)) true ≡ true →
-    addressInRange clock old ≡ true →
-    addressInRange time (ifTaken r (record { held = true; value = value; received = time }) old) ≡ true
+    validAddress clock old ≡ true →
+    validAddress time (ifTaken r (record { held = true; value = value; received = time }) old) ≡ true
 address-after clock time Absent value old h e f = later clock time old h f
 address-after clock time Discarded value old h e f = later clock time old h f
 address-after clock time Taken value old h e f = both (isAddress (value .bytes)) (leb time time) e (le-leb time time (omega arith))
 
 jrc-after :
-    (r : Report) (o : Octets) (old : HeldOctets) → ifTaken r (eqb (o .len) 16) true ≡ true → jrcInRange old ≡ true →
-    jrcInRange (octetsAfter r o old) ≡ true
+    (r : Report) (o : Octets) (old : HeldOctets) → ifTaken r (eqb (o .len) 16) true ≡ true → validJrc old ≡ true →
+    validJrc (octetsAfter r o old) ≡ true
 jrc-after Absent o old e f = f
 jrc-after Discarded o old e f = f
 jrc-after Taken o old e f = e
 
 octets-after :
-    (border : Bool) (r : Report) (o : Octets) (old : HeldOctets) → ifTaken r (leb (o .len) 16) true ≡ true → octetsInRange old ≡ true →
-    octetsInRange (octetsAfter (cond border r (discarded r)) o old) ≡ true
+    (border : Bool) (r : Report) (o : Octets) (old : HeldOctets) → ifTaken r (leb (o .len) 16) true ≡ true → validOctets old ≡ true →
+    validOctets (octetsAfter (cond border r (discarded r)) o old) ≡ true
 octets-after true Absent o old e f = f
 octets-after true Discarded o old e f = f
 octets-after true Taken o old e f = e
@@ -179,25 +195,24 @@ octets-after false Absent o old e f = f
 octets-after false Discarded o old e f = f
 octets-after false Taken o old e f = f
 
-attempt-after : (call : Call) (a : Attempt) (time : ℕ) → a .clock ≤ time → attempt.fits a ≡ true → attempt.fits (attemptAfter call a time) ≡ true
-attempt-after JoinAnswer a time h e = joined-fits a time h e
-attempt-after Update a time h e = moved-fits a time h e
+attempt-after : (delivery : Delivery) (a : Attempt) (time : ℕ) → a .clock ≤ time → attempt.valid a ≡ true → attempt.valid (attemptAfter delivery a time) ≡ true
+attempt-after JoinAnswer a time h e = joined-valid a time h e
+attempt-after Update a time h e = moved-valid a time h e
 
 -- ---- the node stays valid
-module _ (call : Call) (n : Node) (time : ℕ) (c : Configuration) (v : Valid n) (h : clockOf n ≤ time) (r : InRange c)
-    (p : placementOf n (c .keys) .clash ≡ false) where
+module _ (delivery : Delivery) (n : Node) (time : ℕ) (c : Configuration) (v : Valid n) (h : clockOf n ≤ time) (r : InRange c) where
   abbrev after : Node
-  after = configured call n time c (placementOf n (c .keys) .sets) (reportsOf (isBorder n) c)
+  after = configured delivery n time c (placementOf n (c .keys) .sets) (reportsOf (isBorder n) c)
 
-  others-after : othersFit after ≡ true
+  others-after : othersValid after ≡ true
   unfolding configured reportsOf
   others-after =
-      let o = others-fit n v in
-      let part1 = roleInRange (n .role) in
-      let part2 = jrcInRange (n .jrc) in
-      let part3 = octetsInRange (n .network) in
-      let part4 = octetsInRange (n .prefix) in
-      all-four (roleInRange (n .role)) (jrcInRange (after .jrc)) (octetsInRange (after .network)) (octetsInRange (after .prefix))
+      let o = others-valid n v in
+      let part1 = validRole (n .role) in
+      let part2 = validJrc (n .jrc) in
+      let part3 = validOctets (n .network) in
+      let part4 = validOctets (n .prefix) in
+      all-four (validRole (n .role)) (validJrc (after .jrc)) (validOctets (after .network)) (validOctets (after .prefix))
       (first part1 part2 part3 part4 o)
       (jrc-after (c .jrc .report) (c .jrc .value) (n .jrc) (r .jrc) (second part1 part2 part3 part4 o))
       (octets-after (isBorder n) (c .network .report) (c .network .value) (n .network) (r .network) (third part1 part2 part3 part4 o))
@@ -206,46 +221,49 @@ module _ (call : Call) (n : Node) (time : ℕ) (c : Configuration) (v : Valid n)
   configured-valid : Valid after
   configured-valid =
       valid-by after
-      (unfold configured in placement-fits n (c .keys .report) (c .keys .value) (keys-fit n v) (r .keys) p)
-      (unfold configured in attempt-after call (n .attempt) time h (attempt-fits n v))
-      (unfold configured in address-after (clockOf n) time (c .address .report) (c .address .value) (n .address) h (r .address) (address-fits n v))
+      (unfold configured in placement-valid n (c .keys .report) (c .keys .value) (keys-valid n v))
+      (unfold configured in attempt-after delivery (n .attempt) time h (attempt-valid n v))
+      (unfold configured in address-after (clockOf n) time (c .address .report) (c .address .value) (n .address) h (r .address) (address-valid n v))
       others-after
 
-pub deliver-valid : (call : Call) (n : Node) (time : ℕ) (payload : List ℕ) → Valid n → Valid (deliver call n time payload .node)
-deliver-valid call n time payload v = go (deliver call n time payload .verdict) refl
+pub deliver-valid : (delivery : Delivery) (n : Node) (time : ℕ) (payload : List ℕ) → Valid n → Valid (deliver delivery n time payload .node)
+deliver-valid delivery n time payload v = go (deliver delivery n time payload .verdict) refl
   where
-    go : (w : Verdict) → deliver call n time payload .verdict ≡ w → Valid (deliver call n time payload .node)
-    go (verdict.Refused k) e = rw (deliver-leaves n call time payload k e .0) v
+    go : (w : Verdict) → deliver delivery n time payload .verdict ≡ w → Valid (deliver delivery n time payload .node)
+    go (verdict.Refused k) e = rw (deliver-leaves n delivery time payload k e .0) v
     go verdict.Accepted e =
-        let p = accepted-passed call n time payload e in
+        let p = accepted-passed delivery n time payload e in
         rw (p .is)
-        (configured-valid call n time (readConfiguration payload .configuration) v (p .later) (read-in-range payload (p .read)) (p .placed))
+        (configured-valid delivery n time (readFor n payload .configuration) v (p .later) (read-in-range payload (p .read)))
 
-pub deliver-role : (call : Call) (n : Node) (time : ℕ) (payload : List ℕ) → deliver call n time payload .node .role ≡ n .role
-deliver-role call n time payload = go (deliver call n time payload .verdict) refl
+pub deliver-role : (delivery : Delivery) (n : Node) (time : ℕ) (payload : List ℕ) → deliver delivery n time payload .node .role ≡ n .role
+deliver-role delivery n time payload = go (deliver delivery n time payload .verdict) refl
   where
-    go : (w : Verdict) → deliver call n time payload .verdict ≡ w → deliver call n time payload .node .role ≡ n .role
-    go (verdict.Refused k) e = rw (deliver-leaves n call time payload k e .0)
-    go verdict.Accepted e = let p = accepted-passed call n time payload e in rw (p .is) (unfold configured in refl)
+    go : (w : Verdict) → deliver delivery n time payload .verdict ≡ w → deliver delivery n time payload .node .role ≡ n .role
+    go (verdict.Refused k) e = rw (deliver-leaves n delivery time payload k e .0)
+    go verdict.Accepted e = let p = accepted-passed delivery n time payload e in rw (p .is) (unfold configured in refl)
 
 -- ---- a border node that takes a set
 border-place :
     (n : Node) (r : Report) (set : KeySet) → n .role ≡ 1 → r ≡ Taken →
-    ifTaken r (install (isBorder n) (n .sets) set) (placed false (n .sets)) ≡ placed false (twoSets set noKeys)
-border-place n r set b e = rw (e, eq-eqb (n .role) 1 b) (border-installs (n .sets) set)
+    ifTaken r (install (isBorder n) (n .sets) set) (placed (n .sets)) .verdict ≡ verdict.Accepted →
+    ifTaken r (install (isBorder n) (n .sets) set) (placed (n .sets)) .sets ≡ twoSets set noKeys
+border-place n r set b e a =
+    let border = eq-eqb (n .role) 1 b in
+    rw (e, border) (border-installs (n .sets) set (rw (e, border) at a))
 
 pub border-takes :
-    (call : Call) (n : Node) (time : ℕ) (payload : List ℕ) (ks : List Key) → Valid n → n .role ≡ 1 → Takes call n time payload ks →
-    Installed ks n (deliver call n time payload .node)
+    (delivery : Delivery) (n : Node) (time : ℕ) (payload : List ℕ) (ks : List Key) → Valid n → n .role ≡ 1 → Takes delivery n time payload ks →
+    Installed ks n (deliver delivery n time payload .node)
 unfolding configured reportsOf
-border-takes call n time payload ks v b h =
-    let p = accepted-passed call n time payload (h .accepted) in
-    let c = readConfiguration payload .configuration in
+border-takes delivery n time payload ks v b h =
+    let p = accepted-passed delivery n time payload (h .accepted) in
+    let c = readFor n payload .configuration in
     let taken : c .keys .report ≡ Taken = sym (ap (λ (m : Delivered). m .reports .keys) (p .is)) ∙ h .taken in
-    let place = border-place n (c .keys .report) (c .keys .value) b taken in
+    let place = border-place n (c .keys .report) (c .keys .value) b taken (p .placed) in
     record {
       active = rw (p .is) (rw place (h .set));
       pending = rw (p .is) (rw place);
-      role = deliver-role call n time payload;
-      valid = deliver-valid call n time payload v;
+      role = deliver-role delivery n time payload;
+      valid = deliver-valid delivery n time payload v;
     }

@@ -10,19 +10,19 @@ use Rattle.refusal.specs.declared.Verdict.the-variants as verdict
 use Rattle.link_key.specs.Key.{covers}
 use Rattle.link_key_set.specs.KeySet.{Covers}
 use Rattle.link_key.specs.declared.Key.{Key}
-use Rattle.node_key_sets.specs.Frames.{withKey, withoutKey, sendingKey, receivingKey, hears, switched}
+use Rattle.node_key_sets.specs.Frames.{withKey, withoutKey, sendingKey, receivingKey, verifiedIn, switched}
 use Rattle.node_key_sets.specs.declared.frames.Change.the-variants as change
 use Rattle.node_key_sets.specs.declared.frames.KeyAnswer.{KeyAnswer}
 use Rattle.node_key_sets.specs.declared.sets.KeySets.{KeySets}
-use Rattle.node_key_sets.proofs.Fits.{switched-fits}
+use Rattle.node_key_sets.proofs.Valid.{switched-valid}
 use Rattle.node_key_sets.proofs.FrameKeys as sets
 use Rattle.node.specs.Node.{activeOf, pendingOf, isBorder, keyed}
 use Rattle.node.specs.Range.{valid, Valid}
-use Rattle.node.specs.Frames.{send, receive, heard, heardBy, verified}
-use Rattle.node_laws.specs.Laws.{Without, Kept, Switched, Sends, Switching}
+use Rattle.node.specs.Frames.{send, receive, reported, reportedBy, verified}
+use Rattle.node_laws.specs.Laws.{Without, KeysStay, Switched, Sends, Switching}
 use Rattle.node.specs.declared.node.Node.{Node}
-use Rattle.node_laws.proofs.Valid.{keys-fit, attempt-fits, address-fits, others-fit, valid-by}
-use Rattle.node_laws.proofs.Kept.{kept-self, kept-keyed}
+use Rattle.node_laws.proofs.Valid.{keys-valid, attempt-valid, address-valid, others-valid, valid-by}
+use Rattle.node_laws.proofs.KeysStay.{stay-self, stay-keyed}
 
 -- an accepted answer comes of a valid node
 answered-valid : (b : Bool) (x : KeyAnswer) → cond b x (withoutKey refusal.Range) .verdict ≡ verdict.Accepted → b ≡ true
@@ -65,7 +65,7 @@ pub receive-pending :
     (n : Node) (type : ℕ) (k : Key) → Valid n → covers k type ≡ true → Without (k .identifier) (activeOf n) →
     List·Memᴰ k (pendingOf n) → receive n type (k .identifier) ≡ withKey k
 receive-pending n type k v c absent member =
-    receive-is n type (k .identifier) v ∙ sets.receive-pending (isBorder n) (n .sets) type k (keys-fit n v) c absent member
+    receive-is n type (k .identifier) v ∙ sets.receive-pending (isBorder n) (n .sets) type k (keys-valid n v) c absent member
 
 -- ---- the verified report
 switched-keyed : (n : Node) (s : KeySets) → s ≡ switched (n .sets) → Switched n (keyed n s)
@@ -76,51 +76,51 @@ switched-keyed n s e =
       pending = refl;
       role = refl;
       valid =
-          λ v. valid-by (keyed n (switched (n .sets))) (switched-fits (isBorder n) (n .sets) (keys-fit n v)) (attempt-fits n v) (address-fits n v)
-          (others-fit n v);
+          λ v. valid-by (keyed n (switched (n .sets))) (switched-valid (isBorder n) (n .sets) (keys-valid n v)) (attempt-valid n v) (address-valid n v)
+          (others-valid n v);
     })
 
 module _ (n : Node) (type identifier : ℕ) where
-  abbrev heardSets : KeySets
-  heardSets = hears (n .sets) type identifier .sets
+  abbrev reportedSets : KeySets
+  reportedSets = verifiedIn (n .sets) type identifier .sets
 
-  verified-is : Valid n → verified n type identifier ≡ heardBy n (hears (n .sets) type identifier)
+  verified-is : Valid n → verified n type identifier ≡ reportedBy n (verifiedIn (n .sets) type identifier)
   unfolding verified
   verified-is v = rw v
 
-  either-by : Kept n (keyed n heardSets) ⊎ (Switching n type identifier × Switched n (keyed n heardSets))
+  either-by : KeysStay n (keyed n reportedSets) ⊎ (Switching n type identifier × Switched n (keyed n reportedSets))
   either-by =
-      ⊎-elim (λ e. inl (kept-keyed n heardSets e))
-      (λ s. inr (record { key = s .0 .key; named = s .0 .named; member = s .0 .member; covering = s .0 .covering; absent = s .0 .absent }, switched-keyed n heardSets (s .1)))
-      (sets.hears-either (n .sets) type identifier)
+      ⊎-elim (λ e. inl (stay-keyed n reportedSets e))
+      (λ s. inr (record { key = s .0 .key; identified = s .0 .identified; member = s .0 .member; covering = s .0 .covering; absent = s .0 .absent }, switched-keyed n reportedSets (s .1)))
+      (sets.verified-either (n .sets) type identifier)
 
-  pub verified-either : Kept n (verified n type identifier .node) ⊎ (Switching n type identifier × Switched n (verified n type identifier .node))
+  pub verified-either : KeysStay n (verified n type identifier .node) ⊎ (Switching n type identifier × Switched n (verified n type identifier .node))
   unfolding verified
   verified-either = go (valid n)
     where
       go :
           (b : Bool) →
-          Kept n (cond b (heardBy n (hears (n .sets) type identifier)) (heard (change.Refused refusal.Range) n) .node)
-          ⊎ (Switching n type identifier × Switched n (cond b (heardBy n (hears (n .sets) type identifier)) (heard (change.Refused refusal.Range) n) .node))
+          KeysStay n (cond b (reportedBy n (verifiedIn (n .sets) type identifier)) (reported (change.Refused refusal.Range) n) .node)
+          ⊎ (Switching n type identifier × Switched n (cond b (reportedBy n (verifiedIn (n .sets) type identifier)) (reported (change.Refused refusal.Range) n) .node))
       go true = either-by
-      go false = inl (kept-self n)
+      go false = inl (stay-self n)
 
-  pub verified-kept : Without identifier (pendingOf n) → Kept n (verified n type identifier .node)
-  verified-kept without = ⊎-elim (λ k. k) (λ s. absurd (without (s .0 .key) (s .0 .member) (s .0 .named))) verified-either
+  pub verified-stays : Without identifier (pendingOf n) → KeysStay n (verified n type identifier .node)
+  verified-stays without = ⊎-elim (λ k. k) (λ s. absurd (without (s .0 .key) (s .0 .member) (s .0 .identified))) verified-either
 
   pub verified-switches : Valid n → Switching n type identifier → Switched n (verified n type identifier .node)
   verified-switches v s =
       rw (verified-is v)
-      (switched-keyed n heardSets
-      (sets.hears-switches (isBorder n) (n .sets) type identifier (keys-fit n v)
-      (record { key = s .key; named = s .named; member = s .member; covering = s .covering; absent = s .absent })))
+      (switched-keyed n reportedSets
+      (sets.verified-switches (isBorder n) (n .sets) type identifier (keys-valid n v)
+      (record { key = s .key; identified = s .identified; member = s .member; covering = s .covering; absent = s .absent })))
 
   pub verified-says : verified n type identifier .change ≡ change.Switched → Switched n (verified n type identifier .node)
   unfolding verified
   verified-says = go (valid n)
     where
       go :
-          (b : Bool) → cond b (heardBy n (hears (n .sets) type identifier)) (heard (change.Refused refusal.Range) n) .change ≡ change.Switched →
-          Switched n (cond b (heardBy n (hears (n .sets) type identifier)) (heard (change.Refused refusal.Range) n) .node)
-      go true e = switched-keyed n heardSets (sets.hears-says (n .sets) type identifier e)
+          (b : Bool) → cond b (reportedBy n (verifiedIn (n .sets) type identifier)) (reported (change.Refused refusal.Range) n) .change ≡ change.Switched →
+          Switched n (cond b (reportedBy n (verifiedIn (n .sets) type identifier)) (reported (change.Refused refusal.Range) n) .node)
+      go true e = switched-keyed n reportedSets (sets.verified-says (n .sets) type identifier e)
       go false e = absurd (let z : _≡_ {A = ℕ} 0 1 = cc in omega arith)

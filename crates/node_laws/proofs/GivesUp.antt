@@ -1,8 +1,9 @@
 -- Polled when due, a valid node answers as its join attempt does, which gives up 31t after its start.
-use Prim.Native.Nat.{ℕ, zero, suc}
+use Prim.Native.Nat.{ℕ, zero, suc, _+_, _≤_}
 use native.Mathlib.Omega.{arith}
-use mathlib.Core.Path.{_≡_, refl, _∙_, ap}
+use mathlib.Core.Path.{_≡_, refl, sym, _∙_, ap, subst}
 use mathlib.Core.List.{List}
+use Rattle.refusal.specs.Verdict.{refused-not}
 use Rattle.refusal.specs.declared.Refusal.{Refusal}
 use Rattle.refusal.specs.declared.Verdict.{Verdict}
 use Rattle.refusal.specs.declared.Verdict.the-variants as verdict
@@ -19,12 +20,9 @@ use Rattle.node.specs.Range.{Valid}
 use Rattle.node.specs.Timing.{requestOf, startVerdict, planBy, startPlan, startedFrom, startedBy, start, poll}
 use Rattle.node_laws.specs.Laws.{dueAt, afterDue, answersDue, GivesUp}
 use Rattle.node.specs.declared.node.Node.{Node}
-use Rattle.node_laws.proofs.Timings.{start-passed, start-kept, poll-is, poll-kept}
+use Rattle.node_laws.proofs.Timings.{start-passed, start-stays, poll-is, poll-stays}
 
 -- ---- an accepted start
-refused-not : {A : Type 0} (k : Refusal) → verdict.Refused k ≡ verdict.Accepted → A
-refused-not k e = absurd (let z : _≡_ {A = ℕ} 0 1 = cc in omega arith)
-
 begun-by :
     (n m : Node) (d : List ℕ) (v : Verdict) (p : Plan) → startedBy (answer (planBy v p) d) n m .verdict ≡ verdict.Accepted →
     (v ≡ verdict.Accepted) × (startedBy (answer (planBy v p) d) n m .node ≡ m)
@@ -56,23 +54,26 @@ answers-same : (polls : ℕ) (n : Node) → Valid n → answersDue polls n ≡ a
 answers-same zero n v = refl
 answers-same (suc polls) n v =
     let rest : answersDue polls (poll n (dueAt n) .node) ≡ attempt.answersDue polls (after (n .attempt)) =
-    answers-same polls (poll n (dueAt n) .node) (poll-kept n (dueAt n) .valid v) ∙ ap (attempt.answersDue polls) (next-is n v) in
+    answers-same polls (poll n (dueAt n) .node) (poll-stays n (dueAt n) .valid v) ∙ ap (attempt.answersDue polls) (next-is n v) in
     rw (due-is n v, rest)
 
 after-same : (polls : ℕ) (n : Node) → Valid n → afterDue polls n .attempt ≡ attempt.afterDue polls (n .attempt)
 after-same zero n v = refl
 after-same (suc polls) n v =
-    after-same polls (poll n (dueAt n) .node) (poll-kept n (dueAt n) .valid v) ∙ ap (attempt.afterDue polls) (next-is n v)
+    after-same polls (poll n (dueAt n) .node) (poll-stays n (dueAt n) .valid v) ∙ ap (attempt.afterDue polls) (next-is n v)
 
 pub gives-up : GivesUp
 gives-up n time timeout d e =
     let s = started n time timeout d e in
     let p = start-passed n time timeout (s .0) in
     let g = attempt-gives-up time timeout (may-start (n .attempt) time timeout (p .1) .2) in
-    let v : Valid (start n time timeout d .node) = start-kept n time timeout d .valid (p .0) in
+    let v : Valid (start n time timeout d .node) = start-stays n time timeout d .valid (p .0) in
     let a : start n time timeout d .node .attempt ≡ waitingFrom time timeout = ap (λ (x : Node). x .attempt) (s .1) in
+    let end = after-same 5 (start n time timeout d .node) v ∙ ap (attempt.afterDue 5) a in
     record {
       answers = answers-same 5 (start n time timeout d .node) v ∙ ap (attempt.answersDue 5) a ∙ g .answers;
-      end = ap (λ (x : Attempt). x .phase) (after-same 5 (start n time timeout d .node) v ∙ ap (attempt.afterDue 5) a) ∙ g .end;
-      at = ap (λ (x : Attempt). x .clock) (after-same 5 (start n time timeout d .node) v ∙ ap (attempt.afterDue 5) a) ∙ g .at;
+      end = ap (λ (x : Attempt). x .phase) end ∙ g .end;
+      at = ap (λ (x : Attempt). x .clock) end ∙ g .at;
+      earliest = subst (λ (x : Attempt). time + 310000 ≤ x .clock) (sym end) (g .earliest);
+      latest = subst (λ (x : Attempt). x .clock ≤ time + 465000) (sym end) (g .latest);
     }

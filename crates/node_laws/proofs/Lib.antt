@@ -1,5 +1,5 @@
 mod Valid
-mod Kept
+mod KeysStay
 mod Timings
 mod Reading
 mod Deliveries
@@ -9,3 +9,4 @@ mod Untouched
 mod GivesUp
 mod NodeLaws
 mod Answers
+mod Waiting

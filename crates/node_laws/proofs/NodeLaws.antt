@@ -4,34 +4,37 @@ use mathlib.Core.Path.{_≡_, refl}
 use mathlib.Core.Logic.{_⊎_, ⊎-elim}
 use mathlib.Core.List.{[]}
 use borrow.Author.Tests.{eq-eqb}
+use Rattle.refusal.specs.declared.Refusal.{Refusal}
+use Rattle.refusal.specs.declared.Verdict.the-variants.{Refused}
 use Rattle.link_key_set.specs.KeySet.{Apart}
+use Rattle.node_key_sets.specs.Frames.{changeVerdict}
 use Rattle.link_key.proofs.Keys.{same-key-self}
 use Rattle.link_key_set.proofs.KeySets.{shares-apart}
-use Rattle.node_key_sets.proofs.Fits.{sets-apart, border-empty}
+use Rattle.node_key_sets.proofs.Valid.{sets-apart, border-empty}
 use Rattle.node.specs.Node.{activeOf, pendingOf, isBorder}
 use Rattle.node.specs.Range.{Valid}
-use Rattle.node.specs.Frames.{afterSend}
+use Rattle.node.specs.Frames.{send, afterSend, verified}
 use Rattle.node_laws.specs.Calls.{NodeCall, starting, polling, delivering, asking, sending, receiving, reporting, perform}
-use Rattle.node_laws.specs.Laws.{Kept, NodeLaws}
+use Rattle.node_laws.specs.Laws.{KeysStay, NodeLaws}
 use Rattle.node.specs.declared.node.Node.{Node}
-use Rattle.node_laws.proofs.Valid.{keys-fit}
-use Rattle.node_laws.proofs.Kept.{kept-self}
-use Rattle.node_laws.proofs.Timings.{start-kept, poll-kept}
+use Rattle.node_laws.proofs.Valid.{keys-valid}
+use Rattle.node_laws.proofs.KeysStay.{stay-self}
+use Rattle.node_laws.proofs.Timings.{start-stays, poll-stays}
 use Rattle.node_laws.proofs.Deliveries.{deliver-leaves, deliver-valid, deliver-role, border-takes}
-use Rattle.node_laws.proofs.FrameKeys.{can-send, send-from, receive-pending, receive-from, verified-either, verified-switches, verified-kept, verified-says}
+use Rattle.node_laws.proofs.FrameKeys.{can-send, send-from, receive-pending, receive-from, verified-either, verified-switches, verified-stays, verified-says}
 use Rattle.node_laws.proofs.Untouched.{node-demand1}
 
 valid-apart : (n : Node) → Valid n → Apart (activeOf n) (pendingOf n)
-valid-apart n v = shares-apart (activeOf n) (pendingOf n) (sets-apart (isBorder n) (n .sets) (keys-fit n v))
+valid-apart n v = shares-apart (activeOf n) (pendingOf n) (sets-apart (isBorder n) (n .sets) (keys-valid n v))
 
 border-none : (n : Node) → Valid n → n .role ≡ 1 → pendingOf n ≡ []
-border-none n v b = border-empty (isBorder n) (n .sets) (keys-fit n v) (eq-eqb (n .role) 1 b)
+border-none n v b = border-empty (isBorder n) (n .sets) (keys-valid n v) (eq-eqb (n .role) 1 b)
 
 stays-valid : (c : NodeCall) (n : Node) → Valid n → Valid (perform c n .node)
 unfolding perform afterSend
-stays-valid (starting time timeout d) n v = start-kept n time timeout d .valid v
-stays-valid (polling time) n v = poll-kept n time .valid v
-stays-valid (delivering call time payload) n v = deliver-valid call n time payload v
+stays-valid (starting time timeout d) n v = start-stays n time timeout d .valid v
+stays-valid (polling time) n v = poll-stays n time .valid v
+stays-valid (delivering delivery time payload) n v = deliver-valid delivery n time payload v
 stays-valid (asking time) n v = v
 stays-valid (sending type) n v = v
 stays-valid (receiving type identifier) n v = v
@@ -40,17 +43,27 @@ stays-valid (reporting type identifier) n v =
 
 role-stays : (c : NodeCall) (n : Node) → perform c n .node .role ≡ n .role
 unfolding perform afterSend
-role-stays (starting time timeout d) n = start-kept n time timeout d .role
-role-stays (polling time) n = poll-kept n time .role
-role-stays (delivering call time payload) n = deliver-role call n time payload
+role-stays (starting time timeout d) n = start-stays n time timeout d .role
+role-stays (polling time) n = poll-stays n time .role
+role-stays (delivering delivery time payload) n = deliver-role delivery n time payload
 role-stays (asking time) n = refl
 role-stays (sending type) n = refl
 role-stays (receiving type identifier) n = refl
 role-stays (reporting type identifier) n = ⊎-elim (λ k. k .role) (λ s. s .1 .role) (verified-either n type identifier)
 
-send-kept : (n : Node) (type : ℕ) → Kept n (afterSend n type)
+send-stays : (n : Node) (type : ℕ) → KeysStay n (afterSend n type)
 unfolding afterSend
-send-kept n type = kept-self n
+send-stays n type = stay-self n
+
+send-refused : (n : Node) (type : ℕ) (k : Refusal) → send n type .verdict ≡ Refused k → afterSend n type ≡ n
+unfolding perform
+send-refused n type k e = node-demand1 .calls (sending type) n k e .node
+
+report-refused :
+    (n : Node) (type identifier : ℕ) (k : Refusal) → changeVerdict (verified n type identifier .change) ≡ Refused k →
+    verified n type identifier .node ≡ n
+unfolding perform
+report-refused n type identifier k e = node-demand1 .calls (reporting type identifier) n k e .node
 
 pub node-laws : NodeLaws
 node-laws =
@@ -63,16 +76,18 @@ node-laws =
       covers-can = λ n type c. c;
       can-send = can-send;
       send-from = send-from;
-      send-kept = send-kept;
+      send-stays = send-stays;
+      send-refused = send-refused;
       receive-pending = receive-pending;
       receive-from = receive-from;
       verified-either = verified-either;
       verified-switches = verified-switches;
-      verified-kept = verified-kept;
+      verified-stays = verified-stays;
+      report-refused = report-refused;
       verified-says = verified-says;
       same-key-self = same-key-self;
-      start-kept = start-kept;
-      poll-kept = poll-kept;
-      deliver-refused = λ call n time payload k e. deliver-leaves n call time payload k e .0;
+      start-stays = start-stays;
+      poll-stays = poll-stays;
+      deliver-refused = λ delivery n time payload k e. deliver-leaves n delivery time payload k e .0;
       border-takes = border-takes;
     }

@@ -21,10 +21,11 @@ use Rattle.link_key_set.specs.KeySet.{keysOf, allowed, allowedSet}
 use Rattle.link_key.specs.declared.Key.{Key}
 use Rattle.link_key_set.specs.declared.key_set.KeySet.{KeySet}
 use Rattle.link_key_set.proofs.KeySets.{allowed-few}
-use Rattle.link_key.proofs.Tests.{both-left, both-right}
+use Rattle.logic_facts.specs.Tests.{both-left, both-right}
 use Rattle.cojp.specs.Reading.{Reading, refused, read, onward, put, Judgement, broken, unfit, good, concluded}
 use Rattle.cojp.specs.Octets.{octetsJudged, octetsOf, octetsParameter, noOctetsParameter}
-use Rattle.cojp.specs.Address.{isAddress, addressBy, addressIn, addressJudged, addressOf, addressParameter, noAddressParameter}
+use Rattle.short_address.specs.Address.{isAddress}
+use Rattle.cojp.specs.Address.{addressBy, addressIn, addressJudged, addressOf, addressParameter, noAddressParameter}
 use Rattle.cojp.specs.KeySet.{Groups, notGroups, groupsOf, groups, keysIn, keysJudged, keySetOf, keysParameter}
 use Rattle.cojp.specs.Walk.{knownRead, pairRead, pairsRead, mapRead, scannedRead, payloadRead, payloadReadBy}
 use Rattle.cojp.specs.Configuration.{emptyConfiguration, withKeys, withAddress, withJrc, withNetwork, withPrefix, withPassed, configurationStanding, configurationTaking, configurationForm, configurationAnswer, readConfiguration}
@@ -35,7 +36,7 @@ use Rattle.cojp.specs.declared.octets.Octets.{Octets}
 use Rattle.cojp.specs.declared.report.Report.the-variants.{Taken, Discarded}
 use Rattle.cojp.specs.declared.walk.Standing.{Standing}
 use Rattle.cojp.specs.declared.walk.Standing.the-variants.{Unknown, Fresh, Again}
-use Rattle.link_key.proofs.Tests.{both}
+use Rattle.logic_facts.specs.Tests.{both}
 
 -- what is taken is in range
 pub record InRange (c : Configuration) : Type 0 where

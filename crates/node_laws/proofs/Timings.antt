@@ -5,6 +5,7 @@ use mathlib.Core.Path.{_≡_, refl}
 use mathlib.Core.Bool.{Bool, true, false, cond}
 use mathlib.Core.List.{List}
 use borrow.Author.Tests.{leb-true}
+use Rattle.refusal.specs.Verdict.{refused-not}
 use Rattle.refusal.specs.declared.Refusal.{Refusal}
 use Rattle.refusal.specs.declared.Refusal.the-variants as refusal
 use Rattle.refusal.specs.declared.Verdict.{Verdict}
@@ -17,17 +18,14 @@ use Rattle.node_attempt.specs.Attempt.{mayStart, waitingFrom}
 use Rattle.node_attempt.specs.Poll as attempt
 use Rattle.node_attempt.specs.declared.poll.Due.the-variants as due
 use Rattle.node_attempt.specs.declared.poll.Step.{Step}
-use Rattle.node_attempt.proofs.Attempts.{waiting-fits, may-start, poll-fits, poll-later}
+use Rattle.node_attempt.proofs.Attempts.{waiting-valid, may-start, poll-valid, poll-later}
 use Rattle.node.specs.Node.{attempting}
 use Rattle.node.specs.Range.{valid, Valid}
 use Rattle.node.specs.Timing.{requestOf, startVerdict, planBy, startPlan, startedFrom, startedBy, start, polled, polledBy, poll}
-use Rattle.node_laws.specs.Laws.{Kept}
+use Rattle.node_laws.specs.Laws.{KeysStay}
 use Rattle.node.specs.declared.node.Node.{Node}
-use Rattle.node_laws.proofs.Valid.{attempt-fits}
-use Rattle.node_laws.proofs.Kept.{kept-self, kept-attempt}
-
-refused-not : {A : Type 0} (k : Refusal) → verdict.Refused k ≡ verdict.Accepted → A
-refused-not k e = absurd (let z : _≡_ {A = ℕ} 0 1 = cc in omega arith)
+use Rattle.node_laws.proofs.Valid.{attempt-valid}
+use Rattle.node_laws.proofs.KeysStay.{stay-self, stay-attempt}
 
 -- ---- starting
 module _ (n : Node) (time timeout : ℕ) where
@@ -42,24 +40,24 @@ module _ (n : Node) (time timeout : ℕ) where
       go true v a = (v, a)
       go false v a = refused-not refusal.Range a
 
-  waiting-kept : startVerdict n time timeout ≡ verdict.Accepted → Kept n (startedFrom n time timeout)
-  waiting-kept e =
+  waiting-stays : startVerdict n time timeout ≡ verdict.Accepted → KeysStay n (startedFrom n time timeout)
+  waiting-stays e =
       let m = may-start (n .attempt) time timeout (start-passed e .1) in
-      kept-attempt n (waitingFrom time timeout) (λ v. waiting-fits time timeout (m .2)) (leb-true _ _ (m .0))
+      stay-attempt n (waitingFrom time timeout) (λ v. waiting-valid time timeout (m .2)) (leb-true _ _ (m .0))
 
   start-cases :
-      (d : List ℕ) (v : Verdict) (p : Plan) → (v ≡ verdict.Accepted → Kept n (startedFrom n time timeout)) →
-      Kept n (startedBy (answer (planBy v p) d) n (startedFrom n time timeout) .node)
-  start-cases d (verdict.Refused k) p f = kept-self n
+      (d : List ℕ) (v : Verdict) (p : Plan) → (v ≡ verdict.Accepted → KeysStay n (startedFrom n time timeout)) →
+      KeysStay n (startedBy (answer (planBy v p) d) n (startedFrom n time timeout) .node)
+  start-cases d (verdict.Refused k) p f = stay-self n
   start-cases d verdict.Accepted p f = go (answer p d)
     where
-      go : (w : Written) → Kept n (startedBy w n (startedFrom n time timeout) .node)
-      go (written.Refused k) = kept-self n
+      go : (w : Written) → KeysStay n (startedBy w n (startedFrom n time timeout) .node)
+      go (written.Refused k) = stay-self n
       go (written.Length l) = f refl
 
-  pub start-kept : (d : List ℕ) → Kept n (start n time timeout d .node)
+  pub start-stays : (d : List ℕ) → KeysStay n (start n time timeout d .node)
   unfolding start startPlan
-  start-kept d = start-cases d (startVerdict n time timeout) (requestPlan (requestOf n)) waiting-kept
+  start-stays d = start-cases d (startVerdict n time timeout) (requestPlan (requestOf n)) waiting-stays
 
 -- ---- polling
 module _ (n : Node) (time : ℕ) where
@@ -67,12 +65,12 @@ module _ (n : Node) (time : ℕ) where
   unfolding poll
   poll-is v = rw v
 
-  poll-cases : (b : Bool) (s : Step) → Kept n (attempting n (s .attempt)) → Kept n (cond b (polledBy n s) (polled (due.Refused refusal.Range) n) .node)
+  poll-cases : (b : Bool) (s : Step) → KeysStay n (attempting n (s .attempt)) → KeysStay n (cond b (polledBy n s) (polled (due.Refused refusal.Range) n) .node)
   poll-cases true s k = k
-  poll-cases false s k = kept-self n
+  poll-cases false s k = stay-self n
 
-  pub poll-kept : Kept n (poll n time .node)
+  pub poll-stays : KeysStay n (poll n time .node)
   unfolding poll
-  poll-kept =
+  poll-stays =
       poll-cases (valid n) (attempt.poll (n .attempt) time)
-      (kept-attempt n (attempt.poll (n .attempt) time .attempt) (λ v. poll-fits (n .attempt) time (attempt-fits n v)) (poll-later (n .attempt) time))
+      (stay-attempt n (attempt.poll (n .attempt) time .attempt) (λ v. poll-valid (n .attempt) time (attempt-valid n v)) (poll-later (n .attempt) time))

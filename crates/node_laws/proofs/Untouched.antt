@@ -6,36 +6,34 @@ use mathlib.Core.Bool.{Bool, true, false, cond}
 use mathlib.Core.List.{List, _++_}
 use lib.Dec.{leb}
 use lib.ListN.{length, drop}
+use Rattle.refusal.specs.Verdict.{accepted-not}
 use Rattle.refusal.specs.declared.Refusal.{Refusal}
 use Rattle.refusal.specs.declared.Refusal.the-variants as refusal
 use Rattle.refusal.specs.declared.Verdict.the-variants as verdict
 use Rattle.cbor.specs.Answer.{Plan, refuse, emit, answer, after}
 use Rattle.cbor.specs.declared.write.Written.the-variants as w
 use Rattle.link_key.specs.Key.{noKey}
-use Rattle.node_key_sets.specs.Frames.{withoutKey, sendingKey, receivingKey, hears, changeVerdict}
+use Rattle.node_key_sets.specs.Frames.{withoutKey, sendingKey, receivingKey, verifiedIn, changeVerdict}
 use Rattle.node_key_sets.specs.declared.frames.Change.the-variants as change
 use Rattle.node_key_sets.specs.declared.frames.KeyAnswer.{KeyAnswer}
 use Rattle.node_key_sets.proofs.Untouched as sets
 use Rattle.node_attempt.specs.Poll as attempt
 use Rattle.node_attempt.specs.declared.poll.Due.the-variants as due
 use Rattle.node_attempt.proofs.Attempts.{poll-untouched}
-use Rattle.node_parameters.specs.Octets.{octetsInRange}
-use Rattle.node.specs.Node.{emptyNode, roleInRange, attempting, keyed, made}
+use Rattle.node_parameters.specs.Octets.{validOctets}
+use Rattle.node.specs.Node.{emptyNode, validRole, attempting, keyed, made}
 use Rattle.node.specs.Range.{valid}
 use Rattle.node.specs.Timing.{startPlan, startedFrom, startedBy, start, startAfter, polled, polledBy, poll}
-use Rattle.node.specs.Frames.{send, afterSend, receive, heard, heardBy, verified}
+use Rattle.node.specs.Frames.{send, afterSend, receive, reported, reportedBy, verified}
 use Rattle.node.specs.Lease.{holds, holdingVerdict}
 use Rattle.node_laws.specs.Calls.{NodeCall, starting, polling, delivering, asking, sending, receiving, reporting, nothing, written, reports, key, dueObject, holdingObject, changeObject, perform, Untouched, Demand1}
-use Rattle.node.specs.declared.frames.Heard.{Heard}
+use Rattle.node.specs.declared.frames.Reported.{Reported}
 use Rattle.node.specs.declared.lease.Holding.{Holding}
 use Rattle.node.specs.declared.lease.Holding.the-variants as holding
 use Rattle.node_parameters.specs.declared.octets.HeldOctets.{HeldOctets}
 use Rattle.node.specs.declared.node.Made.{Made}
 use Rattle.node.specs.declared.node.Node.{Node}
 use Rattle.node_laws.proofs.Deliveries.{deliver-leaves}
-
-accepted-not : {A : Type 0} (k : Refusal) → verdict.Accepted ≡ verdict.Refused k → A
-accepted-not k e = absurd (let z : _≡_ {A = ℕ} 0 1 = cc in omega arith)
 
 -- ---- starting
 module _ (n m : Node) (d : List ℕ) (k : Refusal) where
@@ -67,8 +65,8 @@ node-polled n time k = go (valid n)
 -- ---- the answers that are one of several
 holding-untouched : (h : Holding) (k : Refusal) → holdingVerdict h ≡ verdict.Refused k → holdingObject h ≡ nothing
 holding-untouched (holding.Refused j) k e = refl
-holding-untouched holding.Holds k e = accepted-not k e
-holding-untouched holding.Lapsed k e = accepted-not k e
+holding-untouched holding.Yes k e = accepted-not k e
+holding-untouched holding.No k e = accepted-not k e
 
 abbrev Unanswered : KeyAnswer → Type 0
 Unanswered x = (k : Refusal) → x .verdict ≡ verdict.Refused k → x .key ≡ noKey
@@ -91,11 +89,11 @@ report-untouched :
 unfolding verified
 report-untouched n type identifier k = go (valid n)
   where
-    told : Bool → Heard
-    told b = cond b (heardBy n (hears (n .sets) type identifier)) (heard (change.Refused refusal.Range) n)
+    told : Bool → Reported
+    told b = cond b (reportedBy n (verifiedIn (n .sets) type identifier)) (reported (change.Refused refusal.Range) n)
 
     go : (b : Bool) → changeVerdict (told b .change) ≡ verdict.Refused k → (told b .node ≡ n) × (changeObject (told b .change) ≡ nothing)
-    go true e = let u = sets.hears-untouched (n .sets) type identifier k e in (ap (keyed n) (u .0), ap changeObject (u .1))
+    go true e = let u = sets.verified-untouched (n .sets) type identifier k e in (ap (keyed n) (u .0), ap changeObject (u .1))
     go false e = (refl, refl)
 
 -- ---- all calls
@@ -105,8 +103,8 @@ untouched (starting time timeout d) n k e =
     let u = start-untouched n (startedFrom n time timeout) d k (startPlan n time timeout) e in
     record { node = u .0; lent = u .1; object = ap written (u .2) }
 untouched (polling time) n k e = let u = node-polled n time k e in record { node = u .0; lent = refl; object = u .1 }
-untouched (delivering call time payload) n k e =
-    let u = deliver-leaves n call time payload k e in record { node = u .0; lent = refl; object = ap reports (u .1) }
+untouched (delivering delivery time payload) n k e =
+    let u = deliver-leaves n delivery time payload k e in record { node = u .0; lent = refl; object = ap reports (u .1) }
 untouched (asking time) n k e = record { node = refl; lent = refl; object = holding-untouched (holds n time) k e }
 untouched (sending type) n k e = record { node = refl; lent = refl; object = ap key (send-untouched n type k e) }
 untouched (receiving type identifier) n k e =
@@ -124,8 +122,8 @@ cond-made false x y k p q e = q e
 made-empty : (role : ℕ) (network : HeldOctets) (k : Refusal) → made role network .verdict ≡ verdict.Refused k → made role network .node ≡ emptyNode
 unfolding made
 made-empty role network k e =
-    cond-made (roleInRange role) _ _ k
-    (λ f. cond-made (octetsInRange network) _ _ k (λ g. accepted-not k g) (λ g. refl) f)
+    cond-made (validRole role) _ _ k
+    (λ f. cond-made (validOctets network) _ _ k (λ g. accepted-not k g) (λ g. refl) f)
     (λ f. refl)
     e
 

@@ -1,46 +1,158 @@
--- What the answers of a node's calls say in document 01's numbers and values: each value exactly when 01 gives it.
+-- What the answers of a node's calls say in document 01's numbers and values: each number in 01's order, each value exactly when 01 gives it.
 use Prim.Native.Nat.{ℕ, _-_}
 use mathlib.Core.Path.{_≡_}
-use mathlib.Core.Bool.{Bool, not, _&&_}
-use lib.Dec.{leb, ltb}
+use mathlib.Core.Bool.{Bool, true, false, not, _&&_}
+use mathlib.Core.List.{List, [], _∷_}
+use mathlib.Core.Option.{Option, none, some}
+use lib.Dec.{leb, ltb, eqb}
+use lib.ListN.{length}
 use Rattle.refusal.specs.Refusal.{numberOf}
-use Rattle.refusal.specs.declared.Verdict.{Verdict}
-use Rattle.refusal.specs.declared.Verdict.the-variants.{Refused, Accepted}
-use Rattle.node_key_sets.specs.Frames.{changeNumber}
-use Rattle.node_attempt.specs.Attempt.{isWaiting, fits}
-use Rattle.node_attempt.specs.Poll.{dueNumber, sendsAgain, givesUp}
+use Rattle.refusal.specs.Verdict.{verdictNumber, isAccepted}
+use Rattle.refusal.specs.Order.{refusedIf, inOrder}
+use Rattle.refusal.specs.declared.Verdict.the-variants.{Accepted}
+use Rattle.link_key_usage.specs.Usage.{knownType}
+use Rattle.link_key.specs.Key.{covers}
+use Rattle.link_key.specs.declared.Key.{Key}
+use Rattle.link_key_set.specs.KeySet.{keysOf, sameKeys, shares, has, firstCover}
+use Rattle.cbor.specs.Answer.{answer}
+use Rattle.cbor.specs.declared.write.Written.{Written}
+use Rattle.cbor.specs.declared.write.Written.the-variants as written
+use Rattle.cojp.specs.Reading.{ifTaken}
+use Rattle.cojp.specs.Writing.{requestPlan}
+use Rattle.cojp.specs.declared.key_set.KeysParameter.{KeysParameter}
+use Rattle.node_key_sets.specs.Frames.{heldKey, changeNumber, hasSwitched, hasKept}
+use Rattle.node_attempt.specs.Attempt.{isWaiting, firstTimeout}
+use Rattle.node_attempt.specs.Poll.{dueNumber, notYet, sendsAgain, givesUp}
+use Rattle.node_delivery.specs.Delivery.{belongs}
+use Rattle.node_delivery.specs.declared.Delivery.{Delivery}
 use Rattle.node_parameters.specs.Lease.{holdsAt}
-use Rattle.node.specs.Frames.{verified}
+use Rattle.node_parameters.specs.Octets.{validOctets}
+use Rattle.node_parameters.specs.Reports.{reportsOf}
+use Rattle.node_parameters.specs.declared.octets.HeldOctets.{HeldOctets}
+use Rattle.node.specs.Delivery.{owesIdentifier, readFor, deliver}
+use Rattle.node.specs.Frames.{send, receive, verified}
 use Rattle.node.specs.Lease.{holds, holdingNumber, holdsNow}
-use Rattle.node.specs.Node.{clockOf}
+use Rattle.node.specs.Node.{activeOf, isBorder, clockOf, validRole, made}
 use Rattle.node.specs.Range.{valid}
-use Rattle.node.specs.Timing.{poll}
+use Rattle.node.specs.Timing.{requestOf, start, poll}
 use Rattle.node.specs.declared.node.Node.{Node}
-use Rattle.node_laws.specs.Calls.{polling, asking, reporting, perform}
+use Rattle.node_laws.specs.Calls.{NodeCall, perform}
 
--- the refusal's number, 0 where there is none
-abbrev pub verdictNumber : Verdict → ℕ
-verdictNumber (Refused k) = numberOf k
-verdictNumber Accepted = 0
+-- ---- the tests in 01's words
+-- "the time given is before the last accepted one"
+abbrev pub early : Node → ℕ → Bool
+early n time = not (leb (clockOf n) time)
 
--- a node that may be handed in waits, and the time since the last sending has reached the timeout
+abbrev pub waits : Node → Bool
+waits n = isWaiting (n .attempt .phase)
+
+-- "the time since the last sending has reached the timeout"
+abbrev pub reached : Node → ℕ → Bool
+reached n time = leb (n .attempt .timeout) (time - n .attempt .sent)
+
+-- a poll that is not refused, at which a step is due
+abbrev pub isPolled : Node → ℕ → Bool
+isPolled n time = (valid n && not (early n time) && waits n)
+
 abbrev pub isDue : Node → ℕ → Bool
-isDue n time =
-    (valid n
-    && fits (n .attempt)
-    && leb (clockOf n) time
-    && isWaiting (n .attempt .phase)
-    && leb (n .attempt .timeout) (time - n .attempt .sent))
+isDue n time = (isPolled n time && reached n time)
+
+-- CLASH: at an ordinary node, a set that is not the active one and shares an identifier with it
+abbrev pub clashes : Node → KeysParameter → Bool
+clashes n p =
+    ifTaken (p .report)
+    (not (isBorder n) && not (sameKeys (keysOf (p .value)) (activeOf n)) && shares (keysOf (p .value)) (activeOf n))
+    false
+
+-- SILENT: no such key, or none that covers the type
+abbrev pub isMissing : Option Key → Bool
+isMissing none = true
+isMissing (some k) = false
+
+abbrev pub isUncovered : ℕ → Option Key → Bool
+isUncovered type none = true
+isUncovered type (some k) = not (covers k type)
+
+-- the number in a writer's answer
+abbrev pub writtenNumber : Written → ℕ
+writtenNumber (written.Refused k) = numberOf k
+writtenNumber (written.Length l) = 0
 
 pub record AnswersSay : Type 0 where
-  -- the number is that of the call's verdict
-  pub poll-number : (n : Node) (time : ℕ) → dueNumber (poll n time .due) ≡ verdictNumber (perform (polling time) n .verdict)
-  pub holding-number : (n : Node) (time : ℕ) → holdingNumber (holds n time) ≡ verdictNumber (perform (asking time) n .verdict)
-  pub report-number :
+  -- a node that is not valid answers RANGE (13) to every call
+  pub invalid : (c : NodeCall) (n : Node) → valid n ≡ false → verdictNumber (perform c n .verdict) ≡ 13
+  -- ---- the numbers, in the order of the tests: RANGE 13, CLOCK 11, PHASE 16, LONG 15, OWED 9, CLASH 10, SILENT 14
+  pub made-number :
+      (role : ℕ) (network : HeldOctets) → verdictNumber (made role network .verdict) ≡ refusedIf (not (validRole role && validOctets network)) 13
+  -- then as the request's writer: OWED, ROOM
+  pub start-number :
+      (n : Node) (time timeout : ℕ) (d : List ℕ) →
+      verdictNumber (start n time timeout d .verdict)
+      ≡ inOrder
+      (refusedIf (not (valid n)) 13
+      ∷ refusedIf (early n time) 11
+      ∷ refusedIf (waits n) 16
+      ∷ refusedIf (not (firstTimeout timeout)) 13
+      ∷ writtenNumber (answer (requestPlan (requestOf n)) d)
+      ∷ [])
+  pub poll-number :
+      (n : Node) (time : ℕ) →
+      dueNumber (poll n time .due) ≡ inOrder (refusedIf (not (valid n)) 13 ∷ refusedIf (early n time) 11 ∷ refusedIf (not (waits n)) 16 ∷ [])
+  pub delivery-number :
+      (delivery : Delivery) (n : Node) (time : ℕ) (payload : List ℕ) →
+      verdictNumber (deliver delivery n time payload .verdict)
+      ≡ inOrder
+      (refusedIf (not (valid n)) 13
+      ∷ refusedIf (not (leb (length payload) 256)) 15
+      ∷ refusedIf (early n time) 11
+      ∷ refusedIf (not (belongs delivery (n .attempt .phase))) 16
+      ∷ verdictNumber (readFor n payload .verdict)
+      ∷ refusedIf (owesIdentifier delivery n (readFor n payload .configuration .network .report)) 9
+      ∷ refusedIf (clashes n (readFor n payload .configuration .keys)) 10
+      ∷ [])
+  pub holding-number :
+      (n : Node) (time : ℕ) → holdingNumber (holds n time) ≡ inOrder (refusedIf (not (valid n)) 13 ∷ refusedIf (early n time) 11 ∷ [])
+  pub send-number :
+      (n : Node) (type : ℕ) →
+      verdictNumber (send n type .verdict)
+      ≡ inOrder
+      (refusedIf (not (valid n)) 13 ∷ refusedIf (not (knownType type)) 13 ∷ refusedIf (isMissing (firstCover type (activeOf n))) 14 ∷ [])
+  pub receive-number :
       (n : Node) (type identifier : ℕ) →
-      changeNumber (verified n type identifier .change) ≡ verdictNumber (perform (reporting type identifier) n .verdict)
-  -- "send again" with a counter under 4, "gave up" at 4
+      verdictNumber (receive n type identifier .verdict)
+      ≡ inOrder
+      (refusedIf (not (valid n)) 13
+      ∷ refusedIf (not (knownType type && not (eqb identifier 0))) 13
+      ∷ refusedIf (isUncovered type (heldKey (n .sets) identifier)) 14
+      ∷ [])
+  -- a report is judged as receiving is
+  pub report-number :
+      (n : Node) (type identifier : ℕ) → changeNumber (verified n type identifier .change) ≡ verdictNumber (receive n type identifier .verdict)
+  -- ---- the values
+  -- a start wrote what the request's writer answers
+  pub start-length :
+      (n : Node) (time timeout : ℕ) (d : List ℕ) → start n time timeout d .verdict ≡ Accepted →
+      answer (requestPlan (requestOf n)) d ≡ written.Length (start n time timeout d .length)
+  -- "not yet" before the timeout is reached; then "send again" with a counter under 4, "gave up" at 4
+  pub not-yet : (n : Node) (time : ℕ) → notYet (poll n time .due) ≡ (isPolled n time && not (reached n time))
   pub sends-again : (n : Node) (time : ℕ) → sendsAgain (poll n time .due) ≡ (isDue n time && ltb (n .attempt .count) 4)
-  pub gives-up : (n : Node) (time : ℕ) → givesUp (poll n time .due) ≡ (isDue n time && not (ltb (n .attempt .count) 4))
+  pub gives-up : (n : Node) (time : ℕ) → givesUp (poll n time .due) ≡ (isDue n time && eqb (n .attempt .count) 4)
+  -- the report of an accepted configuration
+  pub delivery-reports :
+      (delivery : Delivery) (n : Node) (time : ℕ) (payload : List ℕ) → deliver delivery n time payload .verdict ≡ Accepted →
+      deliver delivery n time payload .reports ≡ reportsOf (isBorder n) (readFor n payload .configuration)
   -- yes
-  pub holds-now : (n : Node) (time : ℕ) → holdsNow (holds n time) ≡ (valid n && leb (clockOf n) time && holdsAt (n .address) time)
+  pub holds-now : (n : Node) (time : ℕ) → holdsNow (holds n time) ≡ (valid n && not (early n time) && holdsAt (n .address) time)
+  -- the key: the first active one that covers the type; the active or else pending one with the identifier
+  pub send-key : (n : Node) (type : ℕ) → send n type .verdict ≡ Accepted → firstCover type (activeOf n) ≡ some (send n type .key)
+  pub receive-key :
+      (n : Node) (type identifier : ℕ) → receive n type identifier .verdict ≡ Accepted →
+      heldKey (n .sets) identifier ≡ some (receive n type identifier .key)
+  -- switched where the key was pending, kept where it was active
+  pub has-switched :
+      (n : Node) (type identifier : ℕ) →
+      hasSwitched (verified n type identifier .change)
+      ≡ (isAccepted (receive n type identifier .verdict) && not (has identifier (activeOf n)))
+  pub has-kept :
+      (n : Node) (type identifier : ℕ) →
+      hasKept (verified n type identifier .change) ≡ (isAccepted (receive n type identifier .verdict) && has identifier (activeOf n))

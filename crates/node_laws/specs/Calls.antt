@@ -19,7 +19,7 @@ use Rattle.node_parameters.specs.Reports.{noReports}
 use Rattle.node.specs.Delivery.{deliver}
 use Rattle.node.specs.Lease.{holds, holdingVerdict}
 use Rattle.node.specs.Frames.{send, afterSend, receive, verified}
-use Rattle.node_delivery.specs.declared.Call.{Call}
+use Rattle.node_delivery.specs.declared.Delivery.{Delivery}
 use Rattle.node_parameters.specs.declared.reports.Reports.{Reports}
 use Rattle.node.specs.declared.lease.Holding.{Holding}
 use Rattle.node.specs.declared.lease.Holding.the-variants as holding
@@ -33,7 +33,7 @@ pub data NodeCall : Type 0 where
   -- time
   polling : ℕ → NodeCall
   -- a join answer or an update: time, payload
-  delivering : Call → ℕ → List ℕ → NodeCall
+  delivering : Delivery → ℕ → List ℕ → NodeCall
   -- the question whether the address holds: time
   asking : ℕ → NodeCall
   -- frame type
@@ -61,8 +61,8 @@ dueObject due.GaveUp = step due.GaveUp
 
 abbrev pub holdingObject : Holding → Object
 holdingObject (holding.Refused k) = nothing
-holdingObject holding.Holds = state holding.Holds
-holdingObject holding.Lapsed = state holding.Lapsed
+holdingObject holding.Yes = state holding.Yes
+holdingObject holding.No = state holding.No
 
 abbrev pub changeObject : Change → Object
 changeObject (change.Refused k) = nothing
@@ -73,7 +73,7 @@ changeObject change.Kept = effect change.Kept
 abbrev pub emptyObject : NodeCall → Object
 emptyObject (starting time timeout d) = written 0
 emptyObject (polling time) = nothing
-emptyObject (delivering call time payload) = reports noReports
+emptyObject (delivering delivery time payload) = reports noReports
 emptyObject (asking time) = nothing
 emptyObject (sending type) = key noKey
 emptyObject (receiving type identifier) = key noKey
@@ -83,7 +83,7 @@ emptyObject (reporting type identifier) = nothing
 abbrev pub lentTo : NodeCall → List ℕ
 lentTo (starting time timeout d) = d
 lentTo (polling time) = []
-lentTo (delivering call time payload) = payload
+lentTo (delivering delivery time payload) = payload
 lentTo (asking time) = []
 lentTo (sending type) = []
 lentTo (receiving type identifier) = []
@@ -104,8 +104,8 @@ perform (starting time timeout d) n =
     performed (start n time timeout d .verdict) (start n time timeout d .node) (written (start n time timeout d .length))
     (startAfter n time timeout d)
 perform (polling time) n = performed (dueVerdict (poll n time .due)) (poll n time .node) (dueObject (poll n time .due)) []
-perform (delivering call time payload) n =
-    performed (deliver call n time payload .verdict) (deliver call n time payload .node) (reports (deliver call n time payload .reports)) payload
+perform (delivering delivery time payload) n =
+    performed (deliver delivery n time payload .verdict) (deliver delivery n time payload .node) (reports (deliver delivery n time payload .reports)) payload
 perform (asking time) n = performed (holdingVerdict (holds n time)) n (holdingObject (holds n time)) []
 perform (sending type) n = performed (send n type .verdict) (afterSend n type) (key (send n type .key)) []
 perform (receiving type identifier) n = performed (receive n type identifier .verdict) n (key (receive n type identifier .key)) []

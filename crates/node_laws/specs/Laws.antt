@@ -1,5 +1,5 @@
 -- What the layer above may rely on of a node, whatever the definitions of its calls are; and when a join attempt gives up.
-use Prim.Native.Nat.{ℕ, zero, suc, _+_, _*_}
+use Prim.Native.Nat.{ℕ, zero, suc, _+_, _*_, _≤_}
 use mathlib.Core.Path.{_≡_}
 use mathlib.Core.Bool.{true}
 use mathlib.Core.Logic.{_⊎_}
@@ -10,21 +10,20 @@ use Rattle.link_key.specs.Key.{covers, sameKey}
 use Rattle.link_key_set.specs.KeySet.{keysOf, Apart, Covers}
 use Rattle.link_key.specs.declared.Key.{Key}
 use Rattle.link_key_set.specs.declared.key_set.KeySet.{KeySet}
-use Rattle.node_key_sets.specs.Frames.{withKey}
+use Rattle.node_key_sets.specs.Frames.{withKey, changeVerdict}
 use Rattle.node_key_sets.specs.declared.frames.Change.the-variants as change
 use Rattle.node_attempt.specs.Poll as attempt
 use Rattle.node_attempt.specs.declared.attempt.Phase.the-variants as phase
 use Rattle.node_attempt.specs.declared.poll.Due.{Due}
 use Rattle.node_attempt.specs.declared.poll.Due.the-variants.{SendAgain, GaveUp}
-use Rattle.cojp.specs.Configuration.{readConfiguration}
 use Rattle.cojp.specs.declared.report.Report.the-variants.{Taken}
 use Rattle.node.specs.Node.{activeOf, pendingOf, clockOf}
 use Rattle.node.specs.Range.{Valid}
 use Rattle.node.specs.Timing.{start, poll}
-use Rattle.node.specs.Delivery.{deliver}
+use Rattle.node.specs.Delivery.{readFor, deliver}
 use Rattle.node.specs.Frames.{send, afterSend, receive, verified}
 use Rattle.node_laws.specs.Calls.{NodeCall, perform}
-use Rattle.node_delivery.specs.declared.Call.{Call}
+use Rattle.node_delivery.specs.declared.Delivery.{Delivery}
 use Rattle.node.specs.declared.node.Node.{Node}
 
 -- ---- the words of the laws
@@ -33,7 +32,7 @@ abbrev pub Without : ℕ → List Key → Type 0
 Without identifier ks = (l : Key) → List·Memᴰ l ks → l .identifier ≡ identifier → ⊥
 
 -- the node m has the keys and the role of n, and is valid if n is
-pub record Kept (n m : Node) : Type 0 where
+pub record KeysStay (n m : Node) : Type 0 where
   pub active : activeOf m ≡ activeOf n
   pub pending : pendingOf m ≡ pendingOf n
   pub role : m .role ≡ n .role
@@ -56,15 +55,15 @@ pub record Sends (n : Node) (type : ℕ) : Type 0 where
   pub member : List·Memᴰ (send n type .key) (activeOf n)
   pub covering : covers (send n type .key) type ≡ true
 
--- the key set that a payload holds
-abbrev pub setIn : List ℕ → KeySet
-setIn payload = readConfiguration payload .configuration .keys .value
+-- the key set that a payload holds, as the node reads it
+abbrev pub setIn : Node → List ℕ → KeySet
+setIn n payload = readFor n payload .configuration .keys .value
 
 -- the node accepts the payload and takes the key set in it, which has the keys ks
-pub record Takes (call : Call) (n : Node) (time : ℕ) (payload : List ℕ) (ks : List Key) : Type 0 where
-  pub accepted : deliver call n time payload .verdict ≡ Accepted
-  pub taken : deliver call n time payload .reports .keys ≡ Taken
-  pub set : keysOf (setIn payload) ≡ ks
+pub record Takes (delivery : Delivery) (n : Node) (time : ℕ) (payload : List ℕ) (ks : List Key) : Type 0 where
+  pub accepted : deliver delivery n time payload .verdict ≡ Accepted
+  pub taken : deliver delivery n time payload .reports .keys ≡ Taken
+  pub set : keysOf (setIn n payload) ≡ ks
 
 -- the node m, which n became, has the keys active, and none pending
 pub record Installed (ks : List Key) (n m : Node) : Type 0 where
@@ -76,7 +75,7 @@ pub record Installed (ks : List Key) (n m : Node) : Type 0 where
 -- the key by which the pending set of n becomes active: pending, covering the type, its identifier not active
 pub record Switching (n : Node) (type identifier : ℕ) : Type 0 where
   pub key : Key
-  pub named : key .identifier ≡ identifier
+  pub identified : key .identifier ≡ identifier
   pub member : List·Memᴰ key (pendingOf n)
   pub covering : covers key type ≡ true
   pub absent : Without identifier (activeOf n)
@@ -93,7 +92,8 @@ pub record NodeLaws : Type 0 where
   pub covers-can : (n : Node) (type : ℕ) → Covers (activeOf n) type → CanSend n type
   pub can-send : (n : Node) (type : ℕ) → Valid n → CanSend n type → Sends n type
   pub send-from : (n : Node) (type : ℕ) → send n type .verdict ≡ Accepted → Sends n type
-  pub send-kept : (n : Node) (type : ℕ) → Kept n (afterSend n type)
+  pub send-stays : (n : Node) (type : ℕ) → KeysStay n (afterSend n type)
+  pub send-refused : (n : Node) (type : ℕ) (k : Refusal) → send n type .verdict ≡ Refused k → afterSend n type ≡ n
   -- a pending key that covers the type is found by its identifier, where no active key has it
   pub receive-pending :
       (n : Node) (type : ℕ) (k : Key) → Valid n → covers k type ≡ true → Without (k .identifier) (activeOf n) →
@@ -107,25 +107,29 @@ pub record NodeLaws : Type 0 where
   -- a verified frame leaves the keys, or the pending set becomes active by a pending key that covers the type; such a key does that
   pub verified-either :
       (n : Node) (type identifier : ℕ) →
-      Kept n (verified n type identifier .node) ⊎ (Switching n type identifier × Switched n (verified n type identifier .node))
+      KeysStay n (verified n type identifier .node) ⊎ (Switching n type identifier × Switched n (verified n type identifier .node))
   pub verified-switches :
       (n : Node) (type identifier : ℕ) → Valid n → Switching n type identifier → Switched n (verified n type identifier .node)
-  pub verified-kept : (n : Node) (type identifier : ℕ) → Without identifier (pendingOf n) → Kept n (verified n type identifier .node)
+  pub verified-stays : (n : Node) (type identifier : ℕ) → Without identifier (pendingOf n) → KeysStay n (verified n type identifier .node)
+  -- a refused report leaves the node
+  pub report-refused :
+      (n : Node) (type identifier : ℕ) (k : Refusal) → changeVerdict (verified n type identifier .change) ≡ Refused k →
+      verified n type identifier .node ≡ n
   -- the answer says which of the two
   pub verified-says :
       (n : Node) (type identifier : ℕ) → verified n type identifier .change ≡ change.Switched → Switched n (verified n type identifier .node)
   -- a key equals itself
   pub same-key-self : (k : Key) → sameKey k k ≡ true
   -- starts and polls, refused or not, leave the keys; a refused join answer or update leaves the node
-  pub start-kept : (n : Node) (time timeout : ℕ) (d : List ℕ) → Kept n (start n time timeout d .node)
-  pub poll-kept : (n : Node) (time : ℕ) → Kept n (poll n time .node)
+  pub start-stays : (n : Node) (time timeout : ℕ) (d : List ℕ) → KeysStay n (start n time timeout d .node)
+  pub poll-stays : (n : Node) (time : ℕ) → KeysStay n (poll n time .node)
   pub deliver-refused :
-      (call : Call) (n : Node) (time : ℕ) (payload : List ℕ) (k : Refusal) → deliver call n time payload .verdict ≡ Refused k →
-      deliver call n time payload .node ≡ n
+      (delivery : Delivery) (n : Node) (time : ℕ) (payload : List ℕ) (k : Refusal) → deliver delivery n time payload .verdict ≡ Refused k →
+      deliver delivery n time payload .node ≡ n
   -- a border node that accepts a payload and takes its key set has that set active
   pub border-takes :
-      (call : Call) (n : Node) (time : ℕ) (payload : List ℕ) (ks : List Key) → Valid n → n .role ≡ 1 → Takes call n time payload ks →
-      Installed ks n (deliver call n time payload .node)
+      (delivery : Delivery) (n : Node) (time : ℕ) (payload : List ℕ) (ks : List Key) → Valid n → n .role ≡ 1 → Takes delivery n time payload ks →
+      Installed ks n (deliver delivery n time payload .node)
 
 -- ---- giving up
 -- when a waiting node's next step is due
@@ -141,11 +145,14 @@ abbrev pub answersDue : ℕ → Node → List Due
 answersDue zero n = []
 answersDue (suc polls) n = poll n (dueAt n) .due ∷ answersDue polls (poll n (dueAt n) .node)
 
--- the node has sent its request with first timeout t at that time: polled exactly when due, it sends four times more, and gives up 31t after
+-- the node has sent its request with first timeout t at that time: polled exactly when due, it sends four times more, and gives up 31t after,
+-- which is 310,000 to 465,000 ms
 pub record GaveUpAfter (n : Node) (time timeout : ℕ) : Type 0 where
   pub answers : answersDue 5 n ≡ SendAgain ∷ SendAgain ∷ SendAgain ∷ SendAgain ∷ GaveUp ∷ []
   pub end : afterDue 5 n .attempt .phase ≡ phase.GaveUp
   pub at : clockOf (afterDue 5 n) ≡ time + 31 * timeout
+  pub earliest : time + 310000 ≤ clockOf (afterDue 5 n)
+  pub latest : clockOf (afterDue 5 n) ≤ time + 465000
 
 abbrev pub GivesUp : Type 0
 GivesUp =

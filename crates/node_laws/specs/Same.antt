@@ -1,16 +1,17 @@
 -- The same objects do the same to a node: what a configuration holds beside what is taken does not count.
 use Prim.Native.Nat.{ℕ}
 use mathlib.Core.Path.{_≡_}
-use mathlib.Core.Bool.{cond}
+use mathlib.Core.Bool.{true, cond}
 use mathlib.Core.List.{List}
 use mathlib.Core.Option.{Option, none, some}
 use Rattle.cojp.specs.Octets.{bytesIn}
 use Rattle.cojp.specs.Same.{leaseOf, SameConfiguration}
+use Rattle.cojp.specs.Writing.{keysInRange}
 use Rattle.cojp.specs.declared.configuration.Configuration.{Configuration}
 use Rattle.node_parameters.specs.declared.address.HeldAddress.{HeldAddress}
 use Rattle.node.specs.Node.{activeOf, pendingOf}
 use Rattle.node.specs.Delivery.{apply}
-use Rattle.node_delivery.specs.declared.Call.{Call}
+use Rattle.node_delivery.specs.declared.Delivery.{Delivery}
 use Rattle.node.specs.declared.delivery.Delivered.{Delivered}
 use Rattle.node_parameters.specs.declared.octets.HeldOctets.{HeldOctets}
 use Rattle.node.specs.declared.node.Node.{Node}
@@ -38,7 +39,8 @@ pub record SameOutcome (x y : Delivered) : Type 0 where
   pub verdict : x .verdict ≡ y .verdict
   pub node : SameNode (x .node) (y .node)
 
+-- both with key sets within their limits, as every configuration that was read has
 abbrev pub AppliesAlike : Type 0
 AppliesAlike =
-    (call : Call) (n : Node) (time : ℕ) (c d : Configuration) → SameConfiguration c d →
-    SameOutcome (apply call n time c) (apply call n time d)
+    (delivery : Delivery) (n : Node) (time : ℕ) (c d : Configuration) → keysInRange (c .keys) ≡ true → keysInRange (d .keys) ≡ true →
+    SameConfiguration c d → SameOutcome (apply delivery n time c) (apply delivery n time d)

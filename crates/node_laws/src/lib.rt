@@ -2,6 +2,7 @@
 ghost use Rattle.node_laws.specs.Answers.{AnswersSay};
 ghost use Rattle.node_laws.specs.Calls.{Demand1};
 ghost use Rattle.node_laws.specs.Laws.{NodeLaws, GivesUp};
+ghost use Rattle.node_laws.specs.Phases.{PhaseLaws};
 ghost use Rattle.node_laws.specs.Same.{AppliesAlike};
 
 // Demand 1 for the node: a refused call leaves node and lent bytes as they were, and gives the empty object.
@@ -27,4 +28,9 @@ pub fn applies_alike()
 // The answers of the calls in document 01's numbers and values.
 pub fn answers_say()
     ensures { λ r. ⌜ AnswersSay ⌝ }
+{}
+
+// When a node waits for its join answer: by an accepted start alone, and until an accepted join answer or giving up.
+pub fn phases()
+    ensures { λ r. ⌜ PhaseLaws ⌝ }
 {}

@@ -5,13 +5,13 @@ use mathlib.Core.Path.{_≡_, refl}
 use mathlib.Core.Bool.{Bool, true, false, cond, _&&_}
 use borrow.Author.Tests.{leb-true, le-leb}
 use lib.Dec.{leb}
-use Rattle.link_key.proofs.Tests.{both-left, both-right}
-use Rattle.cojp.specs.Address.{isAddress}
-use Rattle.node_parameters.specs.Lease.{addressInRange}
+use Rattle.logic_facts.specs.Tests.{both-left, both-right}
+use Rattle.short_address.specs.Address.{isAddress}
+use Rattle.node_parameters.specs.Lease.{validAddress}
 use Rattle.node_parameters.specs.declared.address.HeldAddress.{HeldAddress}
-use Rattle.link_key.proofs.Tests.{both}
+use Rattle.logic_facts.specs.Tests.{both}
 
-pub later : (clock time : ℕ) (a : HeldAddress) → clock ≤ time → addressInRange clock a ≡ true → addressInRange time a ≡ true
+pub later : (clock time : ℕ) (a : HeldAddress) → clock ≤ time → validAddress clock a ≡ true → validAddress time a ≡ true
 later clock time a h e = go (a .held) e
   where
     go :

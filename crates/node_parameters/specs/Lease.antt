@@ -2,7 +2,8 @@
 use Prim.Native.Nat.{ℕ, _-_, _/_}
 use mathlib.Core.Bool.{Bool, true, false, cond, _&&_}
 use lib.Dec.{leb, ltb}
-use Rattle.cojp.specs.Address.{noAddress, isAddress}
+use Rattle.cojp.specs.Address.{noAddress}
+use Rattle.short_address.specs.Address.{isAddress}
 use Rattle.cojp.specs.Reading.{ifTaken}
 use Rattle.cojp.specs.declared.address.AddressParameter.{AddressParameter}
 use Rattle.node_parameters.specs.declared.address.HeldAddress.{HeldAddress}
@@ -11,8 +12,8 @@ abbrev pub absentAddress : HeldAddress
 absentAddress = record { held = false; value = noAddress; received = 0 }
 
 -- an address, received not after the clock; the lease may be any number
-abbrev pub addressInRange : ℕ → HeldAddress → Bool
-addressInRange clock a = cond (a .held) (isAddress (a .value .bytes) && leb (a .received) clock) true
+abbrev pub validAddress : ℕ → HeldAddress → Bool
+validAddress clock a = cond (a .held) (isAddress (a .value .bytes) && leb (a .received) clock) true
 
 -- a lease counts seconds: its unit in milliseconds
 abbrev pub leaseUnit : ℕ

@@ -17,11 +17,11 @@ abbrev pub knownOctets : HeldOctets → HeldOctets
 knownOctets h = cond (h .held) h absentOctets
 
 -- a network identifier or prefix has 0 to 16 bytes, a JRC address 16; one that is not held is not judged
-abbrev pub octetsInRange : HeldOctets → Bool
-octetsInRange h = cond (h .held) (leb (h .value .len) 16) true
+abbrev pub validOctets : HeldOctets → Bool
+validOctets h = cond (h .held) (leb (h .value .len) 16) true
 
-abbrev pub jrcInRange : HeldOctets → Bool
-jrcInRange h = cond (h .held) (eqb (h .value .len) 16) true
+abbrev pub validJrc : HeldOctets → Bool
+validJrc h = cond (h .held) (eqb (h .value .len) 16) true
 
 -- as a request's parameter
 abbrev pub identifierIn : HeldOctets → OctetsParameter

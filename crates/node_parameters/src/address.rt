@@ -2,12 +2,12 @@
 use cojp::AddressParameter;
 use cojp::Report;
 use cojp::ShortAddress;
-use cojp::is_address;
 use cojp::no_address;
 use cojp_range::is_taken;
+use short_address::is_address;
 ghost use mathlib.Core.Path.{_≡_};
 ghost use Prim.Native.Nat.{_-_};
-ghost use Rattle.node_parameters.specs.Lease.{absentAddress, addressInRange, holdsAt, addressAfter};
+ghost use Rattle.node_parameters.specs.Lease.{absentAddress, validAddress, holdsAt, addressAfter};
 
 // A short address and when it was received; without one neither counts.
 pub struct HeldAddress {
@@ -43,8 +43,8 @@ fn elapsed(since: u64, time: u64) -> u64
 
 impl HeldAddress {
     // Whether a node with this clock may hold it.
-    pub fn in_range(self, clock: u64) -> bool
-        ensures { λ r. ⌜ r ≡ addressInRange clock self ⌝ }
+    pub fn valid(self, clock: u64) -> bool
+        ensures { λ r. ⌜ r ≡ validAddress clock self ⌝ }
     {
         if self.held {
             let value = self.value;

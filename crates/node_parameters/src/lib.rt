@@ -6,3 +6,9 @@ pub mod reports;
 pub use address::HeldAddress;
 pub use octets::HeldOctets;
 pub use reports::Reports;
+ghost use Rattle.node_parameters.specs.Demand1.{ParametersDemand1};
+
+// Demand 1 for the parameters that a node holds.
+pub fn demand1()
+    ensures { λ r. ⌜ ParametersDemand1 ⌝ }
+{}

@@ -5,7 +5,7 @@ use cojp::Report;
 use cojp::no_octets;
 use cojp_range::is_taken;
 ghost use mathlib.Core.Path.{_≡_};
-ghost use Rattle.node_parameters.specs.Octets.{absentOctets, knownOctets, octetsInRange, jrcInRange, identifierIn, octetsAfter};
+ghost use Rattle.node_parameters.specs.Octets.{absentOctets, knownOctets, validOctets, validJrc, identifierIn, octetsAfter};
 
 // Without one the value does not count. An empty one is not an absent one.
 pub struct HeldOctets {
@@ -34,8 +34,8 @@ impl HeldOctets {
     }
 
     // Whether it may be a network identifier or a prefix.
-    pub fn in_range(self) -> bool
-        ensures { λ r. ⌜ r ≡ octetsInRange self ⌝ }
+    pub fn valid(self) -> bool
+        ensures { λ r. ⌜ r ≡ validOctets self ⌝ }
     {
         if self.held {
             let value = self.value;
@@ -45,8 +45,8 @@ impl HeldOctets {
     }
 
     // Whether it may be a JRC address.
-    pub fn jrc_in_range(self) -> bool
-        ensures { λ r. ⌜ r ≡ jrcInRange self ⌝ }
+    pub fn valid_jrc(self) -> bool
+        ensures { λ r. ⌜ r ≡ validJrc self ⌝ }
     {
         if self.held {
             let value = self.value;

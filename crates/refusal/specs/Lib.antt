@@ -1,1 +1,3 @@
 pub mod Refusal
+pub mod Verdict
+pub mod Order

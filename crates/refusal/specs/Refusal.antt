@@ -1,5 +1,5 @@
 -- The table of refusals, document 01's sixteen and the six that document 02 adds: the number and the name of each.
-use Prim.Native.Nat.{ℕ, zero, suc, _-_}
+use Prim.Native.Nat.{ℕ, zero, suc, _-_, _≤_}
 use mathlib.Core.List.{List, [], _∷_, _++_}
 use lib.ListN.{length}
 use Rattle.refusal.specs.declared.Refusal.{Refusal}
@@ -63,3 +63,8 @@ zeros (suc n) = 0 ∷ zeros n
 -- the name in eight bytes
 abbrev pub nameOf : Refusal → List ℕ
 nameOf r = lettersOf r ++ zeros (8 - length (lettersOf r))
+
+-- every refusal has a number from 1 to 22
+pub record Numbered : Type 0 where
+  pub least : (k : Refusal) → 1 ≤ numberOf k
+  pub most : (k : Refusal) → numberOf k ≤ 22

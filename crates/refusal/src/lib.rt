@@ -1,7 +1,7 @@
 // The refusals of documents 01 (1 to 16) and 02 (17 to 22): why a call gives no object, with the number and the name of each.
 // Only this crate goes by their cases, so that a new refusal is added here and nowhere else.
 ghost use mathlib.Core.Path.{_≡_};
-ghost use Rattle.refusal.specs.Refusal.{numberOf, nameOf};
+ghost use Rattle.refusal.specs.Refusal.{numberOf, nameOf, Numbered};
 
 // Why a call was refused, in the order of the documents' numbers.
 pub enum Refusal {
@@ -100,3 +100,8 @@ impl Refusal {
         NAMES[place as usize]
     }
 }
+
+// Every refusal has a number from 1 to 22.
+pub fn numbers()
+    ensures { λ r. ⌜ Numbered ⌝ }
+{}

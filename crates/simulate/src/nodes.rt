@@ -62,7 +62,7 @@ fn between(nodes: Nodes, command: Command) -> Executed {
     let answer = turned.answer;
     let nodes = stored(nodes, command.first, turned.sender);
     Executed {
-        nodes: stored(nodes, command.second, turned.hearer),
+        nodes: stored(nodes, command.second, turned.receiver),
         reply: turn_reply(answer),
     }
 }

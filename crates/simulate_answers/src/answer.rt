@@ -69,8 +69,8 @@ fn put_due(out: Output, due: Due, buffer: &mut Buffer) -> Output {
 fn put_holding(out: Output, holding: Holding, buffer: &mut Buffer) -> Output {
     match holding {
         Holding::Refused(refusal) => put_refusal(out, refusal, buffer),
-        Holding::Holds => out.text(b"yes", buffer),
-        Holding::Lapsed => out.text(b"no", buffer),
+        Holding::Yes => out.text(b"yes", buffer),
+        Holding::No => out.text(b"no", buffer),
     }
 }
 

@@ -5,3 +5,4 @@ mod show;
 
 pub use answer::put_answer;
 pub use reply::Reply;
+pub use show::put_node;

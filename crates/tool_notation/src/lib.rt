@@ -1,5 +1,5 @@
-// How the desk tools write refusals, byte strings, keys and key sets (docs/TOOLS.md), after CBOR's diagnostic notation, and how much they keep
-// of a payload.
+// How the desk tools write refusals, byte strings, keys and key sets (docs/TOOLS.md), after CBOR's diagnostic notation; and how much of a
+// payload they keep.
 use cojp::Octets;
 use link_key::Key;
 use link_key_set::KeySet;

@@ -72,7 +72,7 @@ impl Session {
     }
 
     // The session with this text written, where lines are.
-    fn echoed(mut self, text: &[u8], buffer: &mut Buffer) -> Session {
+    pub fn echoed(mut self, text: &[u8], buffer: &mut Buffer) -> Session {
         if self.echo {
             self.out = self.out.text(text, buffer);
         }
@@ -80,7 +80,7 @@ impl Session {
     }
 
     // The session at a line's end, if it is one.
-    fn ended(self, line_ends: bool, buffer: &mut Buffer) -> Session {
+    pub fn ended(self, line_ends: bool, buffer: &mut Buffer) -> Session {
         if line_ends {
             return self.echoed(b"\n", buffer);
         }
@@ -88,7 +88,7 @@ impl Session {
     }
 
     // The session with more of the input in the buffer; answers are written before it is asked for.
-    fn filled(self, bytes: &mut Buffer, buffer: &Buffer) -> Session {
+    pub fn filled(self, bytes: &mut Buffer, buffer: &Buffer) -> Session {
         let out = self.out.flush(buffer);
         let input = self.input.fill(bytes);
         Session {

@@ -1,4 +1,4 @@
--- Each case of the hearer's answer has its own.
+-- Each case of the receiver's answer has its own.
 use borrow.Author.Needs.{needs}
 use Rattle.network_turn.proofs.Answers.{answer-refused}
 use Rattle.network_turn.proofs.answer_of.Statement.{statement}

@@ -17,14 +17,14 @@ returns : tie.Need-returns
 returns c =
     let test = c .before .before .before in
     let x = test .before .before .args in
-    radio-verified (x .sender) (x .hearer) (x .frame-type) (x .key) (x .found) (test .before .same-key .result)
+    radio-verified (x .sender) (x .receiver) (x .frame-type) (x .key) (x .found) (test .before .same-key .result)
     (c .before .before .verified .result) (c .answer-of .result) (test .before .same-key .ensures) (test .if1 .taken)
     (c .before .before .verified .ensures) (c .answer-of .ensures)
 
 returns-2 : tie.Need-returns-2
 returns-2 c =
     let x = c .before .before .args in
-    radio-failed (x .sender) (x .hearer) (x .frame-type) (x .key) (x .found) (c .before .same-key .result) (c .before .same-key .ensures)
+    radio-failed (x .sender) (x .receiver) (x .frame-type) (x .key) (x .found) (c .before .same-key .result) (c .before .same-key .ensures)
     (c .if1 .left)
 
 pub judged-spec : {M : Type 1} → statement M

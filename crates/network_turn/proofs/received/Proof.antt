@@ -1,6 +1,6 @@
--- A refusal of the hearer ends the turn, and the radio judges the key that it found.
+-- A refusal of the receiver ends the turn, and the radio judges the key that it found.
 use borrow.Author.Needs.{needs}
-use Rattle.network_turn.proofs.Answers.{hearer-finds, hearer-refuses}
+use Rattle.network_turn.proofs.Answers.{receiver-finds, receiver-refuses}
 use Rattle.network_turn.proofs.received.Statement.{statement}
 use Rattle.network_turn.proofs.received.Tie as tie
 
@@ -20,14 +20,14 @@ returns : tie.Need-returns
 returns c =
     let asked = c .before .before .before in
     let x = asked .before .args in
-    hearer-refuses (x .sender) (x .hearer) (x .frame-type) (x .key) (asked .receiving-key .result) (asked .receiving-key .ensures) _
+    receiver-refuses (x .sender) (x .receiver) (x .frame-type) (x .key) (asked .receiving-key .result) (asked .receiving-key .ensures) _
     (c .before .verdict .given .1)
 
 returns-2 : tie.Need-returns-2
 returns-2 c =
     let asked = c .before .before .before .before in
     let x = asked .before .args in
-    hearer-finds (x .sender) (x .hearer) (x .frame-type) (x .key) (asked .receiving-key .result) (asked .receiving-key .ensures)
+    receiver-finds (x .sender) (x .receiver) (x .frame-type) (x .key) (asked .receiving-key .result) (asked .receiving-key .ensures)
     (c .judged .result) (c .before .before .enum-told .given .1) (c .judged .ensures)
 
 pub received-spec : {M : Type 1} → statement M

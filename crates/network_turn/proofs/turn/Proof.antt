@@ -1,4 +1,4 @@
--- A refusal of the sender ends the turn, and the hearer receives the key that it answered.
+-- A refusal of the sender ends the turn, and the receiver receives the key that it answered.
 use borrow.Author.Needs.{needs}
 use Rattle.network_turn.proofs.Answers.{sender-finds, sender-refuses}
 use Rattle.network_turn.proofs.turn.Statement.{statement}
@@ -20,14 +20,14 @@ returns : tie.Need-returns
 returns c =
     let asked = c .before .before .before in
     let x = asked .before .args in
-    sender-refuses (x .sender) (x .hearer) (x .frame-type) (asked .sending-key .result) (asked .sending-key .ensures) _
+    sender-refuses (x .sender) (x .receiver) (x .frame-type) (asked .sending-key .result) (asked .sending-key .ensures) _
     (c .before .verdict .given .1)
 
 returns-2 : tie.Need-returns-2
 returns-2 c =
     let asked = c .before .before .before .before in
     let x = asked .before .args in
-    sender-finds (x .sender) (x .hearer) (x .frame-type) (asked .sending-key .result) (asked .sending-key .ensures)
+    sender-finds (x .sender) (x .receiver) (x .frame-type) (asked .sending-key .result) (asked .sending-key .ensures)
     (c .received .result) (c .before .before .enum-told .given .1) (c .received .ensures)
 
 pub turn-spec : {M : Type 1} → statement M

@@ -1,42 +1,68 @@
--- Two bytes are an address.
-use mathlib.Core.Path.{ap}
+-- Two bytes that are not reserved are an address; anything else is discarded.
+use mathlib.Core.Path.{ap, sym, _∙_}
 use Rattle.cojp.specs.Address.{addressAnswer}
 use Rattle.cojp.specs.Reading.{Reading}
 use Rattle.cojp.specs.declared.address.AddressParameter.{AddressParameter}
-use Rattle.cojp.proofs.Addresses.{address-unfit, address-good}
+use Rattle.cojp.proofs.Addresses.{address-short, address-reserved, address-good}
 use borrow.Author.Needs.{needs}
 use Rattle.cojp.proofs.address.address_from.Statement.{statement}
 use Rattle.cojp.proofs.address.address_from.Tie as tie
 
-no-address-requires : tie.Need-no-address-requires
-no-address-requires c κs = search needs
+discarded-address-requires : tie.Need-discarded-address-requires
+discarded-address-requires c κs = search needs
 
 returns : tie.Need-returns
 returns c =
-    let a = c .before .before .before .args in
-    ap (λ (x : Reading AddressParameter). addressAnswer x (a .next)) (address-unfit (a .s .now) (a .start) (a .len) (c .before .before .before .pre) (a .leased) (a .lease) (c .before .if1 .taken) (c .no-address .result) (c .no-address .ensures))
+    let begun = c .before .before .before in
+    let a = begun .args in
+    let short = address-short (a .s .now) (a .start) (a .len) (begun .pre) (a .leased) (a .lease) (c .before .if1 .taken) in
+    c .discarded-address .ensures ∙ ap (λ (x : Reading AddressParameter). addressAnswer x (a .next)) short
+
+shared-slice-read-t12 : tie.Need-shared-slice-read-t12
+shared-slice-read-t12 c = search needs
+
+add-t13 : tie.Need-add-t13
+add-t13 c = search needs
 
 shared-slice-read-t15 : tie.Need-shared-slice-read-t15
 shared-slice-read-t15 c = search needs
 
-add-t16 : tie.Need-add-t16
-add-t16 c = search needs
-
-shared-slice-read-t18 : tie.Need-shared-slice-read-t18
-shared-slice-read-t18 c = search needs
+is-address-requires : tie.Need-is-address-requires
+is-address-requires c κs = search needs
 
 returns-2 : tie.Need-returns-2
 returns-2 c =
-    let a = c .before .before .before .before .args in
-    ap (λ (x : Reading AddressParameter). addressAnswer x (a .next)) (address-good (a .s .now) (a .start) (a .len) (c .before .before .before .before .pre) (a .leased) (a .lease) (c .before .before .if1 .left))
+    let tested = c .before in
+    let two = tested .before .before .before in
+    let begun = two .before .before in
+    let a = begun .args in
+    let fine = sym (tested .is-address .ensures) ∙ c .if2 .taken in
+    let good = address-good (a .s .now) (a .start) (a .len) (begun .pre) (a .leased) (a .lease) (two .if1 .left) fine in
+    ap (λ (x : Reading AddressParameter). addressAnswer x (a .next)) good
+
+discarded-address-requires-2 : tie.Need-discarded-address-requires-2
+discarded-address-requires-2 c κs = search needs
+
+returns-3 : tie.Need-returns-3
+returns-3 c =
+    let tested = c .before .before in
+    let two = tested .before .before .before in
+    let begun = two .before .before in
+    let a = begun .args in
+    let none = sym (tested .is-address .ensures) ∙ c .before .if2 .left in
+    let reserved = address-reserved (a .s .now) (a .start) (a .len) (begun .pre) (a .leased) (a .lease) (two .if1 .left) none in
+    c .discarded-address2 .ensures ∙ ap (λ (x : Reading AddressParameter). addressAnswer x (a .next)) reserved
 
 pub address-from-spec : {M : Type 1} → statement M
 address-from-spec =
     tie.close
     (tie.spec
-    no-address-requires
+    discarded-address-requires
     returns
+    shared-slice-read-t12
+    add-t13
     shared-slice-read-t15
-    add-t16
-    shared-slice-read-t18
-    returns-2)
+    is-address-requires
+    returns-2
+    discarded-address-requires-2
+    returns-3)

@@ -2,7 +2,7 @@
 use mathlib.Core.Path.{sym, _∙_}
 use mathlib.Core.Bool.{true}
 use borrow.Author.Needs.{needs}
-use Rattle.cojp.specs.Address.{isAddress}
+use Rattle.short_address.specs.Address.{isAddress}
 use Rattle.cojp_range.proofs.Taken.{taken-is, taken-not}
 use Rattle.cojp_range.proofs.parameter.address_in_range.Statement.{statement}
 use Rattle.cojp_range.proofs.parameter.address_in_range.Tie as tie

@@ -1,51 +1,111 @@
 -- What is still to be read from here on is what was to be read from the start; at most so many labels were passed over as there were pairs.
 use native.Mathlib.Omega.{arith}
-use borrow.Author.Needs.{needs}
-use mathlib.Core.Path.{refl, _∙_}
+use mathlib.Core.Path.{ap, _∙_}
+use mathlib.Core.Logic.{⊎-elim}
 use lib.ListN.{drop}
+use borrow.Author.Needs.{needs}
 use Rattle.cojp.specs.Request.{requestForm, nothingGathered}
 use Rattle.cojp_map.specs.Pairs.{walkAt}
-use Rattle.cojp_map.proofs.Maps.{Walking, walking-next, walk-done, left-less}
+use Rattle.cojp_map.proofs.Maps.{Walking, walk-start, walk-done, turn-stops, turn-goes}
+use Rattle.cojp_request_read.specs.Requests.{gatheredOf}
+use Rattle.cojp_request_read.proofs.Requests.{Turn, turn-role, turn-network, turn-passed, answerTo}
 use Rattle.cojp_request_read.proofs.request.take_pairs.Statement.{statement}
 use Rattle.cojp_request_read.proofs.request.take_pairs.Tie as tie
+use Rattle.cojp_request_read.proofs.request.take_pairs.Reads as reads
+use Rattle.cojp_request_read.proofs.request.take_pairs.Lts as lts
+use Rattle.cojp.proofs.no_octets.Reads as no-octets-reads
+use Rattle.cojp_map.proofs.octets_once.Reads as octets-once-reads
+use Rattle.cojp_map.proofs.item_end.Reads as item-end-reads
+use Rattle.cojp_map.proofs.labelled_at.Reads as labelled-at-reads
+use Rattle.cojp_request_read.proofs.request.refused_request.Reads as refused-request-reads
+use Rattle.cojp_request_read.proofs.request.role_once.Reads as role-once-reads
+use Rattle.cojp_request_read.proofs.request.settled_request.Reads as settled-request-reads
 
 abbrev Inv-loop : tie.InvT-loop
-Inv-loop s start count at₀ left₀ read₀ at left read =
-    Walking requestForm (walkAt requestForm count nothingGathered (drop start s)) count (read .gathered .request .passed) left (read .verdict) (read .gathered) (drop at s)
+Inv-loop s at₀ left₀ named₀ role₀ network₀ passed₀ at left named role network passed =
+    Walking requestForm (walkAt requestForm left₀ nothingGathered (drop at₀ s)) left₀ passed left (gatheredOf named role network passed) (drop at s)
 
 abbrev μ-loop : tie.MeasureT-loop
-μ-loop s start count at₀ left₀ read₀ at left read = left
+μ-loop s at₀ left₀ named₀ role₀ network₀ passed₀ at left named role network passed = left
 
-nothing-read-requires : tie.Need-nothing-read-requires Inv-loop μ-loop
-nothing-read-requires c κs = search needs
+-- what the pair that was met says, by its label
+turn : (m : lts.At-match-came (no-octets-reads.Asked, no-octets-reads.Learnt, labelled-at-reads.Asked, labelled-at-reads.Learnt, role-once-reads.Asked, role-once-reads.Learnt, octets-once-reads.Asked, octets-once-reads.Learnt, item-end-reads.Asked, item-end-reads.Learnt, refused-request-reads.Asked, refused-request-reads.Learnt, settled-request-reads.Asked, settled-request-reads.Learnt) reads.Pre reads.Post Inv-loop μ-loop)
+    → Turn (m .before .before .before .loop .named) (m .before .before .before .loop .role) (m .before .before .before .loop .network) (m .before .before .before .loop .passed)
+    (m .before .before .before .before .before .before .args .s .now) (drop (m .before .before .before .loop .at) (m .before .before .before .before .before .before .args .s .now))
+    (m .before .labelled-at .result) (m .before .labelled-at .ensures)
+    (m .match .named) (m .match .role) (m .match .network) (m .match .passed) (m .match .verdict) (m .match .at)
+turn m =
+    let p = m .before .labelled-at in
+    ⊎-elim (λ w. turn-role _ _ _ _ _ _ _ (p .ensures) _ _ _ _ _ _ (w .0 .keys1) (w .1 .result) (w .1 .ensures) (w .2) (w .3) (w .4) (w .5) (w .6) (w .7))
+    (⊎-elim (λ w. turn-network _ _ _ _ _ _ _ (p .ensures) _ _ _ _ _ _ (w .0 .keys2) (w .1 .result) (w .1 .ensures) (w .3) (w .4) (w .5) (w .6) (w .7) (w .8))
+    (λ w. turn-passed _ _ _ _ _ _ _ (p .ensures) _ _ _ _ _ _ (w .0 .rest .0 .1) (w .0 .rest .1) (w .1 .result) (w .1 .ensures) (w .2) (w .3) (w .4) (w .5) (w .6) (w .7)))
+    (m .match .came)
+
+no-octets-requires : tie.Need-no-octets-requires Inv-loop μ-loop
+no-octets-requires c κs = search needs
 
 loop-holds : tie.Need-loop-holds Inv-loop μ-loop
-loop-holds c = rw (c .nothing-read .ensures) (record { few = omega arith; going = λ h. refl; rest = refl })
+loop-holds c =
+    let a = c .before .before .args in
+    rw (c .no-octets .ensures) (walk-start requestForm (a .left) nothingGathered (drop (a .at) (a .s .now)))
 
-pair-at-requires : tie.Need-pair-at-requires Inv-loop μ-loop
-pair-at-requires c κs = search needs
+labelled-at-requires : tie.Need-labelled-at-requires Inv-loop μ-loop
+labelled-at-requires c κs = search needs
 
-take-pair-requires : tie.Need-take-pair-requires Inv-loop μ-loop
-take-pair-requires c κs = omega (arith, c .before .before .loop .inv .few, c .before .loop-test .taken, c .before .before .before .before .before .fits .count)
+role-once-requires : tie.Need-role-once-requires Inv-loop μ-loop
+role-once-requires c κs = search needs
 
-left-after-requires : tie.Need-left-after-requires Inv-loop μ-loop
-left-after-requires c κs = search needs
+octets-once-requires : tie.Need-octets-once-requires Inv-loop μ-loop
+octets-once-requires c κs = search needs
 
-loop-less : tie.Need-loop-less Inv-loop μ-loop
-loop-less c = omega (arith, c .left-after .ensures, left-less (c .before .take-pair .result .verdict) (c .before .before .before .before .loop .left), c .before .before .before .loop-test .taken)
+add-passed : tie.Need-add-passed Inv-loop μ-loop
+add-passed c =
+    let turn = c .before .before .before in
+    omega (arith, turn .loop .inv .few, c .before .before .loop-test .taken, turn .before .before .before .fits .left)
 
-loop-again : tie.Need-loop-again Inv-loop μ-loop
-loop-again c =
-    let a = c .before .before .before .before .before .before .before .args in
-    let l = c .before .before .before .before .loop in
-    let q = c .before .before .pair-at in
-    let t = c .before .take-pair in
-    rw (c .left-after .ensures) (walking-next requestForm _ (a .count) (a .s .now) (l .at) (l .inv) (omega (arith, c .before .before .before .loop-test .taken)) (q .result) (q .ensures) (t .result .verdict) (t .result .gathered) (t .result .gathered .request .passed) (t .ensures .says) (t .ensures .few))
+item-end-requires : tie.Need-item-end-requires Inv-loop μ-loop
+item-end-requires c κs = search needs
+
+enum-known-verdict : tie.Need-enum-known-verdict Inv-loop μ-loop
+enum-known-verdict c = search needs
+
+refused-request-requires : tie.Need-refused-request-requires Inv-loop μ-loop
+refused-request-requires c κs = search needs
 
 returns : tie.Need-returns Inv-loop μ-loop
 returns c =
-    let l = c .before .loop in
-    walk-done requestForm (l .left) (l .read .verdict) (l .read .gathered) (drop (l .at) (c .before .before .before .before .args .s .now)) (omega (arith, c .loop-test .left)) ∙ l .inv .rest
+    let why = c .before .before .verdict .given in
+    let pair = c .before .before .before .before in
+    let test = c .before .before .before .before .before .before .loop-test in
+    let walked = c .before .before .before .before .before .before .before .loop in
+    let a = c .before .before .before .before .before .before .before .before .before .before .args in
+    c .refused-request .ensures
+    ∙ ap answerTo (turn-stops requestForm _ _ (a .s .now) _ (walked .inv) (omega (arith, test .taken)) (pair .match .verdict) _ (pair .match .at) (turn pair .turned) (why .0 .0) (why .1))
+
+enum-told : tie.Need-enum-told Inv-loop μ-loop
+enum-told c = search needs
+
+sub-left : tie.Need-sub-left Inv-loop μ-loop
+sub-left c = omega (arith, c .before .before .before .before .loop-test .taken)
+
+loop-less : tie.Need-loop-less Inv-loop μ-loop
+loop-less c = omega (arith, c .before .before .before .before .loop-test .taken)
+
+loop-again : tie.Need-loop-again Inv-loop μ-loop
+loop-again c =
+    let pair = c .before .before in
+    let test = c .before .before .before .before .loop-test in
+    let walked = c .before .before .before .before .before .loop in
+    let a = c .before .before .before .before .before .before .before .before .args in
+    turn-goes requestForm _ _ (a .s .now) _ (walked .inv) (omega (arith, test .taken)) (pair .match .verdict) _ (pair .match .at) (turn pair .turned) (c .enum-told .given .1) (pair .match .passed) (turn pair .few)
+
+settled-request-requires : tie.Need-settled-request-requires Inv-loop μ-loop
+settled-request-requires c κs = search needs
+
+returns-2 : tie.Need-returns-2 Inv-loop μ-loop
+returns-2 c =
+    let walked = c .before .before .loop in
+    c .settled-request .ensures ∙ ap answerTo (walk-done requestForm _ _ (walked .inv) (omega (arith, c .before .loop-test .left)))
 
 pub take-pairs-spec : {M : Type 1} → statement M
 take-pairs-spec =
@@ -53,11 +113,19 @@ take-pairs-spec =
     (tie.spec
     Inv-loop
     μ-loop
-    nothing-read-requires
+    no-octets-requires
     loop-holds
-    pair-at-requires
-    take-pair-requires
-    left-after-requires
+    labelled-at-requires
+    role-once-requires
+    octets-once-requires
+    add-passed
+    item-end-requires
+    enum-known-verdict
+    refused-request-requires
+    returns
+    enum-told
+    sub-left
     loop-less
     loop-again
-    returns)
+    settled-request-requires
+    returns-2)

@@ -1,8 +1,8 @@
--- `apply` meets its contract: OWED, CLASH, then the change.
+-- `apply` meets its contract: OWED, the placing of the key sets, then the change.
 use mathlib.Core.Path.{_∙_}
 use borrow.Author.Needs.{needs}
-use Rattle.node.proofs.Applied.{apply-owed, apply-clash, apply-done}
-use Rattle.link_key.proofs.Tests.{is-false, is-true}
+use Rattle.node.proofs.Applied.{apply-owed, apply-placed}
+use Rattle.logic_facts.specs.Tests.{is-false, is-true}
 use Rattle.node.proofs.node.Node.apply.Statement.{statement}
 use Rattle.node.proofs.node.Node.apply.Tie as tie
 
@@ -14,41 +14,43 @@ undelivered-requires c κs = search needs
 
 returns : tie.Need-returns
 returns c =
-    let test = c .before in
-    let identifier = test .before in
-    let start = identifier .before .before in
-    c .undelivered .ensures ∙ apply-owed (start .args .call) (start .args .self) (start .args .time) (start .args .c) (is-true (identifier .owes-identifier .ensures) (test .if1 .taken))
+    let asked = c .before .before in
+    let x = asked .before .before .args in
+    c .undelivered .ensures
+    ∙ apply-owed (x .delivery) (x .self) (x .time) (x .c) (is-true (asked .owes-identifier .ensures) (c .before .if1 .taken))
 
 placement-requires : tie.Need-placement-requires
 placement-requires c κs = search needs
 
+enum-known-verdict : tie.Need-enum-known-verdict
+enum-known-verdict c = search needs
+
 undelivered-requires-2 : tie.Need-undelivered-requires-2
 undelivered-requires-2 c κs = search needs
 
+enum-told : tie.Need-enum-told
+enum-told c = search needs
+
+changed-requires : tie.Need-changed-requires
+changed-requires c κs = search needs
+
 returns-2 : tie.Need-returns-2
 returns-2 c =
-    let test = c .before in
-    let at-placement = test .before in
-    let test-if1 = at-placement .before in
-    let identifier = test-if1 .before in
-    let start = identifier .before .before in
-    c .undelivered2 .ensures ∙ apply-clash (start .args .call) (start .args .self) (start .args .time) (start .args .c) (is-false (identifier .owes-identifier .ensures) (test-if1 .if1 .left)) _ (at-placement .placement .ensures) (test .if2 .taken)
-
-reports-of-requires : tie.Need-reports-of-requires
-reports-of-requires c κs = search needs
-
-configured-requires : tie.Need-configured-requires
-configured-requires c κs = search needs
+    let place = c .before .before .before .before in
+    let asked = place .before .before in
+    let x = asked .before .before .args in
+    let owes = is-false (asked .owes-identifier .ensures) (place .before .if1 .left) in
+    c .undelivered2 .ensures
+    ∙ apply-placed (x .delivery) (x .self) (x .time) (x .c) owes _ (place .placement .ensures) (c .before .before .verdict .given .1)
 
 returns-3 : tie.Need-returns-3
 returns-3 c =
-    let at-reports-of = c .before in
-    let test = at-reports-of .before .before in
-    let at-placement = test .before in
-    let test-if1 = at-placement .before in
-    let identifier = test-if1 .before in
-    let start = identifier .before .before in
-    apply-done (start .args .call) (start .args .self) (start .args .time) (start .args .c) (is-false (identifier .owes-identifier .ensures) (test-if1 .if1 .left)) _ (at-placement .placement .ensures) (test .if2 .left) _ (at-reports-of .reports-of .ensures) _ (c .configured .ensures)
+    let place = c .before .before .before in
+    let asked = place .before .before in
+    let x = asked .before .before .args in
+    let owes = is-false (asked .owes-identifier .ensures) (place .before .if1 .left) in
+    c .changed .ensures
+    ∙ apply-placed (x .delivery) (x .self) (x .time) (x .c) owes _ (place .placement .ensures) (c .before .enum-told .given .1)
 
 pub apply-spec : {M : Type 1} → statement M
 apply-spec =
@@ -58,8 +60,9 @@ apply-spec =
     undelivered-requires
     returns
     placement-requires
+    enum-known-verdict
     undelivered-requires-2
+    enum-told
+    changed-requires
     returns-2
-    reports-of-requires
-    configured-requires
     returns-3)

@@ -1,7 +1,7 @@
 -- `may_deliver` meets its contract: a valid node may be handed a payload as its join attempt may.
 use borrow.Author.Needs.{needs}
 use Rattle.node.specs.Delivery.{deliverVerdict}
-use Rattle.link_key.proofs.Tests.{is-false, is-true}
+use Rattle.logic_facts.specs.Tests.{is-false, is-true}
 use Rattle.node.proofs.node.Node.may_deliver.Statement.{statement}
 use Rattle.node.proofs.node.Node.may_deliver.Tie as tie
 

@@ -2,7 +2,7 @@
 use borrow.Author.Needs.{needs}
 use borrow.Author.Tests.{le-leb, lt-leb}
 use Rattle.node.specs.Node.{made}
-use Rattle.link_key.proofs.Tests.{denied, granted}
+use Rattle.logic_facts.specs.Tests.{denied, granted}
 use Rattle.node.proofs.node.Node.new.Statement.{statement}
 use Rattle.node.proofs.node.Node.new.Tie as tie
 
@@ -13,15 +13,15 @@ returns : tie.Need-returns
 unfolding made
 returns c = rw (lt-leb _ _ (c .before .if1 .taken)) (c .not-made .ensures)
 
-in-range-requires : tie.Need-in-range-requires
-in-range-requires c κs = search needs
+valid-requires : tie.Need-valid-requires
+valid-requires c κs = search needs
 
 not-made-requires-2 : tie.Need-not-made-requires-2
 not-made-requires-2 c κs = search needs
 
 returns-2 : tie.Need-returns-2
 unfolding made
-returns-2 c = rw (le-leb _ _ (c .before .before .before .if1 .left), denied (c .before .before .in-range .ensures) (c .before .if2 .taken)) (c .not-made2 .ensures)
+returns-2 c = rw (le-leb _ _ (c .before .before .before .if1 .left), denied (c .before .before .valid .ensures) (c .before .if2 .taken)) (c .not-made2 .ensures)
 
 known-requires : tie.Need-known-requires
 known-requires c κs = search needs
@@ -36,7 +36,7 @@ returns-3 c =
     let test = at-known .before in
     let range = test .before in
     let test-if1 = range .before in
-    rw (le-leb _ _ (test-if1 .if1 .left), granted (range .in-range .ensures) (test .if2 .left), c .fresh-node .ensures, at-known .known .ensures)
+    rw (le-leb _ _ (test-if1 .if1 .left), granted (range .valid .ensures) (test .if2 .left), c .fresh-node .ensures, at-known .known .ensures)
 
 pub new-spec : {M : Type 1} → statement M
 new-spec =
@@ -44,7 +44,7 @@ new-spec =
     (tie.spec
     not-made-requires
     returns
-    in-range-requires
+    valid-requires
     not-made-requires-2
     returns-2
     known-requires

@@ -3,10 +3,10 @@ use mathlib.Core.Path.{_≡_, refl, sym, _∙_, ap}
 use mathlib.Core.Bool.{Bool, not, _&&_}
 use mathlib.Core.Logic.{⊎-elim}
 use borrow.Author.Needs.{needs}
-use Rattle.link_key.proofs.Tests.{and-next, and-stops}
+use Rattle.logic_facts.specs.Tests.{and-next, and-stops}
 use Rattle.node.specs.Node.{isBorder}
-use Rattle.node_delivery.specs.Call.{asksIdentifier}
-use Rattle.node_delivery.specs.declared.Call.{Call}
+use Rattle.node_delivery.specs.Delivery.{asksIdentifier}
+use Rattle.node_delivery.specs.declared.Delivery.{Delivery}
 use Rattle.node.specs.declared.node.Node.{Node}
 use Rattle.node.proofs.node.Node.owes_identifier.Statement.{statement}
 use Rattle.node.proofs.node.Node.owes_identifier.Tie as tie
@@ -18,10 +18,10 @@ is-taken-requires : tie.Need-is-taken-requires
 is-taken-requires c κs = search needs
 
 -- where the ways meet, after the second test and after the third
-abbrev two : Call → Node → Bool
-two call n = (asksIdentifier call && isBorder n)
+abbrev two : Delivery → Node → Bool
+two delivery n = (asksIdentifier delivery && isBorder n)
 
-two-met : (c : tie.Joined1) → c .if1 .if2 ≡ two (c .before .before .before .args .call) (c .before .before .before .args .self)
+two-met : (c : tie.Joined1) → c .if1 .if2 ≡ two (c .before .before .before .args .delivery) (c .before .before .before .args .self)
 two-met c =
     let first = c .before .asks-identifier .ensures in
     ⊎-elim (λ w. and-next first (w .0 .taken) refl (w .2)) (λ w. and-stops _ first (w .0 .left) (w .1)) (c .if1 .came)
@@ -29,7 +29,7 @@ two-met c =
 three-met :
     (c : tie.Joined2) →
     c .if2 .if3
-    ≡ (two (c .before .before .before .before .args .call) (c .before .before .before .before .args .self)
+    ≡ (two (c .before .before .before .before .args .delivery) (c .before .before .before .before .args .self)
     && not (c .before .before .before .before .args .self .network .held))
 three-met c =
     let first = two-met (c .before) in

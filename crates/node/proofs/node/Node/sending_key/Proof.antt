@@ -1,7 +1,7 @@
 -- `sending_key` meets its contract: a valid node answers as its key sets do.
 use borrow.Author.Needs.{needs}
 use Rattle.node.specs.Frames.{send}
-use Rattle.link_key.proofs.Tests.{is-false, is-true}
+use Rattle.logic_facts.specs.Tests.{is-false, is-true}
 use Rattle.node.proofs.node.Node.sending_key.Statement.{statement}
 use Rattle.node.proofs.node.Node.sending_key.Tie as tie
 

@@ -4,48 +4,48 @@ use mathlib.Core.Bool.{Bool, _&&_}
 use mathlib.Core.Logic.{⊎-elim}
 use borrow.Author.Needs.{needs}
 use Rattle.node_key_sets.specs.Sets as sets
-use Rattle.link_key.proofs.Tests.{and-next, and-stops}
+use Rattle.logic_facts.specs.Tests.{and-next, and-stops}
 use Rattle.node_attempt.specs.Attempt as attempt
-use Rattle.node_parameters.specs.Lease.{addressInRange}
+use Rattle.node_parameters.specs.Lease.{validAddress}
 use Rattle.node.specs.Node.{isBorder, clockOf}
 use Rattle.node.specs.declared.node.Node.{Node}
 use Rattle.node.specs.Range.{valid}
 use Rattle.node.proofs.node.Node.valid.Statement.{statement}
 use Rattle.node.proofs.node.Node.valid.Tie as tie
 
-fit-requires : tie.Need-fit-requires
-fit-requires c κs = search needs
+valid-requires : tie.Need-valid-requires
+valid-requires c κs = search needs
 
-fit-requires-2 : tie.Need-fit-requires-2
-fit-requires-2 c κs = search needs
+valid-requires-2 : tie.Need-valid-requires-2
+valid-requires-2 c κs = search needs
 
-in-range-requires : tie.Need-in-range-requires
-in-range-requires c κs = search needs
+valid-requires-3 : tie.Need-valid-requires-3
+valid-requires-3 c κs = search needs
 
-others-fit-requires : tie.Need-others-fit-requires
-others-fit-requires c κs = search needs
+others-valid-requires : tie.Need-others-valid-requires
+others-valid-requires c κs = search needs
 
 -- where the ways meet, after the second test and after the third
 abbrev two : Node → Bool
-two n = (sets.fits (isBorder n) (n .sets) && attempt.fits (n .attempt))
+two n = (sets.valid (isBorder n) (n .sets) && attempt.valid (n .attempt))
 
 two-met : (c : tie.Joined1) → c .if1 .if2 ≡ two (c .before .before .before .before .args .self)
 two-met c =
-    let first = c .before .fit .ensures in
+    let first = c .before .valid .ensures in
     ⊎-elim (λ w. and-next first (w .0 .taken) (w .1 .ensures) (w .2)) (λ w. and-stops _ first (w .0 .left) (w .1)) (c .if1 .came)
 
 three-met :
     (c : tie.Joined2) →
     c .if2 .if3
     ≡ (two (c .before .before .before .before .before .args .self)
-    && addressInRange (clockOf (c .before .before .before .before .before .args .self)) (c .before .before .before .before .before .args .self .address))
+    && validAddress (clockOf (c .before .before .before .before .before .args .self)) (c .before .before .before .before .before .args .self .address))
 three-met c =
     let first = two-met (c .before) in
     ⊎-elim (λ w. and-next first (w .0 .taken) (w .1 .ensures) (w .2)) (λ w. and-stops _ first (w .0 .left) (w .1)) (c .if2 .came)
 
 returns : tie.Need-returns
 unfolding valid
-returns c = rw (sym (three-met (c .before .before)) ∙ c .before .if3 .taken) (c .others-fit .ensures)
+returns c = rw (sym (three-met (c .before .before)) ∙ c .before .if3 .taken) (c .others-valid .ensures)
 
 returns-2 : tie.Need-returns-2
 unfolding valid
@@ -54,4 +54,4 @@ returns-2 c = rw (sym (three-met (c .before)) ∙ c .if3 .left) (c .if3 .left)
 pub valid-spec : {M : Type 1} → statement M
 valid-spec =
     tie.close
-    (tie.spec fit-requires fit-requires-2 in-range-requires others-fit-requires returns returns-2)
+    (tie.spec valid-requires valid-requires-2 valid-requires-3 others-valid-requires returns returns-2)

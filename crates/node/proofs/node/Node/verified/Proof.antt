@@ -1,7 +1,7 @@
 -- `verified` meets its contract: a valid node answers as its key sets do.
 use borrow.Author.Needs.{needs}
 use Rattle.node.specs.Frames.{verified}
-use Rattle.link_key.proofs.Tests.{denied, granted}
+use Rattle.logic_facts.specs.Tests.{denied, granted}
 use Rattle.node.proofs.node.Node.verified.Statement.{statement}
 use Rattle.node.proofs.node.Node.verified.Tie as tie
 

@@ -8,7 +8,7 @@ use lib.Dec.{eqb}
 use Rattle.link_key_usage.specs.Usage.{knownType}
 use Rattle.node_key_sets.specs.Frames.{heldKey, receivingKey}
 use Rattle.node_key_sets.proofs.Answers.{key-covers, key-silent}
-use Rattle.link_key.proofs.Tests.{is-false, is-true}
+use Rattle.logic_facts.specs.Tests.{is-false, is-true}
 use Rattle.node_key_sets.proofs.sets.KeySets.receiving_key.Statement.{statement}
 use Rattle.node_key_sets.proofs.sets.KeySets.receiving_key.Tie as tie
 

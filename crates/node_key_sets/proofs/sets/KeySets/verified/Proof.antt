@@ -2,7 +2,7 @@
 use mathlib.Core.Path.{_∙_}
 use borrow.Author.Needs.{needs}
 use Rattle.node_key_sets.proofs.Answers.{report-kept, report-refused, report-switched}
-use Rattle.link_key.proofs.Tests.{is-false, is-true}
+use Rattle.logic_facts.specs.Tests.{is-false, is-true}
 use Rattle.node_key_sets.proofs.sets.KeySets.verified.Statement.{statement}
 use Rattle.node_key_sets.proofs.sets.KeySets.verified.Tie as tie
 

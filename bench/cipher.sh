@@ -1,0 +1,10 @@
+#!/usr/bin/env bash
+# How long sealing and opening take beside libtomcrypt's portable AES-CCM in the same run (Debian's libtomcrypt-dev). Prints a table and judges nothing.
+set -eu
+cd "$(dirname "$0")/.."
+work=$(mktemp -d)
+trap 'rm -rf "$work"' EXIT
+
+[ -f target/staticlib/libbench_cipher.a ] || rt staticlib bench_cipher >/dev/null
+cc -O2 -o "$work/cipher" bench/cipher.c target/staticlib/libbench_cipher.a -ltomcrypt
+"$work/cipher"

@@ -1,0 +1,6 @@
+pub mod Judged
+pub mod Scan
+pub mod Seek
+pub mod Write
+pub mod Found
+pub mod Calls

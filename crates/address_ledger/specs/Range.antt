@@ -1,0 +1,25 @@
+-- The range of a ledger, given by its first address and its size: the limits, and the memory that it needs.
+use Prim.Native.Nat.{ℕ, _+_, _*_, _≤_}
+use mathlib.Core.Bool.{Bool, cond, _&&_}
+use lib.Dec.{leb}
+use Rattle.refusal.specs.declared.Refusal.the-variants.{Room, Range}
+use Rattle.refusal.specs.declared.Verdict.{Verdict}
+use Rattle.refusal.specs.declared.Verdict.the-variants.{Accepted, Refused}
+
+-- 1 to 4,096 consecutive addresses that end at FFFF at most
+unfoldable pub inLimits : ℕ → ℕ → Bool
+inLimits first size = (leb 1 size && (leb size 4096 && leb (first + size) 0x10000))
+
+-- RANGE, then ROOM: nine bytes an address
+unfoldable pub judged : ℕ → ℕ → ℕ → Verdict
+judged first size len = cond (inLimits first size) (cond (leb (9 * size) len) Accepted (Refused Room)) (Refused Range)
+
+-- how many of the range's addresses count, the lowest ones: all of them
+unfoldable pub counted : ℕ → ℕ → ℕ
+counted first size = size
+
+-- so many places, the first of them that of the address `first`, have room in memory of this length and end at FFFF at most
+pub record Usable (first len n : ℕ) : Type 0 where
+  pub room : 9 * n ≤ len
+  pub size : n ≤ 4096
+  pub end : first + n ≤ 0x10000

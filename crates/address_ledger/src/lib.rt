@@ -1,0 +1,12 @@
+// The address ledger of a shift: which board holds which short address of a range, kept in lent memory of nine bytes an address.
+mod answer;
+mod ledger;
+mod place;
+mod range;
+
+pub use answer::AddressAnswer;
+pub use answer::Answered;
+pub use answer::FreeAnswer;
+pub use answer::Opened;
+pub use ledger::Ledger;
+pub use place::Sought;

@@ -1,0 +1,244 @@
+-- The laws over histories: at every moment the holdings by the history are those that the places show.
+use Prim.Native.Nat.{ℕ, zero, suc, _+_, _*_, _≤_, _<_}
+use mathlib.Core.Path.{_≡_, refl, sym, ap, _∙_}
+use mathlib.Core.Bool.{Bool, true, false, _&&_}
+use mathlib.Core.List.{List, [], _∷_, List·Memᴰ}
+use native.Mathlib.Omega.{arith}
+use borrow.Author.Tests.{ltb-true, ltb-false, lt-ltb, le-ltb, eqb-true, ne-eqb}
+use lib.Dec.{eqb, ltb}
+use lib.ListN.{length, getD, drop, set}
+use lib.Seq.{getD-drop}
+use Rattle.refusal.specs.declared.Refusal.{Refusal}
+use Rattle.refusal.specs.declared.Refusal.the-variants.{Full, Unknown}
+use Rattle.refusal.specs.declared.Verdict.the-variants.{Accepted}
+use Rattle.address_ledger.specs.Place.{Place, placeAt, places, lowest, heldBy, isFree, countFree, sought, hold, freed}
+use Rattle.address_ledger.specs.Range.{judged, counted}
+use Rattle.address_ledger.specs.Ledger.{Outcome, outcome, ledgerOf, opened, granting, granted, givingBack, givenBack, freeCount}
+use Rattle.address_ledger.specs.declared.answer.AddressAnswer.{AddressAnswer}
+use Rattle.address_ledger.specs.declared.answer.AddressAnswer.the-variants.{Address, Refused}
+use Rattle.address_ledger.specs.declared.ledger.Ledger.{Ledger}
+use Rattle.address_ledger.specs.declared.answer.FreeAnswer.the-variants as free
+use Rattle.address_ledger.specs.declared.place.Sought.{Sought}
+use Rattle.address_ledger.specs.declared.place.Sought.the-variants.{Held, Free, Nothing}
+use Rattle.address_ledger.proofs.Judged.{usable}
+use Rattle.address_ledger.proofs.Scan.{length-places}
+use Rattle.address_ledger.proofs.Found.{held-is, free-is, nothing-is}
+use Rattle.address_ledger.proofs.Calls.{open-accepted, grant-accepted, back-accepted, free-accepted}
+use Rattle.address_ledger_laws.specs.History.{Call, opens, asks, gives, counts, Holding, listed, addressOf, enter, strike, taken, afterAsk, afterGive, Moment, step, run, after, wholeBoards, Begins}
+use Rattle.address_ledger_laws.specs.Laws.{HeldAndFree, OneHolder, SameAgain, FreedAgain}
+use Rattle.address_ledger_laws.proofs.Bytes.{length-hold, places-hold, length-freed, places-freed, cleared, cleared-free}
+use Rattle.address_ledger_laws.proofs.Holders.{heldFrom, listed-held, strike-held, enter-held, held-and-free, one-holder, address-held, free-nobody, lowest-set}
+use Rattle.address_ledger_laws.proofs.Standing.{stands}
+
+-- the ledger that opening gives
+pub opened-is : (first size : ℕ) (m : List ℕ) → Accepted ≡ judged first size (length m) → opened first size m .ledger ≡ ledgerOf first size
+opened-is first size m f = rw (← open-accepted first size m f)
+
+-- the history lists a board exactly where a place is held by it
+pub lists : (first n : ℕ) (b m : List ℕ) (hs : List Holding) → hs ≡ heldFrom first (places n m) → listed b hs ≡ ltb (lowest (heldBy b) (places n m)) n
+lists first n b m hs t = rw t (listed-held first b (places n m) ∙ rw (length-places n m))
+
+-- what a call leaves: memory as long as before, the ledger that opening would give, and the holdings that the places show
+record Told (first size : ℕ) (m : List ℕ) (next : AddressAnswer → List Holding) (o : Outcome) : Type 0 where
+  long : length (o .memory) ≡ length m
+  right : o .ledger ≡ opened first size (o .memory) .ledger
+  tells : next (o .answer) ≡ heldFrom first (places (counted first size) (o .memory))
+
+module _ (first size : ℕ) (b m : List ℕ) (hs : List Holding) (f : Accepted ≡ judged first size (length m))
+    (t : hs ≡ heldFrom first (places (counted first size) m)) where
+  room : 9 * counted first size ≤ length m
+  room = usable first size (length m) f (counted first size) refl .room
+
+  still : (m′ : List ℕ) → length m′ ≡ length m → ledgerOf first size ≡ opened first size m′ .ledger
+  still m′ w = sym (opened-is first size m′ (rw w f))
+
+  ask-held : (k : ℕ) → Held k ≡ sought b (places (counted first size) m)
+      → Told first size m (λ (r : AddressAnswer). afterAsk b r hs) (outcome (Address (first + k)) (ledgerOf first size) m)
+  unfolding afterAsk
+  ask-held k s =
+      let i = held-is b (places (counted first size) m) k s in
+      let w : lowest (heldBy b) (places (counted first size) m) < counted first size = omega (arith, i .0, i .1, length-places (counted first size) m) in
+      record { long = refl; right = still m refl; tells = rw (lists first (counted first size) b m hs t, lt-ltb _ _ w) t }
+
+  ask-free : length b ≡ 8 → (k : ℕ) → Free k ≡ sought b (places (counted first size) m)
+      → Told first size m (λ (r : AddressAnswer). afterAsk b r hs) (outcome (Address (first + k)) (ledgerOf first size) (hold m k b))
+  unfolding afterAsk
+  ask-free e k s =
+      let n = counted first size in
+      let i = free-is b (places (counted first size) m) k s in
+      let p : length (places (counted first size) m) ≡ counted first size = length-places (counted first size) m in
+      let w : k < counted first size = omega (arith, i .1 .0) in
+      let o : counted first size ≤ lowest (heldBy b) (places (counted first size) m) = omega (arith, i .1 .1) in
+      let g = length-hold m b k (omega (arith, room)) e in
+      record {
+        long = g;
+        right = still (hold m k b) g;
+        tells =
+            rw (lists first (counted first size) b m hs t, le-ltb _ _ o, t, places-hold n k m b w room e, i .0)
+            (enter-held first b (places n m) (omega (arith, i .0)));
+      }
+
+  ask-nothing : Told first size m (λ (r : AddressAnswer). afterAsk b r hs) (outcome (Refused Full) (ledgerOf first size) m)
+  unfolding afterAsk
+  ask-nothing = record { long = refl; right = still m refl; tells = t }
+
+  ask-by : length b ≡ 8 → (s : Sought) → s ≡ sought b (places (counted first size) m)
+      → Told first size m (λ (r : AddressAnswer). afterAsk b r hs) (granting (ledgerOf first size) m b s)
+  unfolding granting
+  ask-by e (Held k) s = ask-held k s
+  ask-by e (Free k) s = ask-free e k s
+  ask-by e Nothing s = ask-nothing
+
+  asked : length b ≡ 8 → Told first size m (λ (r : AddressAnswer). afterAsk b r hs) (granted (ledgerOf first size) m b)
+  asked e = rw (← grant-accepted (ledgerOf first size) m b f (counted first size) refl _ refl) (ask-by e _ refl)
+
+  give-held : (k : ℕ) → Held k ≡ sought b (places (counted first size) m)
+      → Told first size m (λ (r : AddressAnswer). afterGive b r hs) (outcome (Address (first + k)) (ledgerOf first size) (freed m k))
+  unfolding afterGive
+  give-held k s =
+      let n = counted first size in
+      let i = held-is b (places (counted first size) m) k s in
+      let p : length (places (counted first size) m) ≡ counted first size = length-places (counted first size) m in
+      let w : k < counted first size = omega (arith, i .1) in
+      let g = length-freed m k in
+      record {
+        long = g;
+        right = still (freed m k) g;
+        tells =
+            rw (t, places-freed n k m w room, i .0)
+            (strike-held first b (cleared (drop (9 * lowest (heldBy b) (places n m)) m)) (places n m) (cleared-free (drop (9 * lowest (heldBy b) (places n m)) m)) (omega (arith, i .0, i .1)));
+      }
+
+  give-nothing : Told first size m (λ (r : AddressAnswer). afterGive b r hs) (outcome (Refused Unknown) (ledgerOf first size) m)
+  unfolding afterGive
+  give-nothing = record { long = refl; right = still m refl; tells = t }
+
+  give-by : (s : Sought) → s ≡ sought b (places (counted first size) m)
+      → Told first size m (λ (r : AddressAnswer). afterGive b r hs) (givingBack (ledgerOf first size) m s)
+  unfolding givingBack
+  give-by (Held k) s = give-held k s
+  give-by (Free k) s = give-nothing
+  give-by Nothing s = give-nothing
+
+  gave : Told first size m (λ (r : AddressAnswer). afterGive b r hs) (givenBack (ledgerOf first size) m b)
+  gave = rw (← back-accepted (ledgerOf first size) m b f (counted first size) refl _ refl) (give-by _ refl)
+
+-- a moment at which the history and the places tell the same
+pub record Agrees (first size : ℕ) (s : Moment) : Type 0 where
+  pub accepted : Accepted ≡ judged first size (length (s .memory))
+  pub right : s .ledger ≡ opened first size (s .memory) .ledger
+  pub tells : s .holding ≡ heldFrom first (places (counted first size) (s .memory))
+
+pub plain : (first size : ℕ) (s : Moment) → Agrees first size s → s .ledger ≡ ledgerOf first size
+plain first size s a = a .right ∙ opened-is first size (s .memory) (a .accepted)
+
+asks-agrees : (first size : ℕ) (s : Moment) (b : List ℕ) → length b ≡ 8 → Agrees first size s → Agrees first size (step first size s (asks b))
+unfolding step
+asks-agrees first size s b e a =
+    let p = asked first size b (s .memory) (s .holding) (a .accepted) (a .tells) e in
+    rw (plain first size s a) (record { accepted = rw (p .long) (a .accepted); right = p .right; tells = p .tells })
+
+pub gives-agrees : (first size : ℕ) (s : Moment) (b : List ℕ) → Agrees first size s → Agrees first size (step first size s (gives b))
+unfolding step
+gives-agrees first size s b a =
+    let p = gave first size b (s .memory) (s .holding) (a .accepted) (a .tells) in
+    rw (plain first size s a) (record { accepted = rw (p .long) (a .accepted); right = p .right; tells = p .tells })
+
+both : (p q : Bool) → (p && q) ≡ true → (p ≡ true) × (q ≡ true)
+both true q h = (refl, h)
+both false q h = (cc, cc)
+
+run-agrees : (first size : ℕ) (s : Moment) (cs : List Call) → wholeBoards cs ≡ true → Agrees first size s → Agrees first size (run first size s cs)
+unfolding run step wholeBoards
+run-agrees first size s [] w a = a
+run-agrees first size s (opens ∷ cs) w a =
+    run-agrees first size (step first size s opens) cs w (record { accepted = a .accepted; right = refl; tells = a .tells })
+run-agrees first size s (asks b ∷ cs) w a =
+    let u = both (eqb (length b) 8) (wholeBoards cs) w in
+    run-agrees first size (step first size s (asks b)) cs (u .1) (asks-agrees first size s b (eqb-true (length b) 8 (u .0)) a)
+run-agrees first size s (gives b ∷ cs) w a =
+    let u = both (eqb (length b) 8) (wholeBoards cs) w in
+    run-agrees first size (step first size s (gives b)) cs (u .1) (gives-agrees first size s b a)
+run-agrees first size s (counts ∷ cs) w a = run-agrees first size s cs w a
+
+-- no mark 1, no holding
+fresh-none : (a n : ℕ) (m : List ℕ) → ((k : ℕ) → k < n → getD m (9 * k) 0 ≡ 1 → ⊥) → [] ≡ heldFrom a (places n m)
+unfolding heldFrom places placeAt
+fresh-none a zero m h = refl
+fresh-none a (suc n) m h =
+    rw (ne-eqb (getD m 0 0) 1 (h 0 (omega arith)))
+    (fresh-none (suc a) n (drop 9 m)
+    (λ k l q. h (suc k) (omega arith) (let z : 9 * suc k ≡ 9 + 9 * k = omega arith in rw (z, ← getD-drop 9 m (9 * k) 0) q)))
+
+pub after-agrees : (first size : ℕ) (m : List ℕ) (cs : List Call) → Begins first size m cs → Agrees first size (after first size m cs)
+unfolding after
+after-agrees first size m cs w =
+    run-agrees first size (record { ledger = opened first size m .ledger; memory = m; holding = [] }) cs (w .boards)
+    (record { accepted = w .accepted; right = refl; tells = fresh-none first (counted first size) m (w .fresh) })
+
+module _ (first size : ℕ) (s : Moment) (a : Agrees first size s) where
+  all : length (s .holding) + countFree (places (counted first size) (s .memory)) ≡ counted first size
+  all =
+      rw (a .tells)
+      (held-and-free first (places (counted first size) (s .memory)) ∙ length-places (counted first size) (s .memory))
+
+  answered : freeCount (s .ledger) (s .memory) ≡ free.Count (countFree (places (counted first size) (s .memory)))
+  answered =
+      rw (plain first size s a)
+      (sym (free-accepted (ledgerOf first size) (s .memory) [] (a .accepted) (counted first size) refl (countFree (places (counted first size) (s .memory))) refl))
+
+pub held-plus-free : HeldAndFree
+held-plus-free =
+    record {
+      all = λ first size m cs w. all first size (after first size m cs) (after-agrees first size m cs w);
+      answered = λ first size m cs w. answered first size (after first size m cs) (after-agrees first size m cs w);
+    }
+
+pub no-two-boards : OneHolder
+no-two-boards =
+    record {
+      one = λ first size m cs w g h i j q.
+          let a = after-agrees first size m cs w in
+          one-holder first (places (counted first size) (after first size m cs .memory)) g h (rw (a .tells) at i) (rw (a .tells) at j) q;
+      stands = λ first size m cs w h i.
+          stands first (counted first size) (after first size m cs .memory) h (rw (after-agrees first size m cs w .tells) at i);
+    }
+
+module _ (first size : ℕ) (s : Moment) (a : Agrees first size s) (b : List ℕ) where
+  same-by : listed b (s .holding) ≡ true → (x : Sought) → x ≡ sought b (places (counted first size) (s .memory))
+      → granting (ledgerOf first size) (s .memory) b x ≡ outcome (Address (addressOf b (s .holding))) (ledgerOf first size) (s .memory)
+  unfolding granting
+  same-by y (Held k) x =
+      let n = counted first size in
+      let i = held-is b (places (counted first size) (s .memory)) k x in
+      let e : addressOf b (s .holding) ≡ first + k =
+      rw (a .tells, i .0) (address-held first b (places n (s .memory)) (omega (arith, i .0, i .1))) in
+      rw e
+  same-by y (Free k) x =
+      let n = counted first size in
+      let i = free-is b (places (counted first size) (s .memory)) k x in
+      let l = lists first n b (s .memory) (s .holding) (a .tells) in
+      absurd
+      (omega (
+        arith,
+        i .1 .1,
+        length-places n (s .memory),
+        ltb-true (lowest (heldBy b) (places (counted first size) (s .memory))) (counted first size) (sym l ∙ y),
+      ))
+  same-by y Nothing x =
+      let n = counted first size in
+      let i = nothing-is b (places (counted first size) (s .memory)) x in
+      let l = lists first n b (s .memory) (s .holding) (a .tells) in
+      absurd
+      (omega
+      (arith, i .0, length-places n (s .memory), ltb-true (lowest (heldBy b) (places (counted first size) (s .memory))) (counted first size) (sym l ∙ y)))
+
+  same : listed b (s .holding) ≡ true
+      → granted (s .ledger) (s .memory) b ≡ outcome (Address (addressOf b (s .holding))) (s .ledger) (s .memory)
+  same y =
+      rw (plain first size s a, ← grant-accepted (ledgerOf first size) (s .memory) b (a .accepted) (counted first size) refl _ refl)
+      (same-by y _ refl)
+
+pub same-again : SameAgain
+unfolding SameAgain
+same-again first size m cs w b y = same first size (after first size m cs) (after-agrees first size m cs w) b y

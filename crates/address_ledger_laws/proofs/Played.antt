@@ -1,0 +1,33 @@
+-- The shift of the witness, computed.
+use Prim.Native.Nat.{ℕ, zero, suc, _+_, _*_, _<_}
+use mathlib.Core.Path.{_≡_, refl}
+use native.Mathlib.Omega.{arith}
+use borrow.Author.Tests.{eqb-false}
+use lib.ListN.{getD}
+use Rattle.refusal.specs.declared.Verdict.the-variants.{Accepted}
+use Rattle.address_ledger.specs.Place.{placeAt, places, same, isFree, heldBy, lowest, has, countFree, sought, hold, freed}
+use Rattle.address_ledger.specs.Range.{inLimits, judged, counted}
+use Rattle.address_ledger.specs.Ledger.{openedBy, opened, granting, grantedBy, granted, givingBack, givenBackBy, givenBack, freeBy, freeCount}
+use Rattle.address_ledger_laws.specs.History.{listed, addressOf, enter, strike, afterAsk, afterGive, step, run, after, wholeBoards}
+use Rattle.address_ledger_laws.specs.Shift.{lent, Shift}
+
+fresh : (k : ℕ) → k < 3 → getD lent (9 * k) 0 ≡ 1 → ⊥
+fresh zero h = eqb-false 7 1 refl
+fresh (suc zero) h = eqb-false 7 1 refl
+fresh (suc (suc zero)) h = eqb-false 7 1 refl
+fresh (suc (suc (suc k))) h = absurd (omega arith)
+
+pub played : Shift
+unfolding placeAt places same isFree heldBy lowest has countFree sought hold freed inLimits judged counted openedBy opened granting grantedBy granted givingBack givenBackBy givenBack freeBy freeCount listed addressOf enter strike afterAsk afterGive step run after wholeBoards
+played =
+    record {
+      begins = record { accepted = refl; fresh = fresh; boards = refl };
+      repeated = refl;
+      full = refl;
+      given = refl;
+      unknown = refl;
+      again = refl;
+      holding = refl;
+      memory = refl;
+      left = refl;
+    }

@@ -1,0 +1,56 @@
+-- What holds after every history from a fresh ledger on. A part of a history from its start is a history, so each law holds at every moment of a shift.
+use Prim.Native.Nat.{ℕ, _+_, _-_, _*_, _≤_, _<_}
+use mathlib.Core.Path.{_≡_}
+use mathlib.Core.Bool.{true, false}
+use mathlib.Core.List.{List, List·Memᴰ}
+use lib.ListN.{length, getD, take, drop}
+use Rattle.refusal.specs.declared.Refusal.{Refusal}
+use Rattle.address_ledger.specs.Place.{places, countFree}
+use Rattle.address_ledger.specs.Range.{counted}
+use Rattle.address_ledger.specs.Ledger.{outcome, granted, givenBack, freeCount}
+use Rattle.address_ledger.specs.declared.answer.AddressAnswer.the-variants.{Address, Refused}
+use Rattle.address_ledger.specs.declared.answer.FreeAnswer.the-variants.{Count}
+use Rattle.address_ledger_laws.specs.History.{Call, gives, Holding, listed, taken, addressOf, Moment, step, after, Begins}
+
+-- ---- held plus free is the size of the range: held counted from the history, free from the memory; and that is what the ledger answers
+pub record HeldAndFree : Type 0 where
+  pub all : (first size : ℕ) (m : List ℕ) (cs : List Call) → Begins first size m cs
+      → length (after first size m cs .holding) + countFree (places (counted first size) (after first size m cs .memory)) ≡ counted first size
+  pub answered : (first size : ℕ) (m : List ℕ) (cs : List Call) → Begins first size m cs
+      → freeCount (after first size m cs .ledger) (after first size m cs .memory)
+      ≡ Count (countFree (places (counted first size) (after first size m cs .memory)))
+
+-- ---- no two boards hold one address, and at its place stand mark 1 and the board
+pub record Stands (first n : ℕ) (m : List ℕ) (h : Holding) : Type 0 where
+  pub above : first ≤ h .address
+  pub below : h .address < first + n
+  pub mark : getD m (9 * (h .address - first)) 0 ≡ 1
+  pub board : take 8 (drop (9 * (h .address - first) + 1) m) ≡ h .board
+
+pub record OneHolder : Type 0 where
+  pub one : (first size : ℕ) (m : List ℕ) (cs : List Call) → Begins first size m cs
+      → (g h : Holding) → List·Memᴰ g (after first size m cs .holding) → List·Memᴰ h (after first size m cs .holding)
+      → g .address ≡ h .address → g .board ≡ h .board
+  pub stands : (first size : ℕ) (m : List ℕ) (cs : List Call) → Begins first size m cs
+      → (h : Holding) → List·Memᴰ h (after first size m cs .holding) → Stands first (counted first size) (after first size m cs .memory) h
+
+-- ---- a board that holds an address gets the same again, and nothing is written
+unfoldable pub SameAgain : Type 0
+SameAgain =
+    (first size : ℕ) (m : List ℕ) (cs : List Call) → Begins first size m cs
+    → (b : List ℕ) → listed b (after first size m cs .holding) ≡ true
+    → granted (after first size m cs .ledger) (after first size m cs .memory) b
+    ≡ outcome (Address (addressOf b (after first size m cs .holding))) (after first size m cs .ledger) (after first size m cs .memory)
+
+-- ---- a freed address is granted again: right after a board gave back address a, a board that holds none is granted one, and a itself where every
+-- lower address of the range is held
+pub record FreedAgain : Type 0 where
+  pub some : (first size : ℕ) (m : List ℕ) (cs : List Call) → Begins first size m cs → (b c : List ℕ) (a : ℕ)
+      → givenBack (after first size m cs .ledger) (after first size m cs .memory) b .answer ≡ Address a
+      → (s : Moment) → s ≡ step first size (after first size m cs) (gives b) → listed c (s .holding) ≡ false
+      → (r : Refusal) → granted (s .ledger) (s .memory) c .answer ≡ Refused r → ⊥
+  pub again : (first size : ℕ) (m : List ℕ) (cs : List Call) → Begins first size m cs → (b c : List ℕ) (a : ℕ)
+      → givenBack (after first size m cs .ledger) (after first size m cs .memory) b .answer ≡ Address a
+      → (s : Moment) → s ≡ step first size (after first size m cs) (gives b) → listed c (s .holding) ≡ false
+      → ((x : ℕ) → first ≤ x → x < a → taken x (s .holding) ≡ true)
+      → granted (s .ledger) (s .memory) c .answer ≡ Address a

@@ -1,0 +1,5 @@
+pub mod History
+pub mod Laws
+pub mod AnyMemory
+pub mod Demand1
+pub mod Shift

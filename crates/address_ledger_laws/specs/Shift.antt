@@ -1,0 +1,47 @@
+-- A shift on three addresses, played: the laws are not about nothing. The memory was not zero before, and a byte stands after the last place.
+use Prim.Native.Nat.{ℕ}
+use mathlib.Core.Path.{_≡_}
+use mathlib.Core.List.{List, [], _∷_, _++_}
+use lib.ListN.{replicate}
+use Rattle.refusal.specs.declared.Refusal.the-variants.{Full, Unknown}
+use Rattle.address_ledger.specs.Ledger.{granted, givenBack, freeCount}
+use Rattle.address_ledger.specs.declared.answer.AddressAnswer.{AddressAnswer}
+use Rattle.address_ledger.specs.declared.answer.AddressAnswer.the-variants.{Address, Refused}
+use Rattle.address_ledger.specs.declared.answer.FreeAnswer.the-variants.{Count}
+use Rattle.address_ledger_laws.specs.History.{Call, opens, asks, gives, counts, Holding, Moment, after, Begins}
+
+abbrev pub board : ℕ → List ℕ
+board n = replicate 8 n
+
+abbrev pub lent : List ℕ
+lent = replicate 28 7
+
+-- three boards hold all there is
+abbrev pub morning : List Call
+morning = asks (board 10) ∷ asks (board 11) ∷ asks (board 10) ∷ asks (board 12) ∷ []
+
+-- a fourth is refused; the second gives back, and once more, which is refused; then the fourth gets its address
+abbrev pub noon : List Call
+noon = asks (board 13) ∷ gives (board 11) ∷ opens ∷ gives (board 11) ∷ counts ∷ asks (board 13) ∷ []
+
+abbrev pub asked : List Call → ℕ → AddressAnswer
+asked cs n = granted (after 0x1000 3 lent cs .ledger) (after 0x1000 3 lent cs .memory) (board n) .answer
+
+abbrev pub back : List Call → ℕ → AddressAnswer
+back cs n = givenBack (after 0x1000 3 lent cs .ledger) (after 0x1000 3 lent cs .memory) (board n) .answer
+
+abbrev pub day : Moment
+day = after 0x1000 3 lent (morning ++ noon)
+
+pub record Shift : Type 0 where
+  pub begins : Begins 0x1000 3 lent (morning ++ noon)
+  pub repeated : asked morning 10 ≡ Address 0x1000
+  pub full : asked morning 13 ≡ Refused Full
+  pub given : back morning 11 ≡ Address 0x1001
+  pub unknown : back (morning ++ (gives (board 11) ∷ [])) 11 ≡ Refused Unknown
+  pub again : asked (morning ++ (gives (board 11) ∷ [])) 13 ≡ Address 0x1001
+  pub holding :
+      day .holding
+      ≡ record { board = board 10; address = 0x1000 } ∷ record { board = board 13; address = 0x1001 } ∷ record { board = board 12; address = 0x1002 } ∷ []
+  pub memory : day .memory ≡ (1 ∷ board 10) ++ ((1 ∷ board 13) ++ ((1 ∷ board 12) ++ (7 ∷ [])))
+  pub left : freeCount (day .ledger) (day .memory) ≡ Count 0

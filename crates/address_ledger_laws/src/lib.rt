@@ -1,0 +1,40 @@
+// What holds of a ledger over whole histories of its calls, on any memory, and of every refusal: claims about the definitions of `address_ledger`.
+ghost use Rattle.address_ledger_laws.specs.Laws.{HeldAndFree, OneHolder, SameAgain, FreedAgain};
+ghost use Rattle.address_ledger_laws.specs.AnyMemory.{AnyMemory};
+ghost use Rattle.address_ledger_laws.specs.Demand1.{Demand1};
+ghost use Rattle.address_ledger_laws.specs.Shift.{Shift};
+
+// Boards held, counted from the history, plus addresses free in the memory are the size of the range.
+pub fn held_and_free_are_all()
+    ensures { λ _. ⌜ HeldAndFree ⌝ }
+{}
+
+// No two boards hold one address at any moment.
+pub fn one_board_an_address()
+    ensures { λ _. ⌜ OneHolder ⌝ }
+{}
+
+// A board that holds an address gets the same again.
+pub fn same_address_again()
+    ensures { λ _. ⌜ SameAgain ⌝ }
+{}
+
+// An address that was given back is granted again.
+pub fn freed_address_again()
+    ensures { λ _. ⌜ FreedAgain ⌝ }
+{}
+
+// On memory with any contents the lowest matching place counts.
+pub fn lowest_matching_place()
+    ensures { λ _. ⌜ AnyMemory ⌝ }
+{}
+
+// A refusal has its number and changes nothing (demand 1).
+pub fn demand1()
+    ensures { λ _. ⌜ Demand1 ⌝ }
+{}
+
+// A shift of four boards on three addresses, as a witness.
+pub fn shift_of_four()
+    ensures { λ _. ⌜ Shift ⌝ }
+{}

@@ -1,0 +1,7 @@
+pub mod Test
+pub mod Entries
+pub mod Words
+pub mod RoundKeys
+pub mod Rounds
+pub mod Inverse
+pub mod Examples

@@ -1,0 +1,17 @@
+-- The word in its four bytes.
+use Rattle.aes.proofs.Words.{once-bytes}
+use borrow.Author.Needs.{needs}
+use Rattle.aes.proofs.columns.turn_once.Statement.{statement}
+use Rattle.aes.proofs.columns.turn_once.Tie as tie
+
+mul-result : tie.Need-mul-result
+mul-result c = search needs
+
+add-result : tie.Need-add-result
+add-result c = search needs
+
+returns : tie.Need-returns
+returns c = once-bytes (c .args .w) (search needs)
+
+pub turn-once-spec : {M : Type 1} → statement M
+turn-once-spec = tie.close (tie.spec mul-result add-result returns)

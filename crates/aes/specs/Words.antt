@@ -1,0 +1,40 @@
+-- What is for speed: the state as four words, one for each column, row 0 lowest, and the table that the rounds read. Over FIPS 197's definitions in Field and Cipher.
+use mathlib.Core.Path.{_≡_}
+use mathlib.Core.List.{List, [], _∷_, _++_}
+use Prim.Native.Nat.{ℕ, _+_, _/_, _%_, _<_}
+use lib.ListN.{getD}
+use Rattle.byte_lists.specs.Xor.{_⊕_}
+use Rattle.aes.specs.Field.{_•_, subByte}
+use Rattle.aes.specs.declared.cipher.State.{State}
+
+-- the four bytes of a word, the lowest first
+abbrev pub bytesOf : ℕ → List ℕ
+bytesOf w = w % 256 ∷ w / 256 % 256 ∷ w / 65536 % 256 ∷ w / 16777216 % 256 ∷ []
+
+-- four bytes of a block, from place i on
+abbrev pub bytesFrom : List ℕ → ℕ → List ℕ
+bytesFrom s i = getD s i 0 ∷ getD s (i + 1) 0 ∷ getD s (i + 2) 0 ∷ getD s (i + 3) 0 ∷ []
+
+-- the sixteen bytes of a state, in FIPS 197's order
+abbrev pub stateOf : State → List ℕ
+stateOf s = bytesOf (s .a) ++ bytesOf (s .b) ++ bytesOf (s .c) ++ bytesOf (s .d)
+
+-- a column moved by one row, the last byte coming in first
+abbrev pub turned : List ℕ → List ℕ
+turned x = getD x 3 0 ∷ getD x 0 0 ∷ getD x 1 0 ∷ getD x 2 0 ∷ []
+
+-- two columns, added byte by byte
+abbrev pub plus : List ℕ → List ℕ → List ℕ
+plus x y = (getD x 0 0 ⊕ getD y 0 0) ∷ (getD x 1 0 ⊕ getD y 1 0) ∷ (getD x 2 0 ⊕ getD y 2 0) ∷ (getD x 3 0 ⊕ getD y 3 0) ∷ []
+
+-- 5.1.3, (5.6): the column of a, b, c and d after MixColumns
+abbrev pub spread : ℕ → ℕ → ℕ → ℕ → List ℕ
+spread a b c d = (2 • a ⊕ 3 • b ⊕ c ⊕ d) ∷ (2 • b ⊕ 3 • c ⊕ d ⊕ a) ∷ (2 • c ⊕ 3 • d ⊕ a ⊕ b) ∷ (2 • d ⊕ 3 • a ⊕ b ⊕ c) ∷ []
+
+-- 5.1.3, (5.6): what a byte s in row 0 adds to its column in MixColumns; in row r it is that, turned r times
+abbrev pub part : ℕ → List ℕ
+part s = 2 • s ∷ s ∷ s ∷ 3 • s ∷ []
+
+-- the table holds what the substitution of each byte adds
+pub record RoundTable (t : List ℕ) : Type 0 where
+  pub rule : (b : ℕ) → b < 256 → bytesOf (getD t b 0) ≡ part (subByte b)

@@ -1,0 +1,4 @@
+pub mod Blocks
+pub mod Streams
+pub mod Done
+pub mod Opening

@@ -1,0 +1,3 @@
+pub mod Ccm
+pub mod Plan
+pub mod Laws

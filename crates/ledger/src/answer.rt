@@ -1,0 +1,46 @@
+// How answers are written.
+use address_ledger::AddressAnswer;
+use address_ledger::FreeAnswer;
+use tool_notation::put_refusal;
+use tool_text::output::Buffer;
+use tool_text::output::Output;
+
+// An address, as granted h'1000'.
+pub fn put_address(out: Output, name: &[u8], answer: AddressAnswer, buffer: &mut Buffer) -> Output {
+    match answer {
+        AddressAnswer::Address(address) => {
+            let bytes = [(address / 256) as u8, (address % 256) as u8];
+            out.text(name, buffer).octets(&bytes, buffer)
+        }
+        AddressAnswer::Refused(refusal) => put_refusal(out, refusal, buffer),
+    }
+}
+
+pub fn put_opened(out: Output, answer: FreeAnswer, buffer: &mut Buffer) -> Output {
+    put_count(out, b"opened ", answer, buffer)
+}
+
+pub fn put_free(out: Output, answer: FreeAnswer, buffer: &mut Buffer) -> Output {
+    put_count(out, b"free ", answer, buffer)
+}
+
+fn put_count(out: Output, name: &[u8], answer: FreeAnswer, buffer: &mut Buffer) -> Output {
+    match answer {
+        FreeAnswer::Count(count) => out.text(name, buffer).number(count as u64, buffer),
+        FreeAnswer::Refused(refusal) => put_refusal(out, refusal, buffer),
+    }
+}
+
+// So many bytes of the memory from a place on, as h'cafe'.
+pub fn put_bytes(
+    out: Output,
+    memory: &[u8],
+    place: usize,
+    count: usize,
+    buffer: &mut Buffer,
+) -> Output {
+    if memory.len() < place {
+        return out;
+    }
+    out.octets(tool_text::first(&memory[place..], count), buffer)
+}

@@ -1,0 +1,183 @@
+// The programming fixture, as the tool plays it: its ledger, and what an order does to it.
+use crate::answer::put_address;
+use crate::answer::put_bytes;
+use crate::answer::put_free;
+use crate::answer::put_opened;
+use crate::memory::Memory;
+use crate::memory::clear;
+use crate::memory::write_bytes;
+use address_ledger::Answered;
+use address_ledger::FreeAnswer;
+use address_ledger::Ledger;
+use ledger_commands::Board;
+use ledger_commands::Bytes;
+use ledger_commands::Order;
+use refusal::Verdict;
+use tool_notation::put_refusal;
+use tool_text::fault::put_fault;
+use tool_text::output::Buffer;
+use tool_text::output::Output;
+
+pub struct Fixture {
+    pub ledger: Ledger,
+    // how many bytes of the memory are lent
+    pub lent: usize,
+}
+
+// The fixture after an order, and the output with its answer.
+pub struct Done {
+    pub fixture: Fixture,
+    pub out: Output,
+}
+
+impl Fixture {
+    // Before the first accepted opening the ledger is that of first address 0 and size 0.
+    pub fn new() -> Fixture {
+        let opened = Ledger::open(0, 0, b"");
+        let ledger = opened.ledger;
+        Fixture {
+            ledger,
+            lent: 36864,
+        }
+    }
+}
+
+// Carries the order out and writes its answer; an empty line and a comment are not answered.
+pub fn execute(
+    fixture: Fixture,
+    order: Order,
+    board: &Board,
+    memory: &mut Memory,
+    hex: &Bytes,
+    out: Output,
+    buffer: &mut Buffer,
+) -> Done {
+    if let Order::Nothing = order {
+        return Done { fixture, out };
+    }
+    let done = fixture.obey(order, board_of(board), memory, hex, out, buffer);
+    done.fixture.left(done.out.byte(b'\n', buffer))
+}
+
+fn board_of(bytes: &Board) -> [u8; 8] {
+    [
+        bytes[0],
+        bytes[1],
+        bytes[2],
+        bytes[3],
+        bytes[4],
+        bytes[5],
+        bytes[6],
+        bytes[7],
+    ]
+}
+
+impl Fixture {
+    // Any order but that of an empty line.
+    fn obey(
+        self,
+        order: Order,
+        board: [u8; 8],
+        memory: &mut Memory,
+        hex: &Bytes,
+        out: Output,
+        buffer: &mut Buffer,
+    ) -> Done {
+        match order {
+            Order::Open(first, size) => self.open(first, size, memory, out, buffer),
+            Order::Grant => self.grant(board, memory, out, buffer),
+            Order::Back => self.give_back(board, memory, out, buffer),
+            Order::Free => self.left(put_free(out, self.free(memory), buffer)),
+            Order::Lend(count) => self.lend(count, out, buffer),
+            Order::Read(place, count) => self.left(put_bytes(out, memory, place, count, buffer)),
+            Order::Write(place, count) => {
+                write_bytes(memory, place, hex, count);
+                self.left(out.text(b"set", buffer))
+            }
+            Order::Clear => {
+                clear(memory);
+                self.left(out.text(b"set", buffer))
+            }
+            Order::Wrong(fault) => self.left(put_fault(out, fault, buffer)),
+            Order::Nothing => self.left(out),
+        }
+    }
+
+    // The fixture like this.
+    fn left(self, out: Output) -> Done {
+        Done { fixture: self, out }
+    }
+
+    // The fixture with another ledger.
+    fn with(self, ledger: Ledger) -> Fixture {
+        Fixture {
+            ledger,
+            lent: self.lent,
+        }
+    }
+
+    // A refused opening leaves the ledger as it was.
+    fn open(
+        self,
+        first: usize,
+        size: usize,
+        memory: &[u8],
+        out: Output,
+        buffer: &mut Buffer,
+    ) -> Done {
+        let lent = tool_text::first(memory, self.lent);
+        let opened = Ledger::open(first, size, lent);
+        let verdict = opened.verdict;
+        match verdict {
+            Verdict::Refused(refusal) => self.left(put_refusal(out, refusal, buffer)),
+            Verdict::Accepted => {
+                let fixture = self.with(opened.ledger);
+                fixture.left(put_opened(out, fixture.free(memory), buffer))
+            }
+        }
+    }
+
+    fn free(self, memory: &[u8]) -> FreeAnswer {
+        self.ledger.free(tool_text::first(memory, self.lent))
+    }
+
+    fn grant(self, board: [u8; 8], memory: &mut [u8], out: Output, buffer: &mut Buffer) -> Done {
+        let lent = self.lent;
+        if memory.len() < lent {
+            return self.left(out);
+        }
+        let answered = self.ledger.grant(&mut memory[..lent], board);
+        self.answered(answered, b"granted ", out, buffer)
+    }
+
+    fn give_back(
+        self,
+        board: [u8; 8],
+        memory: &mut [u8],
+        out: Output,
+        buffer: &mut Buffer,
+    ) -> Done {
+        let lent = self.lent;
+        if memory.len() < lent {
+            return self.left(out);
+        }
+        let answered = self.ledger.give_back(&mut memory[..lent], board);
+        self.answered(answered, b"freed ", out, buffer)
+    }
+
+    // The ledger as a call left it, and what it answered.
+    fn answered(self, answered: Answered, name: &[u8], out: Output, buffer: &mut Buffer) -> Done {
+        let answer = answered.answer;
+        let fixture = self.with(answered.ledger);
+        fixture.left(put_address(out, name, answer, buffer))
+    }
+
+    fn lend(self, count: usize, out: Output, buffer: &mut Buffer) -> Done {
+        let ledger = self.ledger;
+        let fixture = Fixture {
+            ledger,
+            lent: count,
+        };
+        fixture.left(out.text(b"lent ", buffer).number(count as u64, buffer))
+    }
+}

@@ -1,0 +1,88 @@
+// The desk tool ledger: one ledger of short addresses over one memory, called by lines of standard input (docs/TOOLS.md).
+mod answer;
+mod fixture;
+mod memory;
+
+use fixture::Fixture;
+use fixture::execute;
+use ledger_commands::Board;
+use ledger_commands::Bytes;
+use ledger_commands::next_line;
+use ledger_commands::order_of;
+use memory::Memory;
+use tool_text::output::Buffer;
+use tool_text::session::Session;
+
+// What is kept from line to line, beside the memory.
+struct Desk {
+    session: Session,
+    fixture: Fixture,
+}
+
+// Answers the next line; an empty one and a comment are not answered.
+fn answer_line(
+    desk: Desk,
+    bytes: &mut Buffer,
+    board: &mut Board,
+    hex: &mut Bytes,
+    memory: &mut Memory,
+    buffer: &mut Buffer,
+) -> Desk {
+    let asked = next_line(desk.session, bytes, board, hex, buffer);
+    let mut session = asked.session;
+    let done = execute(
+        desk.fixture,
+        order_of(asked.line),
+        board,
+        memory,
+        hex,
+        session.out,
+        buffer,
+    );
+    let fixture = done.fixture;
+    let out = done.out;
+    session.out = out;
+    Desk { session, fixture }
+}
+
+// Answers line after line until the input ends or nobody reads the answers.
+fn run(
+    mut desk: Desk,
+    bytes: &mut Buffer,
+    board: &mut Board,
+    hex: &mut Bytes,
+    memory: &mut Memory,
+    buffer: &mut Buffer,
+) {
+    let mut lines = u64::MAX;
+    while lines > 0 && desk.session.open {
+        desk = answer_line(desk, bytes, board, hex, memory, buffer);
+        lines -= 1;
+    }
+    desk.session.end(buffer);
+}
+
+fn main() {
+    let mut bytes = io::large_buffer();
+    let mut board = [0u8; 9];
+    let mut hex = [0u8; 40001];
+    let mut memory = [0u8; 40000];
+    let mut buffer = io::large_buffer();
+    let session = Session::begin(
+        b"ledger: short addresses granted to boards and given back (docs/TOOLS.md).\n\
+open FIRST SIZE, grant BOARD, back BOARD, free, lend N, read PLACE N, write PLACE HEX, clear\n",
+        &mut buffer,
+    );
+    let desk = Desk {
+        session,
+        fixture: Fixture::new(),
+    };
+    run(
+        desk,
+        &mut bytes,
+        &mut board,
+        &mut hex,
+        &mut memory,
+        &mut buffer,
+    );
+}

@@ -1,0 +1,22 @@
+-- Demand 1 for a turn: refused by the sender, both nodes are as they were; refused by the receiver or failed, the receiver is.
+use Prim.Native.Nat.{ℕ}
+use mathlib.Core.Path.{_≡_}
+use Rattle.refusal.specs.Refusal.{numberOf}
+use Rattle.refusal.specs.declared.Refusal.{Refusal}
+use Rattle.refusal.specs.declared.Verdict.the-variants as verdict
+use Rattle.node.specs.Frames.{send}
+use Rattle.node.specs.declared.node.Node.{Node}
+use Rattle.network.specs.Turn.{turn, answerNumber}
+use Rattle.network.specs.declared.turn.Answer.the-variants.{Refused, Failed}
+
+pub record TurnDemand1 : Type 0 where
+  pub sender-refused :
+      (sender receiver : Node) (type : ℕ) (k : Refusal) → send sender type .verdict ≡ verdict.Refused k →
+      (turn sender receiver type .sender ≡ sender)
+      × (turn sender receiver type .receiver ≡ receiver)
+      × (answerNumber (turn sender receiver type .answer) ≡ numberOf k)
+  pub refused :
+      (sender receiver : Node) (type : ℕ) (k : Refusal) → turn sender receiver type .answer ≡ Refused k →
+      turn sender receiver type .receiver ≡ receiver
+  pub failed :
+      (sender receiver : Node) (type : ℕ) → turn sender receiver type .answer ≡ Failed → turn sender receiver type .receiver ≡ receiver

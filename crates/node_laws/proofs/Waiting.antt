@@ -1,0 +1,170 @@
+-- A call's definition changes the phase in three places alone: a start that writes its request, a poll that gives up, an accepted join answer.
+use Prim.Native.Nat.{ℕ}
+use native.Mathlib.Omega.{arith}
+use mathlib.Core.Path.{_≡_, refl, sym, _∙_, ap}
+use mathlib.Core.Bool.{Bool, true, false, cond}
+use mathlib.Core.List.{List}
+use lib.Dec.{leb}
+use lib.ListN.{length}
+use Rattle.refusal.specs.declared.Refusal.{Refusal}
+use Rattle.refusal.specs.declared.Refusal.the-variants as refusal
+use Rattle.refusal.specs.declared.Verdict.{Verdict}
+use Rattle.refusal.specs.declared.Verdict.the-variants as verdict
+use Rattle.cbor.specs.Answer.{answer}
+use Rattle.cbor.specs.declared.write.Written.{Written}
+use Rattle.cbor.specs.declared.write.Written.the-variants as written
+use Rattle.cojp.specs.Configuration.{readConfiguration}
+use Rattle.cojp.specs.declared.configuration.Configuration.{Configuration}
+use Rattle.cojp.specs.declared.configuration.ConfigurationRead.{ConfigurationRead}
+use Rattle.node_attempt.specs.Attempt.{isWaiting, fits}
+use Rattle.node_attempt.specs.Poll as attempt
+use Rattle.node_attempt.specs.declared.attempt.Attempt.{Attempt}
+use Rattle.node_attempt.specs.declared.poll.Due.the-variants as due
+use Rattle.node_attempt.specs.declared.poll.Step.{Step}
+use Rattle.node_delivery.specs.Call.{attemptAfter, belongs, mayCome}
+use Rattle.node_delivery.specs.declared.Call.{Call}
+use Rattle.node_delivery.specs.declared.Call.the-variants.{JoinAnswer, Update}
+use Rattle.node_key_sets.specs.Frames.{hears}
+use Rattle.node_key_sets.specs.declared.frames.Change.the-variants as change
+use Rattle.node_key_sets.specs.declared.frames.Hearing.{Hearing}
+use Rattle.node_parameters.specs.Octets.{octetsInRange, knownOctets}
+use Rattle.node_parameters.specs.Reports.{reportsOf}
+use Rattle.node_parameters.specs.declared.octets.HeldOctets.{HeldOctets}
+use Rattle.node.specs.Node.{isBorder, roleInRange, freshNode, unmade, made, attempting}
+use Rattle.node.specs.Range.{valid}
+use Rattle.node.specs.Timing.{startPlan, startedFrom, startedBy, start, polled, polledBy, poll}
+use Rattle.node.specs.Delivery.{placementOf, configured, undelivered, delivered, owesIdentifier, apply, deliverVerdict, applyRead, deliverBy, deliver}
+use Rattle.node.specs.Frames.{heard, heardBy, verified}
+use Rattle.node.specs.declared.delivery.Delivered.{Delivered}
+use Rattle.node.specs.declared.node.Made.{Made}
+use Rattle.node.specs.declared.node.Node.{Node}
+use Rattle.node_laws.specs.Phases.{waits, PhaseLaws}
+use Rattle.node_laws.proofs.Deliveries.{deliver-leaves}
+
+refused-not : {A : Type 0} (k : Refusal) → verdict.Refused k ≡ verdict.Accepted → A
+refused-not k e = absurd (let z : _≡_ {A = ℕ} 0 1 = cc in omega arith)
+
+-- ---- making, starting, polling, verified frames
+made-idle : (role : ℕ) (network : HeldOctets) → waits (made role network .node) ≡ false
+unfolding made
+made-idle role network = go (roleInRange role) (octetsInRange network)
+  where
+    go :
+        (r o : Bool) →
+        waits (cond r (cond o (record { verdict = verdict.Accepted; node = freshNode role (knownOctets network) }) unmade) unmade .node) ≡ false
+    go true true = refl
+    go true false = refl
+    go false o = refl
+
+start-refused :
+    (n : Node) (time timeout : ℕ) (d : List ℕ) (k : Refusal) → start n time timeout d .verdict ≡ verdict.Refused k →
+    waits (start n time timeout d .node) ≡ waits n
+unfolding start
+start-refused n time timeout d k e = go (answer (startPlan n time timeout) d) e
+  where
+    go : (w : Written) → startedBy w n (startedFrom n time timeout) .verdict ≡ verdict.Refused k → waits (startedBy w n (startedFrom n time timeout) .node) ≡ waits n
+    go (written.Refused j) e = refl
+    go (written.Length l) e = refused-not k (sym e)
+
+attempt-idle : (a : Attempt) (time : ℕ) → isWaiting (a .phase) ≡ false → attempt.poll a time .attempt ≡ a
+unfolding attempt.poll
+attempt-idle a time w = rw w (go (fits a) (leb (a .clock) time))
+  where
+    go :
+        (f t : Bool) →
+        cond f (cond t (attempt.step (due.Refused refusal.Phase) a) (attempt.step (due.Refused refusal.Clock) a)) (attempt.step (due.Refused refusal.Range) a) .attempt
+        ≡ a
+    go true true = refl
+    go true false = refl
+    go false t = refl
+
+poll-idle : (n : Node) (time : ℕ) → waits n ≡ false → waits (poll n time .node) ≡ false
+unfolding poll
+poll-idle n time w = go (valid n) (attempt.poll (n .attempt) time) (attempt-idle (n .attempt) time w)
+  where
+    go : (v : Bool) (s : Step) → s .attempt ≡ n .attempt → waits (cond v (polledBy n s) (polled (due.Refused refusal.Range) n) .node) ≡ false
+    go true s e = ap (λ (a : Attempt). isWaiting (a .phase)) e ∙ w
+    go false s e = w
+
+verified-keeps : (n : Node) (type identifier : ℕ) → waits (verified n type identifier .node) ≡ waits n
+unfolding verified
+verified-keeps n type identifier = go (valid n) (hears (n .sets) type identifier)
+  where
+    go : (v : Bool) (h : Hearing) → waits (cond v (heardBy n h) (heard (change.Refused refusal.Range) n) .node) ≡ waits n
+    go true h = refl
+    go false h = refl
+
+-- ---- join answers and updates: an accepted one leaves the attempt that the call names
+module _ (call : Call) (n : Node) (time : ℕ) where
+  abbrev Moves : Delivered → Type 0
+  Moves m = m .verdict ≡ verdict.Accepted → m .node .attempt ≡ attemptAfter call (n .attempt) time
+
+  no-moves : (k : Refusal) → Moves (undelivered k n)
+  no-moves k e = refused-not k e
+
+  cond-moves : (b : Bool) (x y : Delivered) → Moves x → Moves y → Moves (cond b x y)
+  cond-moves true x y p q = p
+  cond-moves false x y p q = q
+
+  apply-moves : (c : Configuration) → Moves (apply call n time c)
+  unfolding apply configured
+  apply-moves c =
+      cond-moves (owesIdentifier call n (c .network .report)) _ _ (no-moves refusal.Owed)
+      (cond-moves (placementOf n (c .keys) .clash) _ _ (no-moves refusal.Clash) (λ e. refl))
+
+  read-moves : (v : Verdict) (c : Configuration) → Moves (applyRead v call n time c)
+  read-moves (verdict.Refused k) c = no-moves k
+  read-moves verdict.Accepted c = apply-moves c
+
+  by-moves : (v : Verdict) (r : ConfigurationRead) → Moves (deliverBy v call n time r)
+  by-moves (verdict.Refused k) r = no-moves k
+  by-moves verdict.Accepted r = read-moves (r .verdict) (r .configuration)
+
+  deliver-moves : (payload : List ℕ) → Moves (deliver call n time payload)
+  unfolding deliver
+  deliver-moves payload = by-moves (deliverVerdict call n time (length payload)) (readConfiguration payload)
+
+  may-come : (v : Verdict) (r : ConfigurationRead) → deliverBy v call n time r .verdict ≡ verdict.Accepted → v ≡ verdict.Accepted
+  may-come (verdict.Refused k) r e = refused-not k e
+  may-come verdict.Accepted r e = refl
+
+  in-phase : (len : ℕ) → deliverVerdict call n time len ≡ verdict.Accepted → belongs call (n .attempt .phase) ≡ true
+  unfolding deliverVerdict mayCome
+  in-phase len = go (valid n) (leb len 256) (leb (n .attempt .clock) time) (belongs call (n .attempt .phase))
+    where
+      go :
+          (v l t b : Bool) →
+          cond v (cond l (cond t (cond b verdict.Accepted (verdict.Refused refusal.Phase)) (verdict.Refused refusal.Clock)) (verdict.Refused refusal.Long)) (verdict.Refused refusal.Range)
+          ≡ verdict.Accepted → b ≡ true
+      go false l t b e = refused-not refusal.Range e
+      go true false t b e = refused-not refusal.Long e
+      go true true false b e = refused-not refusal.Clock e
+      go true true true true e = refl
+      go true true true false e = refused-not refusal.Phase e
+
+  belongs-then : (payload : List ℕ) → deliver call n time payload .verdict ≡ verdict.Accepted → belongs call (n .attempt .phase) ≡ true
+  unfolding deliver
+  belongs-then payload e = in-phase (length payload) (may-come (deliverVerdict call n time (length payload)) (readConfiguration payload) e)
+
+phase-after : (call : Call) (a : Attempt) (time : ℕ) → isWaiting (a .phase) ≡ false → isWaiting (attemptAfter call a time .phase) ≡ false
+phase-after JoinAnswer a time w = refl
+phase-after Update a time w = w
+
+deliver-idle : (call : Call) (n : Node) (time : ℕ) (payload : List ℕ) → waits n ≡ false → waits (deliver call n time payload .node) ≡ false
+deliver-idle call n time payload w = go (deliver call n time payload .verdict) refl
+  where
+    go : (v : Verdict) → deliver call n time payload .verdict ≡ v → waits (deliver call n time payload .node) ≡ false
+    go (verdict.Refused k) e = ap waits (deliver-leaves n call time payload k e .0) ∙ w
+    go verdict.Accepted e =
+        ap (λ (a : Attempt). isWaiting (a .phase)) (deliver-moves call n time payload e) ∙ phase-after call (n .attempt) time w
+
+pub phases : PhaseLaws
+phases = record {
+  made-idle = made-idle;
+  start-refused = start-refused;
+  deliver-idle = deliver-idle;
+  verified-keeps = verified-keeps;
+  poll-idle = poll-idle;
+  answer-waits = λ n time payload e. belongs-then JoinAnswer n time payload e;
+  answer-ends = λ n time payload e. ap (λ (a : Attempt). isWaiting (a .phase)) (deliver-moves JoinAnswer n time payload e);
+}

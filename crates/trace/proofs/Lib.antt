@@ -1,0 +1,5 @@
+mod Laws
+pub mod Turns
+mod Counts
+mod Longest
+mod Whole

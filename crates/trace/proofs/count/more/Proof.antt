@@ -1,0 +1,20 @@
+-- The definition's one test is the code's.
+use borrow.Author.Needs.{needs}
+use borrow.Author.Tests.{lt-ltb, le-ltb}
+use Rattle.trace.specs.Step.{more}
+use Rattle.trace.proofs.count.more.Statement.{statement}
+use Rattle.trace.proofs.count.more.Tie as tie
+
+add-result : tie.Need-add-result
+add-result c = search needs
+
+returns : tie.Need-returns
+unfolding more
+returns c = rw (lt-ltb _ _ (c .if1 .taken))
+
+returns-2 : tie.Need-returns-2
+unfolding more
+returns-2 c = rw (le-ltb _ _ (c .if1 .left))
+
+pub more-spec : {M : Type 1} → statement M
+more-spec = tie.close (tie.spec add-result returns returns-2)

@@ -1,0 +1,127 @@
+// What each record's call did.
+use node::Delivered;
+use node::Node;
+use node_attempt::Due;
+use node_key_sets::Change;
+use node_parameters::HeldOctets;
+use refusal::Verdict;
+ghost use mathlib.Core.Path.{_≡_};
+ghost use Rattle.node_attempt.specs.Poll.{dueVerdict};
+ghost use Rattle.node_key_sets.specs.Frames.{changeVerdict, hasSwitched};
+ghost use Rattle.trace.specs.Night.{newNode, start, joinAnswer, update, verified, poll};
+ghost use Rattle.trace.specs.Calls.{doneDelivered, callOf};
+
+pub struct Done {
+    pub verdict: Verdict,
+    pub switched: bool,
+    pub node: Node,
+}
+
+fn due_verdict(due: Due) -> Verdict
+    ensures { λ r. ⌜ r ≡ dueVerdict due ⌝ }
+{
+    match due {
+        Due::Refused(why) => Verdict::Refused(why),
+        Due::NotYet => Verdict::Accepted,
+        Due::SendAgain => Verdict::Accepted,
+        Due::GaveUp => Verdict::Accepted,
+    }
+}
+
+fn change_verdict(change: Change) -> Verdict
+    ensures { λ r. ⌜ r ≡ changeVerdict change ⌝ }
+{
+    match change {
+        Change::Refused(why) => Verdict::Refused(why),
+        Change::Switched => Verdict::Accepted,
+        Change::Kept => Verdict::Accepted,
+    }
+}
+
+fn has_switched(change: Change) -> bool
+    ensures { λ r. ⌜ r ≡ hasSwitched change ⌝ }
+{
+    match change {
+        Change::Refused(_) => false,
+        Change::Switched => true,
+        Change::Kept => false,
+    }
+}
+
+pub(crate) fn new_node(node: Node, role: u8, network: HeldOctets) -> Done
+    ensures { λ r. ⌜ r ≡ callOf (newNode role network) node ⌝ }
+{
+    let made = Node::new(role, network);
+    let verdict = made.verdict;
+    let fresh = made.node;
+    Done {
+        verdict,
+        switched: false,
+        node: fresh,
+    }
+}
+
+// The request is written to 32 bytes that are lent anew.
+pub(crate) fn start(node: Node, time: u64, timeout: u64) -> Done
+    ensures { λ r. ⌜ r ≡ callOf (start time timeout) node ⌝ }
+{
+    let mut room = [0u8; 32];
+    let started = node.start(&mut room, time, timeout);
+    let verdict = started.verdict;
+    let waiting = started.node;
+    Done {
+        verdict,
+        switched: false,
+        node: waiting,
+    }
+}
+
+fn delivered(delivered: Delivered) -> Done
+    ensures { λ r. ⌜ r ≡ doneDelivered delivered ⌝ }
+{
+    let verdict = delivered.verdict;
+    let node = delivered.node;
+    Done {
+        verdict,
+        switched: false,
+        node,
+    }
+}
+
+pub(crate) fn join_answer(node: Node, time: u64, payload: &[u8]) -> Done
+    ensures { λ r. ⌜ r ≡ callOf (joinAnswer time (now (payload .entry))) node ⌝ }
+{
+    delivered(node.join_answer(time, payload))
+}
+
+pub(crate) fn update(node: Node, time: u64, payload: &[u8]) -> Done
+    ensures { λ r. ⌜ r ≡ callOf (update time (now (payload .entry))) node ⌝ }
+{
+    delivered(node.update(time, payload))
+}
+
+pub(crate) fn verified(node: Node, frame_type: u8, identifier: u8) -> Done
+    ensures { λ r. ⌜ r ≡ callOf (verified «frame_type» identifier) node ⌝ }
+{
+    let heard = node.verified(frame_type, identifier);
+    let change = heard.change;
+    let hearer = heard.node;
+    Done {
+        verdict: change_verdict(change),
+        switched: has_switched(change),
+        node: hearer,
+    }
+}
+
+pub(crate) fn poll(node: Node, time: u64) -> Done
+    ensures { λ r. ⌜ r ≡ callOf (poll time) node ⌝ }
+{
+    let polled = node.poll(time);
+    let due = polled.due;
+    let after = polled.node;
+    Done {
+        verdict: due_verdict(due),
+        switched: false,
+        node: after,
+    }
+}

@@ -1,0 +1,4 @@
+mod Numbers
+mod Zeros
+mod Ends
+pub mod Rooms

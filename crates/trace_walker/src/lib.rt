@@ -1,0 +1,76 @@
+// The walker over a recorded night: the lent trace and a place in it (document 01's form). The borrow checker covers no function over such a
+// struct, so each is thin and proved by hand; the work is done by `trace::step`, which takes the slice and the place.
+use trace::Progress;
+use trace::Replayed;
+use trace::State;
+use trace::Stepped;
+use trace::nothing_yet;
+use trace::reached;
+use trace::step;
+ghost use mathlib.Core.Path.{_≡_};
+ghost use Rattle.trace.specs.Replay as whole;
+ghost use Rattle.trace.specs.Step as night;
+
+pub struct Walker<'a> {
+    pub trace: &'a [u8],
+    pub at: usize,
+}
+
+impl<'a> Walker<'a> {
+    // At the trace's first record.
+    pub fn new(trace: &'a [u8]) -> Walker<'a>
+        ensures { λ r. ⌜ (r .trace ≡ trace .entry) × (r .at ≡ 0) ⌝ }
+    {
+        Walker { trace, at: 0 }
+    }
+
+    // The walker at another place of its trace.
+    pub fn moved(self, at: usize) -> Walker<'a>
+        ensures { λ r. ⌜ (r .trace ≡ self .entry .trace) × (r .at ≡ at) ⌝ }
+    {
+        Walker {
+            trace: self.trace,
+            at,
+        }
+    }
+
+    // The record at the walker's place.
+    pub fn step(self, state: State) -> Stepped
+        ensures { λ r. ⌜ r ≡ night.step (now (self .entry .trace)) (self .entry .at) state ⌝ }
+    {
+        step(self.trace, self.at, state)
+    }
+}
+
+// The record at a place, read by a walker. Its callers hold no walker, so they are covered.
+pub fn step_from(trace: &[u8], at: usize, state: State) -> Stepped
+    ensures { λ r. ⌜ r ≡ night.step (now (trace .entry)) at state ⌝ }
+{
+    Walker { trace, at }.step(state)
+}
+
+// The whole trace, from no node: the walk goes on until it is complete or stops.
+fn walk(trace: &[u8]) -> Stepped
+    ensures { λ r. ⌜ r ≡ night.played (now (trace .entry)) ⌝ }
+{
+    let mut last = reached(Progress::Walked, 0, nothing_yet());
+    let mut going = true;
+    while going {
+        last = step_from(trace, last.next, last.state);
+        let progress = last.progress;
+        going = match progress {
+            Progress::Complete => false,
+            Progress::Stopped => false,
+            Progress::Walked => true,
+        };
+    }
+    last
+}
+
+// A recorded night replayed: exactly the node that the calls of its records give, and the report of what they answered.
+pub fn replay(trace: &[u8]) -> Replayed
+    ensures { λ r. ⌜ r ≡ whole.replay (now (trace .entry)) ⌝ }
+{
+    trace::exact();
+    walk(trace).replayed()
+}
