@@ -3,7 +3,7 @@
 # frames, takes updates and polls, over and over. Beside it stands a peer in the same run, bench/replay_peer.c: it walks the same records and asks their
 # kinds, lengths and unused bytes, and makes no call.
 # The last row has the same million bytes as HEX from standard input. The script prints a table and judges nothing.
-# Each night is named so many times in one run that the program's start does not count; of three runs the quickest counts.
+# Each night is named so many times in one run that the program's start does not count; of five runs the quickest counts.
 set -eu
 cd "$(dirname "$0")/.."
 work=$(mktemp -d)
@@ -13,19 +13,17 @@ trap 'rm -rf "$work"' EXIT
 python3 bench/replay_nights.py "$work"
 cc -O2 -o "$work/peer" bench/replay_peer.c
 
-# measure NAME RECORDS BYTES COMMAND..: a row of the table, RECORDS and BYTES being those of the whole run
+# measure NAME RECORDS BYTES COMMAND..: a row of the table, RECORDS and BYTES being those of the whole run. Processor time counts, so that what else
+# the machine does matters less.
 measure() {
-    local name=$1 records=$2 size=$3
+    local name=$1 records=$2 size=$3 best='' took
     shift 3
-    best=''
-    for _ in 1 2 3; do
-        begun=$(date +%s%N)
-        "$@" >/dev/null
-        took=$(($(date +%s%N) - begun))
+    for _ in 1 2 3 4 5; do
+        took=$({ TIMEFORMAT='%3U %3S' && time "$@" >/dev/null; } 2>&1 | awk '{ print ($1 + $2) * 1000 }')
         if [ -z "$best" ] || [ "$took" -lt "$best" ]; then best=$took; fi
     done
     awk -v n="$name" -v r="$records" -v b="$size" -v t="$best" \
-        'BEGIN { s = t / 1e9; printf "%-36s %8.2f %12.0f %10.1f %8.1f\n", n, s, r / s, t / r, b / s / 1e6 }'
+        'BEGIN { s = t / 1000; printf "%-36s %8.3f %12.0f %10.1f %8.1f\n", n, s, r / s, s * 1e9 / r, b / s / 1e6 }'
 }
 
 # times N WORD: the word, N times

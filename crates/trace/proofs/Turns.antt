@@ -19,13 +19,13 @@ use Rattle.trace.specs.declared.state.State.{State}
 use Rattle.trace.specs.declared.state.Stepped.{Stepped}
 
 -- ---- a record takes bytes, and no more than there are
-abbrev Taken : Reading → ℕ → Type 0
-Taken end n = Unit {0}
+abbrev pub Taken : Reading → ℕ → Type 0
+Taken end n = n ≤ 0
 Taken bad n = Unit {0}
 Taken (got r) n = (3 ≤ sizeOf r) × (sizeOf r ≤ n)
 
 taken-by : (s : List ℕ) (e : Entry) → Inside 0 (length s) e → Taken (readingOf s e) (length s)
-taken-by s entries.End h = tt
+taken-by s entries.End h = h
 taken-by s entries.Bad h = tt
 taken-by s (entries.New role len) h = (omega arith, h .0)
 taken-by s (entries.Start time timeout) h = (omega arith, h)
@@ -34,7 +34,7 @@ taken-by s (entries.Update time len) h = (omega arith, h .0)
 taken-by s (entries.Verified type identifier) h = (omega arith, h)
 taken-by s (entries.Poll time) h = (omega arith, h)
 
-taken : (s : List ℕ) → Taken (reading s) (length s)
+pub taken : (s : List ℕ) → Taken (reading s) (length s)
 unfolding reading
 taken s = taken-by s (entry s) (roomy s)
 

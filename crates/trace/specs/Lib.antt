@@ -1,4 +1,5 @@
 pub mod Night
+pub mod Stands
 pub mod Calls
 pub mod Report
 pub mod Replay

@@ -13,6 +13,7 @@ pub use state::nothing_yet;
 pub use state::reached;
 pub use walk::step;
 ghost use Rattle.trace.specs.Exact.{Exact};
+ghost use Rattle.trace.specs.Stands.{NightStands};
 
 // A walk record by record gives exactly the node that the calls give, and a report of exact numbers.
 pub fn exact()
@@ -21,3 +22,8 @@ pub fn exact()
     refusal::numbers();
     node_laws::phases();
 }
+
+// A night's records stand one behind the other from the trace's start on, up to its end or to the first that stops the walk.
+pub fn night_stands()
+    ensures { λ r. ⌜ NightStands ⌝ }
+{}

@@ -67,7 +67,7 @@ module _ (b : List ℕ) where
 
 pub roomy : (s : List ℕ) → Inside 0 (length s) (entry s)
 unfolding entry
-roomy [] = tt
+roomy [] = omega arith
 roomy (k ∷ b) =
     either (λ (e : Entry). Inside 0 (suc (length b)) e) (leb (bodySize k) (length b)) (fields k b) Bad
     (λ l. fields-room b k (leb-true _ _ l))
@@ -75,7 +75,7 @@ roomy (k ∷ b) =
 
 -- the same at a place
 moved : (n at : ℕ) (e : Entry) → Inside 0 (n - at) e → Inside at n e
-moved n at End h = tt
+moved n at End h = omega arith
 moved n at Bad h = tt
 moved n at (New role len) h = (omega (arith, h .0), h .1)
 moved n at (Start time timeout) h = omega arith

@@ -88,9 +88,9 @@ unfoldable pub entry : List ℕ → Entry
 entry [] = End
 entry (kind ∷ b) = cond (leb (bodySize kind) (length b)) (fields kind b) Bad
 
--- ---- a record that was read at a place lies inside the trace, and its lengths are within its fields
+-- ---- what is read at a place of n bytes: at the end none is left; a record lies inside, and its lengths are within its fields
 abbrev pub Inside : ℕ → ℕ → Entry → Type 0
-Inside at n End = Unit {0}
+Inside at n End = n ≤ at
 Inside at n Bad = Unit {0}
 Inside at n (New role len) = (at + 19 ≤ n) × (networkUsed len ≤ 16)
 Inside at n (Start time timeout) = at + 13 ≤ n
