@@ -1,0 +1,20 @@
+-- What a short address is. IEEE 802.15.4 keeps two of the values of two bytes for itself: FFFF is the broadcast address, and FFFE says that no short
+-- address was allocated.
+use Prim.Native.Nat.{ℕ, _<_, _/_, _%_}
+use mathlib.Core.Path.{_≡_}
+use mathlib.Core.Bool.{Bool, not, _&&_}
+use mathlib.Core.List.{List, [], _∷_}
+use lib.Dec.{eqb, leb, ltb}
+use lib.ListN.{length, getD}
+
+-- any two bytes but FF FF and FF FE, in the payload's order
+unfoldable pub isAddress : List ℕ → Bool
+isAddress s = (eqb (length s) 2 && not (eqb (getD s 0 0) 0xff && leb 0xfe (getD s 1 0)))
+
+-- the bytes of the address with this number: the high one first
+unfoldable pub bytesOf : ℕ → List ℕ
+bytesOf n = n / 256 ∷ n % 256 ∷ []
+
+-- by their numbers, the addresses are 0000 to FFFD
+pub record AddressLaws : Type 0 where
+  pub numbers : (n : ℕ) → n < 0x10000 → isAddress (bytesOf n) ≡ ltb n 0xfffe
