@@ -1,10 +1,11 @@
 -- What the tests of range and memory show, one law to a way out of `judge`, and what an accepted range is known to have.
-use Prim.Native.Nat.{ℕ, _+_, _*_, _≤_, _<_}
+use Prim.Native.Nat.{ℕ, zero, suc, _+_, _*_, _≤_, _<_}
 use mathlib.Core.Path.{_≡_, refl}
 use mathlib.Core.Bool.{Bool, true, false, cond, _&&_}
 use native.Mathlib.Omega.{arith}
 use borrow.Author.Tests.{le-leb, lt-leb, leb-true}
 use lib.Dec.{leb}
+use Rattle.short_address.specs.Address.{isAddress, bytesOf}
 use Rattle.refusal.specs.declared.Refusal.the-variants.{Room, Range}
 use Rattle.refusal.specs.declared.Verdict.the-variants.{Accepted, Refused}
 use Rattle.address_ledger.specs.Range.{inLimits, judged, counted, Usable}
@@ -30,6 +31,17 @@ module _ (first size len : ℕ) where
     pub accepted : 9 * size ≤ len → Accepted ≡ judged first size len
     unfolding judged inLimits
     accepted q = rw (le-leb 1 size s, le-leb size 4096 h, le-leb (first + size) 0x10000 p, le-leb (9 * size) len q)
+
+-- ---- no more addresses count than there are
+most-by : (first n : ℕ) (x : Bool) → counted (suc first) n ≤ n → isAddress (bytesOf first) ≡ x → counted first (suc n) ≤ suc n
+unfolding counted
+most-by first n true h e = rw e (omega arith)
+most-by first n false h e = rw e (omega arith)
+
+pub counted-most : (first n : ℕ) → counted first n ≤ n
+unfolding counted
+counted-most first zero = omega arith
+counted-most first (suc n) = most-by first n _ (counted-most (suc first) n) refl
 
 -- ---- back from an accepted range to its tests
 both : (p q : Bool) → (p && q) ≡ true → (p ≡ true) × (q ≡ true)
@@ -62,5 +74,6 @@ module _ (first size len : ℕ) (f : Accepted ≡ judged first size len) where
   end-limit = leb-true (first + size) 0x10000 (limits .1 .1)
 
   pub usable : (n : ℕ) → n ≡ counted first size → Usable first len n
-  unfolding counted
-  usable n e = record { room = omega (arith, has-room); size = omega (arith, size-limit); end = omega (arith, end-limit) }
+  usable n e =
+      let c = counted-most first size in
+      record { room = omega (arith, has-room); size = omega (arith, size-limit); end = omega (arith, end-limit) }

@@ -1,4 +1,5 @@
 pub mod Judged
+pub mod Counted
 pub mod Scan
 pub mod Seek
 pub mod Write

@@ -2,7 +2,11 @@
 use crate::place::PLACE;
 use refusal::Refusal;
 use refusal::Verdict;
+use short_address::bytes_of;
+use short_address::is_address;
 ghost use mathlib.Core.Path.{_≡_};
+ghost use Prim.Native.Nat.{_+_, _≤_, _<_};
+ghost use Rattle.short_address.specs.Address.{isAddress, bytesOf};
 ghost use Rattle.address_ledger.specs.Range.{judged, counted};
 
 const SIZE_MOST: usize = 4096;
@@ -32,9 +36,27 @@ pub(crate) fn judge(first: usize, size: usize, len: usize) -> Verdict
     Verdict::Accepted
 }
 
-// How many of the range's addresses count, the lowest ones.
+// Whether the number is that of an address.
+fn is_counted(number: usize) -> bool
+    requires { ⌜ number < 65536 ⌝ }
+    ensures { λ r. ⌜ r ≡ isAddress (bytesOf number) ⌝ }
+{
+    let bytes = bytes_of(number as u16);
+    is_address(bytes)
+}
+
+// How many of the range's addresses count: what is no address stands at its end.
 pub(crate) fn count(first: usize, size: usize) -> usize
+    requires { ⌜ first + size ≤ 65536 ⌝ }
     ensures { λ r. ⌜ r ≡ counted first size ⌝ }
 {
-    size
+    short_address::laws();
+    let mut n = size;
+    while 0 < n {
+        if is_counted(first + (n - 1)) {
+            return n;
+        }
+        n -= 1;
+    }
+    n
 }

@@ -6,3 +6,4 @@ pub mod Again
 pub mod Contents
 pub mod Refusals
 pub mod Played
+pub mod OnlyAddresses

@@ -1,5 +1,6 @@
 pub mod History
 pub mod Laws
 pub mod AnyMemory
+pub mod Addresses
 pub mod Demand1
 pub mod Shift

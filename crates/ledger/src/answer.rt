@@ -1,6 +1,7 @@
 // How answers are written.
 use address_ledger::AddressAnswer;
 use address_ledger::FreeAnswer;
+use short_address::bytes_of;
 use tool_notation::put_refusal;
 use tool_text::output::Buffer;
 use tool_text::output::Output;
@@ -9,7 +10,7 @@ use tool_text::output::Output;
 pub fn put_address(out: Output, name: &[u8], answer: AddressAnswer, buffer: &mut Buffer) -> Output {
     match answer {
         AddressAnswer::Address(address) => {
-            let bytes = [(address / 256) as u8, (address % 256) as u8];
+            let bytes = bytes_of(address);
             out.text(name, buffer).octets(&bytes, buffer)
         }
         AddressAnswer::Refused(refusal) => put_refusal(out, refusal, buffer),

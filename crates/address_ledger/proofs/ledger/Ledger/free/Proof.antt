@@ -3,7 +3,7 @@ use mathlib.Core.Path.{sym, _∙_}
 use mathlib.Core.List.{[]}
 use borrow.Author.Needs.{needs}
 use lib.ListN.{length}
-use Rattle.address_ledger.proofs.Judged.{usable}
+use Rattle.address_ledger.proofs.Judged.{usable, end-limit}
 use Rattle.address_ledger.proofs.Calls.{free-refused, free-accepted}
 use Rattle.address_ledger.proofs.ledger.Ledger.free.Statement.{statement}
 use Rattle.address_ledger.proofs.ledger.Ledger.free.Tie as tie
@@ -18,7 +18,10 @@ enum-told : tie.Need-enum-told
 enum-told c = search needs
 
 count-requires : tie.Need-count-requires
-count-requires c κs = search needs
+count-requires c κs =
+    let a = c .before .before .before .before .args in
+    let accepted = sym (c .enum-told .given .1) ∙ c .before .before .judge .ensures in
+    end-limit (a .self .first) (a .self .size) (length (a .memory .now)) accepted
 
 count-free-requires : tie.Need-count-free-requires
 count-free-requires c κs =
