@@ -7,33 +7,43 @@ use short_address::is_address;
 ghost use mathlib.Core.Path.{_≡_};
 ghost use Prim.Native.Nat.{_+_, _≤_, _<_};
 ghost use Rattle.short_address.specs.Address.{isAddress, bytesOf};
-ghost use Rattle.address_ledger.specs.Range.{judged, counted};
+ghost use Rattle.address_ledger.specs.Range.{inLimits, judged, counted};
 
 const SIZE_MOST: usize = 4096;
 
 // One past FFFF, where a range ends at the latest.
 const END: usize = 65536;
 
+// Whether the range is in its limits.
+pub(crate) fn in_limits(first: usize, size: usize) -> bool
+    ensures { λ r. ⌜ r ≡ inLimits first size ⌝ }
+{
+    if size == 0 {
+        return false;
+    }
+    if SIZE_MOST < size {
+        return false;
+    }
+    if END <= first {
+        return false;
+    }
+    if END < first + size {
+        return false;
+    }
+    true
+}
+
 // Whether range and memory can be a ledger: RANGE comes first, then ROOM.
 pub(crate) fn judge(first: usize, size: usize, len: usize) -> Verdict
     ensures { λ r. ⌜ r ≡ judged first size len ⌝ }
 {
-    if size == 0 {
-        return Verdict::Refused(Refusal::Range);
+    if in_limits(first, size) {
+        if len < PLACE * size {
+            return Verdict::Refused(Refusal::Room);
+        }
+        return Verdict::Accepted;
     }
-    if SIZE_MOST < size {
-        return Verdict::Refused(Refusal::Range);
-    }
-    if END <= first {
-        return Verdict::Refused(Refusal::Range);
-    }
-    if END < first + size {
-        return Verdict::Refused(Refusal::Range);
-    }
-    if len < PLACE * size {
-        return Verdict::Refused(Refusal::Room);
-    }
-    Verdict::Accepted
+    Verdict::Refused(Refusal::Range)
 }
 
 // Whether the number is that of an address.

@@ -12,7 +12,7 @@ use Rattle.refusal.specs.declared.Verdict.the-variants as verdict
 use Rattle.short_address.specs.Address.{isAddress, bytesOf, AddressLaws}
 use Rattle.address_ledger.specs.Place.{placeAt, places, heldBy, isFree, lowest, has, countFree, sought}
 use Rattle.address_ledger.specs.Range.{inLimits, judged, counted}
-use Rattle.address_ledger.specs.Ledger.{placesOf, judgedOf, openedBy, opened, granting, grantedBy, granted, givingBack, givenBackBy, givenBack, freeBy, freeCount}
+use Rattle.address_ledger.specs.Ledger.{countedOf, placesOf, judgedOf, openedBy, opened, granting, grantedBy, granted, givingBack, givenBackBy, givenBack, freeCount}
 use Rattle.address_ledger.specs.declared.answer.AddressAnswer.the-variants.{Address, Refused}
 use Rattle.address_ledger.specs.declared.ledger.Ledger.{Ledger}
 use Rattle.address_ledger.specs.declared.place.Sought.{Sought}
@@ -34,13 +34,13 @@ module _ (laws : AddressLaws) where
         let z : l .first + k ≡ a = cc in
         rw (← z) (counted-is-address laws (l .first) (l .size) k (end-limit (l .first) (l .size) (length m) f) w)
 
-    grant-by : (s : Sought) → s ≡ sought b (placesOf l m) → granting l m b s .answer ≡ Address a → isAddress (bytesOf a) ≡ true
+    grant-by : (s : Sought) → s ≡ sought b (placesOf l m) → granting (countedOf l) l m b s .answer ≡ Address a → isAddress (bytesOf a) ≡ true
     unfolding granting
     grant-by (Held k) s e = one k (held-within b (counted (l .first) (l .size)) m k s) e
     grant-by (Free k) s e = one k (free-within b (counted (l .first) (l .size)) m k s) e
     grant-by Nothing s e = let z : _≡_ {A = ℕ} 0 1 = cc in absurd (omega arith)
 
-    back-by : (s : Sought) → s ≡ sought b (placesOf l m) → givingBack l m s .answer ≡ Address a → isAddress (bytesOf a) ≡ true
+    back-by : (s : Sought) → s ≡ sought b (placesOf l m) → givingBack (countedOf l) l m s .answer ≡ Address a → isAddress (bytesOf a) ≡ true
     unfolding givingBack
     back-by (Held k) s e = one k (held-within b (counted (l .first) (l .size)) m k s) e
     back-by (Free k) s e = let z : _≡_ {A = ℕ} 0 1 = cc in absurd (omega arith)
@@ -66,11 +66,11 @@ module _ (laws : AddressLaws) where
       }
 
 pub two-alone : TwoAlone
-unfolding inLimits judged counted isAddress bytesOf places lowest has countFree sought openedBy opened granting grantedBy granted givingBack givenBackBy givenBack freeBy freeCount
+unfolding inLimits judged counted isAddress bytesOf places lowest has countFree sought openedBy opened granting grantedBy granted givingBack givenBackBy givenBack freeCount
 two-alone =
     record {
       opens = λ m h. rw (le-leb 18 (length m) h);
-      none-free = λ m h. rw (le-leb 18 (length m) h, le-leb 18 (length m) h);
+      none-free = λ m h. rw (le-leb 18 (length m) h);
       full = λ m b h. rw (le-leb 18 (length m) h, le-leb 18 (length m) h);
       unknown = λ m b h. rw (le-leb 18 (length m) h, le-leb 18 (length m) h);
     }

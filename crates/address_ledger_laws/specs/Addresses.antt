@@ -24,6 +24,6 @@ pub record AddressesAlone : Type 0 where
 -- the range FFFE to FFFF over memory of at least 18 bytes
 pub record TwoAlone : Type 0 where
   pub opens : (m : List ℕ) → 18 ≤ length m → opened 0xfffe 2 m .verdict ≡ verdict.Accepted
-  pub none-free : (m : List ℕ) → 18 ≤ length m → freeCount (opened 0xfffe 2 m .ledger) m ≡ Count 0
+  pub none-free : (m : List ℕ) → 18 ≤ length m → freeCount (opened 0xfffe 2 m .ledger) ≡ Count 0
   pub full : (m b : List ℕ) → 18 ≤ length m → granted (opened 0xfffe 2 m .ledger) m b ≡ outcome (Refused Full) (opened 0xfffe 2 m .ledger) m
   pub unknown : (m b : List ℕ) → 18 ≤ length m → givenBack (opened 0xfffe 2 m .ledger) m b ≡ outcome (Refused Unknown) (opened 0xfffe 2 m .ledger) m

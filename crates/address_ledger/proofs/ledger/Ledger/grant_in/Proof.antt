@@ -1,7 +1,8 @@
 -- What was found decides, as in the definition, and a place that was found is one of the counted ones.
-use mathlib.Core.Path.{sym, _∙_}
+use mathlib.Core.Path.{sym, ap, _∙_}
 use native.Mathlib.Omega.{arith}
 use borrow.Author.Needs.{needs}
+use Rattle.address_ledger.specs.declared.ledger.Ledger.{Ledger}
 use Rattle.address_ledger.proofs.Found.{held-within, free-within}
 use Rattle.address_ledger.proofs.Calls.{grant-held, grant-free, grant-nothing}
 use Rattle.address_ledger.proofs.ledger.Ledger.grant_in.Statement.{statement}
@@ -29,11 +30,15 @@ hold-place-requires c κs =
     let within = free-within (a .t4) (a .count) (a .memory .now) (told .0 .0) (sym (told .1) ∙ c .before .before .before .before .seek .ensures) in
     (omega (arith, c .before .before .before .before .before .before .before .before .pre .size), omega (arith, c .before .before .before .before .before .before .before .before .pre .room))
 
+fewer-requires : tie.Need-fewer-requires
+fewer-requires c κs = search needs
+
 address-requires-2 : tie.Need-address-requires-2
 address-requires-2 c κs =
-    let a = c .before .before .before .before .before .before .before .before .before .before .before .args in
-    let told = c .before .before .before .before .before .sought2 .given in
-    omega (arith, c .before .before .before .before .before .before .before .before .before .before .before .pre .end, free-within (a .t4) (a .count) (a .memory .now) (told .0 .0) (sym (told .1) ∙ c .before .before .before .before .before .before .before .seek .ensures))
+    let a = c .before .before .before .before .before .before .before .before .before .before .before .before .args in
+    let told = c .before .before .before .before .before .before .sought2 .given in
+    let within = free-within (a .t4) (a .count) (a .memory .now) (told .0 .0) (sym (told .1) ∙ c .before .before .before .before .before .before .before .before .seek .ensures) in
+    omega (arith, c .before .before .before .before .before .before .before .before .before .before .before .before .pre .end, ap (λ (l : Ledger). l .first) (c .fewer .ensures))
 
 enum-told : tie.Need-enum-told
 enum-told c = search needs
@@ -48,17 +53,17 @@ returns : tie.Need-returns
 returns c =
     let a = c .before .before .before .before .before .before .before .before .args in
     let told = c .before .before .sought .given in
-    grant-held (a .self) (a .memory .now) (a .t4) _ (c .address .result) (told .0 .0) (sym (told .1) ∙ c .before .before .before .before .seek .ensures) (c .address .ensures)
+    grant-held (a .count) (a .self) (a .memory .now) (a .t4) _ (c .address .result) (told .0 .0) (sym (told .1) ∙ c .before .before .before .before .seek .ensures) (c .address .ensures)
 
 same-length-2 : tie.Need-same-length-2
 same-length-2 c = search needs
 
 returns-2 : tie.Need-returns-2
 returns-2 c =
-    let a = c .before .before .before .before .before .before .before .before .before .before .before .before .args in
-    let told = c .before .before .before .before .before .before .sought2 .given in
-    grant-free (a .self) (a .memory .now) (a .t4) _ (c .address2 .result) (told .0 .0) (sym (told .1) ∙ c .before .before .before .before .before .before .before .before .seek .ensures) (c .address2 .ensures)
-    _ (c .before .before .before .hold-place .ensures)
+    let a = c .before .before .before .before .before .before .before .before .before .before .before .before .before .args in
+    let told = c .before .before .before .before .before .before .before .sought2 .given in
+    grant-free (a .count) (a .self) (a .memory .now) (a .t4) _ (c .address2 .result) (told .0 .0) (sym (told .1) ∙ c .before .before .before .before .before .before .before .before .before .seek .ensures)
+    (c .before .fewer .result) (c .before .fewer .ensures) (c .address2 .ensures) _ (c .before .before .before .before .hold-place .ensures)
 
 same-length-3 : tie.Need-same-length-3
 same-length-3 c = search needs
@@ -66,7 +71,7 @@ same-length-3 c = search needs
 returns-3 : tie.Need-returns-3
 returns-3 c =
     let a = c .before .before .before .before .before .before .before .args in
-    grant-nothing (a .self) (a .memory .now) (a .t4) _ (c .refused .result) (sym (c .before .enum-told .given .1) ∙ c .before .before .before .seek .ensures) (c .refused .ensures)
+    grant-nothing (a .count) (a .self) (a .memory .now) (a .t4) _ (c .refused .result) (sym (c .before .enum-told .given .1) ∙ c .before .before .before .seek .ensures) (c .refused .ensures)
 
 pub grant-in-spec : {M : Type 1} → statement M
 grant-in-spec =
@@ -77,6 +82,7 @@ grant-in-spec =
     address-requires
     enum-known-sought-2
     hold-place-requires
+    fewer-requires
     address-requires-2
     enum-told
     refused-requires
