@@ -9,10 +9,14 @@ in-limits-requires : tie.Need-in-limits-requires
 in-limits-requires c κs = search needs
 
 returns : tie.Need-returns
-returns c = free-within (c .before .before .args .self) (sym (c .if1 .taken) ∙ c .before .in-limits .ensures)
+returns c =
+    let start = c .before .before in
+    free-within (start .args .self) (sym (c .if1 .taken) ∙ c .before .in-limits .ensures)
 
 returns-2 : tie.Need-returns-2
-returns-2 c = free-outside (c .before .before .args .self) (sym (c .if1 .left) ∙ c .before .in-limits .ensures)
+returns-2 c =
+    let start = c .before .before in
+    free-outside (start .args .self) (sym (c .if1 .left) ∙ c .before .in-limits .ensures)
 
 pub free-spec : {M : Type 1} → statement M
 free-spec = tie.close (tie.spec in-limits-requires returns returns-2)
