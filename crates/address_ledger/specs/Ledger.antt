@@ -1,13 +1,15 @@
 -- The calls of a ledger: what each answers, and the ledger and the lent memory afterwards. RANGE and ROOM come first in every call.
-use Prim.Native.Nat.{ℕ, _+_}
+use Prim.Native.Nat.{ℕ, _+_, _-_}
+use mathlib.Core.Bool.{cond}
 use mathlib.Core.List.{List}
+use lib.Dec.{leb}
 use lib.ListN.{length}
 use Rattle.refusal.specs.declared.Refusal.{Refusal}
-use Rattle.refusal.specs.declared.Refusal.the-variants.{Full, Unknown}
+use Rattle.refusal.specs.declared.Refusal.the-variants.{Range, Full, Unknown}
 use Rattle.refusal.specs.declared.Verdict.{Verdict}
 use Rattle.refusal.specs.declared.Verdict.the-variants as verdict
 use Rattle.address_ledger.specs.Place.{Place, places, hold, freed, countFree, sought}
-use Rattle.address_ledger.specs.Range.{judged, counted}
+use Rattle.address_ledger.specs.Range.{inLimits, judged, counted}
 use Rattle.address_ledger.specs.declared.answer.AddressAnswer.{AddressAnswer}
 use Rattle.address_ledger.specs.declared.answer.AddressAnswer.the-variants.{Address, Refused}
 use Rattle.address_ledger.specs.declared.answer.Answered.{Answered}
@@ -33,54 +35,66 @@ answered a l = record { answer = a; ledger = l }
 abbrev pub judgedOf : Ledger → List ℕ → Verdict
 judgedOf l m = judged (l .first) (l .size) (length m)
 
+abbrev pub countedOf : Ledger → ℕ
+countedOf l = counted (l .first) (l .size)
+
 -- the places of the addresses that count
 abbrev pub placesOf : Ledger → List ℕ → List Place
-placesOf l m = places (counted (l .first) (l .size)) m
+placesOf l m = places (countedOf l) m
 
 -- ---- opening: the memory is only read
-abbrev pub ledgerOf : ℕ → ℕ → Ledger
-ledgerOf first size = record { first = first; size = size }
+abbrev pub ledgerOf : ℕ → ℕ → ℕ → Ledger
+ledgerOf first size free = record { first = first; size = size; free = free }
 
 abbrev pub emptyLedger : Ledger
-emptyLedger = ledgerOf 0 0
+emptyLedger = ledgerOf 0 0 0
 
 unfoldable pub openedBy : Verdict → ℕ → ℕ → List ℕ → Opened
-openedBy verdict.Accepted first size m = record { verdict = verdict.Accepted; ledger = ledgerOf first size }
+openedBy verdict.Accepted first size m = record { verdict = verdict.Accepted; ledger = ledgerOf first size (countFree (places (counted first size) m)) }
 openedBy (verdict.Refused r) first size m = record { verdict = verdict.Refused r; ledger = emptyLedger }
 
 unfoldable pub opened : ℕ → ℕ → List ℕ → Opened
 opened first size m = openedBy (judged first size (length m)) first size m
 
--- ---- granting: the address that the board holds, again; else the lowest free one, and its place is written; else FULL
-unfoldable pub granting : Ledger → List ℕ → List ℕ → Sought → Outcome
-granting l m b (Held k) = outcome (Address (l .first + k)) l m
-granting l m b (Free k) = outcome (Address (l .first + k)) l (hold m k b)
-granting l m b Nothing = outcome (Refused Full) l m
+-- ---- the kept count: it moves by one, and is then cut to 0 or how many addresses count
+abbrev pub cut : ℕ → ℕ → ℕ
+cut n x = cond (leb x n) x n
+
+abbrev pub withFree : Ledger → ℕ → Ledger
+withFree l free = ledgerOf (l .first) (l .size) free
+
+abbrev pub fewer : ℕ → Ledger → Ledger
+fewer n l = withFree l (cut n (l .free - 1))
+
+abbrev pub more : ℕ → Ledger → Ledger
+more n l = withFree l (cut n (l .free + 1))
+
+-- ---- granting, where n addresses count: the address that the board holds, again; else the lowest free one, and its place is written; else FULL
+unfoldable pub granting : ℕ → Ledger → List ℕ → List ℕ → Sought → Outcome
+granting n l m b (Held k) = outcome (Address (l .first + k)) l m
+granting n l m b (Free k) = outcome (Address (l .first + k)) (fewer n l) (hold m k b)
+granting n l m b Nothing = outcome (Refused Full) l m
 
 unfoldable pub grantedBy : Verdict → Ledger → List ℕ → List ℕ → Outcome
-grantedBy verdict.Accepted l m b = granting l m b (sought b (placesOf l m))
+grantedBy verdict.Accepted l m b = granting (countedOf l) l m b (sought b (placesOf l m))
 grantedBy (verdict.Refused r) l m b = outcome (Refused r) l m
 
 unfoldable pub granted : Ledger → List ℕ → List ℕ → Outcome
 granted l m b = grantedBy (judgedOf l m) l m b
 
--- ---- giving back: the address that the board holds, and its mark is written; else UNKNOWN
-unfoldable pub givingBack : Ledger → List ℕ → Sought → Outcome
-givingBack l m (Held k) = outcome (Address (l .first + k)) l (freed m k)
-givingBack l m (Free k) = outcome (Refused Unknown) l m
-givingBack l m Nothing = outcome (Refused Unknown) l m
+-- ---- giving back, where n addresses count: the address that the board holds, and its mark is written; else UNKNOWN
+unfoldable pub givingBack : ℕ → Ledger → List ℕ → Sought → Outcome
+givingBack n l m (Held k) = outcome (Address (l .first + k)) (more n l) (freed m k)
+givingBack n l m (Free k) = outcome (Refused Unknown) l m
+givingBack n l m Nothing = outcome (Refused Unknown) l m
 
 unfoldable pub givenBackBy : Verdict → Ledger → List ℕ → List ℕ → Outcome
-givenBackBy verdict.Accepted l m b = givingBack l m (sought b (placesOf l m))
+givenBackBy verdict.Accepted l m b = givingBack (countedOf l) l m (sought b (placesOf l m))
 givenBackBy (verdict.Refused r) l m b = outcome (Refused r) l m
 
 unfoldable pub givenBack : Ledger → List ℕ → List ℕ → Outcome
 givenBack l m b = givenBackBy (judgedOf l m) l m b
 
--- ---- how many addresses are free: the memory is only read
-unfoldable pub freeBy : Verdict → Ledger → List ℕ → FreeAnswer
-freeBy verdict.Accepted l m = free.Count (countFree (placesOf l m))
-freeBy (verdict.Refused r) l m = free.Refused r
-
-unfoldable pub freeCount : Ledger → List ℕ → FreeAnswer
-freeCount l m = freeBy (judgedOf l m) l m
+-- ---- how many addresses are free: the kept count, without the memory
+unfoldable pub freeCount : Ledger → FreeAnswer
+freeCount l = cond (inLimits (l .first) (l .size)) (free.Count (l .free)) (free.Refused Range)

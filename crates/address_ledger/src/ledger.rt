@@ -3,12 +3,15 @@ use crate::answer::AddressAnswer;
 use crate::answer::Answered;
 use crate::answer::FreeAnswer;
 use crate::answer::Opened;
+use crate::free::one_less;
+use crate::free::one_more;
 use crate::place::PLACE;
 use crate::place::Sought;
 use crate::place::count_free;
 use crate::place::hold_place;
 use crate::place::seek;
 use crate::range::count;
+use crate::range::in_limits;
 use crate::range::judge;
 use refusal::Refusal;
 use refusal::Verdict;
@@ -17,12 +20,14 @@ ghost use Prim.Native.Nat.{_+_, _<_};
 ghost use lib.ListN.{length};
 ghost use Rattle.address_ledger.specs.Range.{Usable};
 ghost use Rattle.address_ledger.specs.Place.{places, sought};
-ghost use Rattle.address_ledger.specs.Ledger.{opened, outcome, answered, granted, granting, givenBack, givingBack, freeCount};
+ghost use Rattle.address_ledger.specs.Ledger.{opened, outcome, answered, fewer, more, granted, granting, givenBack, givingBack, freeCount};
 
-// A range of short addresses: the first one, and how many there are. Its memory is lent at each call.
+// A range of short addresses, the first one and how many there are, and how many of them are free. Its memory is lent at each call.
 pub struct Ledger {
     pub first: usize,
     pub size: usize,
+    // any number may be handed in: a wrong one changes no other answer
+    pub free: usize,
 }
 
 impl Ledger {
@@ -34,11 +39,19 @@ impl Ledger {
         match verdict {
             Verdict::Refused(refusal) => Opened {
                 verdict: Verdict::Refused(refusal),
-                ledger: Ledger { first: 0, size: 0 },
+                ledger: Ledger {
+                    first: 0,
+                    size: 0,
+                    free: 0,
+                },
             },
             Verdict::Accepted => Opened {
                 verdict: Verdict::Accepted,
-                ledger: Ledger { first, size },
+                ledger: Ledger {
+                    first,
+                    size,
+                    free: count_free(memory, count(first, size)),
+                },
             },
         }
     }
@@ -63,31 +76,27 @@ impl Ledger {
         }
     }
 
-    // How many addresses are free.
-    pub fn free(self, memory: &[u8]) -> FreeAnswer
-        ensures { λ r. ⌜ r ≡ freeCount self (now (memory .entry)) ⌝ }
+    // How many addresses are free, as the ledger keeps it.
+    pub fn free(self) -> FreeAnswer
+        ensures { λ r. ⌜ r ≡ freeCount self ⌝ }
     {
-        let verdict = judge(self.first, self.size, memory.len());
-        match verdict {
-            Verdict::Refused(refusal) => FreeAnswer::Refused(refusal),
-            Verdict::Accepted => FreeAnswer::Count(count_free(
-                memory,
-                count(self.first, self.size),
-            )),
+        if in_limits(self.first, self.size) {
+            return FreeAnswer::Count(self.free);
         }
+        FreeAnswer::Refused(Refusal::Range)
     }
 
     // Grants among the first `count` places.
     fn grant_in(self, count: usize, memory: &mut [u8], board: [u8; 8]) -> Answered
         requires { ⌜ Usable (self .first) (length (now memory)) count ⌝ }
-        ensures { λ r. ⌜ outcome (r .answer) (r .ledger) (now (memory .exit)) ≡ granting self (now (memory .entry)) board (sought board (places count (now (memory .entry)))) ⌝ }
+        ensures { λ r. ⌜ outcome (r .answer) (r .ledger) (now (memory .exit)) ≡ granting count self (now (memory .entry)) board (sought board (places count (now (memory .entry)))) ⌝ }
     {
         let sought = seek(memory, count, &board);
         match sought {
             Sought::Held(place) => self.address(place),
             Sought::Free(place) => {
                 hold_place(memory, place, board);
-                self.address(place)
+                self.fewer(count).address(place)
             }
             Sought::Nothing => self.refused(Refusal::Full),
         }
@@ -96,16 +105,38 @@ impl Ledger {
     // Gives back among the first `count` places.
     fn give_back_in(self, count: usize, memory: &mut [u8], board: [u8; 8]) -> Answered
         requires { ⌜ Usable (self .first) (length (now memory)) count ⌝ }
-        ensures { λ r. ⌜ outcome (r .answer) (r .ledger) (now (memory .exit)) ≡ givingBack self (now (memory .entry)) (sought board (places count (now (memory .entry)))) ⌝ }
+        ensures { λ r. ⌜ outcome (r .answer) (r .ledger) (now (memory .exit)) ≡ givingBack count self (now (memory .entry)) (sought board (places count (now (memory .entry)))) ⌝ }
     {
         let sought = seek(memory, count, &board);
         match sought {
             Sought::Held(place) => {
                 memory[PLACE * place] = 0;
-                self.address(place)
+                self.more(count).address(place)
             }
             Sought::Free(_) => self.refused(Refusal::Unknown),
             Sought::Nothing => self.refused(Refusal::Unknown),
+        }
+    }
+
+    // The ledger with one free address less.
+    fn fewer(self, count: usize) -> Ledger
+        ensures { λ r. ⌜ r ≡ fewer count self ⌝ }
+    {
+        Ledger {
+            first: self.first,
+            size: self.size,
+            free: one_less(self.free, count),
+        }
+    }
+
+    // The ledger with one free address more.
+    fn more(self, count: usize) -> Ledger
+        ensures { λ r. ⌜ r ≡ more count self ⌝ }
+    {
+        Ledger {
+            first: self.first,
+            size: self.size,
+            free: one_more(self.free, count),
         }
     }
 

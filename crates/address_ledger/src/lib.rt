@@ -1,5 +1,6 @@
 // The address ledger of a shift: which board holds which short address of a range, kept in lent memory of nine bytes an address.
 mod answer;
+mod free;
 mod ledger;
 mod place;
 mod range;

@@ -11,7 +11,7 @@ use Rattle.refusal.specs.declared.Refusal.{Refusal}
 use Rattle.refusal.specs.declared.Refusal.the-variants.{Unknown}
 use Rattle.address_ledger.specs.Place.{Place, places, lowest, heldBy, isFree, sought, freed}
 use Rattle.address_ledger.specs.Range.{counted}
-use Rattle.address_ledger.specs.Ledger.{ledgerOf, granting, granted, givingBack, givenBack}
+use Rattle.address_ledger.specs.Ledger.{granting, granted, givingBack, givenBack}
 use Rattle.address_ledger.specs.declared.answer.AddressAnswer.the-variants.{Address, Refused}
 use Rattle.address_ledger.specs.declared.place.Sought.{Sought}
 use Rattle.address_ledger.specs.declared.place.Sought.the-variants.{Held, Free, Nothing}
@@ -21,9 +21,9 @@ use Rattle.address_ledger.proofs.Found.{held-is, free-is, nothing-is}
 use Rattle.address_ledger.proofs.Calls.{grant-accepted, back-accepted}
 use Rattle.address_ledger_laws.specs.History.{gives, Holding, listed, taken, Moment, step, after}
 use Rattle.address_ledger_laws.specs.Laws.{FreedAgain}
-use Rattle.address_ledger_laws.proofs.Bytes.{places-freed, cleared, cleared-free}
+use Rattle.address_ledger_laws.proofs.Bytes.{places-freed, cleared, cleared-is}
 use Rattle.address_ledger_laws.proofs.Holders.{free-nobody, lowest-set}
-use Rattle.address_ledger_laws.proofs.Histories.{Agrees, plain, lists, gives-agrees, after-agrees}
+use Rattle.address_ledger_laws.proofs.Histories.{rightLedger, Agrees, plain, lists, gives-agrees, after-agrees}
 
 -- a board that holds none is granted the lowest free address
 module _ (first size : ℕ) (s : Moment) (a : Agrees first size s) (c : List ℕ) (y : listed c (s .holding) ≡ false)
@@ -34,7 +34,7 @@ module _ (first size : ℕ) (s : Moment) (a : Agrees first size s) (c : List ℕ
       (sym (lists first (counted first size) c (s .memory) (s .holding) (a .tells)) ∙ y)
 
   new-by : (x : Sought) → x ≡ sought c (places (counted first size) (s .memory))
-      → granting (ledgerOf first size) (s .memory) c x .answer ≡ Address (first + lowest isFree (places (counted first size) (s .memory)))
+      → granting (counted first size) (rightLedger first size (s .memory)) (s .memory) c x .answer ≡ Address (first + lowest isFree (places (counted first size) (s .memory)))
   unfolding granting
   new-by (Held k) x =
       let i = held-is c (places (counted first size) (s .memory)) k x in
@@ -46,7 +46,7 @@ module _ (first size : ℕ) (s : Moment) (a : Agrees first size s) (c : List ℕ
 
   new : granted (s .ledger) (s .memory) c .answer ≡ Address (first + lowest isFree (places (counted first size) (s .memory)))
   new =
-      rw (plain first size s a, ← grant-accepted (ledgerOf first size) (s .memory) c (a .accepted) (counted first size) refl _ refl)
+      rw (plain first size s a, ← grant-accepted (rightLedger first size (s .memory)) (s .memory) c (a .accepted) (counted first size) refl _ refl)
       (new-by _ refl)
 
 -- memory in which address a was freed
@@ -55,13 +55,9 @@ record Freed (first n : ℕ) (m : List ℕ) (a : ℕ) : Type 0 where
   below : a < first + n
   lower : lowest isFree (places n m) ≤ a - first
 
-cleared-is : (l : List ℕ) → isFree (cleared l) ≡ true
-unfolding isFree
-cleared-is l = rw (cleared-free l)
-
 module _ (first size : ℕ) (s : Moment) (g : Agrees first size s) (b : List ℕ) (a : ℕ) where
-  freed-by : (x : Sought) → x ≡ sought b (places (counted first size) (s .memory)) → givingBack (ledgerOf first size) (s .memory) x .answer ≡ Address a
-      → Freed first (counted first size) (givingBack (ledgerOf first size) (s .memory) x .memory) a
+  freed-by : (x : Sought) → x ≡ sought b (places (counted first size) (s .memory)) → givingBack (counted first size) (rightLedger first size (s .memory)) (s .memory) x .answer ≡ Address a
+      → Freed first (counted first size) (givingBack (counted first size) (rightLedger first size (s .memory)) (s .memory) x .memory) a
   unfolding givingBack
   freed-by (Held k) x e =
       let n = counted first size in
@@ -80,7 +76,7 @@ module _ (first size : ℕ) (s : Moment) (g : Agrees first size s) (b : List ℕ
       → Freed first (counted first size) (step first size s (gives b) .memory) a
   unfolding step
   freed-in e =
-      let d = back-accepted (ledgerOf first size) (s .memory) b (g .accepted) (counted first size) refl _ refl in
+      let d = back-accepted (rightLedger first size (s .memory)) (s .memory) b (g .accepted) (counted first size) refl _ refl in
       rw (plain first size s g, ← d) (freed-by _ refl (rw (plain first size s g, ← d) at e))
 
 module _ (first size : ℕ) (s : Moment) (g : Agrees first size s) (c : List ℕ) (y : listed c (s .holding) ≡ false) (a : ℕ)

@@ -137,8 +137,8 @@ unfolding givingBack
 unknown-by l m b f n q e r o (Held k) s =
     let i = held-is b (places n m) k s in
     absurd (omega (arith, i .0, i .1, none-held m b n e r o, length-places n m))
-unknown-by l m b f n q e r o (Free k) s = sym (back-accepted l m b f n q _ (ap (λ (s : Sought). givingBack l m s) s))
-unknown-by l m b f n q e r o Nothing s = sym (back-accepted l m b f n q _ (ap (λ (s : Sought). givingBack l m s) s))
+unknown-by l m b f n q e r o (Free k) s = sym (back-accepted l m b f n q _ (ap (λ (s : Sought). givingBack n l m s) s))
+unknown-by l m b f n q e r o Nothing s = sym (back-accepted l m b f n q _ (ap (λ (s : Sought). givingBack n l m s) s))
 
 pub any-memory : AnyMemory
 unfolding AnyMemory granting givingBack
@@ -146,9 +146,9 @@ any-memory l m b e f =
     let n = counted (l .first) (l .size) in
     let r = usable (l .first) (l .size) (length m) f (counted (l .first) (l .size)) refl .room in
     record {
-      same-again = λ k h. sym (grant-accepted l m b f n refl _ (ap (λ (s : Sought). granting l m b s) (found-held m b n e r k h)));
-      lowest-free = λ o k h. sym (grant-accepted l m b f n refl _ (ap (λ (s : Sought). granting l m b s) (found-free m b n e r o k h)));
-      full = λ o h. sym (grant-accepted l m b f n refl _ (ap (λ (s : Sought). granting l m b s) (found-nothing m b n e r o h)));
-      given-back = λ k h. sym (back-accepted l m b f n refl _ (ap (λ (s : Sought). givingBack l m s) (found-held m b n e r k h)));
+      same-again = λ k h. sym (grant-accepted l m b f n refl _ (ap (λ (s : Sought). granting n l m b s) (found-held m b n e r k h)));
+      lowest-free = λ o k h. sym (grant-accepted l m b f n refl _ (ap (λ (s : Sought). granting n l m b s) (found-free m b n e r o k h)));
+      full = λ o h. sym (grant-accepted l m b f n refl _ (ap (λ (s : Sought). granting n l m b s) (found-nothing m b n e r o h)));
+      given-back = λ k h. sym (back-accepted l m b f n refl _ (ap (λ (s : Sought). givingBack n l m s) (found-held m b n e r k h)));
       unknown = λ o. unknown-by l m b f n refl e r o _ refl;
     }

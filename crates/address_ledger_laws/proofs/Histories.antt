@@ -13,26 +13,30 @@ use Rattle.refusal.specs.declared.Refusal.the-variants.{Full, Unknown}
 use Rattle.refusal.specs.declared.Verdict.the-variants.{Accepted}
 use Rattle.address_ledger.specs.Place.{Place, placeAt, places, lowest, heldBy, isFree, countFree, sought, hold, freed}
 use Rattle.address_ledger.specs.Range.{judged, counted}
-use Rattle.address_ledger.specs.Ledger.{Outcome, outcome, ledgerOf, opened, granting, granted, givingBack, givenBack, freeCount}
+use Rattle.address_ledger.specs.Ledger.{Outcome, outcome, ledgerOf, fewer, more, opened, granting, granted, givingBack, givenBack, freeCount}
 use Rattle.address_ledger.specs.declared.answer.AddressAnswer.{AddressAnswer}
 use Rattle.address_ledger.specs.declared.answer.AddressAnswer.the-variants.{Address, Refused}
 use Rattle.address_ledger.specs.declared.ledger.Ledger.{Ledger}
 use Rattle.address_ledger.specs.declared.answer.FreeAnswer.the-variants as free
 use Rattle.address_ledger.specs.declared.place.Sought.{Sought}
 use Rattle.address_ledger.specs.declared.place.Sought.the-variants.{Held, Free, Nothing}
-use Rattle.address_ledger.proofs.Judged.{usable}
+use Rattle.address_ledger.proofs.Judged.{usable, within-limits}
 use Rattle.address_ledger.proofs.Scan.{length-places}
 use Rattle.address_ledger.proofs.Found.{held-is, free-is, nothing-is}
-use Rattle.address_ledger.proofs.Calls.{open-accepted, grant-accepted, back-accepted, free-accepted}
+use Rattle.address_ledger.proofs.Calls.{open-accepted, grant-accepted, back-accepted, free-within}
 use Rattle.address_ledger_laws.specs.History.{Call, opens, asks, gives, counts, Holding, listed, addressOf, enter, strike, taken, afterAsk, afterGive, Moment, step, run, after, wholeBoards, Begins}
 use Rattle.address_ledger_laws.specs.Laws.{HeldAndFree, OneHolder, SameAgain, FreedAgain}
-use Rattle.address_ledger_laws.proofs.Bytes.{length-hold, places-hold, length-freed, places-freed, cleared, cleared-free}
+use Rattle.address_ledger_laws.proofs.Bytes.{length-hold, places-hold, length-freed, places-freed, cleared, cleared-free, cleared-is}
+use Rattle.address_ledger_laws.proofs.Counting.{count-less, count-more}
 use Rattle.address_ledger_laws.proofs.Holders.{heldFrom, listed-held, strike-held, enter-held, held-and-free, one-holder, address-held, free-nobody, lowest-set}
 use Rattle.address_ledger_laws.proofs.Standing.{stands}
 
 -- the ledger that opening gives
-pub opened-is : (first size : ℕ) (m : List ℕ) → Accepted ≡ judged first size (length m) → opened first size m .ledger ≡ ledgerOf first size
-opened-is first size m f = rw (← open-accepted first size m f)
+abbrev pub rightLedger : ℕ → ℕ → List ℕ → Ledger
+rightLedger first size m = ledgerOf first size (countFree (places (counted first size) m))
+
+pub opened-is : (first size : ℕ) (m : List ℕ) → Accepted ≡ judged first size (length m) → opened first size m .ledger ≡ rightLedger first size m
+opened-is first size m f = rw (← open-accepted first size m f (counted first size) refl (countFree (places (counted first size) m)) refl)
 
 -- the history lists a board exactly where a place is held by it
 pub lists : (first n : ℕ) (b m : List ℕ) (hs : List Holding) → hs ≡ heldFrom first (places n m) → listed b hs ≡ ltb (lowest (heldBy b) (places n m)) n
@@ -49,11 +53,11 @@ module _ (first size : ℕ) (b m : List ℕ) (hs : List Holding) (f : Accepted �
   room : 9 * counted first size ≤ length m
   room = usable first size (length m) f (counted first size) refl .room
 
-  still : (m′ : List ℕ) → length m′ ≡ length m → ledgerOf first size ≡ opened first size m′ .ledger
+  still : (m′ : List ℕ) → length m′ ≡ length m → rightLedger first size m′ ≡ opened first size m′ .ledger
   still m′ w = sym (opened-is first size m′ (rw w f))
 
   ask-held : (k : ℕ) → Held k ≡ sought b (places (counted first size) m)
-      → Told first size m (λ (r : AddressAnswer). afterAsk b r hs) (outcome (Address (first + k)) (ledgerOf first size) m)
+      → Told first size m (λ (r : AddressAnswer). afterAsk b r hs) (outcome (Address (first + k)) (rightLedger first size m) m)
   unfolding afterAsk
   ask-held k s =
       let i = held-is b (places (counted first size) m) k s in
@@ -61,7 +65,7 @@ module _ (first size : ℕ) (b m : List ℕ) (hs : List Holding) (f : Accepted �
       record { long = refl; right = still m refl; tells = rw (lists first (counted first size) b m hs t, lt-ltb _ _ w) t }
 
   ask-free : length b ≡ 8 → (k : ℕ) → Free k ≡ sought b (places (counted first size) m)
-      → Told first size m (λ (r : AddressAnswer). afterAsk b r hs) (outcome (Address (first + k)) (ledgerOf first size) (hold m k b))
+      → Told first size m (λ (r : AddressAnswer). afterAsk b r hs) (outcome (Address (first + k)) (fewer (counted first size) (rightLedger first size m)) (hold m k b))
   unfolding afterAsk
   ask-free e k s =
       let n = counted first size in
@@ -72,28 +76,30 @@ module _ (first size : ℕ) (b m : List ℕ) (hs : List Holding) (f : Accepted �
       let g = length-hold m b k (omega (arith, room)) e in
       record {
         long = g;
-        right = still (hold m k b) g;
+        right =
+            ap (λ (x : ℕ). ledgerOf first size x) (rw (places-hold n k m b w room e, i .0) (count-less n b (places n m) p (omega (arith, i .0, i .1 .0))))
+            ∙ still (hold m k b) g;
         tells =
             rw (lists first (counted first size) b m hs t, le-ltb _ _ o, t, places-hold n k m b w room e, i .0)
             (enter-held first b (places n m) (omega (arith, i .0)));
       }
 
-  ask-nothing : Told first size m (λ (r : AddressAnswer). afterAsk b r hs) (outcome (Refused Full) (ledgerOf first size) m)
+  ask-nothing : Told first size m (λ (r : AddressAnswer). afterAsk b r hs) (outcome (Refused Full) (rightLedger first size m) m)
   unfolding afterAsk
   ask-nothing = record { long = refl; right = still m refl; tells = t }
 
   ask-by : length b ≡ 8 → (s : Sought) → s ≡ sought b (places (counted first size) m)
-      → Told first size m (λ (r : AddressAnswer). afterAsk b r hs) (granting (ledgerOf first size) m b s)
+      → Told first size m (λ (r : AddressAnswer). afterAsk b r hs) (granting (counted first size) (rightLedger first size m) m b s)
   unfolding granting
   ask-by e (Held k) s = ask-held k s
   ask-by e (Free k) s = ask-free e k s
   ask-by e Nothing s = ask-nothing
 
-  asked : length b ≡ 8 → Told first size m (λ (r : AddressAnswer). afterAsk b r hs) (granted (ledgerOf first size) m b)
-  asked e = rw (← grant-accepted (ledgerOf first size) m b f (counted first size) refl _ refl) (ask-by e _ refl)
+  asked : length b ≡ 8 → Told first size m (λ (r : AddressAnswer). afterAsk b r hs) (granted (rightLedger first size m) m b)
+  asked e = rw (← grant-accepted (rightLedger first size m) m b f (counted first size) refl _ refl) (ask-by e _ refl)
 
   give-held : (k : ℕ) → Held k ≡ sought b (places (counted first size) m)
-      → Told first size m (λ (r : AddressAnswer). afterGive b r hs) (outcome (Address (first + k)) (ledgerOf first size) (freed m k))
+      → Told first size m (λ (r : AddressAnswer). afterGive b r hs) (outcome (Address (first + k)) (more (counted first size) (rightLedger first size m)) (freed m k))
   unfolding afterGive
   give-held k s =
       let n = counted first size in
@@ -103,25 +109,28 @@ module _ (first size : ℕ) (b m : List ℕ) (hs : List Holding) (f : Accepted �
       let g = length-freed m k in
       record {
         long = g;
-        right = still (freed m k) g;
+        right =
+            ap (λ (x : ℕ). ledgerOf first size x)
+            (rw (places-freed n k m w room, i .0) (count-more n b (cleared (drop (9 * lowest (heldBy b) (places n m)) m)) (places n m) p (cleared-is (drop (9 * lowest (heldBy b) (places n m)) m)) (omega (arith, i .0, i .1))))
+            ∙ still (freed m k) g;
         tells =
             rw (t, places-freed n k m w room, i .0)
             (strike-held first b (cleared (drop (9 * lowest (heldBy b) (places n m)) m)) (places n m) (cleared-free (drop (9 * lowest (heldBy b) (places n m)) m)) (omega (arith, i .0, i .1)));
       }
 
-  give-nothing : Told first size m (λ (r : AddressAnswer). afterGive b r hs) (outcome (Refused Unknown) (ledgerOf first size) m)
+  give-nothing : Told first size m (λ (r : AddressAnswer). afterGive b r hs) (outcome (Refused Unknown) (rightLedger first size m) m)
   unfolding afterGive
   give-nothing = record { long = refl; right = still m refl; tells = t }
 
   give-by : (s : Sought) → s ≡ sought b (places (counted first size) m)
-      → Told first size m (λ (r : AddressAnswer). afterGive b r hs) (givingBack (ledgerOf first size) m s)
+      → Told first size m (λ (r : AddressAnswer). afterGive b r hs) (givingBack (counted first size) (rightLedger first size m) m s)
   unfolding givingBack
   give-by (Held k) s = give-held k s
   give-by (Free k) s = give-nothing
   give-by Nothing s = give-nothing
 
-  gave : Told first size m (λ (r : AddressAnswer). afterGive b r hs) (givenBack (ledgerOf first size) m b)
-  gave = rw (← back-accepted (ledgerOf first size) m b f (counted first size) refl _ refl) (give-by _ refl)
+  gave : Told first size m (λ (r : AddressAnswer). afterGive b r hs) (givenBack (rightLedger first size m) m b)
+  gave = rw (← back-accepted (rightLedger first size m) m b f (counted first size) refl _ refl) (give-by _ refl)
 
 -- a moment at which the history and the places tell the same
 pub record Agrees (first size : ℕ) (s : Moment) : Type 0 where
@@ -129,7 +138,7 @@ pub record Agrees (first size : ℕ) (s : Moment) : Type 0 where
   pub right : s .ledger ≡ opened first size (s .memory) .ledger
   pub tells : s .holding ≡ heldFrom first (places (counted first size) (s .memory))
 
-pub plain : (first size : ℕ) (s : Moment) → Agrees first size s → s .ledger ≡ ledgerOf first size
+pub plain : (first size : ℕ) (s : Moment) → Agrees first size s → s .ledger ≡ rightLedger first size (s .memory)
 plain first size s a = a .right ∙ opened-is first size (s .memory) (a .accepted)
 
 asks-agrees : (first size : ℕ) (s : Moment) (b : List ℕ) → length b ≡ 8 → Agrees first size s → Agrees first size (step first size s (asks b))
@@ -182,10 +191,10 @@ module _ (first size : ℕ) (s : Moment) (a : Agrees first size s) where
       rw (a .tells)
       (held-and-free first (places (counted first size) (s .memory)) ∙ length-places (counted first size) (s .memory))
 
-  answered : freeCount (s .ledger) (s .memory) ≡ free.Count (countFree (places (counted first size) (s .memory)))
+  answered : freeCount (s .ledger) ≡ free.Count (countFree (places (counted first size) (s .memory)))
   answered =
       rw (plain first size s a)
-      (sym (free-accepted (ledgerOf first size) (s .memory) [] (a .accepted) (counted first size) refl (countFree (places (counted first size) (s .memory))) refl))
+      (sym (free-within (rightLedger first size (s .memory)) (sym (within-limits first size (length (s .memory)) (a .accepted)))))
 
 pub held-plus-free : HeldAndFree
 held-plus-free =
@@ -206,7 +215,8 @@ no-two-boards =
 
 module _ (first size : ℕ) (s : Moment) (a : Agrees first size s) (b : List ℕ) where
   same-by : listed b (s .holding) ≡ true → (x : Sought) → x ≡ sought b (places (counted first size) (s .memory))
-      → granting (ledgerOf first size) (s .memory) b x ≡ outcome (Address (addressOf b (s .holding))) (ledgerOf first size) (s .memory)
+      → granting (counted first size) (rightLedger first size (s .memory)) (s .memory) b x
+      ≡ outcome (Address (addressOf b (s .holding))) (rightLedger first size (s .memory)) (s .memory)
   unfolding granting
   same-by y (Held k) x =
       let n = counted first size in
@@ -236,7 +246,7 @@ module _ (first size : ℕ) (s : Moment) (a : Agrees first size s) (b : List ℕ
   same : listed b (s .holding) ≡ true
       → granted (s .ledger) (s .memory) b ≡ outcome (Address (addressOf b (s .holding))) (s .ledger) (s .memory)
   same y =
-      rw (plain first size s a, ← grant-accepted (ledgerOf first size) (s .memory) b (a .accepted) (counted first size) refl _ refl)
+      rw (plain first size s a, ← grant-accepted (rightLedger first size (s .memory)) (s .memory) b (a .accepted) (counted first size) refl _ refl)
       (same-by y _ refl)
 
 pub same-again : SameAgain

@@ -1,8 +1,11 @@
 pub mod Bytes
 pub mod Holders
+pub mod Counting
 pub mod Standing
 pub mod Histories
 pub mod Again
 pub mod Contents
 pub mod Refusals
+pub mod Kept
 pub mod Played
+pub mod OnlyAddresses

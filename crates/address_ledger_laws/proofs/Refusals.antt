@@ -11,7 +11,7 @@ use Rattle.refusal.specs.declared.Verdict.{Verdict}
 use Rattle.refusal.specs.declared.Verdict.the-variants as verdict
 use Rattle.address_ledger.specs.Place.{Place, heldBy, isFree, has, sought}
 use Rattle.address_ledger.specs.Range.{inLimits, judged}
-use Rattle.address_ledger.specs.Ledger.{Outcome, placesOf, judgedOf, emptyLedger, openedBy, opened, granting, grantedBy, granted, givingBack, givenBackBy, givenBack, freeBy, freeCount}
+use Rattle.address_ledger.specs.Ledger.{Outcome, countedOf, placesOf, judgedOf, emptyLedger, openedBy, opened, granting, grantedBy, granted, givingBack, givenBackBy, givenBack, freeCount}
 use Rattle.address_ledger.specs.declared.ledger.Ledger.{Ledger}
 use Rattle.address_ledger.specs.declared.place.Sought.{Sought}
 use Rattle.address_ledger.specs.declared.place.Sought.the-variants.{Held, Free, Nothing}
@@ -26,33 +26,35 @@ record Left (l : Ledger) (m : List ℕ) (o : Outcome) : Type 0 where
 accepted-not : (r : Refusal) → verdict.Accepted ≡ verdict.Refused r → ⊥
 accepted-not r e = let z : _≡_ {A = ℕ} 0 1 = cc in omega arith
 
-module _ (l : Ledger) (m b : List ℕ) (r : Refusal) where
-  grant-found : (s : Sought) → addressVerdict (granting l m b s .answer) ≡ verdict.Refused r → Left l m (granting l m b s)
+module _ (n : ℕ) (l : Ledger) (m b : List ℕ) (r : Refusal) where
+  grant-found : (s : Sought) → addressVerdict (granting n l m b s .answer) ≡ verdict.Refused r → Left l m (granting n l m b s)
   unfolding granting
   grant-found (Held k) e = absurd (accepted-not r e)
   grant-found (Free k) e = absurd (accepted-not r e)
   grant-found Nothing e = record { value = refl; ledger = refl; memory = refl }
 
-  grant-left : (v : Verdict) → addressVerdict (grantedBy v l m b .answer) ≡ verdict.Refused r → Left l m (grantedBy v l m b)
-  unfolding grantedBy
-  grant-left verdict.Accepted e = grant-found (sought b (placesOf l m)) e
-  grant-left (verdict.Refused x) e = record { value = refl; ledger = refl; memory = refl }
-
-  back-found : (s : Sought) → addressVerdict (givingBack l m s .answer) ≡ verdict.Refused r → Left l m (givingBack l m s)
+  back-found : (s : Sought) → addressVerdict (givingBack n l m s .answer) ≡ verdict.Refused r → Left l m (givingBack n l m s)
   unfolding givingBack
   back-found (Held k) e = absurd (accepted-not r e)
   back-found (Free k) e = record { value = refl; ledger = refl; memory = refl }
   back-found Nothing e = record { value = refl; ledger = refl; memory = refl }
 
+module _ (l : Ledger) (m b : List ℕ) (r : Refusal) where
+  grant-left : (v : Verdict) → addressVerdict (grantedBy v l m b .answer) ≡ verdict.Refused r → Left l m (grantedBy v l m b)
+  unfolding grantedBy
+  grant-left verdict.Accepted e = grant-found (countedOf l) l m b r (sought b (placesOf l m)) e
+  grant-left (verdict.Refused x) e = record { value = refl; ledger = refl; memory = refl }
+
   back-left : (v : Verdict) → addressVerdict (givenBackBy v l m b .answer) ≡ verdict.Refused r → Left l m (givenBackBy v l m b)
   unfolding givenBackBy
-  back-left verdict.Accepted e = back-found (sought b (placesOf l m)) e
+  back-left verdict.Accepted e = back-found (countedOf l) l m b r (sought b (placesOf l m)) e
   back-left (verdict.Refused x) e = record { value = refl; ledger = refl; memory = refl }
 
-  free-left : (v : Verdict) → freeVerdict (freeBy v l m) ≡ verdict.Refused r → freeValue (freeBy v l m) ≡ 0
-  unfolding freeBy
-  free-left verdict.Accepted e = absurd (accepted-not r e)
-  free-left (verdict.Refused x) e = refl
+free-left : (l : Ledger) (r : Refusal) (x : Bool) → inLimits (l .first) (l .size) ≡ x → freeVerdict (freeCount l) ≡ verdict.Refused r
+    → freeValue (freeCount l) ≡ 0
+unfolding freeCount
+free-left l r true q e = absurd (accepted-not r (rw q at e))
+free-left l r false q e = rw q
 
 open-left : (first size : ℕ) (m : List ℕ) (r : Refusal) (v : Verdict) → openedBy v first size m .verdict ≡ verdict.Refused r
     → openedBy v first size m .ledger ≡ emptyLedger
@@ -61,7 +63,7 @@ open-left first size m r verdict.Accepted e = absurd (accepted-not r e)
 open-left first size m r (verdict.Refused x) e = refl
 
 untouched : (c : LedgerCall) (l : Ledger) (m : List ℕ) (r : Refusal) → perform c l m .verdict ≡ verdict.Refused r → Untouched c l m (perform c l m)
-unfolding perform opened granted givenBack freeCount
+unfolding perform opened granted givenBack
 untouched (opening first size) l m r e =
     record { value = refl; ledger = open-left first size m r (judged first size (length m)) e; memory = refl }
 untouched (asking b) l m r e =
@@ -70,11 +72,11 @@ untouched (asking b) l m r e =
 untouched (returning b) l m r e =
     let p = back-left l m b r (judgedOf l m) e in
     record { value = p .value; ledger = p .ledger; memory = p .memory }
-untouched counting l m r e = record { value = free-left l m m r (judgedOf l m) e; ledger = refl; memory = refl }
+untouched counting l m r e = record { value = free-left l r _ refl e; ledger = refl; memory = refl }
 
 -- ---- the numbers
 grant-own : (l : Ledger) (m b : List ℕ) (x y : Bool) → has (heldBy b) (placesOf l m) ≡ x → has isFree (placesOf l m) ≡ y
-    → verdictNumber (addressVerdict (granting l m b (sought b (placesOf l m)) .answer))
+    → verdictNumber (addressVerdict (granting (countedOf l) l m b (sought b (placesOf l m)) .answer))
     ≡ cond (has (heldBy b) (placesOf l m) || has isFree (placesOf l m)) 0 17
 unfolding granting sought
 grant-own l m b true y p q = rw p
@@ -82,7 +84,7 @@ grant-own l m b false true p q = rw (p, q)
 grant-own l m b false false p q = rw (p, q)
 
 back-own : (l : Ledger) (m b : List ℕ) (x y : Bool) → has (heldBy b) (placesOf l m) ≡ x → has isFree (placesOf l m) ≡ y
-    → verdictNumber (addressVerdict (givingBack l m (sought b (placesOf l m)) .answer)) ≡ cond (has (heldBy b) (placesOf l m)) 0 18
+    → verdictNumber (addressVerdict (givingBack (countedOf l) l m (sought b (placesOf l m)) .answer)) ≡ cond (has (heldBy b) (placesOf l m)) 0 18
 unfolding givingBack sought
 back-own l m b true y p q = rw p
 back-own l m b false true p q = rw (p, q)
@@ -110,18 +112,17 @@ module _ (l : Ledger) (m : List ℕ) where
   number-return b true false e f = rw (e, f)
   number-return b false q e f = rw e
 
-  number-count : (p q : Bool) → inLimits (l .first) (l .size) ≡ p → leb (9 * l .size) (length m) ≡ q
+  number-count : (p : Bool) → inLimits (l .first) (l .size) ≡ p
       → verdictNumber (perform counting l m .verdict) ≡ refusalNumber counting l m
-  unfolding perform freeCount freeBy judged refusalNumber
-  number-count true true e f = rw (e, f)
-  number-count true false e f = rw (e, f)
-  number-count false q e f = rw e
+  unfolding perform freeCount refusalNumber
+  number-count true e = rw e
+  number-count false e = rw e
 
 numbers : (c : LedgerCall) (l : Ledger) (m : List ℕ) → verdictNumber (perform c l m .verdict) ≡ refusalNumber c l m
 numbers (opening first size) l m = number-open l m first size _ _ refl refl
 numbers (asking b) l m = number-ask l m b _ _ refl refl
 numbers (returning b) l m = number-return l m b _ _ refl refl
-numbers counting l m = number-count l m _ _ refl refl
+numbers counting l m = number-count l m _ refl
 
 pub refusals : Demand1
 refusals = record { untouched = untouched; numbers = numbers }

@@ -7,7 +7,7 @@ use Rattle.refusal.specs.declared.Refusal.the-variants.{Full, Unknown}
 use Rattle.refusal.specs.declared.Verdict.the-variants.{Accepted}
 use Rattle.address_ledger.specs.Place.{hold, freed}
 use Rattle.address_ledger.specs.Range.{judged, counted}
-use Rattle.address_ledger.specs.Ledger.{outcome, granted, givenBack}
+use Rattle.address_ledger.specs.Ledger.{outcome, fewer, more, granted, givenBack}
 use Rattle.address_ledger.specs.declared.answer.AddressAnswer.the-variants.{Address, Refused}
 use Rattle.address_ledger.specs.declared.ledger.Ledger.{Ledger}
 
@@ -30,9 +30,9 @@ NoneAt P n = (k : ℕ) → k < n → P k → ⊥
 
 pub record LowestMatches (l : Ledger) (m b : List ℕ) (n : ℕ) : Type 0 where
   pub same-again : (k : ℕ) → LowestAt (HeldAt m b) n k → granted l m b ≡ outcome (Address (l .first + k)) l m
-  pub lowest-free : NoneAt (HeldAt m b) n → (k : ℕ) → LowestAt (FreeAt m) n k → granted l m b ≡ outcome (Address (l .first + k)) l (hold m k b)
+  pub lowest-free : NoneAt (HeldAt m b) n → (k : ℕ) → LowestAt (FreeAt m) n k → granted l m b ≡ outcome (Address (l .first + k)) (fewer n l) (hold m k b)
   pub full : NoneAt (HeldAt m b) n → NoneAt (FreeAt m) n → granted l m b ≡ outcome (Refused Full) l m
-  pub given-back : (k : ℕ) → LowestAt (HeldAt m b) n k → givenBack l m b ≡ outcome (Address (l .first + k)) l (freed m k)
+  pub given-back : (k : ℕ) → LowestAt (HeldAt m b) n k → givenBack l m b ≡ outcome (Address (l .first + k)) (more n l) (freed m k)
   pub unknown : NoneAt (HeldAt m b) n → givenBack l m b ≡ outcome (Refused Unknown) l m
 
 unfoldable pub AnyMemory : Type 0

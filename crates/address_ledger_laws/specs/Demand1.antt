@@ -61,7 +61,7 @@ perform (asking b) l m =
 perform (returning b) l m =
     performed (addressVerdict (givenBack l m b .answer)) (addressValue (givenBack l m b .answer)) (givenBack l m b .ledger)
     (givenBack l m b .memory)
-perform counting l m = performed (freeVerdict (freeCount l m)) (freeValue (freeCount l m)) l m
+perform counting l m = performed (freeVerdict (freeCount l)) (freeValue (freeCount l)) l m
 
 -- a ledger that was not opened is the empty one; every other call hands the ledger back
 abbrev pub ledgerLeft : LedgerCall → Ledger → Ledger
@@ -100,9 +100,16 @@ ownNumber (asking b) l m = cond (has (heldBy b) (placesOf l m) || has isFree (pl
 ownNumber (returning b) l m = cond (has (heldBy b) (placesOf l m)) 0 18
 ownNumber counting l m = 0
 
+-- ROOM is not asked of the question how many are free, to which no memory is lent
+abbrev pub roomNumber : LedgerCall → Ledger → List ℕ → ℕ
+roomNumber (opening first size) l m = cond (leb (9 * size) (length m)) 0 12
+roomNumber (asking b) l m = cond (leb (9 * l .size) (length m)) (ownNumber (asking b) l m) 12
+roomNumber (returning b) l m = cond (leb (9 * l .size) (length m)) (ownNumber (returning b) l m) 12
+roomNumber counting l m = 0
+
 -- RANGE, ROOM, then the call's own
 unfoldable pub refusalNumber : LedgerCall → Ledger → List ℕ → ℕ
-refusalNumber c l m = cond (inLimits (firstOf c l) (sizeOf c l)) (cond (leb (9 * sizeOf c l) (length m)) (ownNumber c l m) 12) 13
+refusalNumber c l m = cond (inLimits (firstOf c l) (sizeOf c l)) (roomNumber c l m) 13
 
 pub record Demand1 : Type 0 where
   pub untouched : (c : LedgerCall) (l : Ledger) (m : List ℕ) (r : Refusal) → perform c l m .verdict ≡ verdict.Refused r → Untouched c l m (perform c l m)

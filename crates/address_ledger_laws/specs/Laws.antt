@@ -17,7 +17,7 @@ pub record HeldAndFree : Type 0 where
   pub all : (first size : ℕ) (m : List ℕ) (cs : List Call) → Begins first size m cs
       → length (after first size m cs .holding) + countFree (places (counted first size) (after first size m cs .memory)) ≡ counted first size
   pub answered : (first size : ℕ) (m : List ℕ) (cs : List Call) → Begins first size m cs
-      → freeCount (after first size m cs .ledger) (after first size m cs .memory)
+      → freeCount (after first size m cs .ledger)
       ≡ Count (countFree (places (counted first size) (after first size m cs .memory)))
 
 -- ---- no two boards hold one address, and at its place stand mark 1 and the board

@@ -1,5 +1,7 @@
 pub mod History
 pub mod Laws
 pub mod AnyMemory
+pub mod Addresses
+pub mod Counts
 pub mod Demand1
 pub mod Shift

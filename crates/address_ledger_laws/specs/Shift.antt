@@ -44,4 +44,4 @@ pub record Shift : Type 0 where
       day .holding
       ≡ record { board = board 10; address = 0x1000 } ∷ record { board = board 13; address = 0x1001 } ∷ record { board = board 12; address = 0x1002 } ∷ []
   pub memory : day .memory ≡ (1 ∷ board 10) ++ ((1 ∷ board 13) ++ ((1 ∷ board 12) ++ (7 ∷ [])))
-  pub left : freeCount (day .ledger) (day .memory) ≡ Count 0
+  pub left : freeCount (day .ledger) ≡ Count 0

@@ -1,6 +1,8 @@
 // What holds of a ledger over whole histories of its calls, on any memory, and of every refusal: claims about the definitions of `address_ledger`.
 ghost use Rattle.address_ledger_laws.specs.Laws.{HeldAndFree, OneHolder, SameAgain, FreedAgain};
 ghost use Rattle.address_ledger_laws.specs.AnyMemory.{AnyMemory};
+ghost use Rattle.address_ledger_laws.specs.Addresses.{AddressesAlone, TwoAlone};
+ghost use Rattle.address_ledger_laws.specs.Counts.{RightStays, AnyCount, Moves};
 ghost use Rattle.address_ledger_laws.specs.Demand1.{Demand1};
 ghost use Rattle.address_ledger_laws.specs.Shift.{Shift};
 
@@ -27,6 +29,33 @@ pub fn freed_address_again()
 // On memory with any contents the lowest matching place counts.
 pub fn lowest_matching_place()
     ensures { λ _. ⌜ AnyMemory ⌝ }
+{}
+
+// FFFE and FFFF are never granted: only addresses count.
+pub fn addresses_alone()
+    ensures { λ _. ⌜ AddressesAlone ⌝ }
+{
+    short_address::laws();
+}
+
+// A range of FFFE and FFFF opens and has nothing to grant.
+pub fn two_alone()
+    ensures { λ _. ⌜ TwoAlone ⌝ }
+{}
+
+// Every call leaves a right count of free addresses right.
+pub fn right_count_stays()
+    ensures { λ _. ⌜ RightStays ⌝ }
+{}
+
+// A wrong count changes no other answer.
+pub fn any_count_answers_alike()
+    ensures { λ _. ⌜ AnyCount ⌝ }
+{}
+
+// The count moves by one where an address changes hands, and is then cut.
+pub fn count_moves_by_one()
+    ensures { λ _. ⌜ Moves ⌝ }
 {}
 
 // A refusal has its number and changes nothing (demand 1).

@@ -32,6 +32,7 @@ module _ (s : List ℕ) (p a : ℕ) (i : p + a ≤ length s) (b : Bool) (n : ℕ
   whole = length-take-le a (drop p s) (omega (arith, length-drop p s))
 
   pub address-short : ¬ (a ≡ 2) → addressConcluded unfit ≡ addressConcluded (addressBy (take a (drop p s)) b n)
+  unfolding isAddress
   address-short h = rw (whole, ne-eqb a 2 h)
 
   two : a ≡ 2 → take a (drop p s) ≡ getD s p 0 ∷ getD s (p + 1) 0 ∷ []

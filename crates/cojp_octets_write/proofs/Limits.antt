@@ -14,7 +14,7 @@ use Rattle.link_key.specs.Key.{inLimits}
 use Rattle.link_key_set.specs.KeySet.{keysOf}
 use Rattle.link_key_usage.specs.Usage.{listed}
 use Rattle.link_key.specs.declared.Key.{Key}
-use Rattle.short_address.specs.Address.{isReserved}
+use Rattle.short_address.specs.Address.{isReserved, isAddress}
 use Rattle.logic_facts.specs.Tests.{both-left, both-right}
 use Rattle.link_key_set.proofs.KeySets.{set-allowed, allowed-few, allowed-in-limits}
 use Rattle.cojp.specs.Octets.{bytesIn}
@@ -140,6 +140,7 @@ fine-lease true n h = fine-item (unsigned n) 9 (omega (arith, length-head 0 n, e
 fine-lease false n h = fine-missing 9
 
 pub fine-address : (p : AddressParameter) → addressInRange p ≡ true → p .value .lease < 2 ^ 64 → Fine (addressPairs p) 1 14
+unfolding isAddress
 fine-address p h l =
     let s = p .value .bytes in
     let lease = leaseItems (p .value .leased) (p .value .lease) in

@@ -1,6 +1,8 @@
 // How answers are written.
 use address_ledger::AddressAnswer;
 use address_ledger::FreeAnswer;
+use address_ledger::Ledger;
+use short_address::bytes_of;
 use tool_notation::put_refusal;
 use tool_text::output::Buffer;
 use tool_text::output::Output;
@@ -9,7 +11,7 @@ use tool_text::output::Output;
 pub fn put_address(out: Output, name: &[u8], answer: AddressAnswer, buffer: &mut Buffer) -> Output {
     match answer {
         AddressAnswer::Address(address) => {
-            let bytes = [(address / 256) as u8, (address % 256) as u8];
+            let bytes = bytes_of(address);
             out.text(name, buffer).octets(&bytes, buffer)
         }
         AddressAnswer::Refused(refusal) => put_refusal(out, refusal, buffer),
@@ -29,6 +31,16 @@ fn put_count(out: Output, name: &[u8], answer: FreeAnswer, buffer: &mut Buffer) 
         FreeAnswer::Count(count) => out.text(name, buffer).number(count as u64, buffer),
         FreeAnswer::Refused(refusal) => put_refusal(out, refusal, buffer),
     }
+}
+
+// The ledger, as first=4096 size=3 free=2.
+pub fn put_ledger(out: Output, ledger: Ledger, buffer: &mut Buffer) -> Output {
+    let out = out.text(b"first=", buffer)
+        .number(ledger.first as u64, buffer);
+    let out = out.text(b" size=", buffer)
+        .number(ledger.size as u64, buffer);
+    out.text(b" free=", buffer)
+        .number(ledger.free as u64, buffer)
 }
 
 // So many bytes of the memory from a place on, as h'cafe'.

@@ -2,12 +2,12 @@
 use crate::answer::put_address;
 use crate::answer::put_bytes;
 use crate::answer::put_free;
+use crate::answer::put_ledger;
 use crate::answer::put_opened;
 use crate::memory::Memory;
 use crate::memory::clear;
 use crate::memory::write_bytes;
 use address_ledger::Answered;
-use address_ledger::FreeAnswer;
 use address_ledger::Ledger;
 use ledger_commands::Board;
 use ledger_commands::Bytes;
@@ -87,7 +87,7 @@ impl Fixture {
             Order::Open(first, size) => self.open(first, size, memory, out, buffer),
             Order::Grant => self.grant(board, memory, out, buffer),
             Order::Back => self.give_back(board, memory, out, buffer),
-            Order::Free => self.left(put_free(out, self.free(memory), buffer)),
+            Order::Free => self.left(put_free(out, self.ledger.free(), buffer)),
             Order::Lend(count) => self.lend(count, out, buffer),
             Order::Read(place, count) => self.left(put_bytes(out, memory, place, count, buffer)),
             Order::Write(place, count) => {
@@ -98,6 +98,8 @@ impl Fixture {
                 clear(memory);
                 self.left(out.text(b"set", buffer))
             }
+            Order::Count(count) => self.counted(count).left(out.text(b"set", buffer)),
+            Order::Show => self.left(put_ledger(out, self.ledger, buffer)),
             Order::Wrong(fault) => self.left(put_fault(out, fault, buffer)),
             Order::Nothing => self.left(out),
         }
@@ -116,6 +118,13 @@ impl Fixture {
         }
     }
 
+    // The fixture with another count kept in its ledger.
+    fn counted(self, count: usize) -> Fixture {
+        let mut ledger = self.ledger;
+        ledger.free = count;
+        self.with(ledger)
+    }
+
     // A refused opening leaves the ledger as it was.
     fn open(
         self,
@@ -132,13 +141,9 @@ impl Fixture {
             Verdict::Refused(refusal) => self.left(put_refusal(out, refusal, buffer)),
             Verdict::Accepted => {
                 let fixture = self.with(opened.ledger);
-                fixture.left(put_opened(out, fixture.free(memory), buffer))
+                fixture.left(put_opened(out, fixture.ledger.free(), buffer))
             }
         }
-    }
-
-    fn free(self, memory: &[u8]) -> FreeAnswer {
-        self.ledger.free(tool_text::first(memory, self.lent))
     }
 
     fn grant(self, board: [u8; 8], memory: &mut [u8], out: Output, buffer: &mut Buffer) -> Done {

@@ -28,7 +28,7 @@ fn call(played: Played, memory: &mut [u8], kind: u8, board: [u8; 8]) -> Played {
     match kind {
         0 => with_answer(played.ledger.grant(memory, board), played.sum),
         1 => with_answer(played.ledger.give_back(memory, board), played.sum),
-        _ => with_count(played, memory),
+        _ => with_count(played),
     }
 }
 
@@ -41,11 +41,11 @@ fn with_answer(answered: Answered, sum: u64) -> Played {
     }
 }
 
-fn with_count(played: Played, memory: &[u8]) -> Played {
+fn with_count(played: Played) -> Played {
     let ledger = played.ledger;
     Played {
         ledger,
-        sum: added(played.sum, free_value(ledger.free(memory))),
+        sum: added(played.sum, free_value(ledger.free())),
     }
 }
 

@@ -24,6 +24,9 @@ pub enum Order {
     Read(usize, usize),
     Write(usize, usize),
     Clear,
+    // the kept count
+    Count(usize),
+    Show,
 }
 
 // What a line asks for; nothing, if it is empty or a comment.
@@ -44,6 +47,9 @@ pub fn order_of(line: Line) -> Order {
     if command.is(b"clear") {
         return bare_order(line, Order::Clear);
     }
+    if command.is(b"show") {
+        return bare_order(line, Order::Show);
+    }
     number_order(line)
 }
 
@@ -61,6 +67,9 @@ fn number_order(line: Line) -> Order {
     }
     if command.is(b"write") {
         return write_order(line);
+    }
+    if command.is(b"count") {
+        return count_order(line);
     }
     Order::Wrong(Fault::Command)
 }
@@ -118,6 +127,17 @@ fn lend_order(line: Line) -> Order {
         return Order::Wrong(Fault::Number);
     }
     Order::Lend(count as usize)
+}
+
+fn count_order(line: Line) -> Order {
+    if line.words != 2 {
+        return Order::Wrong(Fault::Command);
+    }
+    let first = line.first;
+    let Decimal::Number(count) = first else {
+        return Order::Wrong(Fault::Number);
+    };
+    Order::Count(count as usize)
 }
 
 fn read_order(line: Line) -> Order {

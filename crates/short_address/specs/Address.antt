@@ -1,14 +1,24 @@
--- Short addresses of IEEE 802.15.4: two bytes, the high one first.
-use Prim.Native.Nat.{ℕ}
-use mathlib.Core.Bool.{Bool, not, _&&_, _||_}
-use mathlib.Core.List.{List}
-use lib.Dec.{eqb}
+-- What a short address is. IEEE 802.15.4 keeps two of the values of two bytes for itself: FFFF is the broadcast address, and FFFE says that no short
+-- address was allocated.
+use Prim.Native.Nat.{ℕ, _<_, _/_, _%_}
+use mathlib.Core.Path.{_≡_}
+use mathlib.Core.Bool.{Bool, not, _&&_}
+use mathlib.Core.List.{List, [], _∷_}
+use lib.Dec.{eqb, leb, ltb}
 use lib.ListN.{length, getD}
 
--- FFFF is the broadcast address, and FFFE says that no short address was allocated (document 02, request 2)
+-- the bytes FF FE and FF FF, in the payload's order
 abbrev pub isReserved : List ℕ → Bool
-isReserved s = (eqb (getD s 0 0) 0xff && (eqb (getD s 1 0) 0xfe || eqb (getD s 1 0) 0xff))
+isReserved s = (eqb (getD s 0 0) 0xff && leb 0xfe (getD s 1 0))
 
 -- any other two bytes are an address
-abbrev pub isAddress : List ℕ → Bool
+unfoldable pub isAddress : List ℕ → Bool
 isAddress s = (eqb (length s) 2 && not (isReserved s))
+
+-- the bytes of the address with this number: the high one first
+unfoldable pub bytesOf : ℕ → List ℕ
+bytesOf n = n / 256 ∷ n % 256 ∷ []
+
+-- by their numbers, the addresses are 0000 to FFFD
+pub record AddressLaws : Type 0 where
+  pub numbers : (n : ℕ) → n < 0x10000 → isAddress (bytesOf n) ≡ ltb n 0xfffe

@@ -24,9 +24,11 @@ holds-requires c κs = search needs
 
 returns : tie.Need-returns Inv-loop μ-loop
 returns c =
-    let a = c .before .before .before .before .before .args in
+    let start = c .before .before .before .before .before in
     let turn = c .before .before .before .loop in
-    found-held (a .board .now) (a .count) (a .memory .now) (turn .free) (turn .i) (turn .inv) (c .before .before .loop-test .taken)
+    let loop-test = c .before .before .loop-test in
+    let a = start .args in
+    found-held (a .board .now) (a .count) (a .memory .now) (turn .free) (turn .i) (turn .inv) (loop-test .taken)
     (sym (c .before .holds .ensures) ∙ c .if1 .taken)
 
 mul-lower : tie.Need-mul-lower Inv-loop μ-loop
@@ -46,21 +48,27 @@ loop-less c = search needs
 
 loop-again : tie.Need-loop-again Inv-loop μ-loop
 loop-again c =
-    let a = c .before .before .before .before .before .before .before .args in
+    let start = c .before .before .before .before .before .before .before in
     let turn = c .before .before .before .before .before .loop in
-    walked-more (a .board .now) (a .count) (a .memory .now) (turn .free) (turn .i) (turn .inv) (c .before .before .before .before .loop-test .taken)
-    (sym (c .before .before .before .holds .ensures) ∙ c .before .before .if1 .left) (c .lower .result) (c .lower .ensures)
+    let loop-test = c .before .before .before .before .loop-test in
+    let holds = c .before .before .before .holds in
+    let if1 = c .before .before .if1 in
+    let a = start .args in
+    walked-more (a .board .now) (a .count) (a .memory .now) (turn .free) (turn .i) (turn .inv) (loop-test .taken)
+    (sym (holds .ensures) ∙ if1 .left) (c .lower .result) (c .lower .ensures)
 
 returns-2 : tie.Need-returns-2 Inv-loop μ-loop
 returns-2 c =
-    let a = c .before .before .before .before .args in
+    let start = c .before .before .before .before in
     let turn = c .before .before .loop in
+    let a = start .args in
     found-free (a .board .now) (a .count) (a .memory .now) (turn .free) (turn .i) (turn .inv) (c .before .loop-test .left) (c .if2 .taken)
 
 returns-3 : tie.Need-returns-3 Inv-loop μ-loop
 returns-3 c =
-    let a = c .before .before .before .before .args in
+    let start = c .before .before .before .before in
     let turn = c .before .before .loop in
+    let a = start .args in
     found-nothing (a .board .now) (a .count) (a .memory .now) (turn .free) (turn .i) (turn .inv) (c .before .loop-test .left) (c .if2 .left)
 
 pub seek-spec : {M : Type 1} → statement M

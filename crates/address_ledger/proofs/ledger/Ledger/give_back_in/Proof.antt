@@ -1,7 +1,8 @@
 -- What was found decides, as in the definition, and a place that was found is one of the counted ones.
-use mathlib.Core.Path.{sym, _∙_}
+use mathlib.Core.Path.{sym, ap, _∙_}
 use native.Mathlib.Omega.{arith}
 use borrow.Author.Needs.{needs}
+use Rattle.address_ledger.specs.declared.ledger.Ledger.{Ledger}
 use Rattle.address_ledger.proofs.Found.{held-within}
 use Rattle.address_ledger.proofs.Calls.{back-held, back-free, back-nothing}
 use Rattle.address_ledger.proofs.ledger.Ledger.give_back_in.Statement.{statement}
@@ -15,22 +16,33 @@ enum-known-sought c = search needs
 
 mul-memory : tie.Need-mul-memory
 mul-memory c =
-    let a = c .before .before .before .before .before .before .before .args in
+    let start = c .before .before .before .before .before .before .before in
+    let seek = c .before .before .before .seek in
+    let a = start .args in
     let told = c .before .sought .given in
-    let within = held-within (a .t4) (a .count) (a .memory .now) (told .0 .0) (sym (told .1) ∙ c .before .before .before .seek .ensures) in
-    record { fits = omega (arith, c .before .before .before .before .before .before .before .pre .size) }
+    let within = held-within (a .t4) (a .count) (a .memory .now) (told .0 .0) (sym (told .1) ∙ seek .ensures) in
+    record { fits = omega (arith, start .pre .size) }
 
 slice-write-memory : tie.Need-slice-write-memory
 slice-write-memory c =
-    let a = c .before .before .before .before .before .before .before .args in
+    let start = c .before .before .before .before .before .before .before in
+    let seek = c .before .before .before .seek in
+    let a = start .args in
     let told = c .before .sought .given in
-    omega (arith, c .before .before .before .before .before .before .before .pre .room, held-within (a .t4) (a .count) (a .memory .now) (told .0 .0) (sym (told .1) ∙ c .before .before .before .seek .ensures))
+    omega (arith, start .pre .room, held-within (a .t4) (a .count) (a .memory .now) (told .0 .0) (sym (told .1) ∙ seek .ensures))
+
+more-requires : tie.Need-more-requires
+more-requires c κs = search needs
 
 address-requires : tie.Need-address-requires
 address-requires c κs =
-    let a = c .before .before .before .before .before .before .before .args in
-    let told = c .before .sought .given in
-    omega (arith, c .before .before .before .before .before .before .before .pre .end, held-within (a .t4) (a .count) (a .memory .now) (told .0 .0) (sym (told .1) ∙ c .before .before .before .seek .ensures))
+    let start = c .before .before .before .before .before .before .before .before in
+    let seek = c .before .before .before .before .seek in
+    let sought = c .before .before .sought in
+    let a = start .args in
+    let told = sought .given in
+    let within = held-within (a .t4) (a .count) (a .memory .now) (told .0 .0) (sym (told .1) ∙ seek .ensures) in
+    omega (arith, start .pre .end, ap (λ (l : Ledger). l .first) (c .more .ensures))
 
 enum-told : tie.Need-enum-told
 enum-told c = search needs
@@ -49,25 +61,33 @@ same-length c = search needs
 
 returns : tie.Need-returns
 returns c =
-    let a = c .before .before .before .before .before .before .before .before .args in
-    let told = c .before .before .sought .given in
-    back-held (a .self) (a .memory .now) (a .t4) _ (c .address .result) (told .0 .0) (sym (told .1) ∙ c .before .before .before .before .seek .ensures) (c .address .ensures)
+    let start = c .before .before .before .before .before .before .before .before .before in
+    let seek = c .before .before .before .before .before .seek in
+    let sought = c .before .before .before .sought in
+    let a = start .args in
+    let told = sought .given in
+    back-held (a .count) (a .self) (a .memory .now) (a .t4) _ (c .address .result) (told .0 .0) (sym (told .1) ∙ seek .ensures)
+    (c .before .more .result) (c .before .more .ensures) (c .address .ensures)
 
 same-length-2 : tie.Need-same-length-2
 same-length-2 c = search needs
 
 returns-2 : tie.Need-returns-2
 returns-2 c =
-    let a = c .before .before .before .before .before .before .before .args in
-    back-free (a .self) (a .memory .now) (a .t4) _ (c .refused .result) _ (sym (c .before .enum-told .given .1) ∙ c .before .before .before .seek .ensures) (c .refused .ensures)
+    let start = c .before .before .before .before .before .before .before in
+    let seek = c .before .before .before .seek in
+    let a = start .args in
+    back-free (a .count) (a .self) (a .memory .now) (a .t4) _ (c .refused .result) _ (sym (c .before .enum-told .given .1) ∙ seek .ensures) (c .refused .ensures)
 
 same-length-3 : tie.Need-same-length-3
 same-length-3 c = search needs
 
 returns-3 : tie.Need-returns-3
 returns-3 c =
-    let a = c .before .before .before .before .before .before .before .args in
-    back-nothing (a .self) (a .memory .now) (a .t4) _ (c .refused2 .result) (sym (c .before .enum-told2 .given .1) ∙ c .before .before .before .seek .ensures) (c .refused2 .ensures)
+    let start = c .before .before .before .before .before .before .before in
+    let seek = c .before .before .before .seek in
+    let a = start .args in
+    back-nothing (a .count) (a .self) (a .memory .now) (a .t4) _ (c .refused2 .result) (sym (c .before .enum-told2 .given .1) ∙ seek .ensures) (c .refused2 .ensures)
 
 pub give-back-in-spec : {M : Type 1} → statement M
 give-back-in-spec =
@@ -77,6 +97,7 @@ give-back-in-spec =
     enum-known-sought
     mul-memory
     slice-write-memory
+    more-requires
     address-requires
     enum-told
     refused-requires

@@ -1,7 +1,8 @@
 -- What was found decides, as in the definition, and a place that was found is one of the counted ones.
-use mathlib.Core.Path.{sym, _∙_}
+use mathlib.Core.Path.{sym, ap, _∙_}
 use native.Mathlib.Omega.{arith}
 use borrow.Author.Needs.{needs}
+use Rattle.address_ledger.specs.declared.ledger.Ledger.{Ledger}
 use Rattle.address_ledger.proofs.Found.{held-within, free-within}
 use Rattle.address_ledger.proofs.Calls.{grant-held, grant-free, grant-nothing}
 use Rattle.address_ledger.proofs.ledger.Ledger.grant_in.Statement.{statement}
@@ -15,25 +16,37 @@ enum-known-sought c = search needs
 
 address-requires : tie.Need-address-requires
 address-requires c κs =
-    let a = c .before .before .before .before .before .before .before .args in
+    let start = c .before .before .before .before .before .before .before in
+    let seek = c .before .before .before .seek in
+    let a = start .args in
     let told = c .before .sought .given in
-    omega (arith, c .before .before .before .before .before .before .before .pre .end, held-within (a .t4) (a .count) (a .memory .now) (told .0 .0) (sym (told .1) ∙ c .before .before .before .seek .ensures))
+    omega (arith, start .pre .end, held-within (a .t4) (a .count) (a .memory .now) (told .0 .0) (sym (told .1) ∙ seek .ensures))
 
 enum-known-sought-2 : tie.Need-enum-known-sought-2
 enum-known-sought-2 c = search needs
 
 hold-place-requires : tie.Need-hold-place-requires
 hold-place-requires c κs =
-    let a = c .before .before .before .before .before .before .before .before .args in
-    let told = c .before .before .sought2 .given in
-    let within = free-within (a .t4) (a .count) (a .memory .now) (told .0 .0) (sym (told .1) ∙ c .before .before .before .before .seek .ensures) in
-    (omega (arith, c .before .before .before .before .before .before .before .before .pre .size), omega (arith, c .before .before .before .before .before .before .before .before .pre .room))
+    let start = c .before .before .before .before .before .before .before .before in
+    let seek = c .before .before .before .before .seek in
+    let sought2 = c .before .before .sought2 in
+    let a = start .args in
+    let told = sought2 .given in
+    let within = free-within (a .t4) (a .count) (a .memory .now) (told .0 .0) (sym (told .1) ∙ seek .ensures) in
+    (omega (arith, start .pre .size), omega (arith, start .pre .room))
+
+fewer-requires : tie.Need-fewer-requires
+fewer-requires c κs = search needs
 
 address-requires-2 : tie.Need-address-requires-2
 address-requires-2 c κs =
-    let a = c .before .before .before .before .before .before .before .before .before .before .before .args in
-    let told = c .before .before .before .before .before .sought2 .given in
-    omega (arith, c .before .before .before .before .before .before .before .before .before .before .before .pre .end, free-within (a .t4) (a .count) (a .memory .now) (told .0 .0) (sym (told .1) ∙ c .before .before .before .before .before .before .before .seek .ensures))
+    let start = c .before .before .before .before .before .before .before .before .before .before .before .before in
+    let seek = c .before .before .before .before .before .before .before .before .seek in
+    let sought2 = c .before .before .before .before .before .before .sought2 in
+    let a = start .args in
+    let told = sought2 .given in
+    let within = free-within (a .t4) (a .count) (a .memory .now) (told .0 .0) (sym (told .1) ∙ seek .ensures) in
+    omega (arith, start .pre .end, ap (λ (l : Ledger). l .first) (c .fewer .ensures))
 
 enum-told : tie.Need-enum-told
 enum-told c = search needs
@@ -46,27 +59,36 @@ same-length c = search needs
 
 returns : tie.Need-returns
 returns c =
-    let a = c .before .before .before .before .before .before .before .before .args in
-    let told = c .before .before .sought .given in
-    grant-held (a .self) (a .memory .now) (a .t4) _ (c .address .result) (told .0 .0) (sym (told .1) ∙ c .before .before .before .before .seek .ensures) (c .address .ensures)
+    let start = c .before .before .before .before .before .before .before .before in
+    let seek = c .before .before .before .before .seek in
+    let sought = c .before .before .sought in
+    let a = start .args in
+    let told = sought .given in
+    grant-held (a .count) (a .self) (a .memory .now) (a .t4) _ (c .address .result) (told .0 .0) (sym (told .1) ∙ seek .ensures) (c .address .ensures)
 
 same-length-2 : tie.Need-same-length-2
 same-length-2 c = search needs
 
 returns-2 : tie.Need-returns-2
 returns-2 c =
-    let a = c .before .before .before .before .before .before .before .before .before .before .before .before .args in
-    let told = c .before .before .before .before .before .before .sought2 .given in
-    grant-free (a .self) (a .memory .now) (a .t4) _ (c .address2 .result) (told .0 .0) (sym (told .1) ∙ c .before .before .before .before .before .before .before .before .seek .ensures) (c .address2 .ensures)
-    _ (c .before .before .before .hold-place .ensures)
+    let start = c .before .before .before .before .before .before .before .before .before .before .before .before .before in
+    let seek = c .before .before .before .before .before .before .before .before .before .seek in
+    let sought2 = c .before .before .before .before .before .before .before .sought2 in
+    let hold-place = c .before .before .before .before .hold-place in
+    let a = start .args in
+    let told = sought2 .given in
+    grant-free (a .count) (a .self) (a .memory .now) (a .t4) _ (c .address2 .result) (told .0 .0) (sym (told .1) ∙ seek .ensures)
+    (c .before .fewer .result) (c .before .fewer .ensures) (c .address2 .ensures) _ (hold-place .ensures)
 
 same-length-3 : tie.Need-same-length-3
 same-length-3 c = search needs
 
 returns-3 : tie.Need-returns-3
 returns-3 c =
-    let a = c .before .before .before .before .before .before .before .args in
-    grant-nothing (a .self) (a .memory .now) (a .t4) _ (c .refused .result) (sym (c .before .enum-told .given .1) ∙ c .before .before .before .seek .ensures) (c .refused .ensures)
+    let start = c .before .before .before .before .before .before .before in
+    let seek = c .before .before .before .seek in
+    let a = start .args in
+    grant-nothing (a .count) (a .self) (a .memory .now) (a .t4) _ (c .refused .result) (sym (c .before .enum-told .given .1) ∙ seek .ensures) (c .refused .ensures)
 
 pub grant-in-spec : {M : Type 1} → statement M
 grant-in-spec =
@@ -77,6 +99,7 @@ grant-in-spec =
     address-requires
     enum-known-sought-2
     hold-place-requires
+    fewer-requires
     address-requires-2
     enum-told
     refused-requires
