@@ -12,7 +12,7 @@ use Rattle.node.specs.Timing as timing
 use Rattle.node.specs.Delivery as delivery
 use Rattle.node.specs.Frames as frames
 use Rattle.node.specs.declared.delivery.Delivered.{Delivered}
-use Rattle.node.specs.declared.frames.Heard.{Heard}
+use Rattle.node.specs.declared.frames.Reported.{Reported}
 use Rattle.node.specs.declared.node.Node.{Node}
 use Rattle.trace.specs.Night.{Record, newNode, start, joinAnswer, update, verified, poll}
 use Rattle.trace.specs.declared.done.Done.{Done}
@@ -24,8 +24,8 @@ doneBy v switched n = record { verdict = v; switched = switched; node = n }
 abbrev pub doneDelivered : Delivered → Done
 doneDelivered d = doneBy (d .verdict) false (d .node)
 
-abbrev pub doneHeard : Heard → Done
-doneHeard h = doneBy (changeVerdict (h .change)) (hasSwitched (h .change)) (h .node)
+abbrev pub doneReported : Reported → Done
+doneReported h = doneBy (changeVerdict (h .change)) (hasSwitched (h .change)) (h .node)
 
 -- a start is lent 32 bytes
 abbrev pub room : List ℕ
@@ -36,7 +36,7 @@ callOf (newNode role network) n = doneBy (made role network .verdict) false (mad
 callOf (start time timeout) n = doneBy (timing.start n time timeout room .verdict) false (timing.start n time timeout room .node)
 callOf (joinAnswer time payload) n = doneDelivered (delivery.deliver call.JoinAnswer n time payload)
 callOf (update time payload) n = doneDelivered (delivery.deliver call.Update n time payload)
-callOf (verified type identifier) n = doneHeard (frames.verified n type identifier)
+callOf (verified type identifier) n = doneReported (frames.verified n type identifier)
 callOf (poll time) n = doneBy (dueVerdict (timing.poll n time .due)) false (timing.poll n time .node)
 
 -- ---- the calls of a list of records, each on the node as the one before left it
