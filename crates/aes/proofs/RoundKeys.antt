@@ -11,7 +11,7 @@ use Rattle.byte_lists.specs.Xor.{_⊕_}
 use Rattle.byte_lists.specs.Table.{table}
 use Rattle.aes.specs.Field.{subByte, xtime}
 use Rattle.aes.specs.Cipher.{nextKey, roundKeys, rcon}
-use Rattle.aes.specs.Words.{bytesOf, bytesFrom, plus}
+use Rattle.aes.specs.Words.{bytesOf, bytesFrom}
 use Rattle.aes.proofs.Words.{add-bytes, joined}
 
 -- the next round key from the words p to s of k, the substituted word u and the constant's word v

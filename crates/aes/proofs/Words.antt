@@ -13,7 +13,7 @@ use Rattle.byte_lists.specs.Xor.{_⊕_, turn}
 use Rattle.byte_lists.specs.Table.{table}
 use Rattle.aes.specs.Field.{_•_, subByte}
 use Rattle.aes.specs.Cipher.{subBytes, shiftRows, mixColumns, addRoundKey}
-use Rattle.aes.specs.Words.{bytesOf, bytesFrom, turned, plus, spread, part, RoundTable}
+use Rattle.aes.specs.Words.{bytesOf, bytesFrom, turned, plus, spread, part, RoundTable, picked, plain}
 
 byte-of : (k x y : ℕ) → bitXor x y / 2 ^ k % 2 ^ 8 ≡ bitXor (x / 2 ^ k % 2 ^ 8) (y / 2 ^ k % 2 ^ 8)
 byte-of k x y = ap (λ (n : ℕ). n % 2 ^ 8) (xor-shr x y k) ∙ xor-mod (x / 2 ^ k) (y / 2 ^ k) 8
@@ -113,10 +113,6 @@ pub begun : (s k : List ℕ)
 unfolding addRoundKey table
 begun s k = refl
 
--- m of the substituted bytes that ShiftRows puts into one column
-abbrev pub picked : (ℕ → ℕ → ℕ → ℕ → List ℕ) → ℕ → ℕ → ℕ → ℕ → List ℕ
-picked m a b c d = m (subByte (a % 256)) (subByte (b / 256 % 256)) (subByte (c / 65536 % 256)) (subByte (d / 16777216 % 256))
-
 -- the four columns of a round: from the words p to s of the round key and the columns w to z that the code makes of them
 pub columns : (m : ℕ → ℕ → ℕ → ℕ → List ℕ) (a b c d : ℕ) (k : List ℕ) (p q r s w x y z : ℕ)
     → bytesOf p ≡ bytesFrom k 0 → bytesOf q ≡ bytesFrom k 4 → bytesOf r ≡ bytesFrom k 8 → bytesOf s ≡ bytesFrom k 12
@@ -135,9 +131,6 @@ pub rounded : (a b c d : ℕ) (k : List ℕ)
     ≡ addRoundKey (mixColumns (shiftRows (subBytes (bytesOf a ++ bytesOf b ++ bytesOf c ++ bytesOf d)))) k
 unfolding subBytes shiftRows mixColumns addRoundKey table
 rounded a b c d k = refl
-
-abbrev pub plain : ℕ → ℕ → ℕ → ℕ → List ℕ
-plain a b c d = a ∷ b ∷ c ∷ d ∷ []
 
 pub finished : (a b c d : ℕ) (k : List ℕ)
     → plus (picked plain a b c d) (bytesFrom k 0) ++ plus (picked plain b c d a) (bytesFrom k 4)

@@ -1,4 +1,5 @@
--- What is for speed: the state as four words, one for each column, row 0 lowest, and the table that the rounds read. Over FIPS 197's definitions in Field and Cipher.
+-- What is for speed: the state as four words, one for each column, row 0 lowest, and the table that the rounds read.
+-- Over FIPS 197's definitions in Field and Cipher.
 use mathlib.Core.Path.{_≡_}
 use mathlib.Core.List.{List, [], _∷_, _++_}
 use Prim.Native.Nat.{ℕ, _+_, _/_, _%_, _<_}
@@ -30,6 +31,14 @@ plus x y = (getD x 0 0 ⊕ getD y 0 0) ∷ (getD x 1 0 ⊕ getD y 1 0) ∷ (getD
 -- 5.1.3, (5.6): the column of a, b, c and d after MixColumns
 abbrev pub spread : ℕ → ℕ → ℕ → ℕ → List ℕ
 spread a b c d = (2 • a ⊕ 3 • b ⊕ c ⊕ d) ∷ (2 • b ⊕ 3 • c ⊕ d ⊕ a) ∷ (2 • c ⊕ 3 • d ⊕ a ⊕ b) ∷ (2 • d ⊕ 3 • a ⊕ b ⊕ c) ∷ []
+
+-- a column without MixColumns
+abbrev pub plain : ℕ → ℕ → ℕ → ℕ → List ℕ
+plain a b c d = a ∷ b ∷ c ∷ d ∷ []
+
+-- m of the substituted bytes that ShiftRows puts into one column: row r of the r-th of the columns a to d
+abbrev pub picked : (ℕ → ℕ → ℕ → ℕ → List ℕ) → ℕ → ℕ → ℕ → ℕ → List ℕ
+picked m a b c d = m (subByte (a % 256)) (subByte (b / 256 % 256)) (subByte (c / 65536 % 256)) (subByte (d / 16777216 % 256))
 
 -- 5.1.3, (5.6): what a byte s in row 0 adds to its column in MixColumns; in row r it is that, turned r times
 abbrev pub part : ℕ → List ℕ

@@ -1,9 +1,9 @@
 // A column of the state as a word, row 0 in its lowest byte: what the rounds do with four columns at a time.
 ghost use mathlib.Core.Path.{_≡_};
 ghost use mathlib.Core.List.{[], _∷_};
-ghost use Prim.Native.Nat.{_≤_, _/_, _%_};
+ghost use Prim.Native.Nat.{_≤_, _%_};
 ghost use Rattle.aes.specs.Field.{subByte};
-ghost use Rattle.aes.specs.Words.{bytesOf, bytesFrom, turned, RoundTable, spread, plus};
+ghost use Rattle.aes.specs.Words.{bytesOf, bytesFrom, turned, picked, plain, spread, plus, RoundTable};
 
 // Four bytes as a word, the first lowest.
 pub(crate) fn word(a: u8, b: u8, c: u8, d: u8) -> u32
@@ -41,7 +41,7 @@ fn turn_thrice(w: u32) -> u32
 
 // One column after SubBytes, MixColumns and AddRoundKey: a to d are the columns from which ShiftRows takes its rows.
 pub(crate) fn column(t: &[u32; 256], a: u32, b: u32, c: u32, d: u32, k: u32) -> u32
-    ensures { λ r. ⌜ (RoundTable (now (t .entry)) → bytesOf r ≡ plus (spread (subByte (a % 256)) (subByte (b / 256 % 256)) (subByte (c / 65536 % 256)) (subByte (d / 16777216 % 256))) (bytesOf k)) ⌝ }
+    ensures { λ r. ⌜ (RoundTable (now (t .entry)) → bytesOf r ≡ plus (picked spread a b c d) (bytesOf k)) ⌝ }
 {
     t[(a % 256) as usize]
         ^ turn_once(t[(b / 256 % 256) as usize])
@@ -59,7 +59,7 @@ fn substituted(t: &[u32; 256], w: u32) -> u8
 
 // One column after SubBytes and AddRoundKey; a to d as in `column`.
 pub(crate) fn last_column(t: &[u32; 256], a: u32, b: u32, c: u32, d: u32, k: u32) -> u32
-    ensures { λ r. ⌜ (RoundTable (now (t .entry)) → bytesOf r ≡ plus (subByte (a % 256) ∷ subByte (b / 256 % 256) ∷ subByte (c / 65536 % 256) ∷ subByte (d / 16777216 % 256) ∷ []) (bytesOf k)) ⌝ }
+    ensures { λ r. ⌜ (RoundTable (now (t .entry)) → bytesOf r ≡ plus (picked plain a b c d) (bytesOf k)) ⌝ }
 {
     word(
         substituted(t, a),

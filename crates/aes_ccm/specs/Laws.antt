@@ -9,7 +9,7 @@ use Rattle.refusal.specs.declared.Refusal.the-variants.{Seal}
 use Rattle.aes.specs.Cipher.{roundKeys}
 use Rattle.aes_ccm.specs.declared.Written.{Written}
 use Rattle.aes_ccm.specs.Ccm.{sealed, textOf, tag}
-use Rattle.aes_ccm.specs.Plan.{Plan, refuse, emit, Did, numberIn, lengthIn, sealPlan, unsealPlan}
+use Rattle.aes_ccm.specs.Plan.{refuse, emit, Did, numberIn, lengthIn, sealPlan, unsealPlan}
 
 -- c is within the limits, and so are the data a and the destination
 pub record Judged (a c : List ℕ) (room : ℕ) : Type 0 where

@@ -12,12 +12,14 @@ shown-requires c κs = search needs
 
 slice-aggregate-put : tie.Need-slice-aggregate-put
 slice-aggregate-put c =
-    let low = shown-low (c .before .before .before .before .args .right) (length (c .before .before .before .before .args .text .now)) (c .before .shown .result) (c .before .shown .ensures) in
+    let start = c .before .before .before .before in
+    let low = shown-low (start .args .right) (length (start .args .text .now)) (c .before .shown .result) (c .before .shown .ensures) in
     simp length-take (omega arith)
 
 put-requires : tie.Need-put-requires
 put-requires c κs =
-    let low = shown-low (c .before .before .before .before .before .args .right) (length (c .before .before .before .before .before .args .text .now)) (c .before .before .shown .result) (c .before .before .shown .ensures) in
+    let start = c .before .before .before .before .before in
+    let low = shown-low (start .args .right) (length (start .args .text .now)) (c .before .before .shown .result) (c .before .before .shown .ensures) in
     simp length-take (omega arith)
 
 same-length : tie.Need-same-length
@@ -25,16 +27,22 @@ same-length c = search needs
 
 returns : tie.Need-returns
 returns c =
-    let args = c .before .before .before .before .before .before .before .before .before .args in
-    release-done (args .right) (args .text .now) (args .dst .now) (c .before .before .before .put .last .1 .0) _ (c .before .before .before .before .before .before .shown .result) (c .if1 .taken) (c .before .before .before .before .before .before .shown .ensures) refl (c .before .before .before .put .ensures)
+    let at-put = c .before .before .before in
+    let at-shown = at-put .before .before .before in
+    let start = at-shown .before .before .before in
+    let args = start .args in
+    release-done (args .right) (args .text .now) (args .dst .now) (at-put .put .last .1 .0) _ (at-shown .shown .result) (c .if1 .taken) (at-shown .shown .ensures) refl (at-put .put .ensures)
 
 same-length-2 : tie.Need-same-length-2
 same-length-2 c = search needs
 
 returns-2 : tie.Need-returns-2
 returns-2 c =
-    let args = c .before .before .before .before .before .before .before .before .before .args in
-    release-refused (args .right) (args .text .now) (args .dst .now) (c .before .before .before .put .last .1 .0) _ (c .before .before .before .before .before .before .shown .result) (c .if1 .left) (c .before .before .before .before .before .before .shown .ensures) refl (c .before .before .before .put .ensures)
+    let at-put = c .before .before .before in
+    let at-shown = at-put .before .before .before in
+    let start = at-shown .before .before .before in
+    let args = start .args in
+    release-refused (args .right) (args .text .now) (args .dst .now) (at-put .put .last .1 .0) _ (at-shown .shown .result) (c .if1 .left) (at-shown .shown .ensures) refl (at-put .put .ensures)
 
 pub release-spec : {M : Type 1} → statement M
 release-spec =

@@ -11,7 +11,8 @@ returns c =
 
 returns-2 : tie.Need-returns-2
 returns-2 c =
-    let args = c .before .before .before .before .before .args in
+    let start = c .before .before .before .before .before in
+    let args = start .args in
     done.seal-text-long (args .key) (args .nonce) (args .associated .now) (args .text .now) (args .dst .now) (c .before .if1 .left) (c .if2 .taken)
 
 add-if3 : tie.Need-add-if3
@@ -19,7 +20,8 @@ add-if3 c = search needs
 
 returns-3 : tie.Need-returns-3
 returns-3 c =
-    let args = c .before .before .before .before .before .before .args in
+    let start = c .before .before .before .before .before .before in
+    let args = start .args in
     done.seal-no-room (args .key) (args .nonce) (args .associated .now) (args .text .now) (args .dst .now) (c .before .before .if1 .left) (c .before .if2 .left) (c .if3 .taken)
 
 round-table-requires : tie.Need-round-table-requires
@@ -57,14 +59,21 @@ same-length c = search needs
 
 returns-4 : tie.Need-returns-4
 returns-4 c =
-    let args = c .before .before .before .before .before .before .before .before .before .before .before .before .before .before .before .before .before .before .before .before .args in
-    let keys = c .before .before .before .before .before .before .before .before .before .before .before .before .expand in
-    let text = c .before .before .before .before .before .before .before .before .before .crypt-into in
-    let tag = c .before .before .before .before .before .tag-of in
+    let at-tag-of = c .before .before .before .before .before in
+    let at-crypt-into = at-tag-of .before .before .before .before in
+    let at-expand = at-crypt-into .before .before .before in
+    let at-if3 = at-expand .before .before in
+    let at-if2 = at-if3 .before in
+    let at-if1 = at-if2 .before in
+    let start = at-if1 .before .before .before .before in
+    let args = start .args in
+    let keys = at-expand .expand in
+    let text = at-crypt-into .crypt-into in
+    let tag = at-tag-of .tag-of in
     let all = c .before .before .put in
     done.seal-done (args .key) (args .nonce) (args .associated .now) (args .text .now) (args .dst .now)
     (keys .result) (text .last .1 .1 .1 .1 .0) (tag .result) (all .last .1 .0)
-    (c .before .before .before .before .before .before .before .before .before .before .before .before .before .before .before .before .if1 .left) (c .before .before .before .before .before .before .before .before .before .before .before .before .before .before .before .if2 .left) (c .before .before .before .before .before .before .before .before .before .before .before .before .before .before .if3 .left) (keys .ensures) (text .ensures) (tag .ensures) (all .ensures)
+    (at-if1 .if1 .left) (at-if2 .if2 .left) (at-if3 .if3 .left) (keys .ensures) (text .ensures) (tag .ensures) (all .ensures)
 
 pub seal-spec : {M : Type 1} → statement M
 seal-spec =

@@ -14,12 +14,14 @@ returns c =
 
 returns-2 : tie.Need-returns-2
 returns-2 c =
-    let args = c .before .before .before .before .before .args in
+    let start = c .before .before .before .before .before in
+    let args = start .args in
     done.unseal-short (args .key) (args .nonce) (args .associated .now) (args .sealed .now) (args .dst .now) (c .before .if1 .left) (c .if2 .taken)
 
 returns-3 : tie.Need-returns-3
 returns-3 c =
-    let args = c .before .before .before .before .before .before .args in
+    let start = c .before .before .before .before .before .before in
+    let args = start .args in
     done.unseal-long (args .key) (args .nonce) (args .associated .now) (args .sealed .now) (args .dst .now) (c .before .before .if1 .left) (c .before .if2 .left) (c .if3 .taken)
 
 sub-n : tie.Need-sub-n
@@ -84,24 +86,35 @@ slice-aggregate-release c =
 
 release-requires : tie.Need-release-requires
 release-requires c κs =
-    let plain = c .before .before .before .before .before .before .before .before .crypt-into in
+    let at-crypt-into = c .before .before .before .before .before .before .before .before in
+    let at-if4 = at-crypt-into .before .before .before .before .before .before in
+    let plain = at-crypt-into .crypt-into in
     let long : length (plain .last .1 .1 .1 .1 .0) ≡ 256 = plain .kept .1 .1 .1 .1 .0 in
-    simp length-take (omega (arith, c .before .before .before .before .before .before .before .before .before .before .before .before .before .before .if4 .left))
+    simp length-take (omega (arith, at-if4 .if4 .left))
 
 same-length : tie.Need-same-length
 same-length c = search needs
 
 returns-5 : tie.Need-returns-5
 returns-5 c =
-    let args = c .before .before .before .before .before .before .before .before .before .before .before .before .before .before .before .before .before .before .before .before .before .before .before .before .args in
-    let keys = c .before .before .before .before .before .before .before .before .before .before .before .before .before .before .before .expand in
-    let plain = c .before .before .before .before .before .before .before .before .before .before .before .crypt-into in
-    let tag = c .before .before .before .before .before .before .before .tag-of in
-    let right = c .before .before .before .before .before .same-tag in
+    let at-same-tag = c .before .before .before .before .before in
+    let at-tag-of = at-same-tag .before .before in
+    let at-crypt-into = at-tag-of .before .before .before .before in
+    let at-expand = at-crypt-into .before .before .before .before in
+    let at-if4 = at-expand .before .before in
+    let at-if3 = at-if4 .before in
+    let at-if2 = at-if3 .before in
+    let at-if1 = at-if2 .before in
+    let start = at-if1 .before .before .before .before in
+    let args = start .args in
+    let keys = at-expand .expand in
+    let plain = at-crypt-into .crypt-into in
+    let tag = at-tag-of .tag-of in
+    let right = at-same-tag .same-tag in
     let left = c .before .before .release in
     done.unseal-done (args .key) (args .nonce) (args .associated .now) (args .sealed .now) (args .dst .now)
-    (c .before .before .before .before .before .before .before .before .before .before .before .before .before .before .before .before .before .before .before .before .if1 .left) (c .before .before .before .before .before .before .before .before .before .before .before .before .before .before .before .before .before .before .before .if2 .left) (c .before .before .before .before .before .before .before .before .before .before .before .before .before .before .before .before .before .before .if3 .left) (keys .result) (plain .last .1 .1 .1 .1 .0) (tag .result) _ (right .result) (left .result)
-    (left .last .1 .1 .0) (c .before .before .before .before .before .before .before .before .before .before .before .before .before .before .before .before .before .if4 .left) (keys .ensures) (plain .ensures) (tag .ensures) (right .ensures) (left .ensures)
+    (at-if1 .if1 .left) (at-if2 .if2 .left) (at-if3 .if3 .left) (keys .result) (plain .last .1 .1 .1 .1 .0) (tag .result) _ (right .result) (left .result)
+    (left .last .1 .1 .0) (at-if4 .if4 .left) (keys .ensures) (plain .ensures) (tag .ensures) (right .ensures) (left .ensures)
 
 pub unseal-spec : {M : Type 1} → statement M
 unseal-spec =

@@ -2,6 +2,7 @@
 use Prim.Native.Nat.{_-_}
 use Rattle.aes.specs.Words.{stateOf}
 use Rattle.aes.proofs.Rounds.{Rounding, round-begin, round-step, round-all}
+use native.Mathlib.Omega.{arith}
 use borrow.Author.Needs.{needs}
 use Rattle.aes.proofs.cipher.encrypt_by.Statement.{statement}
 use Rattle.aes.proofs.cipher.encrypt_by.Tie as tie
@@ -40,7 +41,7 @@ loop-less : tie.Need-loop-less Inv-loop μ-loop
 loop-less c = search needs
 
 loop-again : tie.Need-loop-again Inv-loop μ-loop
-loop-again c = round-step (c .before .before .before .loop .inv) (c .before .before .loop-test .taken) (c .round .ensures)
+loop-again c = round-step (c .before .before .before .loop .inv) (omega arith) (c .round .ensures)
 
 array-copy-out-last : tie.Need-array-copy-out-last Inv-loop μ-loop
 array-copy-out-last c = search needs
@@ -52,7 +53,12 @@ bytes-of-requires : tie.Need-bytes-of-requires Inv-loop μ-loop
 bytes-of-requires c κs = search needs
 
 returns : tie.Need-returns Inv-loop μ-loop
-returns c = round-all (c .before .before .before .before .before .before .before .args .block) (c .before .before .before .before .before .begin .ensures) (c .before .before .before .before .loop .inv) (c .before .before .before .loop-test .left) (c .before .finish .ensures) (c .bytes-of .ensures)
+returns c =
+    let at-loop-test = c .before .before .before in
+    let at-loop = at-loop-test .before in
+    let at-begin = at-loop .before in
+    let start = at-begin .before .before in
+    round-all (start .args .block) (at-begin .begin .ensures) (at-loop .loop .inv) (at-loop-test .loop-test .left) (c .before .finish .ensures) (c .bytes-of .ensures)
 
 pub encrypt-by-spec : {M : Type 1} → statement M
 encrypt-by-spec =

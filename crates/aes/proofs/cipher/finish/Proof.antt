@@ -1,6 +1,7 @@
 -- As a round, with the bytes unmixed.
 use mathlib.Core.Path.{_∙_}
-use Rattle.aes.proofs.Words.{columns, finished, plain}
+use Rattle.aes.specs.Words.{plain}
+use Rattle.aes.proofs.Words.{columns, finished}
 use borrow.Author.Needs.{needs}
 use Rattle.aes.proofs.cipher.finish.Statement.{statement}
 use Rattle.aes.proofs.cipher.finish.Tie as tie

@@ -23,12 +23,16 @@ word-requires c κs = search needs
 
 returns : tie.Need-returns
 unfolding _⊕_
-returns c = λ holds.
-    let first = c .before .before .before .before .substituted .ensures holds in
-    let second = c .before .before .before .substituted2 .ensures holds in
+returns c =
+    let at-substituted2 = c .before .before .before in
+    let at-substituted = at-substituted2 .before in
+    let start = at-substituted .before in
+    λ holds.
+    let first = at-substituted .substituted .ensures holds in
+    let second = at-substituted2 .substituted2 .ensures holds in
     let third = c .before .before .substituted3 .ensures holds in
     let fourth = c .before .substituted4 .ensures holds in
-    add-bytes (c .word .result) (c .before .before .before .before .before .args .k) (c .word .ensures ∙ column-eq first second third fourth) refl
+    add-bytes (c .word .result) (start .args .k) (c .word .ensures ∙ column-eq first second third fourth) refl
 
 pub last-column-spec : {M : Type 1} → statement M
 last-column-spec =

@@ -30,14 +30,19 @@ bytes-of-requires c κs = search needs
 returns : tie.Need-returns
 unfolding _⊕_
 returns c =
-    let p = c .before .before .before .before .before .before .word-at in
-    let u = c .before .before .before .before .before .substituted-word in
-    let v = c .before .before .before .before .word in
-    let q = c .before .before .before .word-at2 in
+    let at-word-at2 = c .before .before .before in
+    let at-word = at-word-at2 .before in
+    let at-substituted-word = at-word .before in
+    let at-word-at = at-substituted-word .before in
+    let start = at-word-at .before in
+    let p = at-word-at .word-at in
+    let u = at-substituted-word .substituted-word in
+    let v = at-word .word in
+    let q = at-word-at2 .word-at2 in
     let r = c .before .before .word-at3 in
     let s = c .before .word-at4 in
     c .bytes-of .ensures
-    ∙ next-key-bytes (c .before .before .before .before .before .before .before .args .rc) (c .before .before .before .before .before .before .before .args .k) (p .result) (q .result) (r .result) (s .result) (u .result) (v .result)
+    ∙ next-key-bytes (start .args .rc) (start .args .k) (p .result) (q .result) (r .result) (s .result) (u .result) (v .result)
     (p .ensures) (q .ensures) (r .ensures) (s .ensures) (u .ensures) (v .ensures)
 
 pub next-key-spec : {M : Type 1} → statement M

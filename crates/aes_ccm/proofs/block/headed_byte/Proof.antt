@@ -24,7 +24,9 @@ byte-at-requires : tie.Need-byte-at-requires
 byte-at-requires c κs = search needs
 
 returns-3 : tie.Need-returns-3
-returns-3 c = c .byte-at .ensures ∙ headed-rest (c .before .before .before .before .args .a .now) (c .before .before .before .before .args .i) (c .before .before .before .before .pre .0) (c .before .before .if1 .left) (c .before .if2 .left)
+returns-3 c =
+    let start = c .before .before .before .before in
+    c .byte-at .ensures ∙ headed-rest (start .args .a .now) (start .args .i) (start .pre .0) (c .before .before .if1 .left) (c .before .if2 .left)
 
 pub headed-byte-spec : {M : Type 1} → statement M
 headed-byte-spec =

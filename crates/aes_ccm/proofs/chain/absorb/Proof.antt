@@ -34,19 +34,23 @@ loop-less c = search needs
 
 loop-again : tie.Need-loop-again Inv-loop μ-loop
 loop-again c =
-    let args = c .before .before .before .before .before .before .args in
-    let turn = c .before .before .before .before .loop in
+    let at-loop-test = c .before .before .before in
+    let at-loop = at-loop-test .before in
+    let start = at-loop .before .before in
+    let args = start .args in
+    let turn = at-loop .loop in
     let next = c .before .before .block-at in
     let sum = c .before .add-round-key in
     let out = c .encrypt-by in
-    chain-step (args .keys) (turn .y) (sum .result) (out .result) (args .s .now) (turn .at) (next .result) (c .before .before .before .loop-test .taken)
-    (next .ensures) (sum .ensures) (out .ensures (c .before .before .before .before .before .before .pre))
+    chain-step (args .keys) (turn .y) (sum .result) (out .result) (args .s .now) (turn .at) (next .result) (at-loop-test .loop-test .taken)
+    (next .ensures) (sum .ensures) (out .ensures (start .pre))
     ∙ turn .inv
 
 returns : tie.Need-returns Inv-loop μ-loop
 returns c =
+    let start = c .before .before .before in
     let turn = c .before .loop in
-    sym (chain-done (c .before .before .before .args .keys) (turn .y) (c .before .before .before .args .s .now) (turn .at) (c .loop-test .left)) ∙ turn .inv
+    sym (chain-done (start .args .keys) (turn .y) (start .args .s .now) (turn .at) (c .loop-test .left)) ∙ turn .inv
 
 pub absorb-spec : {M : Type 1} → statement M
 absorb-spec =

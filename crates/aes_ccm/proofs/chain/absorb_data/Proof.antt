@@ -22,13 +22,15 @@ encrypt-by-requires c κs = search needs
 
 returns : tie.Need-returns
 returns c =
-    let args = c .before .before .before .before .before .args in
-    let first = c .before .before .before .headed-block in
+    let at-headed-block = c .before .before .before in
+    let start = at-headed-block .before .before in
+    let args = start .args in
+    let first = at-headed-block .headed-block in
     let sum = c .before .before .add-round-key in
     let out = c .before .encrypt-by in
     sym (chain-done (args .keys) (out .result) (args .a .now) 14 (c .if1 .taken))
-    ∙ data-step (args .keys) (args .x) (sum .result) (out .result) (first .result) (args .a .now) (c .before .before .before .before .before .pre .0) (first .ensures) (sum .ensures)
-    (out .ensures (c .before .before .before .before .before .pre .2))
+    ∙ data-step (args .keys) (args .x) (sum .result) (out .result) (first .result) (args .a .now) (start .pre .0) (first .ensures) (sum .ensures)
+    (out .ensures (start .pre .2))
 
 sub-absorb : tie.Need-sub-absorb
 sub-absorb c = search needs
@@ -44,14 +46,18 @@ absorb-requires c κs = search needs
 
 returns-2 : tie.Need-returns-2
 returns-2 c =
-    let args = c .before .before .before .before .before .before .before .args in
-    let a = c .before .before .before .before .before .before .before .args .a .now in
-    let first = c .before .before .before .before .before .headed-block in
-    let sum = c .before .before .before .before .add-round-key in
-    let out = c .before .before .before .encrypt-by in
+    let at-encrypt-by = c .before .before .before in
+    let at-add-round-key = at-encrypt-by .before in
+    let at-headed-block = at-add-round-key .before in
+    let start = at-headed-block .before .before in
+    let args = start .args in
+    let a = start .args .a .now in
+    let first = at-headed-block .headed-block in
+    let sum = at-add-round-key .add-round-key in
+    let out = at-encrypt-by .encrypt-by in
     c .absorb .ensures
     ∙ ap (λ (l : List ℕ). chain (args .keys) (out .result) (blocks l)) (take-all (length a - 14) (drop 14 a) (rw (length-drop 14 a) (omega arith)))
-    ∙ data-step (args .keys) (args .x) (sum .result) (out .result) (first .result) a (c .before .before .before .before .before .before .before .pre .0) (first .ensures) (sum .ensures) (out .ensures (c .before .before .before .before .before .before .before .pre .2))
+    ∙ data-step (args .keys) (args .x) (sum .result) (out .result) (first .result) a (start .pre .0) (first .ensures) (sum .ensures) (out .ensures (start .pre .2))
 
 pub absorb-data-spec : {M : Type 1} → statement M
 absorb-data-spec =

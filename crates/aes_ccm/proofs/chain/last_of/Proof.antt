@@ -16,12 +16,14 @@ absorb-requires c κs = search needs
 
 returns : tie.Need-returns
 returns c =
-    let args = c .before .before .before .before .before .before .args in
+    let at-if1 = c .before .before .before in
+    let start = at-if1 .before .before .before in
+    let args = start .args in
     let first = c .before .before .framed in
     let x = c .before .encrypt-by in
     let y = c .absorb in
-    last-none (args .keys) (args .nonce) (args .a .now) (args .m .now) (first .result) (x .result) (y .result) (c .before .before .before .if1 .taken)
-    (first .ensures) (x .ensures (c .before .before .before .before .before .before .pre .2)) (y .ensures)
+    last-none (args .keys) (args .nonce) (args .a .now) (args .m .now) (first .result) (x .result) (y .result) (at-if1 .if1 .taken)
+    (first .ensures) (x .ensures (start .pre .2)) (y .ensures)
 
 framed-requires-2 : tie.Need-framed-requires-2
 framed-requires-2 c κs = search needs

@@ -1,6 +1,7 @@
 -- Each byte of the tag is the chain's byte with the key stream's first block added.
 use mathlib.Core.Path.{refl, _∙_, ap}
 use Prim.Native.Nat.{_-_}
+use native.Mathlib.Omega.{arith}
 use borrow.Author.Needs.{needs}
 use lib.ListN.{getD}
 use Rattle.byte_lists.specs.Xor.{_⊕_}
@@ -46,17 +47,20 @@ loop-less c = search needs
 
 loop-again : tie.Need-loop-again Inv-loop μ-loop
 unfolding _⊕_
-loop-again c = step (c .before .loop .inv) (c .loop-test .taken) refl
+loop-again c = step (c .before .loop .inv) (omega arith) refl
 
 returns : tie.Need-returns Inv-loop μ-loop
 unfolding stream counter
 returns c =
-    let args = c .before .before .before .before .before .before .before .args in
-    let last = c .before .before .before .before .last-of in
+    let at-framed = c .before .before .before in
+    let at-last-of = at-framed .before in
+    let start = at-last-of .before .before .before in
+    let args = start .args in
+    let last = at-last-of .last-of in
     let zeroth = c .before .before .encrypt-by in
     all (c .before .loop .inv) (c .loop-test .left)
     ∙ tag-bytes (args .keys) (args .nonce) (args .a .now) (args .m .now) (last .result) (zeroth .result) (last .ensures)
-    (zeroth .ensures (c .before .before .before .before .before .before .before .pre .2) ∙ ap (cipher (args .keys)) (c .before .before .before .framed .ensures))
+    (zeroth .ensures (start .pre .2) ∙ ap (cipher (args .keys)) (at-framed .framed .ensures))
 
 pub tag-of-spec : {M : Type 1} → statement M
 tag-of-spec =

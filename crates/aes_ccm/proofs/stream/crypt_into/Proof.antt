@@ -78,10 +78,11 @@ same-length c = long (c .before .loop .inv .0)
 
 returns : tie.Need-returns Inv-loop μ-loop
 returns c =
-    let src = c .before .before .before .before .before .args .src .now in
-    let dst = c .before .before .before .before .before .args .dst .now in
+    let start = c .before .before .before .before .before in
+    let src = start .args .src .now in
+    let dst = start .args .dst .now in
     all (length src) (c .before .loop .inv .0) (omega arith)
-    ∙ ap (λ (l : List ℕ). l ++ drop (length src) dst) (sym (crypt-bytes (c .before .before .laws .ensures) (c .before .before .before .before .before .args .keys) (c .before .before .before .before .before .args .nonce) src))
+    ∙ ap (λ (l : List ℕ). l ++ drop (length src) dst) (sym (crypt-bytes (c .before .before .laws .ensures) (start .args .keys) (start .args .nonce) src))
 
 pub crypt-into-spec : {M : Type 1} → statement M
 crypt-into-spec =

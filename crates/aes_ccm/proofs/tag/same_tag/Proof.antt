@@ -30,7 +30,9 @@ loop-less : tie.Need-loop-less Inv-loop μ-loop
 loop-less c = search needs
 
 loop-again : tie.Need-loop-again Inv-loop μ-loop
-loop-again c = let n : length (c .before .before .before .args .t2) ≡ 8 = search needs in compare-step (c .before .before .loop .inv) (omega arith) (omega arith) (omega arith)
+loop-again c =
+    let start = c .before .before .before in
+    let n : length (start .args .t2) ≡ 8 = search needs in compare-step (c .before .before .loop .inv) (omega arith) (omega arith) (omega arith)
 
 returns : tie.Need-returns Inv-loop μ-loop
 returns c = let n : length (c .before .before .args .t2) ≡ 8 = search needs in compare-end (c .before .loop .inv) (omega arith) (omega arith)
