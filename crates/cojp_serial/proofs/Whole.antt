@@ -56,8 +56,10 @@ one-more h b p (all a t s l) = by-room (ltb 256 (length b + length p)) refl
   where
     limited : h .arrival .arrived ≤ 256
     limited = rw a l
+
     clear : h .arrival .overrun ≡ false
     clear = rw a
+
     by-room : (y : Bool) → ltb 256 (length b + length p) ≡ y → Holds (left (sending p) h) (b ++ p)
     by-room true e =
         let m = ltb-true 256 (length b + length p) e in

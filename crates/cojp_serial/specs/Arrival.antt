@@ -15,8 +15,8 @@ use Rattle.cojp.specs.declared.request.RequestRead.{RequestRead}
 use Rattle.cojp_serial.specs.declared.arrival.Arrival.{Arrival}
 use Rattle.cojp_serial.specs.declared.arrival.Course.{Course}
 use Rattle.cojp_serial.specs.declared.arrival.Course.the-variants.{Outside, Overrun, Ended, Open}
-use Rattle.cojp_serial.specs.declared.ending.ConfigurationEnd.{ConfigurationEnd}
-use Rattle.cojp_serial.specs.declared.ending.RequestEnd.{RequestEnd}
+use Rattle.cojp_serial.specs.declared.configuration.ConfigurationEnd.{ConfigurationEnd}
+use Rattle.cojp_serial.specs.declared.request.RequestEnd.{RequestEnd}
 use Rattle.cojp_serial.specs.declared.parts.PartAnswer.{PartAnswer}
 
 abbrev pub nothingArrived : Arrival

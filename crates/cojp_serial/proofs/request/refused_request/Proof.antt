@@ -1,7 +1,7 @@
 -- The parts are as their functions promise.
 use borrow.Author.Needs.{needs}
-use Rattle.cojp_serial.proofs.ending.refused_request.Statement.{statement}
-use Rattle.cojp_serial.proofs.ending.refused_request.Tie as tie
+use Rattle.cojp_serial.proofs.request.refused_request.Statement.{statement}
+use Rattle.cojp_serial.proofs.request.refused_request.Tie as tie
 
 empty-request-requires : tie.Need-empty-request-requires
 empty-request-requires c κs = search needs

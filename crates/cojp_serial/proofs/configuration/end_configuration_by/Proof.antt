@@ -6,8 +6,8 @@ use borrow.Author.Needs.{needs}
 use lib.ListN.{length}
 use lib.Seq.{length-take-le}
 use Rattle.cojp_serial.proofs.Courses.{open-fits}
-use Rattle.cojp_serial.proofs.ending.end_configuration_by.Statement.{statement}
-use Rattle.cojp_serial.proofs.ending.end_configuration_by.Tie as tie
+use Rattle.cojp_serial.proofs.configuration.end_configuration_by.Statement.{statement}
+use Rattle.cojp_serial.proofs.configuration.end_configuration_by.Tie as tie
 
 course-requires : tie.Need-course-requires
 course-requires c κs = search needs

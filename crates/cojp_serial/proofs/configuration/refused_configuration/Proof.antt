@@ -1,7 +1,7 @@
 -- The parts are as their functions promise.
 use borrow.Author.Needs.{needs}
-use Rattle.cojp_serial.proofs.ending.refused_configuration.Statement.{statement}
-use Rattle.cojp_serial.proofs.ending.refused_configuration.Tie as tie
+use Rattle.cojp_serial.proofs.configuration.refused_configuration.Statement.{statement}
+use Rattle.cojp_serial.proofs.configuration.refused_configuration.Tie as tie
 
 empty-configuration-requires : tie.Need-empty-configuration-requires
 empty-configuration-requires c κs = search needs

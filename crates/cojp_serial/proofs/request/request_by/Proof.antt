@@ -1,7 +1,7 @@
 -- The reading that is asked for.
 use borrow.Author.Needs.{needs}
-use Rattle.cojp_serial.proofs.ending.request_by.Statement.{statement}
-use Rattle.cojp_serial.proofs.ending.request_by.Tie as tie
+use Rattle.cojp_serial.proofs.request.request_by.Statement.{statement}
+use Rattle.cojp_serial.proofs.request.request_by.Tie as tie
 
 read-strict-request-requires : tie.Need-read-strict-request-requires
 read-strict-request-requires c κs = search needs

@@ -1,7 +1,7 @@
 -- The reading that is asked for.
 use borrow.Author.Needs.{needs}
-use Rattle.cojp_serial.proofs.ending.configuration_by.Statement.{statement}
-use Rattle.cojp_serial.proofs.ending.configuration_by.Tie as tie
+use Rattle.cojp_serial.proofs.configuration.configuration_by.Statement.{statement}
+use Rattle.cojp_serial.proofs.configuration.configuration_by.Tie as tie
 
 read-strict-configuration-requires : tie.Need-read-strict-configuration-requires
 read-strict-configuration-requires c κs = search needs
