@@ -59,6 +59,38 @@ def padded(size):
 
 
 LONG = "refused 15 LONG"
+
+# a head, and what is said of it: shortest at RFC 7049's limits, and one below; major type 7 is exempt
+HEADS = [("", "refused 1 CUT"), ("18", "refused 1 CUT"), ("1C", "refused 2 FORM"), ("5F", "refused 2 FORM"), ("9E 00", "refused 2 FORM")]
+for major in range(8):
+    for info, size, least in ((24, 1, 24), (25, 2, 1 << 8), (26, 4, 1 << 16), (27, 8, 1 << 32)):
+        for argument in (0, least - 1, least, (1 << 8 * size) - 1):
+            shortest = "yes" if major == 7 or least <= argument else "no"
+            digits = "%02X" % (major << 5 | info) + argument.to_bytes(size, "big").hex()
+            HEADS.append((digits + "00", "head major=%d info=%d argument=%d next=%d shortest=%s" % (major, info, argument, 1 + size, shortest)))
+    for info in (0, 23):
+        HEADS.append(("%02X" % (major << 5 | info), "head major=%d info=%d argument=%d next=1 shortest=yes" % (major, info, info)))
+
+# payloads, what they are answered, and what in a strict reading
+CUT, FORM, LOOSE, CAFE = "refused 1 CUT", "refused 2 FORM", "refused 19 LOOSE", "accepted role=0 network=h'cafe' passed="
+STRICT = [
+    ("A1 05 42 CA FE", CAFE + "0", CAFE + "0"),
+    ("B8 01 05 42 CA FE", CAFE + "0", LOOSE),
+    ("A1 05 58 02", CUT, LOOSE),
+    ("A1 05 58", CUT, CUT),
+    ("A1 05 42 CA FE 18 05", "refused 4 EXTRA", "refused 4 EXTRA"),
+    ("A1 18 63 18 05 00", "refused 4 EXTRA", LOOSE),
+    ("A2 05 42 CA FE 18 63 81 18 05", CAFE + "1", LOOSE),
+    ("A2 05 42 CA FE 18 63 81 18 18", CAFE + "1", CAFE + "1"),
+    ("A2 05 42 CA FE 18 63 F8 05", CAFE + "1", CAFE + "1"),
+    ("A2 05 42 CA FE 18 63 F9 00 00", CAFE + "1", CAFE + "1"),
+    ("A2 05 42 CA FE 18 63 D8 05 00", CAFE + "1", LOOSE),
+    ("A2 05 42 CA FE 18 63 C1 18 17", CAFE + "1", LOOSE),
+    ("A2 1C 18 05", FORM, FORM),
+    ("98 00", "refused 5 TYPE", LOOSE),
+    ("9B 00 00 00 00 00 00 00 01", CUT, LOOSE),
+    ("B8 01 05 42 CA FE" + "00" * 251, LONG, LONG),
+]
 for size in (255, 256):
     OBJECTS.append(("configuration", padded(size), "accepted " + NONE + " passed=1"))
 for size in (257, 258, 300, 5000, 33000):
@@ -134,6 +166,40 @@ def lines(r):
     for c in b"/:@G`g\x1f!\x7f\x80\xff-":
         yield b"request A" + bytes([c]), "error hex"
         yield b"request " + bytes([c]) + b"0", "error hex"
+    # strict readings, heads, and objects written again: paper 02, request 3
+    for digits, said in HEADS:
+        yield b"head " + digits.encode(), said
+    for digits, ordinary, strict in STRICT:
+        yield b"request " + digits.encode(), ordinary
+        yield b"strict-request " + digits.encode(), strict
+    yield b"head" + b" " * 66000 + b"18" + b" " * 66000 + b"18" + b"00" * 66000, "head major=0 info=24 argument=24 next=2 shortest=yes"
+    yield b"head 1x", "error hex"
+    yield b"head 1", "error hex"
+    yield b"heads 18 18", "error command"
+    wrote = "wrote h'a10542cafe'"
+    yield b"rewrite request B8 01 05 42 CA FE", wrote
+    yield b"rewrite strict-request B8 01 05 42 CA FE", "refused 19 LOOSE"
+    yield b"rewrite strict-request A1 05 42 CA FE", wrote
+    yield b"rewrite" + b" " * 66000 + b"request" + b" " * 66000 + b"A105 42CAFE" + b" " * 66000 + b"\r", wrote
+    yield b"rewrite request", "refused 1 CUT"
+    yield b"rewrite request\r", "refused 1 CUT"
+    yield b"rewrite request " + b"00" * 33000, LONG
+    yield b"rewrite request " + b"00" * 33000 + b"0", "error hex"
+    yield b"rewrite strict-configuration A2 18 63 F6 06 40", "wrote h'a10640'"
+    yield b"rewrite configuration A2 18 03 82 58 02 12 34 00 18 63 F6", "wrote h'a1038242123400'"
+    yield b"rewrite", "error command"
+    yield b"rewrite A0", "error command"
+    yield b"rewrite Request A0", "error command"
+    yield b"rewrite head 18 18", "error command"
+    yield b"rewrite rewrite request A0", "error command"
+    yield b"rewrite request\tA0", "error command"
+    yield b"rewrite " + b"request" * 9000 + b" A0", "error command"
+    yield b"rewrites request A0", "error command"
+    yield b"rewrite request request A0", "error hex"
+    yield b"strict-configuration", "refused 1 CUT"
+    yield b"strict-configurationA0", "error command"
+    yield b"strict-configuratio A0", "error command"
+    yield b"strict request A0", "error command"
     # the last line has no end
     yield b"request A1 01 01\r", "accepted role=1 network=absent passed=0"
 

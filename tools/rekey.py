@@ -1,13 +1,40 @@
 """Rekeys of networks of up to 16 nodes as lines of simulate, which tools/simulate_edges.py adds to its input: lines, rings, stars and grids.
 
-It knows a network's links, the hops that they make, the order of the turns, and who has switched: node 0, the border router, at the
-beginning, and whoever hears one that has. In the worst order, farther senders first, the nodes within h hops have switched after round h;
-in the best order, nearer senders first, all have after one round.
+It knows a network's links, the hops that they make, the order of the turns, which usages cover which frame types, and who has switched: node
+0, the border router, at the beginning, and whoever hears one that has. In the worst order, farther senders first, the nodes within h hops
+have switched after round h; in the best order, nearer senders first, all have after one round. Between the turns come starts, polls and
+refused updates and join answers, which change no key set.
 """
+from itertools import cycle
 
-OLD, NEW = (1, b"the old key set."), (5, b"the new key set.")
+BEACON, DATA = 0, 1
 TAKEN = "accepted keys=taken address=absent jrc=absent network=absent prefix=absent passed=0"
-SWITCHED, KEPT, SILENT = "switched", "kept", "refused 14 SILENT"
+SWITCHED, KEPT = "switched", "kept"
+SILENT, KEYS, CLASH, PHASE = "refused 14 SILENT", "refused 7 KEYS", "refused 10 CLASH", "refused 16 PHASE"
+
+
+def key_set(name, *keys):
+    """Keys, each an identifier and a usage, with values that tell them apart."""
+    return [(identifier, usage, b"%-12s%04d" % (name, identifier)) for identifier, usage in keys]
+
+
+# Old and new sets, and the frame types of a round's turns in rotation: types that the new set covers.
+REKEYS = [
+    (key_set(b"old", (1, 0)), key_set(b"new", (5, 0)), [DATA]),
+    (key_set(b"beacons", (3, 6), (200, 13)), key_set(b"data first", (24, 9), (7, 8), (255, 3)), [BEACON, DATA]),
+    (key_set(b"both", (9, 5), (8, 6), (7, 12)), key_set(b"eight", *zip([31, 30, 29, 28, 27, 26, 25, 23], [14, 11, 10, 7, 4, 2, 1, 0])), [DATA, DATA, BEACON]),
+    (key_set(b"old", (1, 2), (2, 7)), key_set(b"data alone", (11, 12), (12, 10)), [DATA]),
+]
+
+
+def covers(usage, frame):
+    """Usages 0 to 5 are for both types of frame, 6 to 8 for beacons, 9 to 14 for data."""
+    return usage < 6 or (usage < 9) == (frame == BEACON)
+
+
+def sends(keys, frame):
+    """The first key that covers the type, or None."""
+    return next((key for key in keys if covers(key[1], frame)), None)
 
 
 def line(n):
@@ -44,66 +71,137 @@ def hops(n, links):
     return far
 
 
-def payload(key):
-    """A configuration that holds a set of this one key."""
-    identifier, value = key
-    return "A1 02 82 %02X 50 %s" % (identifier, value.hex())
+def head(major, argument):
+    return bytes([major * 32 + argument] if argument < 24 else [major * 32 + 24, argument])
 
 
-def joined(n):
-    """The nodes join and use the old key set; the ordinary ones take it up by a frame of the border router."""
-    for i in range(n):
-        yield "node %d %d CAFE" % (i, i == 0), "made"
-        yield "start %d 1000 10000" % i, "sent h'%s'" % ("a10542cafe" if i else "a201010542cafe")
-        yield "answer %d 2000 %s" % (i, payload(OLD)), TAKEN
-    for i in range(1, n):
-        yield "turn 0 %d 1" % i, SWITCHED
+def payload(keys):
+    """A configuration that holds this set."""
+    items = b"".join(head(0, i) + (head(0, usage) if usage else b"") + head(2, 16) + value for i, usage, value in keys)
+    return (b"\xa1\x02" + head(4, sum(3 if usage else 2 for _, usage, _ in keys)) + items).hex()
 
 
-def updated(nodes):
-    """These nodes get the new key set."""
-    for i in nodes:
-        yield "update %d 3000 %s" % (i, payload(NEW)), TAKEN
+class Network:
+    """The nodes of a rekey: who has switched, and how far the join attempt of each has come."""
+
+    def __init__(self, n, old, new):
+        self.n, self.old, self.new = n, old, new
+        self.switched = set()
+        self.now = 3000
+        self.waiting = {}  # the last sending, the timeout and the count of those that wait for an answer
+        self.gave_up = set()
+        self.events = enumerate(cycle([self.clashing, self.poll, self.start, self.poll, self.clashing, self.poll, self.bad_answer]))
+
+    def keys(self, i):
+        return self.new if i in self.switched else self.old
+
+    def joined(self):
+        """The nodes join and use the old key set; the ordinary ones take it up by a frame of the border router."""
+        frame = next(f for f in (DATA, BEACON) if sends(self.old, f))
+        for i in range(self.n):
+            yield "node %d %d CAFE" % (i, i == 0), "made"
+            yield "start %d 1000 10000" % i, self.sent(i)
+            yield "answer %d 2000 %s" % (i, payload(self.old)), TAKEN
+        for i in range(1, self.n):
+            yield "turn 0 %d %d" % (i, frame), SWITCHED
+
+    def updated(self, nodes):
+        """These nodes get the new key set."""
+        for i in nodes:
+            yield "update %d %d %s" % (i, self.now, payload(self.new)), TAKEN
+
+    def sending(self):
+        """Each node is asked for the key of either type, which says whether it has switched."""
+        for i in range(self.n):
+            for frame in (BEACON, DATA):
+                key = sends(self.keys(i), frame)
+                yield "send %d %d" % (i, frame), "key %d/%d/h'%s'" % (key[0], key[1], key[2].hex()) if key else SILENT
+
+    def turn(self, sender, receiver, frame):
+        """One that has switched knows the old set no more, and the new one waits at all others."""
+        if not sends(self.keys(sender), frame):
+            answer = SILENT
+        elif sender in self.switched:
+            answer = KEPT if receiver in self.switched else SWITCHED
+            self.switched.add(receiver)
+        else:
+            answer = SILENT if receiver in self.switched else KEPT
+        return "turn %d %d %d" % (sender, receiver, frame), answer
+
+    @staticmethod
+    def sent(i):
+        return "sent h'%s'" % ("a10542cafe" if i else "a201010542cafe")
+
+    def event(self):
+        """Something else that happens, a while later, now at this node and now at that, at some more often."""
+        k, what = next(self.events)
+        self.now += 4999 + k
+        return what((k * k + k // 20) % self.n)
+
+    def clashing(self, i):
+        """An update whose set has an identifier of the set in use; the border router would take it, and gets no key at all."""
+        identifier, usage, _ = self.keys(i)[-1]
+        keys, refused = ([], KEYS) if i == 0 else ([(identifier, usage, b"not the same key")], CLASH)
+        return "update %d %d %s" % (i, self.now, payload(keys)), PHASE if i in self.waiting or i in self.gave_up else refused
+
+    def start(self, i):
+        said = PHASE if i in self.waiting else self.sent(i)
+        if said != PHASE:
+            self.waiting[i] = (self.now, 10000 + i, 0)
+            self.gave_up.discard(i)
+        return "start %d %d %d" % (i, self.now, 10000 + i), said
+
+    def bad_answer(self, i):
+        return "answer %d %d %s" % (i, self.now, payload([])), KEYS if i in self.waiting else PHASE
+
+    def poll(self, i):
+        said = PHASE
+        if i in self.waiting:
+            sent, timeout, count = self.waiting[i]
+            said = "not yet" if self.now - sent < timeout else "send again" if count < 4 else "gave up"
+            if said == "send again":
+                self.waiting[i] = (self.now, timeout * 2, count + 1)
+            if said == "gave up":
+                del self.waiting[i]
+                self.gave_up.add(i)
+        return "poll %d %d" % (i, self.now), said
 
 
-def sending(n, switched):
-    """Each node is asked for the key of a data frame, which says whether it has switched."""
-    for i in range(n):
-        identifier, value = NEW if i in switched else OLD
-        yield "send %d 1" % i, "key %d/0/h'%s'" % (identifier, value.hex())
-
-
-def heard(sender, hearer, switched):
-    """A turn's answer. One that has switched knows the old set no more, and the new one waits at all others."""
-    if sender in switched:
-        return KEPT if hearer in switched else SWITCHED
-    return SILENT if hearer in switched else KEPT
-
-
-def rekey(n, links, order):
+def rekey(n, links, order, old, new, types):
     """The lines of a network from the beginning to its last round, with their answers."""
     far = hops(n, links)
     turns = sorted(both_ways(links), key=lambda t: far[t[0]], reverse=order == "worst")
-    yield from joined(n)
-    yield from updated(range(1, n))
-    yield from sending(n, set())
-    yield from updated([0])
-    switched = {0}
-    yield from sending(n, switched)
+    frames = cycle(types)
+    network = Network(n, old, new)
+    yield from network.joined()
+    yield from network.updated(range(1, n))
+    for _ in range(n):
+        yield network.event()
+    # a round of turns under the old set, of either type
+    for k, (a, b) in enumerate(turns):
+        yield network.turn(a, b, k % 2)
+    yield from network.sending()
+    # the border router may have started since: then the new set comes by a join answer
+    assert 0 not in network.gave_up
+    yield "%s 0 %d %s" % ("answer" if 0 in network.waiting else "update", network.now, payload(new)), TAKEN
+    network.waiting.pop(0, None)
+    network.switched.add(0)
+    yield from network.sending()
     for h in range(1, max(far) + 1 if order == "worst" else 2):
-        for sender, hearer in turns:
-            answer = heard(sender, hearer, switched)
-            yield "turn %d %d 1" % (sender, hearer), answer
-            if answer == SWITCHED:
-                switched.add(hearer)
-        assert switched == {i for i in range(n) if order == "best" or far[i] <= h}
-        yield from sending(n, switched)
+        for k, (a, b) in enumerate(turns):
+            yield network.turn(a, b, next(frames))
+            if k % 3 == 2:
+                yield network.event()
+        assert network.switched == {i for i in range(n) if order == "best" or far[i] <= h}
+        yield from network.sending()
 
 
 def networks():
     """Pairs: a line without its end, and its answer, or None."""
+    rekeys = cycle(REKEYS)
     for name, links, sizes in NETWORKS:
         for n in sizes:
             for order in ["worst", "best"]:
-                yield "# a %s of %d nodes, %s order" % (name, n, order), None
-                yield from rekey(n, links(n), order)
+                old, new, types = next(rekeys)
+                yield "# a %s of %d nodes, %s order, sets of %d and %d keys" % (name, n, order, len(old), len(new)), None
+                yield from rekey(n, links(n), order, old, new, types)

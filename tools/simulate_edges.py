@@ -1,5 +1,5 @@
 #!/usr/bin/env python3
-"""Adds to crates/simulate/stdin and stdout, after the vectors, the story examples/rekey.txt with the answers that stand in it, the networks of
+"""Adds to crates/simulate/stdin and stdout, after the vectors, the story examples/rekey.txt with the answers of rekey.out, the networks of
 tools/rekey.py, and lines at the edges of the tool's rules: missing and extra words, numbers and bytes around their limits, `-`, lines far longer
 than any buffer.
 
@@ -9,6 +9,7 @@ import os
 
 from rekey import networks
 
+ROOT = os.path.dirname(os.path.dirname(os.path.abspath(__file__)))
 MARK = b"# Lines of tools/simulate_edges.py\n"
 
 COMMAND, NUMBER, HEX, NODE = "error command", "error number", "error hex", "error node"
@@ -25,14 +26,15 @@ def fresh(role, network, clock=0):
     )
 
 
-def story(path):
-    """The commands of a story, each with the answer that stands below it."""
-    with open(path) as f:
-        text = f.read().splitlines()
-    for line, below in zip(text, text[1:] + [""]):
+def story(name):
+    """The commands of a script in examples/, each with the answer that stands below it in what --echo is to write."""
+    script, written = (open(os.path.join(ROOT, "examples", name + end)).read().splitlines() for end in (".txt", ".out"))
+    written = iter(written)
+    for line in script:
+        assert next(written) == line
         if line and not line.startswith("#"):
-            assert below.startswith("#> "), line
-            yield line, below[3:]
+            yield line, next(written)
+    assert not list(written)
 
 
 def edges():
@@ -109,13 +111,12 @@ def is_silent(line):
 
 
 def main():
-    root = os.path.dirname(os.path.dirname(os.path.abspath(__file__)))
-    stdin, stdout = (os.path.join(root, "crates", "simulate", name) for name in ("stdin", "stdout"))
+    stdin, stdout = (os.path.join(ROOT, "crates", "simulate", name) for name in ("stdin", "stdout"))
     with open(stdin, "rb") as f:
         vectors = f.read().split(MARK)[0]
     with open(stdout, "rb") as f:
         answers = f.read().splitlines(keepends=True)[: sum(not is_silent(line) for line in vectors.split(b"\n"))]
-    every = [*story(os.path.join(root, "examples", "rekey.txt")), *networks(), *edges()]
+    every = [*story("rekey"), *networks(), *edges()]
     with open(stdin, "wb") as f:
         f.write(vectors + MARK + b"\n".join(line.encode() for line, _ in every))
     with open(stdout, "wb") as f:

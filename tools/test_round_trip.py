@@ -1,8 +1,8 @@
 #!/usr/bin/env python3
-"""Make the input and the expected output of the crate round_trip from those of decode.
+"""Make the input and the expected output of the crate test_round_trip from those of decode.
 
-The input is every command line of decode's that its output accepts, its spaces taken out. The expected output is made from the text of that output by the
-encoder below, which is written from RFC 7049 and knows nothing of the crates.
+The input is every line of decode's commands `request` and `configuration` that its output accepts, its spaces taken out, and the largest configuration. The expected output is made from
+the text of decode's output by the encoder below, which is written from RFC 7049 and knows nothing of the crates.
 
   tools/test_round_trip.py            write crates/test_round_trip/stdin and stdout
 """
@@ -69,6 +69,16 @@ def payload(fields):
     return head(5, len(pairs)) + b"".join(unsigned(n) + v for n, v in pairs)
 
 
+def largest():
+    """The configuration that takes the most bytes: every parameter at its longest, as document 01 counts them."""
+    keys = ",".join("%d/%d/h'%s'" % (248 + i, 7 + i, bytes(range(16 * i, 16 * i + 16)).hex()) for i in range(8))
+    fields = {"keys": "[" + keys + "]", "address": "h'1234'", "lease": str(2**64 - 1)}
+    fields.update((name, "h'%s'" % (byte * 16)) for name, byte in (("jrc", "4a"), ("network", "4e"), ("prefix", "50")))
+    written = payload(fields)
+    assert len(written) == 232
+    return "configuration " + written.hex(), "accepted " + " ".join(map("=".join, fields.items())) + " passed=0"
+
+
 def commands(text):
     """The lines that are answered."""
     for line in text.split("\n"):
@@ -82,8 +92,8 @@ def main():
     answered = open(os.path.join(CRATES, "decode", "stdout"), encoding="latin-1", newline="").read().split("\n")[:-1]
     assert len(asked) == len(answered)
     lines, expected = [], []
-    for line, answer in zip(asked, answered):
-        if not answer.startswith("accepted "):
+    for line, answer in [*zip(asked, answered), largest()]:
+        if not answer.startswith("accepted ") or line.startswith("strict-"):
             continue
         p = payload(dict(w.split("=", 1) for w in answer.split(" ")[1:])).hex()
         marked = "ee" * (len(p) // 2 - 1)
@@ -91,7 +101,7 @@ def main():
         lines.append(command + " " + digits.replace(" ", ""))
         expected.append(f"wrote h'{p}' short refused 12 ROOM h'{marked}' again h'{p}' passed 0")
     for name, text in (("stdin", lines), ("stdout", expected)):
-        with open(os.path.join(CRATES, "round_trip", name), "w", encoding="latin-1", newline="") as f:
+        with open(os.path.join(CRATES, "test_round_trip", name), "w", encoding="latin-1", newline="") as f:
             f.write("\n".join(text) + "\n")
 
 

@@ -1,5 +1,6 @@
 #!/usr/bin/env python3
-"""Makes crates/test_text/stdin and stdout: lines of a desk tool's input, and what the crate tool_text is to make of each.
+"""Makes crates/test_text/stdin and stdout: lines of a desk tool's input, and what the crate tool_text is to make of each. The program is
+run with --echo, so each line is written before its answer, without the carriage return that may end it.
 
 The answers are worked out here, from the rules of the desk tools, with python's own strings and numbers: nothing is taken from the program.
 """
@@ -20,7 +21,7 @@ def number(words, i):
 
 
 def letters(word):
-    return "%dh'%s'" % (min(len(word), 17), word[:16].ljust(16, b"\0").hex())
+    return "%dh'%s'" % (min(len(word), 25), word[:24].ljust(24, b"\0").hex())
 
 
 def payload(rest):
@@ -32,9 +33,7 @@ def payload(rest):
 
 def answer(line):
     """What the line is answered, or None."""
-    if line.endswith(b"\r"):
-        line = line[:-1]
-    line = line.strip(b" ")
+    line = echo(line).strip(b" ")
     if not line or line.startswith(b"#"):
         return None
     words = re.findall(rb"[^ ]+", line)
@@ -43,6 +42,11 @@ def answer(line):
     return " ".join(
         [str(min(len(words), HEX_AT + 2)), letters(words[0]), number(words, 1), number(words, 2), number(words, 3), letters(tail), payload(rest)]
     )
+
+
+def echo(line):
+    """The line as it is written before its answer."""
+    return line[:-1] if line.endswith(b"\r") else line
 
 
 def some_number(r):
@@ -108,8 +112,12 @@ def main():
     every = list(lines(r))
     with open(os.path.join(folder, "stdin"), "wb") as f:
         f.write(b"\n".join(every))
-    with open(os.path.join(folder, "stdout"), "w") as f:
-        f.writelines(a + "\n" for a in map(answer, every) if a is not None)
+    with open(os.path.join(folder, "stdout"), "wb") as f:
+        for line in every:
+            f.write(echo(line) + b"\n")
+            said = answer(line)
+            if said is not None:
+                f.write(said.encode() + b"\n")
 
 
 main()

@@ -12,7 +12,7 @@ use lib.ListN.{length, length-append}
 use lib.Seq.{take-append-seam, drop-append-seam, take-at, drop-at}
 use Rattle.cbor.specs.Item.{Size, half, single, double, Item, Items, Pairs, unsigned, negative, bytes, text, array, map, tag, simple, float, none, more, empty, pair, count, countPairs, depth, depths, depthPairs, width, Fit, Fits, FitPairs}
 use Rattle.cbor.specs.Decode.{Outcome, got, andThen, next, digits, argument, heading, Heading, members, pairs, majorOf, content, decodeBy, payloadBy}
-use Rattle.cbor.specs.Strict.{isShort, strictHeading}
+use Rattle.cbor.specs.Strict.{isShort, strictHeading, headBy}
 use Rattle.cbor.specs.Encode.{bytesOf, headWith, infoOf, extraOf, shortest, sizeInfo, encode, encodes, encodePairs}
 use Rattle.cbor.proofs.Heads.{next-got, argument-direct, argument-wide}
 
@@ -182,6 +182,10 @@ strict-reads = record {
   short = λ m n r h. rw (head-read m n r h, short-written m n);
   floats = λ w n r h. rw (float-read w n r h, float-short w n);
 }
+
+pub reads-by : (b : Bool) → Reads (headBy b)
+reads-by true = strict-reads
+reads-by false = reads
 
 -- a whole payload
 pub read-payload : (head : List ℕ → Outcome Heading) → Reads head → (i : Item) → depth i ≤ 8 → Fit i → payloadBy head (encode i) ≡ got i []

@@ -3,7 +3,7 @@
 use Prim.Native.Nat.{ℕ, zero, suc, _+_, _-_, _≤_, _<_}
 use mathlib.Core.Path.{_≡_, refl, ap, sym, _∙_}
 use mathlib.Core.Bool.{Bool, true, false, cond}
-use mathlib.Core.List.{List}
+use mathlib.Core.List.{List, []}
 use native.Mathlib.Omega.{arith}
 use native.Mathlib.Decide.{decLe}
 use borrow.Author.Tests.{le-leb, lt-leb}
@@ -11,10 +11,10 @@ use lib.Dec.{ltb, eqb}
 use lib.ListN.{length, take, drop, length-drop}
 use lib.Seq.{drop-drop}
 use Rattle.refusal.specs.declared.Refusal.{Refusal}
-use Rattle.cbor.specs.Item.{Size, half, single, double, Item, Items, unsigned, bytes, array, simple, float}
+use Rattle.cbor.specs.Item.{Size, half, single, double, Item, Items, unsigned, bytes, array, simple, float, more}
 use Rattle.cbor.specs.Decode.{Outcome, refused, got, andThen, next, heading, Heading, members, pairs, Major, unsigneds, negatives, byteStrings, textStrings, arrays, maps, tags, others, majorOf, special, content, decodeBy, decode}
 use Rattle.cbor.specs.Answer.{headAnswer}
-use Rattle.cbor.specs.View.{Plain, number, string, other, View, plain, list, plainOf, plainsOf, viewOf, labelOf, plainBy, plainAt, plainsAt, viewBy, viewAt, labelBy, labelAt, valueBy, valueAnswer}
+use Rattle.cbor.specs.View.{Plain, number, string, other, View, plain, list, plainOf, plainsOf, viewOf, labelOf, plainBy, plainAt, plainsAt, viewBy, viewAt, labelBy, labelAt, valueBy, valueAnswer, restOf, afterItem, afterItems, ValueAt, ValueSays}
 use Rattle.cbor.specs.declared.head.Head.{Head}
 use Rattle.cbor.specs.declared.head.HeadRead.{HeadRead}
 use Rattle.cbor.specs.declared.head.HeadRead.the-variants as hv
@@ -108,30 +108,31 @@ module _ (s : List ℕ) (at : ℕ) (r : HeadRead) (e : r ≡ headAnswer (length 
     pub value-other : ¬ (m ≡ 0) → ¬ (m ≡ 2) → ¬ (m ≡ 4) → vv.Other ≡ valueAnswer (length s) (heading (drop at s))
     value-other n o q = sym (value-got ∙ neither m n o q)
 
--- ---- what an answer of `value_at` says, members having suc d levels left
-module _ (d : ℕ) (s : List ℕ) where
-  abbrev pub saysView : Value → View
-  saysView (vv.Number n p) = plain (number n)
-  saysView (vv.Bytes p a) = plain (string (take a (drop p s)))
-  saysView (vv.Array p n) = list (plainsAt (suc d) n (drop p s))
-  saysView vv.Other = plain other
+-- ---- what is left after n members is what is left after n items
+nothing-after : (d : ℕ) → afterItem d [] ≡ []
+unfolding decodeBy heading
+nothing-after zero = refl
+nothing-after (suc d) = refl
 
-  abbrev pub saysRest : ℕ → Value → Type 0
-  saysRest at (vv.Number n p) = (p ≤ length s) × (decode (suc d) (drop at s) ≡ got (unsigned n) (drop p s))
-  saysRest at (vv.Bytes p a) = (p + a ≤ length s) × (decode (suc d) (drop at s) ≡ got (bytes (take a (drop p s))) (drop (p + a) s))
-  saysRest at (vv.Array p n) = (p ≤ length s) × (decode (suc d) (drop at s) ≡ andThen (members (decode d) n (drop p s)) (λ is t. got (array is) t))
-  saysRest at vv.Other = Unit {0}
+after-nothing : (d n : ℕ) → afterItems d n [] ≡ []
+after-nothing d zero = refl
+after-nothing d (suc n) = rw (nothing-after d) (after-nothing d n)
 
--- what a member that is no number and no byte string is
-abbrev pub flat : View → Plain
-flat (plain p) = p
-flat (list ps) = other
+rest-same : {A B : Type 0} (f : A → B) (o : Outcome A) → restOf (andThen o (λ a t. got (f a) t)) ≡ restOf o
+rest-same f (refused k) = refl
+rest-same f (got a t) = refl
 
-pub record ValueAt (d : ℕ) (s : List ℕ) (at : ℕ) (r : Value) : Type 0 where
-  pub view : viewAt (suc d) (drop at s) ≡ saysView d s r
-  pub member : plainAt (drop at s) ≡ flat (saysView d s r)
-  pub rest : saysRest d s at r
+after-item : (d n : ℕ) → ((l : List ℕ) → restOf (members (decode d) n l) ≡ afterItems d n l) → (o : Outcome Item)
+    → restOf (andThen o (λ i t. andThen (members (decode d) n t) (λ is u. got (more i is) u))) ≡ afterItems d n (restOf o)
+after-item d n below (refused k) = sym (after-nothing d n)
+after-item d n below (got i t) = rest-same (more i) (members (decode d) n t) ∙ below t
 
+after-members : (d n : ℕ) (l : List ℕ) → restOf (members (decode d) n l) ≡ afterItems d n l
+unfolding members
+after-members d zero l = refl
+after-members d (suc n) l = after-item d n (λ t. after-members d n t) (decode d l)
+
+-- ---- what an answer of `value_at` says
 module _ (d : ℕ) (s : List ℕ) (at : ℕ) where
   module _ (h : Heading) (t : List ℕ) (e : got h t ≡ heading (drop at s)) (l : t ≡ drop (length s - length t) s) (i : length s - length t ≤ length s) where
     decode-headed : decode (suc d) (drop at s) ≡ content (decode d) (majorOf (h .major)) (h .info) (h .argument) t
@@ -182,13 +183,17 @@ module _ (d : ℕ) (s : List ℕ) (at : ℕ) where
     says-by arrays f = record {
       view = view-headed ∙ rw f (ap (λ (u : List ℕ). list (plainsAt (suc d) arg u)) l);
       member = plain-headed ∙ rw f;
-      rest = (i, decode-headed ∙ rw f (ap (λ (u : List ℕ). andThen (members (decode d) arg u) (λ is t. got (array is) t)) l));
+      rest = (
+        i,
+        ap (restOf {A = Item}) decode-headed
+            ∙ rw f (rest-same array (members (decode d) arg t) ∙ after-members d arg t ∙ ap (λ (u : List ℕ). afterItems d arg u) l),
+      );
     }
     says-by maps f = says-other maps f refl refl
     says-by tags f = says-other tags f refl refl
     says-by others f = says-other others f refl refl
 
-  pub value-says : (r : Value) → r ≡ valueAnswer (length s) (heading (drop at s)) → ValueAt d s at r
+  value-says : (r : Value) → r ≡ valueAnswer (length s) (heading (drop at s)) → ValueAt d s at r
   unfolding viewAt plainAt
   value-says r e = rw e (go (heading (drop at s)) (heading-tail (drop at s)) refl)
     where
@@ -197,6 +202,9 @@ module _ (d : ℕ) (s : List ℕ) (at : ℕ) where
       go (got h t) (k, x, y, z) e =
           let q = place s t at k (within s at k x y) y z in
           says-by h t e (q .0) (q .1) (majorOf (h .major)) refl
+
+pub value-told : (s : List ℕ) (at : ℕ) (r : Value) → r ≡ valueAnswer (length s) (heading (drop at s)) → ValueSays s at r
+value-told s at r e = record { is = e; says = λ d. value-says d s at r e }
 
 -- ---- what is said of bytes is what is said of the tree that is read there
 -- a simple value or a float, whichever it is
@@ -245,7 +253,7 @@ tree-plain d l k u e =
 
 module _ (d : ℕ) where
   tree-plains : (n : ℕ) (l : List ℕ) (is : Items) (u : List ℕ) → members (decode (suc d)) n l ≡ got is u → plainsAt (suc d) n l ≡ plainsOf is
-  unfolding members plainsAt
+  unfolding members
   tree-plains zero l is u e = ap plainsOf (same-value e)
   tree-plains (suc n) l is u e =
       let q = then-got (decode (suc d) l) _ is u e in

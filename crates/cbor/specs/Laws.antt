@@ -1,14 +1,15 @@
 -- What this layer promises about its definitions, for the layers above.
-use Prim.Native.Nat.{ℕ, _^_, _<_, _≤_}
+use Prim.Native.Nat.{ℕ, _+_, _^_, _<_, _≤_}
 use mathlib.Core.Path.{_≡_}
-use mathlib.Core.Bool.{cond}
+use mathlib.Core.Bool.{Bool, cond}
 use mathlib.Core.List.{List, [], _++_, List·Memᴰ}
+use lib.Dec.{eqb}
 use lib.ListN.{length}
 use Rattle.cbor.specs.Item.{Item, Items, depth, Fit}
 use Rattle.refusal.specs.declared.Refusal.the-variants.{Loose}
-use Rattle.cbor.specs.Decode.{refused, got, Heading, heading, decode, members, payload}
+use Rattle.cbor.specs.Decode.{refused, got, Heading, heading, decode, members, payload, payloadBy}
 use Rattle.cbor.specs.Encode.{shortest, encode, infoOf}
-use Rattle.cbor.specs.Strict.{strictPayload, loosePayload}
+use Rattle.cbor.specs.Strict.{short, headBy, strictPayload, loosePayload}
 
 -- s is at least n bytes and then t
 pub record Suffix (n : ℕ) (t s : List ℕ) : Type 0 where
@@ -24,7 +25,8 @@ pub record ItemLaws : Type 0 where
   -- what was encoded, with any bytes behind it, is decoded to the item and those bytes
   pub round-trip :
       (i : Item) (d : ℕ) (r : List ℕ) → depth i ≤ d → Fit i → decode d (encode i ++ r) ≡ got i r
-  pub payload-round-trip : (i : Item) → depth i ≤ 8 → Fit i → payload (encode i) ≡ got i []
+  -- and a payload is, read strictly or not: what was encoded is never LOOSE
+  pub payload-round-trip : (b : Bool) (i : Item) → depth i ≤ 8 → Fit i → payloadBy (headBy b) (encode i) ≡ got i []
   -- what is left after an item is a proper suffix of the bytes, and n members take at least n bytes
   pub item-suffix : (d : ℕ) (s : List ℕ) (i : Item) (t : List ℕ) → decode d s ≡ got i t → Suffix 1 t s
   pub members-suffix :
@@ -36,8 +38,10 @@ pub record ItemLaws : Type 0 where
   pub head-shortest :
       (s : List ℕ) (h : Heading) (t : List ℕ) → Bytes s → heading s ≡ got h t →
       Suffix (length (shortest (h .major) (h .argument))) t s
+  -- a head, floats and simple values apart, is told to be short exactly if it has as many bytes as the one that is written
+  pub head-flag :
+      (s : List ℕ) (h : Heading) (t : List ℕ) → heading s ≡ got h t → ¬ (h .major ≡ 7) →
+      short h ≡ eqb (length s) (length (shortest (h .major) (h .argument)) + length t)
   -- the strict reading is LOOSE exactly where the ordinary scan meets a longer head, and else the ordinary one, which is never LOOSE
   pub strict : (s : List ℕ) → strictPayload s ≡ cond (loosePayload s) (refused Loose) (payload s)
   pub never-loose : (s : List ℕ) → payload s ≡ refused Loose → ⊥
-  -- what was encoded is never LOOSE
-  pub strict-round-trip : (i : Item) → depth i ≤ 8 → Fit i → strictPayload (encode i) ≡ got i []

@@ -1,10 +1,11 @@
 -- What the layer above asks of an item: of a map's label whether it is an integer, of a value whether it is a number, a byte string,
 -- an array of such, or something else. Said of the tree, and then of the bytes that a place's head begins.
-use Prim.Native.Nat.{ℕ, zero, suc, _-_}
+use Prim.Native.Nat.{ℕ, zero, suc, _+_, _-_, _≤_}
 use mathlib.Core.Bool.{cond}
+use mathlib.Core.Path.{_≡_}
 use mathlib.Core.List.{List, [], _∷_}
 use lib.Dec.{leb}
-use lib.ListN.{length}
+use lib.ListN.{length, take, drop}
 use Rattle.cbor.specs.Item.{Item, Items, Pairs, unsigned, negative, bytes, text, array, map, tag, simple, float, none, more}
 use Rattle.cbor.specs.Decode.{Outcome, refused, got, Heading, Major, unsigneds, negatives, byteStrings, textStrings, arrays, maps, tags, others, majorOf, next, heading, decode}
 use Rattle.cbor.specs.declared.value.Label.{Label}
@@ -101,7 +102,7 @@ andOn p (refused k) f = other ∷ []
 andOn p (got i t) f = p ∷ f t
 
 -- the next n members, each with d levels left
-unfoldable pub plainsAt : ℕ → ℕ → List ℕ → List Plain
+abbrev pub plainsAt : ℕ → ℕ → List ℕ → List Plain
 plainsAt d zero l = []
 plainsAt d (suc n) l = andOn (plainAt l) (decode d l) (λ t. plainsAt d n t)
 
@@ -118,6 +119,18 @@ viewBy d others n t = plain other
 abbrev pub viewHead : ℕ → Outcome Heading → View
 viewHead d (refused k) = plain other
 viewHead d (got h t) = viewBy d (majorOf (h .major)) (h .argument) t
+
+-- what is left after an item with d levels left, and after n of them: nothing where none can be read
+abbrev pub restOf : {A : Type 0} → Outcome A → List ℕ
+restOf (refused k) = []
+restOf (got a t) = t
+
+abbrev pub afterItem : ℕ → List ℕ → List ℕ
+afterItem d l = restOf (decode d l)
+
+abbrev pub afterItems : ℕ → ℕ → List ℕ → List ℕ
+afterItems d zero l = l
+afterItems d (suc n) l = afterItems d n (afterItem d l)
 
 -- a value whose members have d levels left
 unfoldable pub viewAt : ℕ → List ℕ → View
@@ -154,3 +167,33 @@ valueBy n others a t = vv.Other
 abbrev pub valueAnswer : ℕ → Outcome Heading → Value
 valueAnswer n (refused k) = vv.Other
 valueAnswer n (got h t) = valueBy n (majorOf (h .major)) (h .argument) t
+
+-- ---- what that answer says of the bytes, members having suc d levels left: what the value is, and where the bytes go on
+module _ (d : ℕ) (s : List ℕ) where
+  abbrev pub saysView : Value → View
+  saysView (vv.Number n p) = plain (number n)
+  saysView (vv.Bytes p a) = plain (string (take a (drop p s)))
+  saysView (vv.Array p n) = list (plainsAt (suc d) n (drop p s))
+  saysView vv.Other = plain other
+
+  abbrev pub saysRest : ℕ → Value → Type 0
+  saysRest at (vv.Number n p) = (p ≤ length s) × (decode (suc d) (drop at s) ≡ got (unsigned n) (drop p s))
+  saysRest at (vv.Bytes p a) =
+      (p + a ≤ length s) × (decode (suc d) (drop at s) ≡ got (bytes (take a (drop p s))) (drop (p + a) s))
+  saysRest at (vv.Array p n) = (p ≤ length s) × (afterItem (suc d) (drop at s) ≡ afterItems d n (drop p s))
+  saysRest at vv.Other = Unit {0}
+
+-- a value as a member: an array is neither a number nor a byte string
+abbrev pub flat : View → Plain
+flat (plain p) = p
+flat (list ps) = other
+
+pub record ValueAt (d : ℕ) (s : List ℕ) (at : ℕ) (r : Value) : Type 0 where
+  pub view : viewAt (suc d) (drop at s) ≡ saysView d s r
+  pub member : plainAt (drop at s) ≡ flat (saysView d s r)
+  pub rest : saysRest d s at r
+
+-- the answer r at a place of s, and what it says, however many levels are left
+pub record ValueSays (s : List ℕ) (at : ℕ) (r : Value) : Type 0 where
+  pub is : r ≡ valueAnswer (length s) (heading (drop at s))
+  pub says : (d : ℕ) → ValueAt d s at r

@@ -2,9 +2,8 @@
 use crate::head::HeadRead;
 use crate::head::read_head;
 ghost use mathlib.Core.Path.{_≡_};
-ghost use lib.ListN.{length, drop};
-ghost use Rattle.cbor.specs.Decode.{heading};
-ghost use Rattle.cbor.specs.View.{labelAt, valueAnswer};
+ghost use lib.ListN.{drop};
+ghost use Rattle.cbor.specs.View.{labelAt, ValueSays};
 
 // A map's label: an integer, or something else.
 pub enum Label {
@@ -41,7 +40,7 @@ pub fn label_at(s: &[u8], at: usize) -> Label
 
 // The value at a place; a byte string that the slice does not hold whole is something else.
 pub fn value_at(s: &[u8], at: usize) -> Value
-    ensures { λ r. ⌜ r ≡ valueAnswer (length (now (s .entry))) (heading (drop at (now (s .entry)))) ⌝ }
+    ensures { λ r. ⌜ ValueSays (now (s .entry)) at r ⌝ }
 {
     let h = read_head(s, at);
     match h {

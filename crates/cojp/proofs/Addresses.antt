@@ -11,19 +11,18 @@ use lib.Seq.{drop-cons, length-take-le}
 use borrow.Author.Tests.{eq-eqb, ne-eqb}
 use types.Run.{OneOf}
 use denote.Enum.Declared.{tagOf}
-use Rattle.cbor.specs.Decode.{heading}
-use Rattle.cbor.specs.View.{Plain, number, string, other, valueAnswer}
+use Rattle.cbor.specs.View.{Plain, number, string, other, ValueSays}
 use Rattle.cbor.specs.declared.value.Value.{Value}
 use Rattle.cbor.specs.declared.value.Value.the-variants as vv
 use Rattle.cbor.proofs.value.Value as value
 use Rattle.cojp.specs.Address.{addressOf, addressParameter, noAddressParameter, addressBy, addressIn, addressConcluded, addressRead}
-use Rattle.cojp.specs.Bytes.{valueView, membersAt, memberAnswer}
+use Rattle.cojp.specs.Bytes.{valueView, membersAt, Neither, MemberAt, MemberSays}
 use Rattle.cojp.specs.Reading.{Reading, read, broken}
 use Rattle.cojp.specs.declared.address.AddressParameter.{AddressParameter}
 use Rattle.cojp.specs.declared.members.Member.{Member}
 use Rattle.cojp.specs.declared.members.Member.the-variants as mv
 use Rattle.cojp.specs.declared.report.Report.the-variants.{Taken, Discarded}
-use Rattle.cojp.proofs.Arrays.{Neither, MemberAt, members-none, members-some, member-says, array-here, no-array}
+use Rattle.cojp.proofs.Arrays.{members-none, members-some, array-here, no-array}
 use Rattle.cojp.proofs.members.Member as member
 
 -- ---- its bytes
@@ -52,10 +51,10 @@ module _ (s b : List ℕ) (at n : ℕ) (r : Reading AddressParameter) where
   unfolding addressIn
   lease-none h e = e ∙ rw (members-none n (drop at s) h)
 
-  module _ (v : Member) (a : v ≡ memberAnswer s at n) where
+  module _ (v : Member) (a : MemberSays s at n v) where
     module _ (x p : ℕ) (g : v ≡ mv.Number x p) where
       number-here : membersAt n (drop at s) ≡ number x ∷ membersAt (n - 1) (drop p s)
-      number-here = let w : MemberAt s at n (mv.Number x p) = rw g at (member-says s at n v a) in w .1
+      number-here = let w : MemberAt s at n (mv.Number x p) = rw g at (a .here) in w .1
 
       pub lease-one : n ≡ 1 → r ≡ addressConcluded (addressBy b true x)
           → r ≡ addressConcluded (addressIn (string b ∷ membersAt n (drop at s)))
@@ -72,7 +71,7 @@ module _ (s b : List ℕ) (at n : ℕ) (r : Reading AddressParameter) where
     unfolding addressIn
     lease-other h o e =
         let (q, qs, f) = members-some n (drop at s) (omega arith) in
-        e ∙ rw f (last q qs (go v (member-says s at n v a) o q qs f))
+        e ∙ rw f (last q qs (go v (a .here) o q qs f))
       where
         -- a byte string or something else
         Wrong : Plain → Type 0
@@ -102,16 +101,16 @@ module _ (s b : List ℕ) (at n : ℕ) (r : Reading AddressParameter) where
         last other qs w = refl
 
 -- ---- its members
-module _ (s : List ℕ) (at n : ℕ) (v : Member) (m : v ≡ memberAnswer s at n) (r : Reading AddressParameter) where
+module _ (s : List ℕ) (at n : ℕ) (v : Member) (m : MemberSays s at n v) (r : Reading AddressParameter) where
   pub address-begun : (p a : ℕ) → v ≡ mv.Bytes p a
       → r ≡ addressConcluded (addressIn (string (take a (drop p s)) ∷ membersAt (n - 1) (drop (p + a) s)))
       → r ≡ addressConcluded (addressIn (membersAt n (drop at s)))
-  address-begun p a g e = let w : MemberAt s at n (mv.Bytes p a) = rw g at (member-says s at n v m) in e ∙ rw (w .2)
+  address-begun p a g e = let w : MemberAt s at n (mv.Bytes p a) = rw g at (m .here) in e ∙ rw (w .2)
 
   pub address-headless : OneOf (0 ∷ 2 ∷ []) (tagOf member.the-type v) → r ≡ addressConcluded broken
       → r ≡ addressConcluded (addressIn (membersAt n (drop at s)))
   unfolding addressIn
-  address-headless o e = e ∙ go v (member-says s at n v m) o
+  address-headless o e = e ∙ go v (m .here) o
     where
       none : (ps : List Plain) → Neither ps → addressConcluded broken ≡ addressConcluded (addressIn ps)
       none [] w = refl
@@ -126,7 +125,7 @@ module _ (s : List ℕ) (at n : ℕ) (v : Member) (m : v ≡ memberAnswer s at n
       go mv.Neither w o = none (membersAt n (drop at s)) w
 
 -- ---- the value
-module _ (s : List ℕ) (at : ℕ) (v : Value) (e : v ≡ valueAnswer (length s) (heading (drop at s))) (r : Reading AddressParameter) where
+module _ (s : List ℕ) (at : ℕ) (v : Value) (e : ValueSays s at v) (r : Reading AddressParameter) where
   pub address-array : (p n : ℕ) → v ≡ vv.Array p n → r ≡ addressConcluded (addressIn (membersAt n (drop p s)))
       → r ≡ addressRead (valueView (drop at s))
   address-array p n g f = f ∙ rw (array-here s at v e p n g .1)

@@ -1,32 +1,27 @@
 -- A member of an array is what stands at its place, and the other members are what stands behind it.
 use Prim.Native.Nat.{ℕ, _+_, _-_, _≤_, _<_, zero, suc}
 use mathlib.Core.Path.{_≡_, refl, ap, sym, _∙_}
-use mathlib.Core.Bool.{Bool, true, false, cond}
 use mathlib.Core.List.{List, [], _∷_}
 use mathlib.Core.Logic.{⊎-elim}
 use native.Mathlib.Omega.{arith}
-use lib.Dec.{eqb}
 use lib.ListN.{length, take, drop}
-use borrow.Author.Tests.{eq-eqb, ne-eqb, eqb-true, eqb-false}
+use borrow.Author.Tests.{eq-eqb, ne-eqb}
 use types.Run.{OneOf}
 use denote.Enum.Declared.{tagOf}
-use Rattle.cbor.specs.Decode.{Outcome, refused, got, andThen, heading, members, decodeBy, decode}
-use Rattle.cbor.specs.Item.{Item, array, more}
-use Rattle.cbor.specs.View.{Plain, number, string, other, plain, list, plainAt, plainsAt, andOn, valueAnswer}
+use Rattle.cbor.specs.Decode.{Outcome, refused, got, decode}
+use Rattle.cbor.specs.Item.{Item}
+use Rattle.cbor.specs.View.{Plain, number, string, other, plain, list, plainAt, andOn, restOf, ValueAt, ValueSays}
 use Rattle.cbor.specs.declared.value.Value.{Value}
 use Rattle.cbor.specs.declared.value.Value.the-variants as vv
 use Rattle.cbor.proofs.value.Value as value
-use Rattle.cbor.proofs.Views.{ValueAt, value-says}
-use Rattle.cojp.specs.Bytes.{valueView, membersAt, restOf, afterValue, afterMembers, memberOf, memberAnswer}
+use Rattle.cojp.specs.Bytes.{valueView, membersAt, afterValue, afterMembers, memberOf, Neither, MemberAt, MemberRest, MemberSays}
 use Rattle.cojp.specs.declared.members.Member.{Member}
 use Rattle.cojp.specs.declared.members.Member.the-variants as mv
 
 pub members-none : (n : ℕ) (l : List ℕ) → n ≡ 0 → membersAt n l ≡ []
-unfolding plainsAt
 members-none n l e = rw e
 
 members-step : (n : ℕ) (l : List ℕ) → 0 < n → membersAt n l ≡ andOn (plainAt l) (decode 6 l) (λ t. membersAt (n - 1) t)
-unfolding plainsAt
 members-step n l h = let e : n ≡ suc (n - 1) = omega arith in ap (λ (k : ℕ). membersAt k l) e
 
 -- there is one where one is left
@@ -38,13 +33,6 @@ members-some n l h = go (decode 6 l) (members-step n l h)
     go (refused k) e = (other, [], e)
     go (got i t) e = (plainAt l, membersAt (n - 1) t, e)
 
--- neither a number nor a byte string comes next
-abbrev pub Neither : List Plain → Type 0
-Neither [] = Unit {0}
-Neither (number n ∷ ps) = ⊥
-Neither (string s ∷ ps) = ⊥
-Neither (other ∷ ps) = Unit {0}
-
 -- and if it is neither a number nor a byte string, it is something else
 pub members-other : (n : ℕ) (l : List ℕ) → 0 < n → Neither (membersAt n l) → (ps : List Plain) × (membersAt n l ≡ other ∷ ps)
 members-other n l h w = let (p, ps, e) = members-some n l h in (ps, e ∙ ap (λ (q : Plain). q ∷ ps) (go p ps (rw e at w)))
@@ -54,31 +42,7 @@ members-other n l h w = let (p, ps, e) = members-some n l h in (ps, e ∙ ap (λ
     go (string s) ps w = absurd w
     go other ps w = refl
 
--- ---- the returns of `member_at`
-module _ (s : List ℕ) (at n : ℕ) where
-  pub member-none : n ≡ 0 → mv.Neither ≡ memberAnswer s at n
-  member-none h = rw (eq-eqb n 0 h)
-
-  module _ (h : ¬ (n ≡ 0)) (v : Value) (e : v ≡ valueAnswer (length s) (heading (drop at s))) where
-    pub member-some : (m : Member) → memberOf v ≡ m → m ≡ memberAnswer s at n
-    member-some m f = rw (ne-eqb n 0 h) (sym f ∙ ap memberOf e)
-
-    pub member-neither : OneOf (2 ∷ 3 ∷ []) (tagOf value.the-type v) → mv.Neither ≡ memberAnswer s at n
-    member-neither o = member-some mv.Neither (go v o)
-      where
-        go : (v : Value) → OneOf (2 ∷ 3 ∷ []) (tagOf value.the-type v) → memberOf v ≡ mv.Neither
-        go (vv.Number x p) o = absurd (⊎-elim (λ e. omega arith) (λ e. omega arith) o)
-        go (vv.Bytes p a) o = absurd (⊎-elim (λ e. omega arith) (λ e. omega arith) o)
-        go (vv.Array p a) o = refl
-        go vv.Other o = refl
-
--- ---- what an answer of `member_at` says of the members, n being left
-abbrev pub MemberAt : List ℕ → ℕ → ℕ → Member → Type 0
-MemberAt s at n (mv.Number x p) = (0 < n) × (membersAt n (drop at s) ≡ number x ∷ membersAt (n - 1) (drop p s))
-MemberAt s at n (mv.Bytes p a) =
-    (0 < n) × (p + a ≤ length s) × (membersAt n (drop at s) ≡ string (take a (drop p s)) ∷ membersAt (n - 1) (drop (p + a) s))
-MemberAt s at n mv.Neither = Neither (membersAt n (drop at s))
-
+-- ---- what a value says as a member, n being left
 module _ (s : List ℕ) (at n : ℕ) where
   nothing : 0 < n → plainAt (drop at s) ≡ other → Neither (membersAt n (drop at s))
   nothing h m = rw (members-step n (drop at s) h) (go (decode 6 (drop at s)))
@@ -93,42 +57,11 @@ module _ (s : List ℕ) (at n : ℕ) where
   value-member h (vv.Array p m) w = nothing h (w .member)
   value-member h vv.Other w = nothing h (w .member)
 
-  pub member-says : (v : Member) → v ≡ memberAnswer s at n → MemberAt s at n v
-  member-says v e = rw e (go (eqb n 0) refl)
-    where
-      answer : Value
-      answer = valueAnswer (length s) (heading (drop at s))
-
-      go : (b : Bool) → eqb n 0 ≡ b → MemberAt s at n (cond b mv.Neither (memberOf answer))
-      go true f = rw (members-none n (drop at s) (eqb-true n 0 f)) tt
-      go false f = value-member (let z = eqb-false n 0 f in omega arith) answer (value-says 5 s at answer refl)
-
-module _ (s : List ℕ) (at n : ℕ) (v : Member) (e : v ≡ memberAnswer s at n) where
-  pub number-left : (x p : ℕ) → v ≡ mv.Number x p → 1 ≤ n
-  number-left x p g = let w : MemberAt s at n (mv.Number x p) = rw g at (member-says s at n v e) in w .0
-
-  module _ (p a : ℕ) (g : v ≡ mv.Bytes p a) where
-    bytes-here : MemberAt s at n (mv.Bytes p a)
-    bytes-here = rw g at (member-says s at n v e)
-
-    pub bytes-left : 1 ≤ n
-    bytes-left = bytes-here .0
-
-    pub bytes-inside : p + a ≤ length s
-    bytes-inside = bytes-here .1
-
--- ---- where the bytes go on
-abbrev pub MemberRest : List ℕ → ℕ → ℕ → Member → Type 0
-MemberRest s at n (mv.Number x p) = afterMembers n (drop at s) ≡ afterMembers (n - 1) (drop p s)
-MemberRest s at n (mv.Bytes p a) = afterMembers n (drop at s) ≡ afterMembers (n - 1) (drop (p + a) s)
-MemberRest s at n mv.Neither = Unit {0}
-
+-- ---- and where the bytes go on
 pub nothing-left : (n : ℕ) (l : List ℕ) → n ≡ 0 → afterMembers n l ≡ l
-unfolding afterMembers
 nothing-left n l e = rw e
 
 after-step : (n : ℕ) (l : List ℕ) (i : Item) (t : List ℕ) → 0 < n → decode 6 l ≡ got i t → afterMembers n l ≡ afterMembers (n - 1) t
-unfolding afterMembers
 after-step n l i t h e =
     let z : n ≡ suc (n - 1) = omega arith in
     ap (λ (k : ℕ). afterMembers k l) z ∙ ap (λ (o : Outcome Item). afterMembers (n - 1) (restOf o)) e
@@ -140,59 +73,65 @@ module _ (s : List ℕ) (at n : ℕ) where
   value-rest h (vv.Array p m) w = tt
   value-rest h vv.Other w = tt
 
-  pub member-rest : (v : Member) → v ≡ memberAnswer s at n → MemberRest s at n v
-  member-rest v e = rw e (go (eqb n 0) refl)
-    where
-      answer : Value
-      answer = valueAnswer (length s) (heading (drop at s))
+-- ---- the returns of `member_at`
+module _ (s : List ℕ) (at n : ℕ) where
+  pub none-told : n ≡ 0 → MemberSays s at n mv.Neither
+  none-told h = record { is = rw (eq-eqb n 0 h); here = rw (members-none n (drop at s) h) tt; rest = tt }
 
-      go : (b : Bool) → eqb n 0 ≡ b → MemberRest s at n (cond b mv.Neither (memberOf answer))
-      go true f = tt
-      go false f = value-rest (let z = eqb-false n 0 f in omega arith) answer (value-says 5 s at answer refl)
+  module _ (h : ¬ (n ≡ 0)) (v : Value) (e : ValueSays s at v) where
+    pub value-told : (m : Member) → memberOf v ≡ m → MemberSays s at n m
+    value-told m f =
+        let l : 0 < n = omega arith in
+        rw (← f) (record { is = rw (ne-eqb n 0 h) (ap memberOf (e .is)); here = value-member s at n l v (e .says 5); rest = value-rest s at n l v (e .says 5) })
 
-after-nothing : (n : ℕ) → afterMembers n [] ≡ []
-unfolding afterMembers decodeBy heading
-after-nothing zero = refl
-after-nothing (suc n) = after-nothing n
+    pub neither-told : OneOf (2 ∷ 3 ∷ []) (tagOf value.the-type v) → MemberSays s at n mv.Neither
+    neither-told o = value-told mv.Neither (go v o)
+      where
+        go : (v : Value) → OneOf (2 ∷ 3 ∷ []) (tagOf value.the-type v) → memberOf v ≡ mv.Neither
+        go (vv.Number x p) o = absurd (⊎-elim (λ e. omega arith) (λ e. omega arith) o)
+        go (vv.Bytes p a) o = absurd (⊎-elim (λ e. omega arith) (λ e. omega arith) o)
+        go (vv.Array p a) o = refl
+        go vv.Other o = refl
 
-rest-same : {A B : Type 0} (f : A → B) (o : Outcome A) → restOf (andThen o (λ a t. got (f a) t)) ≡ restOf o
-rest-same f (refused k) = refl
-rest-same f (got a t) = refl
+-- ---- what an answer of `member_at` says
+module _ (s : List ℕ) (at n : ℕ) (v : Member) (e : MemberSays s at n v) where
+  pub number-left : (x p : ℕ) → v ≡ mv.Number x p → 1 ≤ n
+  number-left x p g = let w : MemberAt s at n (mv.Number x p) = rw g at (e .here) in w .0
 
-after-item : (n : ℕ) → ((l : List ℕ) → restOf (members (decode 6) n l) ≡ afterMembers n l) → (o : Outcome Item)
-    → restOf (andThen o (λ i t. andThen (members (decode 6) n t) (λ is u. got (more i is) u))) ≡ afterMembers n (restOf o)
-after-item n below (refused k) = sym (after-nothing n)
-after-item n below (got i t) = rest-same (more i) (members (decode 6) n t) ∙ below t
+  module _ (p a : ℕ) (g : v ≡ mv.Bytes p a) where
+    bytes-here : MemberAt s at n (mv.Bytes p a)
+    bytes-here = rw g at (e .here)
 
-after-members : (n : ℕ) (l : List ℕ) → restOf (members (decode 6) n l) ≡ afterMembers n l
-unfolding members afterMembers
-after-members zero l = refl
-after-members (suc n) l = after-item n (λ t. after-members n t) (decode 6 l)
+    pub bytes-left : 1 ≤ n
+    bytes-left = bytes-here .0
 
-module _ (s : List ℕ) (at n : ℕ) (v : Member) (e : v ≡ memberAnswer s at n) where
+    pub bytes-inside : p + a ≤ length s
+    bytes-inside = bytes-here .1
+
+module _ (s : List ℕ) (at n : ℕ) (v : Member) (e : MemberSays s at n v) where
   pub number-after : (x p : ℕ) → v ≡ mv.Number x p → afterMembers n (drop at s) ≡ afterMembers (n - 1) (drop p s)
-  number-after x p g = let w : MemberRest s at n (mv.Number x p) = rw g at (member-rest s at n v e) in w
+  number-after x p g = let w : MemberRest s at n (mv.Number x p) = rw g at (e .rest) in w
 
   pub bytes-after : (p a : ℕ) → v ≡ mv.Bytes p a → afterMembers n (drop at s) ≡ afterMembers (n - 1) (drop (p + a) s)
-  bytes-after p a g = let w : MemberRest s at n (mv.Bytes p a) = rw g at (member-rest s at n v e) in w
+  bytes-after p a g = let w : MemberRest s at n (mv.Bytes p a) = rw g at (e .rest) in w
 
 -- ---- an array, and anything else
-module _ (s : List ℕ) (at : ℕ) (v : Value) (e : v ≡ valueAnswer (length s) (heading (drop at s))) where
+module _ (s : List ℕ) (at : ℕ) (v : Value) (e : ValueSays s at v) where
   pub array-here : (p n : ℕ) → v ≡ vv.Array p n → (p ≤ length s) × (valueView (drop at s) ≡ list (membersAt n (drop p s)))
-  array-here p n g = let w : ValueAt 5 s at (vv.Array p n) = rw g at (value-says 5 s at v e) in (w .rest .0, w .view)
+  array-here p n g = let w : ValueAt 5 s at (vv.Array p n) = rw g at (e .says 5) in (w .rest .0, w .view)
 
   pub array-after : (p n : ℕ) → v ≡ vv.Array p n → afterValue (drop at s) ≡ afterMembers n (drop p s)
   array-after p n g =
-      let w : ValueAt 6 s at (vv.Array p n) = rw g at (value-says 6 s at v e) in
-      ap restOf (w .rest .1) ∙ rest-same array (members (decode 6) n (drop p s)) ∙ after-members n (drop p s)
+      let w : ValueAt 6 s at (vv.Array p n) = rw g at (e .says 6) in
+      w .rest .1
 
   pub string-after : (p a : ℕ) → v ≡ vv.Bytes p a → drop (p + a) s ≡ afterValue (drop at s)
   string-after p a g =
-      let w : ValueAt 6 s at (vv.Bytes p a) = rw g at (value-says 6 s at v e) in
+      let w : ValueAt 6 s at (vv.Bytes p a) = rw g at (e .says 6) in
       sym (ap restOf (w .rest .1))
 
   pub no-array : OneOf (0 ∷ 1 ∷ 3 ∷ []) (tagOf value.the-type v) → (p : Plain) × (valueView (drop at s) ≡ plain p)
-  no-array o = go v (value-says 5 s at v e) o
+  no-array o = go v (e .says 5) o
     where
       go : (v : Value) → ValueAt 5 s at v → OneOf (0 ∷ 1 ∷ 3 ∷ []) (tagOf value.the-type v)
           → (p : Plain) × (valueView (drop at s) ≡ plain p)

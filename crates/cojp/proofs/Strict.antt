@@ -1,23 +1,37 @@
 -- The strict readings, from what the layer below promises of a payload that is read strictly.
-use Prim.Native.Nat.{ℕ}
+use Prim.Native.Nat.{ℕ, _≤_}
 use mathlib.Core.Path.{_≡_, refl, ap, _∙_}
 use mathlib.Core.Bool.{Bool, true, false, cond}
 use mathlib.Core.List.{List}
-use lib.Dec.{ltb}
+use native.Mathlib.Omega.{arith}
+use lib.Dec.{ltb, eqb}
 use lib.ListN.{length}
-use Rattle.refusal.specs.declared.Refusal.the-variants.{Long, Loose}
-use Rattle.cbor.specs.Item.{Item}
+use Rattle.refusal.specs.Refusal.{numberOf}
+use Rattle.refusal.specs.declared.Refusal.{Refusal}
+use Rattle.refusal.specs.declared.Refusal.the-variants.{«Type», Twice, Keys, Role, Owed, Long, Loose}
+use Rattle.refusal.specs.declared.Verdict.the-variants as verdict
+use Rattle.cbor.specs.Item.{Item, Pairs, unsigned, negative, bytes, text, array, map, tag, simple, float, empty, pair}
 use Rattle.cbor.specs.Decode.{Outcome, payload}
 use Rattle.cbor.specs.Decode as decode
 use Rattle.cbor.specs.Laws.{ItemLaws}
 use Rattle.cbor.specs.Strict.{strictHeading, loosePayload}
-use Rattle.cojp.specs.Configuration.{emptyConfiguration, configurationForm, configurationAnswer}
+use Rattle.cbor.specs.View.{View, labelOf, viewOf}
+use Rattle.cbor.specs.declared.value.Label.{Label}
+use Rattle.cbor.specs.declared.value.Label.the-variants as label
+use Rattle.cojp.specs.Address.{addressParameter, noAddressParameter, addressJudged, addressRead}
+use Rattle.cojp.specs.Configuration.{emptyConfiguration, withKeys, withAddress, withJrc, withNetwork, withPrefix, configurationTaking, configurationForm, configurationAnswer}
+use Rattle.cojp.specs.KeySet.{keysParameter, keysJudged, keysRead}
 use Rattle.cojp.specs.Laws.{StrictReaders, meetsLonger}
-use Rattle.cojp.specs.Reading.{Reading, refused, onward}
-use Rattle.cojp.specs.Request.{nothingGathered, requestForm, requestAnswer, settled}
-use Rattle.cojp.specs.Walk.{Form, scannedRead, payloadRead, payloadReadBy}
+use Rattle.cojp.specs.Octets.{octetsParameter, noOctetsParameter, octetsJudged, octetsRead}
+use Rattle.cojp.specs.Reading.{Reading, refused, read, onward, put, Judgement, broken, unfit, good, concluded}
+use Rattle.cojp.specs.Request.{nothingGathered, withRole, withNetwork as withIdentifier, roleJudged, roleRead, requestTaking, requestForm, requestAnswer, owing, settled}
+use Rattle.cojp.specs.Walk.{Form, knownRead, pairRead, pairsRead, mapRead, scannedRead, payloadRead, payloadReadBy}
 use Rattle.cojp.specs.declared.configuration.Configuration.{Configuration}
+use Rattle.cojp.specs.declared.report.Report.the-variants.{Taken, Discarded}
 use Rattle.cojp.specs.declared.request.Gathered.{Gathered}
+use Rattle.cojp.specs.declared.request.JoinRequest.{JoinRequest}
+use Rattle.cojp.specs.declared.walk.Standing.{Standing}
+use Rattle.cojp.specs.declared.walk.Standing.the-variants.{Unknown, Fresh, Again}
 
 -- an answer to LOOSE or to what the ordinary reading says
 answers : {A B : Type 0} (f : A → B) (c : Bool) (x y : A) → f (cond c x y) ≡ cond c (f x) (f y)
@@ -36,6 +50,99 @@ module _ (laws : ItemLaws) {S : Type 0} (F : Form S) (c : S) where
       go false true = refl
       go false false = refl
 
+-- ---- the ordinary readings are never LOOSE: the scan is not, and no other refusal of theirs is this one
+abbrev Firm : {A : Type 0} → Reading A → Type 0
+Firm (refused k) = k ≡ Loose → ⊥
+Firm (read a) = Unit {0}
+
+another : (k : Refusal) → numberOf k ≤ 16 → k ≡ Loose → ⊥
+another k h e = let l : numberOf Loose ≤ 16 = rw e at h in omega (arith, l)
+
+firm-onward : {A B : Type 0} (r : Reading A) (f : A → Reading B) → Firm r → ((a : A) → Firm (f a)) → Firm (onward r f)
+firm-onward (refused k) f h g = h
+firm-onward (read a) f h g = g a
+
+firm-put : {A B : Type 0} (f : A → B) (r : Reading A) → Firm r → Firm (put f r)
+firm-put f (refused k) h = h
+firm-put f (read a) h = tt
+
+firm-cond : {A : Type 0} (b : Bool) (x y : Reading A) → Firm x → Firm y → Firm (cond b x y)
+firm-cond true x y h g = h
+firm-cond false x y h g = g
+
+firm-concluded : {A P : Type 0} (o : Reading P) (take : A → P) (j : Judgement A) → Firm o → Firm (concluded o take j)
+firm-concluded o take broken h = another «Type» (omega arith)
+firm-concluded o take unfit h = h
+firm-concluded o take (good a) h = tt
+
+module _ {S : Type 0} (F : Form S) (taking : (s : S) (n : ℕ) (v : View) → Firm (F .taking s n v)) where
+  known-firm : (t : Standing) (s : S) (n : ℕ) (v : View) → Firm (knownRead F t s n v)
+  known-firm Unknown s n v = tt
+  known-firm Fresh s n v = taking s n v
+  known-firm Again s n v = another Twice (omega arith)
+
+  pair-firm : (s : S) (l : Label) (v : View) → Firm (pairRead F s l v)
+  pair-firm s label.NoInteger v = another «Type» (omega arith)
+  pair-firm s label.Negative v = tt
+  pair-firm s (label.Number n) v = known-firm (F .standing s n) s n v
+
+  pairs-firm : (ps : Pairs) (s : S) → Firm (pairsRead F s ps)
+  pairs-firm empty s = tt
+  pairs-firm (pair k v ps) s =
+      firm-onward (pairRead F s (labelOf k) (viewOf v)) (λ t. pairsRead F t ps) (pair-firm s (labelOf k) (viewOf v)) (λ t. pairs-firm ps t)
+
+  map-firm : (i : Item) (s : S) → Firm (mapRead F s i)
+  map-firm (map ps) s = pairs-firm ps s
+  map-firm (unsigned n) s = another «Type» (omega arith)
+  map-firm (negative n) s = another «Type» (omega arith)
+  map-firm (bytes b) s = another «Type» (omega arith)
+  map-firm (text b) s = another «Type» (omega arith)
+  map-firm (array is) s = another «Type» (omega arith)
+  map-firm (tag n i) s = another «Type» (omega arith)
+  map-firm (simple n) s = another «Type» (omega arith)
+  map-firm (float w n) s = another «Type» (omega arith)
+
+  scanned-firm : (o : Outcome Item) (s : S) → (o ≡ decode.refused Loose → ⊥) → Firm (scannedRead F s o)
+  scanned-firm (decode.refused k) s h = λ e. h (ap decode.refused e)
+  scanned-firm (decode.got i t) s h = map-firm i s
+
+  payload-firm : ItemLaws → (s : S) (p : List ℕ) → Firm (payloadRead F s p)
+  unfolding payloadReadBy
+  payload-firm laws s p =
+      firm-cond (ltb 256 (length p)) (refused Long) (scannedRead F s (payload p)) (another Long (omega arith)) (scanned-firm (payload p) s (laws .never-loose p))
+
+octets-firm : (least : ℕ) (v : View) → Firm (octetsRead least v)
+octets-firm least v = firm-concluded (read (noOctetsParameter Discarded)) (octetsParameter Taken) (octetsJudged least v) tt
+
+request-taking : (g : Gathered) (n : ℕ) (v : View) → Firm (requestTaking g n v)
+unfolding requestTaking
+request-taking g n v =
+    firm-cond (eqb n 1) (put (withRole g) (roleRead v)) (put (withIdentifier g) (octetsRead 0 v))
+    (firm-put (withRole g) (roleRead v) (firm-concluded (refused Role) (λ n. n) (roleJudged v) (another Role (omega arith))))
+    (firm-put (withIdentifier g) (octetsRead 0 v) (octets-firm 0 v))
+
+configuration-taking : (c : Configuration) (n : ℕ) (v : View) → Firm (configurationTaking c n v)
+unfolding configurationTaking
+configuration-taking c n v =
+    firm-cond (eqb n 2) _ _
+    (firm-put (withKeys c) (keysRead v) (firm-concluded (refused Keys) (keysParameter Taken) (keysJudged v) (another Keys (omega arith))))
+    (firm-cond (eqb n 3) _ _
+    (firm-put (withAddress c) (addressRead v) (firm-concluded (read (noAddressParameter Discarded)) (addressParameter Taken) (addressJudged v) tt))
+    (firm-cond (eqb n 4) _ _
+    (firm-put (withJrc c) (octetsRead 16 v) (octets-firm 16 v))
+    (firm-cond (eqb n 5) _ _ (firm-put (withNetwork c) (octetsRead 0 v) (octets-firm 0 v)) (firm-put (withPrefix c) (octetsRead 0 v) (octets-firm 0 v)))))
+
+request-never : (r : Reading JoinRequest) → Firm r → requestAnswer r .verdict ≡ verdict.Refused Loose → ⊥
+request-never (refused k) h e = h cc
+request-never (read q) h e = let z : _≡_ {A = ℕ} 0 1 = cc in omega arith
+
+configuration-never : (r : Reading Configuration) → Firm r → configurationAnswer r .verdict ≡ verdict.Refused Loose → ⊥
+configuration-never (refused k) h e = h cc
+configuration-never (read c) h e = let z : _≡_ {A = ℕ} 0 1 = cc in omega arith
+
+settled-firm : (g : Gathered) → Firm (settled g)
+settled-firm g = firm-cond (owing (g .request .role) (g .request .network .report)) (refused Owed) (read (g .request)) (another Owed (omega arith)) tt
+
 pub strict-readers : ItemLaws → StrictReaders
 strict-readers laws = record {
   request = λ s.
@@ -44,4 +151,10 @@ strict-readers laws = record {
   configuration = λ s.
       ap configurationAnswer (payload-strict laws configurationForm emptyConfiguration s)
       ∙ answers configurationAnswer (meetsLonger s) (refused Loose) (payloadRead configurationForm emptyConfiguration s);
+  ordinary-request = λ s.
+      request-never (onward (payloadRead requestForm nothingGathered s) settled)
+      (firm-onward (payloadRead requestForm nothingGathered s) settled (payload-firm requestForm request-taking laws nothingGathered s) settled-firm);
+  ordinary-configuration = λ s.
+      configuration-never (payloadRead configurationForm emptyConfiguration s)
+      (payload-firm configurationForm configuration-taking laws emptyConfiguration s);
 }

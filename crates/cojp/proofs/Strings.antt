@@ -11,12 +11,10 @@ use borrow.Author.Tests.{le-leb, lt-leb}
 use types.Run.{OneOf}
 use denote.Enum.Declared.{tagOf}
 use Rattle.refusal.specs.declared.Refusal.the-variants as refusal
-use Rattle.cbor.specs.Decode.{heading}
-use Rattle.cbor.specs.View.{valueAnswer}
+use Rattle.cbor.specs.View.{ValueAt, ValueSays}
 use Rattle.cbor.specs.declared.value.Value.{Value}
 use Rattle.cbor.specs.declared.value.Value.the-variants as vv
 use Rattle.cbor.proofs.value.Value as value
-use Rattle.cbor.proofs.Views.{ValueAt, value-says}
 use Rattle.cojp.specs.Bytes.{valueView}
 use Rattle.cojp.specs.Octets.{padded, copiedFrom, octetsParameter, noOctetsParameter, octetsJudged, octetsRead}
 use Rattle.cojp.specs.Reading.{Reading, refused, read}
@@ -61,10 +59,10 @@ pub pad-end : (s : List ℕ) (at n i : ℕ) (out : List ℕ) → out ≡ padded 
 pad-end s at n i out e f l h = sym (copied-inside s at n l h ∙ rw (← f) (sym e))
 
 -- ---- the returns of `read_octets`
-module _ (s : List ℕ) (at least : ℕ) (v : Value) (e : v ≡ valueAnswer (length s) (heading (drop at s))) where
+module _ (s : List ℕ) (at least : ℕ) (v : Value) (e : ValueSays s at v) where
   module _ (p a : ℕ) (g : v ≡ vv.Bytes p a) where
     string-here : ValueAt 5 s at (vv.Bytes p a)
-    string-here = rw g at (value-says 5 s at v e)
+    string-here = rw g at (e .says 5)
 
     pub string-inside : p + a ≤ length s
     string-inside = string-here .rest .0
@@ -88,7 +86,7 @@ module _ (s : List ℕ) (at least : ℕ) (v : Value) (e : v ≡ valueAnswer (len
 
   pub octets-broken : OneOf (0 ∷ 2 ∷ 3 ∷ []) (tagOf value.the-type v) → refused refusal.«Type» ≡ octetsRead least (valueView (drop at s))
   unfolding octetsJudged
-  octets-broken o = go v (value-says 5 s at v e) o
+  octets-broken o = go v (e .says 5) o
     where
       go : (v : Value) → ValueAt 5 s at v → OneOf (0 ∷ 2 ∷ 3 ∷ []) (tagOf value.the-type v)
           → refused refusal.«Type» ≡ octetsRead least (valueView (drop at s))

@@ -1,12 +1,13 @@
 -- For the contracts of functions that read at a place: what Address and KeySet say of the tree, said of the bytes that it is read from.
 -- Where no item can be read these definitions go on with anything; a payload that passed the item scan has no such place.
-use Prim.Native.Nat.{ℕ, zero, suc, _+_}
+use Prim.Native.Nat.{ℕ, _+_, _-_, _≤_, _<_}
 use mathlib.Core.Bool.{cond}
+use mathlib.Core.Path.{_≡_}
 use mathlib.Core.List.{List, [], _∷_}
 use lib.Dec.{eqb}
 use lib.ListN.{length, take, drop}
-use Rattle.cbor.specs.Decode.{Outcome, refused, got, heading, decode}
-use Rattle.cbor.specs.View.{Plain, string, View, viewAt, plainsAt, valueAnswer}
+use Rattle.cbor.specs.Decode.{heading}
+use Rattle.cbor.specs.View.{Plain, number, string, other, View, viewAt, plainsAt, afterItem, afterItems, valueAnswer}
 use Rattle.cbor.specs.declared.value.Value.{Value}
 use Rattle.cbor.specs.declared.value.Value.the-variants as vv
 use Rattle.cojp.specs.declared.members.Member.{Member}
@@ -20,18 +21,12 @@ valueView l = viewAt 6 l
 abbrev pub membersAt : ℕ → List ℕ → List Plain
 membersAt n l = plainsAt 6 n l
 
--- what is left after an item; nothing where none can be read
-abbrev pub restOf : {A : Type 0} → Outcome A → List ℕ
-restOf (refused k) = []
-restOf (got a t) = t
-
--- after a value, and after n members of an array
+-- what is left after a value, and after n members of an array
 abbrev pub afterValue : List ℕ → List ℕ
-afterValue l = restOf (decode 7 l)
+afterValue l = afterItem 7 l
 
-unfoldable pub afterMembers : ℕ → List ℕ → List ℕ
-afterMembers zero l = l
-afterMembers (suc n) l = afterMembers n (restOf (decode 6 l))
+abbrev pub afterMembers : ℕ → List ℕ → List ℕ
+afterMembers n l = afterItems 6 n l
 
 -- the bytes of a string, and the n members that follow it
 abbrev pub stringAnd : List ℕ → ℕ → ℕ → ℕ → List Plain
@@ -47,3 +42,27 @@ memberOf vv.Other = mv.Neither
 -- the member at a place, n members being left
 abbrev pub memberAnswer : List ℕ → ℕ → ℕ → Member
 memberAnswer s at n = cond (eqb n 0) mv.Neither (memberOf (valueAnswer (length s) (heading (drop at s))))
+
+-- ---- what that answer says of the members and of the bytes after them
+-- neither a number nor a byte string comes next
+abbrev pub Neither : List Plain → Type 0
+Neither [] = Unit {0}
+Neither (number n ∷ ps) = ⊥
+Neither (string s ∷ ps) = ⊥
+Neither (other ∷ ps) = Unit {0}
+
+abbrev pub MemberAt : List ℕ → ℕ → ℕ → Member → Type 0
+MemberAt s at n (mv.Number x p) = (0 < n) × (membersAt n (drop at s) ≡ number x ∷ membersAt (n - 1) (drop p s))
+MemberAt s at n (mv.Bytes p a) =
+    (0 < n) × (p + a ≤ length s) × (membersAt n (drop at s) ≡ string (take a (drop p s)) ∷ membersAt (n - 1) (drop (p + a) s))
+MemberAt s at n mv.Neither = Neither (membersAt n (drop at s))
+
+abbrev pub MemberRest : List ℕ → ℕ → ℕ → Member → Type 0
+MemberRest s at n (mv.Number x p) = afterMembers n (drop at s) ≡ afterMembers (n - 1) (drop p s)
+MemberRest s at n (mv.Bytes p a) = afterMembers n (drop at s) ≡ afterMembers (n - 1) (drop (p + a) s)
+MemberRest s at n mv.Neither = Unit {0}
+
+pub record MemberSays (s : List ℕ) (at n : ℕ) (r : Member) : Type 0 where
+  pub is : r ≡ memberAnswer s at n
+  pub here : MemberAt s at n r
+  pub rest : MemberRest s at n r

@@ -9,7 +9,7 @@ use Rattle.refusal.specs.declared.Refusal.{Refusal}
 use Rattle.refusal.specs.declared.Refusal.the-variants.{Loose}
 use Rattle.refusal.specs.declared.Verdict.the-variants.{Accepted, Refused}
 use Rattle.cbor.specs.Decode.{Outcome, Heading}
-use Rattle.cbor.specs.Strict.{loosePayload}
+use Rattle.cbor.specs.Strict.{headBy, loosePayload}
 use Rattle.cbor.specs.Answer.{Plan, emit, answer, after}
 use Rattle.cbor.specs.declared.write.Written.the-variants as written
 use Rattle.cojp.specs.Request.{emptyRequest, refuseRequest, readRequestBy, readRequest, readStrictRequest}
@@ -32,7 +32,8 @@ pub record ReadersDemand1 : Type 0 where
       (head : List ℕ → Outcome Heading) (s : List ℕ) (k : Refusal) → readConfigurationBy head s .verdict ≡ Refused k →
       readConfigurationBy head s .configuration ≡ emptyConfiguration
 
--- ---- the strict readings: LOOSE where the scan of a payload that is not LONG meets a longer head, else the ordinary answer
+-- ---- the strict readings: LOOSE where the scan of a payload that is not LONG meets a longer head, else the ordinary answer,
+-- which is never LOOSE
 abbrev pub meetsLonger : List ℕ → Bool
 meetsLonger s = cond (ltb 256 (length s)) false (loosePayload s)
 
@@ -40,6 +41,8 @@ pub record StrictReaders : Type 0 where
   pub request : (s : List ℕ) → readStrictRequest s ≡ cond (meetsLonger s) (refuseRequest Loose) (readRequest s)
   pub configuration :
       (s : List ℕ) → readStrictConfiguration s ≡ cond (meetsLonger s) (refuseConfiguration Loose) (readConfiguration s)
+  pub ordinary-request : (s : List ℕ) → readRequest s .verdict ≡ Refused Loose → ⊥
+  pub ordinary-configuration : (s : List ℕ) → readConfiguration s .verdict ≡ Refused Loose → ⊥
 
 abbrev pub Unchanged : Plan → Type 0
 Unchanged plan = (d : List ℕ) (k : Refusal) → answer plan d ≡ written.Refused k → after plan d ≡ d
@@ -48,7 +51,7 @@ pub record WritersDemand1 : Type 0 where
   pub request : (q : JoinRequest) → Unchanged (requestPlan q)
   pub configuration : (c : Configuration) → Unchanged (configurationPlan c)
 
--- ---- the round trip: what is written reads back as the same object, nothing discarded and none passed over
+-- ---- the round trip: what is written, read strictly or not, reads back as the same object, nothing discarded and none passed over
 abbrev pub Kept : Report → Type 0
 Kept r = r ≡ Discarded → ⊥
 
@@ -59,7 +62,7 @@ pub record RequestBack (q : JoinRequest) (r : RequestRead) : Type 0 where
   pub passed : r .request .passed ≡ 0
 
 abbrev pub RequestRoundTrip : JoinRequest → Type 0
-RequestRoundTrip q = (p : List ℕ) → requestPlan q ≡ emit p → RequestBack q (readRequest p)
+RequestRoundTrip q = (p : List ℕ) → requestPlan q ≡ emit p → (b : Bool) → RequestBack q (readRequestBy (headBy b) p)
 
 pub record ConfigurationBack (c : Configuration) (r : ConfigurationRead) : Type 0 where
   pub accepted : r .verdict ≡ Accepted
@@ -72,7 +75,8 @@ pub record ConfigurationBack (c : Configuration) (r : ConfigurationRead) : Type 
   pub passed : r .configuration .passed ≡ 0
 
 abbrev pub ConfigurationRoundTrip : Configuration → Type 0
-ConfigurationRoundTrip c = (p : List ℕ) → configurationPlan c ≡ emit p → ConfigurationBack c (readConfiguration p)
+ConfigurationRoundTrip c =
+    (p : List ℕ) → configurationPlan c ≡ emit p → (b : Bool) → ConfigurationBack c (readConfigurationBy (headBy b) p)
 
 -- the largest configuration is 232 bytes
 abbrev pub LargestConfiguration : Configuration → Type 0

@@ -12,8 +12,7 @@ use borrow.Author.Tests.{lt-leb, le-leb, ltb-true, ltb-false, leb-true, leb-fals
 use types.Run.{OneOf}
 use denote.Enum.Declared.{tagOf}
 use Rattle.refusal.specs.declared.Refusal.the-variants as refusal
-use Rattle.cbor.specs.Decode.{heading}
-use Rattle.cbor.specs.View.{Plain, number, string, other, valueAnswer}
+use Rattle.cbor.specs.View.{Plain, number, string, other, ValueSays}
 use Rattle.cbor.specs.declared.value.Value.{Value}
 use Rattle.cbor.specs.declared.value.Value.the-variants as vv
 use Rattle.cbor.proofs.value.Value as value
@@ -22,7 +21,7 @@ use Rattle.link_key_set.specs.KeySet.{noKeys, allInLimits, allowed, allowedSet}
 use Rattle.link_key.specs.declared.Key.{Key}
 use Rattle.link_key_set.specs.declared.key_set.KeySet.{KeySet}
 use Rattle.cojp_key_set_read.specs.Groups.{GroupAt, GroupRest, storable, addKey}
-use Rattle.cojp.specs.Bytes.{valueView, membersAt, afterMembers, memberAnswer}
+use Rattle.cojp.specs.Bytes.{valueView, membersAt, afterMembers, Neither, MemberAt, MemberSays}
 use Rattle.cojp.specs.KeySet.{keyOf, keySetOf, Groups, notGroups, groupsOf, group, groups, keysIn, keysConcluded, keysRead}
 use Rattle.cojp.specs.Octets.{padded, copiedFrom}
 use Rattle.cojp.specs.Reading.{Reading, refused, unfit, good}
@@ -32,7 +31,7 @@ use Rattle.cojp.specs.declared.key_set.KeysParameter.{KeysParameter}
 use Rattle.cojp.specs.declared.members.Member.{Member}
 use Rattle.cojp.specs.declared.members.Member.the-variants as mv
 use Rattle.link_key.proofs.Tests.{both-left, both-right}
-use Rattle.cojp.proofs.Arrays.{nothing-left, Neither, MemberAt, members-none, members-other, member-says, array-here, no-array}
+use Rattle.cojp.proofs.Arrays.{nothing-left, members-none, members-other, array-here, no-array}
 use Rattle.cojp.proofs.Strings.{copied-inside}
 use Rattle.cojp.proofs.members.Member as member
 
@@ -47,39 +46,39 @@ rest-on s at n q m gv.Broken e w = tt
 rest-on s at n q m (gv.Closed i u p a j) e w = e ∙ w
 
 module _ (l : List ℕ) (n : ℕ) (v : Member) where
-  module _ (h : 0 < n) (e : v ≡ memberAnswer l 0 n) where
+  module _ (h : 0 < n) (e : MemberSays l 0 n v) where
     pub group-begun : (x p : ℕ) → v ≡ mv.Number x p → (r : Group) → GroupAt l (n - 1) (groups (number x ∷ membersAt (n - 1) (drop p l))) r
         → GroupAt l n (groups (membersAt n l)) r
     group-begun x p g r q =
-        let w : MemberAt l 0 n (mv.Number x p) = rw g at (member-says l 0 n v e) in
+        let w : MemberAt l 0 n (mv.Number x p) = rw g at (e .here) in
         regroup l (n - 1) n _ _ r (omega arith) (ap groups (w .1)) q
 
     pub group-headless : OneOf (1 ∷ 2 ∷ []) (tagOf member.the-type v) → GroupAt l n (groups (membersAt n l)) gv.Broken
     unfolding groups
-    group-headless o = go v (member-says l 0 n v e) o
+    group-headless o = go v (e .here) o
       where
         go : (v : Member) → MemberAt l 0 n v → OneOf (1 ∷ 2 ∷ []) (tagOf member.the-type v) → groups (membersAt n l) ≡ notGroups
         go (mv.Number x p) w o = absurd (⊎-elim (λ e. omega arith) (λ e. omega arith) o)
         go (mv.Bytes p a) w o = rw (w .2)
         go mv.Neither w o = rw (members-other n l h w .1)
 
-  module _ (at i : ℕ) (e : v ≡ memberAnswer l at n) where
+  module _ (at i : ℕ) (e : MemberSays l at n v) where
     pub group-used : (u p : ℕ) → v ≡ mv.Number u p → (r : Group)
         → GroupAt l (n - 1) (groups (number i ∷ number u ∷ membersAt (n - 1) (drop p l))) r
         → GroupAt l n (groups (number i ∷ membersAt n (drop at l))) r
     group-used u p g r q =
-        let w : MemberAt l at n (mv.Number u p) = rw g at (member-says l at n v e) in
+        let w : MemberAt l at n (mv.Number u p) = rw g at (e .here) in
         regroup l (n - 1) n _ _ r (omega arith) (ap (λ (ps : List Plain). groups (number i ∷ ps)) (w .1)) q
 
     pub group-pair : (p a : ℕ) → v ≡ mv.Bytes p a → GroupAt l n (groups (number i ∷ membersAt n (drop at l))) (gv.Closed i 0 p a (n - 1))
     unfolding groups
     group-pair p a g =
-        let w : MemberAt l at n (mv.Bytes p a) = rw g at (member-says l at n v e) in
+        let w : MemberAt l at n (mv.Bytes p a) = rw g at (e .here) in
         (w .1, omega (arith, w .0), rw (w .2))
 
     pub group-open : v ≡ mv.Neither → GroupAt l n (groups (number i ∷ membersAt n (drop at l))) gv.Broken
     unfolding groups
-    group-open g = go (membersAt n (drop at l)) (let w : MemberAt l at n mv.Neither = rw g at (member-says l at n v e) in w)
+    group-open g = go (membersAt n (drop at l)) (let w : MemberAt l at n mv.Neither = rw g at (e .here) in w)
       where
         go : (ps : List Plain) → Neither ps → groups (number i ∷ ps) ≡ notGroups
         go [] w = refl
@@ -92,13 +91,13 @@ module _ (l : List ℕ) (n : ℕ) (v : Member) where
           → GroupAt l n (groups (number i ∷ number u ∷ membersAt n (drop at l))) (gv.Closed i u p a (n - 1))
       unfolding groups
       group-triple p a g =
-          let w : MemberAt l at n (mv.Bytes p a) = rw g at (member-says l at n v e) in
+          let w : MemberAt l at n (mv.Bytes p a) = rw g at (e .here) in
           (w .1, omega (arith, w .0), rw (w .2))
 
       pub group-valueless : OneOf (0 ∷ 2 ∷ []) (tagOf member.the-type v)
           → GroupAt l n (groups (number i ∷ number u ∷ membersAt n (drop at l))) gv.Broken
       unfolding groups
-      group-valueless o = go v (member-says l at n v e) o
+      group-valueless o = go v (e .here) o
         where
           none : (ps : List Plain) → Neither ps → groups (number i ∷ number u ∷ ps) ≡ notGroups
           none [] w = refl
@@ -302,7 +301,7 @@ module _ (s : List ℕ) (from count at n : ℕ) (k : KeySet) (w : Gathering s fr
           }
 
 -- ---- the value
-module _ (s : List ℕ) (at : ℕ) (v : Value) (e : v ≡ valueAnswer (length s) (heading (drop at s))) (r : Reading KeysParameter) where
+module _ (s : List ℕ) (at : ℕ) (v : Value) (e : ValueSays s at v) (r : Reading KeysParameter) where
   pub keys-array : (p n : ℕ) → v ≡ vv.Array p n → r ≡ keysConcluded (keysIn (groups (membersAt n (drop p s))))
       → r ≡ keysRead (valueView (drop at s))
   keys-array p n g f = f ∙ rw (array-here s at v e p n g .1)

@@ -12,7 +12,8 @@ use lib.Seq.{take-append-seam, length-take-le}
 use Rattle.cbor.specs.Encode.{encode}
 use Rattle.cbor.specs.Item.{Item, Pairs, bytes, array, map, more, empty, pair}
 use Rattle.cbor.specs.View.{string, View, plain, labelOf, viewOf, plainsOf}
-use Rattle.cbor.proofs.RoundTrip.{read-payload}
+use Rattle.cbor.specs.Laws.{ItemLaws}
+use Rattle.cbor.specs.Strict.{headBy}
 use Rattle.link_key_set.specs.KeySet.{keysOf}
 use Rattle.link_key.specs.declared.Key.{Key}
 use Rattle.link_key_set.proofs.KeySets.{set-allowed}
@@ -22,7 +23,7 @@ use Rattle.cojp.specs.Laws.{Kept}
 use Rattle.cojp.specs.Octets.{bytesIn, padded, octetsOf, octetsParameter, noOctetsParameter, octetsJudged, octetsRead}
 use Rattle.cojp.specs.Reading.{Reading, refused, read, onward, put, ifTaken}
 use Rattle.cojp.specs.Same.{octetsTaken, leaseOf, addressTaken, keysTaken}
-use Rattle.cojp.specs.Walk.{Form, pairRead, pairsRead, payloadRead}
+use Rattle.cojp.specs.Walk.{Form, pairRead, pairsRead, payloadReadBy}
 use Rattle.cojp.specs.Writing.{join, labelled, leaseItems, groupsItems, octetsInRange, jrcInRange, addressInRange, keysInRange}
 use Rattle.cojp.specs.declared.address.AddressParameter.{AddressParameter}
 use Rattle.cojp.specs.declared.key_set.KeysParameter.{KeysParameter}
@@ -57,11 +58,12 @@ module _ {S : Type 0} (F : Form S) where
   parameter-read s n Discarded v rd set back left f t e g = ap read e
 
   -- the payload
-  pub payload-read : (ps : Pairs) (s : S) {k m : ℕ} → Fine ps k m → k ≤ 23 → m ≤ 255 → payloadRead F s (encode (map ps)) ≡ pairsRead F s ps
-  unfolding payloadRead
-  payload-read ps s f h l =
+  pub payload-read : ItemLaws → (b : Bool) (ps : Pairs) (s : S) {k m : ℕ} → Fine ps k m → k ≤ 23 → m ≤ 255
+      → payloadReadBy F (headBy b) s (encode (map ps)) ≡ pairsRead F s ps
+  unfolding payloadReadBy
+  payload-read laws b ps s f h l =
       let n : length (encode (map ps)) ≤ 256 = omega (arith, map-length ps (omega (arith, f .few)), f .small) in
-      rw (le-ltb 256 (length (encode (map ps))) n, read-payload (map ps) (omega (arith, f .level)) (omega (arith, f .few), f .fit))
+      rw (le-ltb 256 (length (encode (map ps))) n, laws .payload-round-trip b (map ps) (omega (arith, f .level)) (omega (arith, f .few), f .fit))
 
 -- ---- what a taken parameter reads back as, and that it is the same and not discarded
 pub kept-if : {P : Type 0} (report : P → Report) (a b : P) (r : Report) → report a ≡ Taken → report b ≡ Absent → Kept (report (ifTaken r a b))

@@ -12,13 +12,15 @@ use Rattle.cbor.specs.Answer.{Plan, refuse, emit}
 use Rattle.cbor.specs.Encode.{encode}
 use Rattle.cbor.specs.Item.{bytes, array, map}
 use Rattle.link_key_set.specs.KeySet.{keysOf}
+use Rattle.cbor.specs.Laws.{ItemLaws}
+use Rattle.cbor.specs.Strict.{headBy}
 use Rattle.cojp.specs.Address.{noAddressParameter, addressRead}
-use Rattle.cojp.specs.Configuration.{emptyConfiguration, withKeys, withAddress, withJrc, withNetwork, withPrefix, configurationForm, configurationStanding, configurationTaking, acceptConfiguration, readConfiguration}
+use Rattle.cojp.specs.Configuration.{emptyConfiguration, withKeys, withAddress, withJrc, withNetwork, withPrefix, configurationForm, configurationStanding, configurationTaking, acceptConfiguration, readConfigurationBy}
 use Rattle.cojp.specs.KeySet.{noKeysParameter, keysRead}
 use Rattle.cojp.specs.Laws.{RequestRoundTrip, ConfigurationRoundTrip, LargestConfiguration}
 use Rattle.cojp.specs.Octets.{bytesIn, noOctetsParameter, octetsRead}
 use Rattle.cojp.specs.Reading.{read, ifTaken}
-use Rattle.cojp.specs.Request.{roleJudged, gathered, nothingGathered, withNetwork as withIdentifier, requestStanding, requestTaking, requestForm, owing, acceptRequest, readRequest}
+use Rattle.cojp.specs.Request.{roleJudged, gathered, nothingGathered, withNetwork as withIdentifier, requestStanding, requestTaking, requestForm, owing, acceptRequest, readRequestBy}
 use Rattle.cojp.specs.Walk.{pairsRead}
 use Rattle.cojp.specs.Writing.{join, rolePairs, octetsPairs, addressPairs, keysPairs, groupsItems, requestPairs, requestInRange, requestPlan, configurationPairs, configurationInRange, configurationPlan}
 use Rattle.cojp.specs.declared.address.AddressParameter.{AddressParameter}
@@ -74,15 +76,15 @@ owing-back role Absent p e = refl
 owing-back role Taken p e = rw e
 owing-back role Discarded p e = refl
 
-pub request-round-trip : (q : JoinRequest) → RequestRoundTrip q
+pub request-round-trip : ItemLaws → (q : JoinRequest) → RequestRoundTrip q
 unfolding requestPlan
-request-round-trip q p e =
+request-round-trip laws q p e b =
     let (a, f) = emits (not (requestInRange q)) Range _ p e in
     let (o, x) = emits (owing (q .role) (q .network .report)) Owed (emit (encode (map (requestPairs q)))) p f in
     let h = in-range (requestInRange q) a in
     let owed = owing-back (q .role) (q .network .report) (octetsGood (q .network)) refl ∙ o in
-    let back : readRequest p ≡ acceptRequest (requested (q .role) (octetsBack (q .network))) =
-    rw (← emitted x, payload-read requestForm (requestPairs q) nothingGathered (fine-request q h) (omega arith) (omega arith), request-read q (request-fits q h), owed) in
+    let back : readRequestBy (headBy b) p ≡ acceptRequest (requested (q .role) (octetsBack (q .network))) =
+    rw (← emitted x, payload-read requestForm laws b (requestPairs q) nothingGathered (fine-request q h) (omega arith) (omega arith), request-read q (request-fits q h), owed) in
     rw back (record {
       accepted = refl;
       same = record { role = refl; network = octets-same (q .network) };
@@ -134,15 +136,15 @@ module _ (c : Configuration) (lease : c .address .value .lease < 2 ^ 64) where
       let f = fine-configuration c (in-range (configurationInRange c) a) lease in
       rw (← emitted x) (omega (arith, map-length (configurationPairs c) (omega (arith, f .few)), f .small))
 
-  pub configuration-round-trip : length (c .jrc .value .bytes) ≡ 16 → ConfigurationRoundTrip c
+  pub configuration-round-trip : ItemLaws → length (c .jrc .value .bytes) ≡ 16 → ConfigurationRoundTrip c
   unfolding configurationPlan
-  configuration-round-trip l p e =
+  configuration-round-trip laws l p e b =
       let (a, x) = emits (not (configurationInRange c)) Range (emit (encode (map (configurationPairs c)))) p e in
       let h = in-range (configurationInRange c) a in
       let none = noOctetsParameter Absent in
       let report : OctetsParameter → Report = λ o. o .report in
-      let back : readConfiguration p ≡ acceptConfiguration (read-back c) =
-      rw (← emitted x, payload-read configurationForm (configurationPairs c) emptyConfiguration (fine-configuration c h lease) (omega arith) (omega arith), configuration-read c (configuration-fits c h) l) in
+      let back : readConfigurationBy (headBy b) p ≡ acceptConfiguration (read-back c) =
+      rw (← emitted x, payload-read configurationForm laws b (configurationPairs c) emptyConfiguration (fine-configuration c h lease) (omega arith) (omega arith), configuration-read c (configuration-fits c h) l) in
       rw back (record {
         accepted = refl;
         same = record {

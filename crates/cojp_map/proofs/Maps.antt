@@ -17,7 +17,7 @@ use Rattle.cbor.specs.Decode.{majorOf, decodeBy, Outcome, got, heading, pairs, 
 use Rattle.cbor.specs.Strict.{headBy}
 use Rattle.cbor.specs.Decode as item
 use Rattle.cbor.specs.Item.{Item, Pairs, empty, pair}
-use Rattle.cbor.specs.View.{View, labelOf, viewOf, labelAt}
+use Rattle.cbor.specs.View.{View, labelOf, viewOf, labelAt, restOf}
 use Rattle.cbor.specs.declared.item.Opened.{Opened}
 use Rattle.cbor.specs.declared.item.Opened.the-variants as ov
 use Rattle.cbor.specs.declared.item.Skip.{Skip}
@@ -31,7 +31,7 @@ use Rattle.cbor.proofs.Answers.{head-refused, head-got, skip-refused, skip-next
 use Rattle.cbor.proofs.Outcomes.{then-got, same-value}
 use Rattle.cbor.proofs.Payloads.{opened-refused, opened-map, opened-other}
 use Rattle.cbor.proofs.Views.{tree-label, tree-view}
-use Rattle.cojp.specs.Bytes.{valueView, restOf, afterValue}
+use Rattle.cojp.specs.Bytes.{valueView, afterValue}
 use Rattle.cojp.specs.Reading.{Reading, refused, read, onward, put, said, Accepting}
 use Rattle.cojp.specs.Walk.{Form, pairRead, pairsRead, scannedRead, payloadReadBy}
 use Rattle.cojp.specs.declared.walk.Standing.{Standing}

@@ -12,12 +12,10 @@ use denote.Enum.Declared.{tagOf}
 use Rattle.refusal.specs.declared.Refusal.{Refusal}
 use Rattle.refusal.specs.declared.Refusal.the-variants as refusal
 use Rattle.refusal.specs.declared.Verdict.the-variants as verdict
-use Rattle.cbor.specs.Decode.{heading}
-use Rattle.cbor.specs.View.{View, valueAnswer}
+use Rattle.cbor.specs.View.{View, ValueAt, ValueSays}
 use Rattle.cbor.specs.declared.value.Value.{Value}
 use Rattle.cbor.specs.declared.value.Value.the-variants as vv
 use Rattle.cbor.proofs.value.Value as value
-use Rattle.cbor.proofs.Views.{ValueAt, value-says}
 use Rattle.cojp.specs.Bytes.{valueView}
 use Rattle.cojp.specs.Octets.{octetsRead}
 use Rattle.cojp.specs.Reading.{Reading, refused, read, onward, put, said}
@@ -30,10 +28,10 @@ use Rattle.cojp.specs.declared.walk.Standing.{Standing}
 use Rattle.cojp.specs.declared.walk.Standing.the-variants.{Unknown}
 
 -- ---- the role
-module _ (s : List ℕ) (at : ℕ) (v : Value) (e : v ≡ valueAnswer (length s) (heading (drop at s))) where
+module _ (s : List ℕ) (at : ℕ) (v : Value) (e : ValueSays s at v) where
   module _ (n p : ℕ) (g : v ≡ vv.Number n p) where
     role-here : ValueAt 5 s at (vv.Number n p)
-    role-here = rw g at (value-says 5 s at v e)
+    role-here = rw g at (e .says 5)
 
     pub role-high : 1 < n → refused refusal.Role ≡ roleRead (valueView (drop at s))
     unfolding roleJudged
@@ -45,7 +43,7 @@ module _ (s : List ℕ) (at : ℕ) (v : Value) (e : v ≡ valueAnswer (length s)
 
   pub role-broken : OneOf (1 ∷ 2 ∷ 3 ∷ []) (tagOf value.the-type v) → refused refusal.«Type» ≡ roleRead (valueView (drop at s))
   unfolding roleJudged
-  role-broken o = go v (value-says 5 s at v e) o
+  role-broken o = go v (e .says 5) o
     where
       go : (v : Value) → ValueAt 5 s at v → OneOf (1 ∷ 2 ∷ 3 ∷ []) (tagOf value.the-type v)
           → refused refusal.«Type» ≡ roleRead (valueView (drop at s))

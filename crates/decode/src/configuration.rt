@@ -1,8 +1,9 @@
-// The command `configuration HEX`.
+// The commands `configuration HEX` and `strict-configuration HEX`.
 use crate::parameter::put_octets;
 use crate::parameter::put_report;
 use cojp::AddressParameter;
 use cojp::Configuration;
+use cojp::ConfigurationRead;
 use cojp::KeysParameter;
 use cojp::Report;
 use cojp::ShortAddress;
@@ -10,8 +11,15 @@ use refusal::Verdict;
 use tool_text::output::Buffer;
 use tool_text::output::Output;
 
-pub fn answer(payload: &[u8], out: Output, buffer: &mut Buffer) -> Output {
-    let read = cojp_configuration_read::read_configuration(payload);
+pub fn read(strict: bool, payload: &[u8]) -> ConfigurationRead {
+    if strict {
+        return cojp_configuration_read::read_strict_configuration(payload);
+    }
+    cojp_configuration_read::read_configuration(payload)
+}
+
+pub fn answer(strict: bool, payload: &[u8], out: Output, buffer: &mut Buffer) -> Output {
+    let read = read(strict, payload);
     let verdict = read.verdict;
     match verdict {
         Verdict::Accepted => put_configuration(out, read.configuration, buffer),

@@ -1,67 +1,103 @@
 // The desk tool decode: reads join requests and configurations from lines of HEX, and writes what they say (docs/TOOLS.md).
+mod command;
 mod configuration;
+mod head;
 mod parameter;
 mod request;
+mod rewrite;
 
-use tool_text::desk::Desk;
-use tool_text::hex::Hex;
+use command::Command;
+use command::Reading;
+use command::command_of;
+use tool_text::fault::Fault;
+use tool_text::fault::put_fault;
 use tool_text::hex::Payload;
 use tool_text::line::Form;
+use tool_text::line::Line;
 use tool_text::output::Buffer;
 use tool_text::output::Output;
+use tool_text::session::Session;
 use tool_text::word::Word;
 
-// A command and HEX.
+// A command and HEX; `rewrite` has a reading before HEX.
 const FORM: Form = Form {
     hex_at: 1,
     is_word: false,
+    apart: Word {
+        len: 7,
+        letters: *b"rewrite\0\0\0\0\0\0\0\0\0\0\0\0\0\0\0\0\0",
+    },
 };
 
-fn answer(command: Word, hex: Hex, payload: &[u8], out: Output, buffer: &mut Buffer) -> Output {
-    let is_request = command.is(b"request");
-    if !is_request && !command.is(b"configuration") {
-        return out.text(b"error command", buffer);
+fn answer(line: Line, payload: &[u8], out: Output, buffer: &mut Buffer) -> Output {
+    let command = command_of(line);
+    if let Command::Wrong = command {
+        return put_fault(out, Fault::Command, buffer);
     }
-    let Payload::Bytes(len) = hex.payload() else {
-        return out.text(b"error hex", buffer);
+    let Payload::Bytes(len) = line.tail.hex.payload() else {
+        return put_fault(out, Fault::Hex, buffer);
     };
-    answer_object(is_request, tool_text::first(payload, len), out, buffer)
+    answer_command(command, tool_text::first(payload, len), out, buffer)
+}
+
+fn answer_command(command: Command, payload: &[u8], out: Output, buffer: &mut Buffer) -> Output {
+    match command {
+        Command::Wrong => put_fault(out, Fault::Command, buffer),
+        Command::Head => head::answer(payload, out, buffer),
+        Command::Read(reading) => answer_object(reading, payload, out, buffer),
+        Command::Rewrite(reading) => rewrite::answer(reading, payload, out, buffer),
+    }
 }
 
 // A payload is read as a join request, or else as a configuration.
-fn answer_object(is_request: bool, payload: &[u8], out: Output, buffer: &mut Buffer) -> Output {
-    if is_request {
-        return request::answer(payload, out, buffer);
+fn answer_object(reading: Reading, payload: &[u8], out: Output, buffer: &mut Buffer) -> Output {
+    if reading.is_request {
+        return request::answer(reading.strict, payload, out, buffer);
     }
-    configuration::answer(payload, out, buffer)
+    configuration::answer(reading.strict, payload, out, buffer)
 }
 
 // Answers the next line; an empty one and a comment are not answered.
-fn turn(desk: Desk, bytes: &mut Buffer, payload: &mut [u8; 257], buffer: &mut Buffer) -> Desk {
-    let asked = desk.next(FORM, bytes, payload, buffer);
+fn answer_line(
+    session: Session,
+    bytes: &mut Buffer,
+    payload: &mut tool_notation::Payload,
+    buffer: &mut Buffer,
+) -> Session {
+    let asked = session.next(FORM, bytes, payload, buffer);
     let line = asked.line;
-    let mut desk = asked.desk;
+    let mut session = asked.session;
     if !line.is_silent() {
-        let out = answer(line.head.command, line.tail.hex, payload, desk.out, buffer);
-        desk.out = out.byte(b'\n', buffer);
+        let out = answer(line, payload, session.out, buffer);
+        session.out = out.byte(b'\n', buffer);
     }
-    desk
+    session
 }
 
 // Answers line after line until the input ends or nobody reads the answers.
-fn run(bytes: &mut Buffer, payload: &mut [u8; 257], buffer: &mut Buffer) {
-    let mut desk = Desk::new();
-    let mut turns = u64::MAX;
-    while turns > 0 && desk.open {
-        desk = turn(desk, bytes, payload, buffer);
-        turns -= 1;
+fn run(
+    mut session: Session,
+    bytes: &mut Buffer,
+    payload: &mut tool_notation::Payload,
+    buffer: &mut Buffer,
+) {
+    let mut lines = u64::MAX;
+    while lines > 0 && session.open {
+        session = answer_line(session, bytes, payload, buffer);
+        lines -= 1;
     }
-    desk.out.flush(buffer);
+    session.end(buffer);
 }
 
 fn main() {
     let mut bytes = io::large_buffer();
-    let mut payload = [0u8; 257];
+    let mut payload = tool_notation::no_payload();
     let mut buffer = io::large_buffer();
-    run(&mut bytes, &mut payload, &mut buffer);
+    let session = Session::begin(
+        b"decode: what the payloads of join requests and configurations mean (docs/TOOLS.md).\n\
+READING HEX: the object; rewrite READING HEX: the object, written again; head HEX: the first head.\n\
+READING is request, configuration, strict-request or strict-configuration.\n",
+        &mut buffer,
+    );
+    run(session, &mut bytes, &mut payload, &mut buffer);
 }

@@ -1,12 +1,20 @@
-// The command `request HEX`.
+// The commands `request HEX` and `strict-request HEX`.
 use crate::parameter::put_octets;
 use cojp::JoinRequest;
+use cojp::RequestRead;
 use refusal::Verdict;
 use tool_text::output::Buffer;
 use tool_text::output::Output;
 
-pub fn answer(payload: &[u8], out: Output, buffer: &mut Buffer) -> Output {
-    let read = cojp_request_read::read_request(payload);
+pub fn read(strict: bool, payload: &[u8]) -> RequestRead {
+    if strict {
+        return cojp_request_read::read_strict_request(payload);
+    }
+    cojp_request_read::read_request(payload)
+}
+
+pub fn answer(strict: bool, payload: &[u8], out: Output, buffer: &mut Buffer) -> Output {
+    let read = read(strict, payload);
     let verdict = read.verdict;
     match verdict {
         Verdict::Accepted => put_request(out, read.request, buffer),

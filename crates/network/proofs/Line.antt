@@ -10,13 +10,13 @@ use Rattle.refusal.specs.declared.Refusal.the-variants as refusal
 use Rattle.link_key.specs.Key.{inLimits, sameKey, covers}
 use Rattle.link_key_set.specs.KeySet.{allowed, allowedSet, Apart}
 use Rattle.link_key.specs.declared.Key.{Key}
-use Rattle.cbor.specs.Decode.{payload, decodeBy, heading, argument, next, digits, members, pairs, majorOf}
+use Rattle.cbor.specs.Decode.{payloadBy, decodeBy, heading, argument, next, digits, members, pairs, majorOf}
 use Rattle.cbor.specs.Encode.{bytesOf, infoOf, extraOf, shortest}
 use Rattle.cojp.specs.Octets.{padded, octetsJudged}
 use Rattle.cojp.specs.Address.{addressIn}
 use Rattle.cojp.specs.KeySet.{groups}
 use Rattle.cojp.specs.Request.{owing}
-use Rattle.cojp.specs.Walk.{payloadRead}
+use Rattle.cojp.specs.Walk.{payloadReadBy}
 use Rattle.cojp.specs.Configuration.{configurationStanding, configurationTaking}
 use Rattle.cojp.specs.Writing.{requestInRange, requestPlan}
 use Rattle.node_key_sets.specs.Sets as sets
@@ -46,9 +46,9 @@ use Rattle.network.specs.Witness.{oldKeys, newKeys, line, lineLinks, fir
 
 -- what computing unfolds: items, keys, objects, the node's calls, and the network's events
 computing : Unit {0}
-unfolding payload decodeBy heading argument next digits members pairs majorOf bytesOf infoOf extraOf shortest
+unfolding payloadBy decodeBy heading argument next digits members pairs majorOf bytesOf infoOf extraOf shortest
     inLimits sameKey covers allowed allowedSet
-    padded octetsJudged addressIn groups owing payloadRead configurationStanding configurationTaking requestInRange requestPlan
+    padded octetsJudged addressIn groups owing payloadReadBy configurationStanding configurationTaking requestInRange requestPlan
     sets.fits install sendingKey receivingKey hears attempt.fits mayStart stepped polling.poll
     valid requestOf startVerdict startPlan start poll reportsOf configured apply mayCome deliverVerdict deliver send afterSend receive verified perform
     nodeAt withNode judged turn step run Come Comes

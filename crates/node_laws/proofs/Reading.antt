@@ -26,7 +26,7 @@ use Rattle.cojp.specs.Reading.{Reading, refused, read, onward, put, Judgement, 
 use Rattle.cojp.specs.Octets.{octetsJudged, octetsOf, octetsParameter, noOctetsParameter}
 use Rattle.cojp.specs.Address.{isAddress, addressBy, addressIn, addressJudged, addressOf, addressParameter, noAddressParameter}
 use Rattle.cojp.specs.KeySet.{Groups, notGroups, groupsOf, groups, keysIn, keysJudged, keySetOf, keysParameter}
-use Rattle.cojp.specs.Walk.{knownRead, pairRead, pairsRead, mapRead, scannedRead, payloadRead}
+use Rattle.cojp.specs.Walk.{knownRead, pairRead, pairsRead, mapRead, scannedRead, payloadRead, payloadReadBy}
 use Rattle.cojp.specs.Configuration.{emptyConfiguration, withKeys, withAddress, withJrc, withNetwork, withPrefix, withPassed, configurationStanding, configurationTaking, configurationForm, configurationAnswer, readConfiguration}
 use Rattle.cojp.specs.Writing.{keysInRange, addressInRange, jrcInRange, octetsInRange}
 use Rattle.cojp.specs.declared.address.ShortAddress.{ShortAddress}
@@ -195,7 +195,7 @@ scanned-fits c h (decode.refused k) = tt
 scanned-fits c h (decode.got i t) = map-fits c h i
 
 payload-fits : (p : List ℕ) → Fit (payloadRead configurationForm emptyConfiguration p)
-unfolding payloadRead
+unfolding payloadReadBy
 payload-fits p = go (ltb 256 (length p))
   where
     go : (b : Bool) → Fit (cond b (refused refusal.Long) (scannedRead configurationForm emptyConfiguration (payload p)))

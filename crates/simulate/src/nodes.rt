@@ -4,20 +4,18 @@ use crate::perform::perform;
 use network::Answer;
 use network_turn::turn;
 use node::Node;
+use node_key_sets::Change;
 use simulate_answers::Reply;
-use simulate_answers::reply::FAILED;
-use simulate_answers::reply::KEPT;
-use simulate_answers::reply::SWITCHED;
-use simulate_commands::order::Order;
-use simulate_commands::order::Verb;
-use simulate_commands::order::byte;
-use simulate_commands::order::index;
+use simulate_commands::Command;
+use simulate_commands::Verb;
+use simulate_commands::command::byte;
+use simulate_commands::command::index;
 
-// The nodes 0 to 15; one that was not made stands there too, and no order names it.
+// The nodes 0 to 15; one that was not made stands there too, and no command names it.
 pub type Nodes = [Node; 16];
 
-// The nodes after an order, and what it is answered.
-pub struct Obeyed {
+// The nodes after a command, and what it is answered.
+pub struct Executed {
     pub nodes: Nodes,
     pub reply: Reply,
 }
@@ -40,31 +38,31 @@ fn stored(mut nodes: Nodes, number: u64, node: Node) -> Nodes {
     nodes
 }
 
-// Carries the order out. A join request that is sent is written over the payload.
-pub fn obey(nodes: Nodes, order: Order, payload: &mut [u8; 257]) -> Obeyed {
-    let verb = order.verb;
+// Carries the command out. A join request that is sent is written over the payload.
+pub fn execute(nodes: Nodes, command: Command, payload: &mut tool_notation::Payload) -> Executed {
+    let verb = command.verb;
     if let Verb::Turn = verb {
-        return between(nodes, order);
+        return between(nodes, command);
     }
-    let done = perform(load(nodes, order.first), order, payload);
+    let done = perform(load(nodes, command.first), command, payload);
     let reply = done.reply;
-    Obeyed {
-        nodes: stored(nodes, order.first, done.node),
+    Executed {
+        nodes: stored(nodes, command.first, done.node),
         reply,
     }
 }
 
 // The command `turn I J TYPE`.
-fn between(nodes: Nodes, order: Order) -> Obeyed {
+fn between(nodes: Nodes, command: Command) -> Executed {
     let turned = turn(
-        load(nodes, order.first),
-        load(nodes, order.second),
-        byte(order.third),
+        load(nodes, command.first),
+        load(nodes, command.second),
+        byte(command.third),
     );
     let answer = turned.answer;
-    let nodes = stored(nodes, order.first, turned.sender);
-    Obeyed {
-        nodes: stored(nodes, order.second, turned.hearer),
+    let nodes = stored(nodes, command.first, turned.sender);
+    Executed {
+        nodes: stored(nodes, command.second, turned.hearer),
         reply: turn_reply(answer),
     }
 }
@@ -72,8 +70,8 @@ fn between(nodes: Nodes, order: Order) -> Obeyed {
 fn turn_reply(answer: Answer) -> Reply {
     match answer {
         Answer::Refused(refusal) => Reply::Refused(refusal),
-        Answer::Failed => Reply::Said(FAILED),
-        Answer::Kept => Reply::Said(KEPT),
-        Answer::Switched => Reply::Said(SWITCHED),
+        Answer::Failed => Reply::Failed,
+        Answer::Kept => Reply::Verified(Change::Kept),
+        Answer::Switched => Reply::Verified(Change::Switched),
     }
 }

@@ -6,16 +6,11 @@ use node_parameters::HeldOctets;
 use node_parameters::octets::absent_octets;
 use refusal::Verdict;
 use simulate_answers::Reply;
-use simulate_answers::reply::MADE;
-use simulate_answers::reply::change_reply;
 use simulate_answers::reply::delivery_reply;
-use simulate_answers::reply::due_reply;
-use simulate_answers::reply::holding_reply;
 use simulate_answers::reply::start_reply;
-use simulate_commands::order::Order;
-use simulate_commands::order::Verb;
-use simulate_commands::order::byte;
-use tool_text::word::Word;
+use simulate_commands::Command;
+use simulate_commands::Verb;
+use simulate_commands::command::byte;
 
 // The node as the command left it, and what it is answered.
 pub struct Done {
@@ -35,50 +30,57 @@ pub fn no_node() -> Node {
 
 // The bytes as a network identifier, or none. Over 16 of them count as 17, which the library refuses.
 fn identifier(payload: &[u8], none: bool) -> HeldOctets {
-    let word = Word::new().more(payload);
-    let len = word.len;
-    let bytes = word.letters;
+    let len = counted(payload);
+    let bytes = cojp::copied(payload, 0, len);
     HeldOctets {
         held: !none,
         value: Octets { len, bytes },
     }
 }
 
-// The node after an order that names it. A join request that it sends is written over the payload.
-pub fn perform(node: Node, order: Order, payload: &mut [u8; 257]) -> Done {
-    let verb = order.verb;
-    if let Verb::Start = verb {
-        return start(node, order, payload);
+// How many bytes there are, 17 standing for any more.
+fn counted(payload: &[u8]) -> usize {
+    if 16 < payload.len() {
+        return 17;
     }
-    call(node, order, tool_text::first(payload, order.len))
+    payload.len()
 }
 
-fn start(node: Node, order: Order, request: &mut [u8; 257]) -> Done {
-    let started = node.start(request, order.second, order.third);
+// The node after a command that names it. A join request that it sends is written over the payload.
+pub fn perform(node: Node, command: Command, payload: &mut tool_notation::Payload) -> Done {
+    let verb = command.verb;
+    if let Verb::Start = verb {
+        return start(node, command, payload);
+    }
+    call(node, command, tool_text::first(payload, command.len))
+}
+
+fn start(node: Node, command: Command, request: &mut tool_notation::Payload) -> Done {
+    let started = node.start(request, command.second, command.third);
     let verdict = started.verdict;
     with_reply(started.node, start_reply(verdict, started.length))
 }
 
 // Any command but `start`; a question and a line that is no command leave the node.
-fn call(node: Node, order: Order, payload: &[u8]) -> Done {
-    let verb = order.verb;
+fn call(node: Node, command: Command, payload: &[u8]) -> Done {
+    let verb = command.verb;
     match verb {
-        Verb::Make => make(node, order, payload),
-        Verb::Answer => delivered(node.join_answer(order.second, payload)),
-        Verb::Update => delivered(node.update(order.second, payload)),
-        Verb::Poll => poll(node, order.second),
-        Verb::Verified => verified(node, order),
-        _ => with_reply(node, left(node, order)),
+        Verb::Make => make(node, command, payload),
+        Verb::Answer => delivered(node.join_answer(command.second, payload)),
+        Verb::Update => delivered(node.update(command.second, payload)),
+        Verb::Poll => poll(node, command.second),
+        Verb::Verified => verified(node, command),
+        _ => with_reply(node, left(node, command)),
     }
 }
 
 // The command `node I ROLE NETWORK`; a refused one leaves the node that was there.
-fn make(node: Node, order: Order, network: &[u8]) -> Done {
-    let made = Node::new(byte(order.second), identifier(network, order.none));
+fn make(node: Node, command: Command, network: &[u8]) -> Done {
+    let made = Node::new(byte(command.second), identifier(network, command.none));
     let verdict = made.verdict;
     match verdict {
         Verdict::Refused(refusal) => with_reply(node, Reply::Refused(refusal)),
-        Verdict::Accepted => with_reply(made.node, Reply::Said(MADE)),
+        Verdict::Accepted => with_reply(made.node, Reply::Made),
     }
 }
 
@@ -90,21 +92,22 @@ fn delivered(delivered: Delivered) -> Done {
 fn poll(node: Node, time: u64) -> Done {
     let polled = node.poll(time);
     let due = polled.due;
-    with_reply(polled.node, due_reply(due))
+    with_reply(polled.node, Reply::Polled(due))
 }
 
-fn verified(node: Node, order: Order) -> Done {
-    let heard = node.verified(byte(order.second), byte(order.third));
+fn verified(node: Node, command: Command) -> Done {
+    let heard = node.verified(byte(command.second), byte(command.third));
     let change = heard.change;
-    with_reply(heard.node, change_reply(change))
+    with_reply(heard.node, Reply::Verified(change))
 }
 
 // What is answered where the node is left as it is.
-fn left(node: Node, order: Order) -> Reply {
-    let verb = order.verb;
+fn left(node: Node, command: Command) -> Reply {
+    let verb = command.verb;
     match verb {
-        Verb::Holds => holding_reply(node.address_holds(order.second)),
-        Verb::Wrong => Reply::Said(order.fault),
+        Verb::Holds => Reply::Held(node.address_holds(command.second)),
+        Verb::Wrong(fault) => Reply::Wrong(fault),
+        Verb::Nothing => Reply::Nothing,
         _ => Reply::Asked,
     }
 }

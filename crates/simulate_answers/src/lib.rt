@@ -1,7 +1,7 @@
 // What the commands of simulate are answered, and how that is written (docs/TOOLS.md).
+mod answer;
 pub mod reply;
 mod show;
-mod write;
 
+pub use answer::put_answer;
 pub use reply::Reply;
-pub use write::put_answer;

@@ -1,100 +1,79 @@
 // The command `show I`: a node on one line.
 use link_key_set::KeySet;
 use node::Node;
+use node_attempt::Attempt;
 use node_attempt::Phase;
 use node_parameters::HeldAddress;
 use node_parameters::HeldOctets;
-use simulate_commands::fill::one_value;
-use simulate_commands::fill::put;
-use simulate_commands::fill::two_values;
 use tool_text::output::Buffer;
 use tool_text::output::Output;
 
 // Writes what the node is and holds.
 pub fn put_node(out: Output, node: Node, buffer: &mut Buffer) -> Output {
-    let out = put_timing(out, node, buffer);
-    let out = put_key_set(out, 0, node.sets.active, buffer);
-    let out = put_key_set(out, 1, node.sets.pending, buffer);
+    let out = put_number(out, b"role=", node.role as u64, buffer);
+    let out = put_attempt(out, node.attempt, buffer);
+    let out = put_key_set(out, b" active=", node.sets.active, buffer);
+    let out = put_key_set(out, b" pending=", node.sets.pending, buffer);
     let out = put_address(out, node.address, buffer);
-    let out = put_octets(out, 0, node.jrc, buffer);
-    let out = put_octets(out, 1, node.network, buffer);
-    put_octets(out, 2, node.prefix, buffer)
+    let out = put_octets(out, b" jrc=", node.jrc, buffer);
+    let out = put_octets(out, b" network=", node.network, buffer);
+    put_octets(out, b" prefix=", node.prefix, buffer)
 }
 
-fn put_timing(out: Output, node: Node, buffer: &mut Buffer) -> Output {
-    let attempt = node.attempt;
+fn put_number(out: Output, name: &[u8], number: u64, buffer: &mut Buffer) -> Output {
+    out.text(name, buffer).number(number, buffer)
+}
+
+fn put_attempt(out: Output, attempt: Attempt, buffer: &mut Buffer) -> Output {
     let phase = attempt.phase;
-    put(
-        out,
-        b"role=# phase={idle|waiting|joined|gave-up} clock=# sent=# timeout=# count=#",
-        [
-            node.role as u64,
-            phase_number(phase),
-            attempt.clock,
-            attempt.sent,
-            attempt.timeout,
-            attempt.count as u64,
-        ],
-        buffer,
-    )
+    let out = put_phase(out, phase, buffer);
+    let out = put_number(out, b" clock=", attempt.clock, buffer);
+    let out = put_number(out, b" sent=", attempt.sent, buffer);
+    let out = put_number(out, b" timeout=", attempt.timeout, buffer);
+    put_number(out, b" count=", attempt.count as u64, buffer)
 }
 
-fn phase_number(phase: Phase) -> u64 {
+fn put_phase(out: Output, phase: Phase, buffer: &mut Buffer) -> Output {
+    let out = out.text(b" phase=", buffer);
     match phase {
-        Phase::Idle => 0,
-        Phase::Waiting => 1,
-        Phase::Joined => 2,
-        Phase::GaveUp => 3,
+        Phase::Idle => out.text(b"idle", buffer),
+        Phase::Waiting => out.text(b"waiting", buffer),
+        Phase::Joined => out.text(b"joined", buffer),
+        Phase::GaveUp => out.text(b"gave-up", buffer),
     }
 }
 
-// The active key set, 0, or the pending one, 1.
-fn put_key_set(out: Output, which: u64, set: KeySet, buffer: &mut Buffer) -> Output {
-    let held = set.count != 0;
-    let out = put(
-        out,
-        b" {active|pending}={none|}",
-        two_values(which, held as u64),
-        buffer,
-    );
-    if held {
-        return tool_notation::put_key_set(out, set, buffer);
+fn put_key_set(out: Output, name: &[u8], set: KeySet, buffer: &mut Buffer) -> Output {
+    let out = out.text(name, buffer);
+    if set.count == 0 {
+        return out.text(b"none", buffer);
     }
-    out
+    tool_notation::put_key_set(out, set, buffer)
 }
 
 // The short address, its lease and its time of receipt.
 fn put_address(out: Output, address: HeldAddress, buffer: &mut Buffer) -> Output {
-    let out = put(
-        out,
-        b" address={none lease=none received=none|}",
-        one_value(address.held as u64),
-        buffer,
-    );
     if !address.held {
-        return out;
+        return out.text(b" address=none lease=none received=none", buffer);
     }
     let value = address.value;
     let bytes = value.bytes;
-    let out = out.octets(&bytes, buffer);
-    put(
-        out,
-        b" lease={none|#} received=#",
-        [value.leased as u64, value.lease, address.received, 0, 0, 0],
-        buffer,
-    )
+    let out = out.text(b" address=", buffer).octets(&bytes, buffer);
+    let out = put_lease(out, value.leased, value.lease, buffer);
+    put_number(out, b" received=", address.received, buffer)
 }
 
-// The JRC address, 0, the network identifier, 1, or the prefix, 2.
-fn put_octets(out: Output, which: u64, octets: HeldOctets, buffer: &mut Buffer) -> Output {
-    let out = put(
-        out,
-        b" {jrc|network|prefix}={none|}",
-        two_values(which, octets.held as u64),
-        buffer,
-    );
-    if octets.held {
-        return tool_notation::put_octets(out, octets.value, buffer);
+fn put_lease(out: Output, leased: bool, lease: u64, buffer: &mut Buffer) -> Output {
+    if leased {
+        return put_number(out, b" lease=", lease, buffer);
     }
-    out
+    out.text(b" lease=none", buffer)
+}
+
+fn put_octets(out: Output, name: &[u8], octets: HeldOctets, buffer: &mut Buffer) -> Output {
+    let out = out.text(name, buffer);
+    if !octets.held {
+        return out.text(b"none", buffer);
+    }
+    tool_notation::put_octets(out, octets.value, buffer)
 }

@@ -1,8 +1,8 @@
-// What a line asks of simulate, and the texts that most of its answers are written by.
-pub mod fill;
+// What a line asks of simulate.
+pub mod command;
 pub mod next;
-pub mod order;
+pub mod verb;
 
-pub use next::next_order;
-pub use order::Order;
-pub use order::Verb;
+pub use command::Command;
+pub use next::next_command;
+pub use verb::Verb;

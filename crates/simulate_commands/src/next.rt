@@ -1,35 +1,37 @@
-// The orders of a desk, line after line.
-use crate::order::Made;
-use crate::order::Order;
-use crate::order::order_of;
-use tool_text::desk::Desk;
+// The commands of a session, line after line.
+use crate::command::Command;
+use crate::command::Made;
+use crate::command::command_of;
 use tool_text::line::Form;
 use tool_text::output::Buffer;
+use tool_text::session::Session;
+use tool_text::word::NONE;
 
 // A command, two numbers, and a third or HEX.
 const FORM: Form = Form {
     hex_at: 3,
     is_word: true,
+    apart: NONE,
 };
 
-// What a line asks for, and the desk after it.
-pub struct Ordered {
-    pub desk: Desk,
-    pub order: Order,
+// What a line asks for, and the session after it.
+pub struct Commanded {
+    pub session: Session,
+    pub command: Command,
 }
 
 // Reads the next line; HEX goes to the payload.
-pub fn next_order(
-    desk: Desk,
+pub fn next_command(
+    session: Session,
     made: Made,
     bytes: &mut Buffer,
-    payload: &mut [u8; 257],
+    payload: &mut [u8],
     buffer: &mut Buffer,
-) -> Ordered {
-    let asked = desk.next(FORM, bytes, payload, buffer);
-    let desk = asked.desk;
-    Ordered {
-        desk,
-        order: order_of(asked.line, made),
+) -> Commanded {
+    let asked = session.next(FORM, bytes, payload, buffer);
+    let session = asked.session;
+    Commanded {
+        session,
+        command: command_of(asked.line, made),
     }
 }

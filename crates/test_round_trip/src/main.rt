@@ -3,23 +3,27 @@
 mod again;
 mod object;
 
-use tool_text::desk::Desk;
+use tool_text::fault::Fault;
+use tool_text::fault::put_fault;
 use tool_text::hex::Hex;
 use tool_text::hex::Payload;
 use tool_text::line::Form;
 use tool_text::output::Buffer;
 use tool_text::output::Output;
+use tool_text::session::Session;
+use tool_text::word::NONE;
 use tool_text::word::Word;
 
 // A command and HEX.
 const FORM: Form = Form {
     hex_at: 1,
     is_word: false,
+    apart: NONE,
 };
 
 fn answer(command: Word, hex: Hex, payload: &[u8], out: Output, buffer: &mut Buffer) -> Output {
     let Payload::Bytes(len) = hex.payload() else {
-        return out.text(b"error hex", buffer);
+        return put_fault(out, Fault::Hex, buffer);
     };
     again::answer(
         command.is(b"request"),
@@ -30,31 +34,50 @@ fn answer(command: Word, hex: Hex, payload: &[u8], out: Output, buffer: &mut Buf
 }
 
 // Answers the next line; an empty one and a comment are not answered.
-fn turn(desk: Desk, bytes: &mut Buffer, payload: &mut [u8; 257], buffer: &mut Buffer) -> Desk {
-    let asked = desk.next(FORM, bytes, payload, buffer);
+fn answer_line(
+    session: Session,
+    bytes: &mut Buffer,
+    payload: &mut tool_notation::Payload,
+    buffer: &mut Buffer,
+) -> Session {
+    let asked = session.next(FORM, bytes, payload, buffer);
     let line = asked.line;
-    let mut desk = asked.desk;
+    let mut session = asked.session;
     if !line.is_silent() {
-        let out = answer(line.head.command, line.tail.hex, payload, desk.out, buffer);
-        desk.out = out.byte(b'\n', buffer);
+        let out = answer(
+            line.head.command,
+            line.tail.hex,
+            payload,
+            session.out,
+            buffer,
+        );
+        session.out = out.byte(b'\n', buffer);
     }
-    desk
+    session
 }
 
 // Answers line after line until the input ends or nobody reads the answers.
-fn run(bytes: &mut Buffer, payload: &mut [u8; 257], buffer: &mut Buffer) {
-    let mut desk = Desk::new();
-    let mut turns = u64::MAX;
-    while turns > 0 && desk.open {
-        desk = turn(desk, bytes, payload, buffer);
-        turns -= 1;
+fn run(
+    mut session: Session,
+    bytes: &mut Buffer,
+    payload: &mut tool_notation::Payload,
+    buffer: &mut Buffer,
+) {
+    let mut lines = u64::MAX;
+    while lines > 0 && session.open {
+        session = answer_line(session, bytes, payload, buffer);
+        lines -= 1;
     }
-    desk.out.flush(buffer);
+    session.end(buffer);
 }
 
 fn main() {
     let mut bytes = io::large_buffer();
-    let mut payload = [0u8; 257];
+    let mut payload = tool_notation::no_payload();
     let mut buffer = io::large_buffer();
-    run(&mut bytes, &mut payload, &mut buffer);
+    let session = Session::begin(
+        b"test_round_trip: the objects of payloads, written and read again.\n",
+        &mut buffer,
+    );
+    run(session, &mut bytes, &mut payload, &mut buffer);
 }

@@ -1,7 +1,6 @@
-// Runs the crate text over lines of standard input, and writes what it makes of each: how many words, the command's letters, the
-// numbers, and HEX from word 3 on. vectors.py makes the input and what is to be written, by itself.
+// Runs the crate tool_text over lines of standard input, and writes what it makes of each: how many words, the command's letters, the
+// numbers, and HEX from word 3 on. It is run with --echo. tools/test_text.py makes the input and what is to be written, by itself.
 use tool_text::decimal::Decimal;
-use tool_text::desk::Desk;
 use tool_text::hex::Hex;
 use tool_text::hex::Payload;
 use tool_text::line::Form;
@@ -10,12 +9,15 @@ use tool_text::line::Line;
 use tool_text::line::Tail;
 use tool_text::output::Buffer;
 use tool_text::output::Output;
+use tool_text::session::Session;
+use tool_text::word::NONE;
 use tool_text::word::Word;
 
 // A command, two numbers, and a third or HEX.
 const FORM: Form = Form {
     hex_at: 3,
     is_word: true,
+    apart: NONE,
 };
 
 fn put_number(out: Output, number: Decimal, buffer: &mut Buffer) -> Output {
@@ -65,30 +67,38 @@ fn answer(line: Line, payload: &[u8], out: Output, buffer: &mut Buffer) -> Outpu
 }
 
 // Answers the next line; an empty one and a comment are not answered.
-fn turn(desk: Desk, bytes: &mut Buffer, payload: &mut [u8; 257], buffer: &mut Buffer) -> Desk {
-    let asked = desk.next(FORM, bytes, payload, buffer);
+fn answer_line(
+    session: Session,
+    bytes: &mut Buffer,
+    payload: &mut [u8; 257],
+    buffer: &mut Buffer,
+) -> Session {
+    let asked = session.next(FORM, bytes, payload, buffer);
     let line = asked.line;
-    let mut desk = asked.desk;
+    let mut session = asked.session;
     if !line.is_silent() {
-        desk.out = answer(line, payload, desk.out, buffer);
+        session.out = answer(line, payload, session.out, buffer);
     }
-    desk
+    session
 }
 
 // Answers line after line until the input ends or nobody reads the answers.
-fn run(bytes: &mut Buffer, payload: &mut [u8; 257], buffer: &mut Buffer) {
-    let mut desk = Desk::new();
-    let mut turns = u64::MAX;
-    while turns > 0 && desk.open {
-        desk = turn(desk, bytes, payload, buffer);
-        turns -= 1;
+fn run(mut session: Session, bytes: &mut Buffer, payload: &mut [u8; 257], buffer: &mut Buffer) {
+    let mut lines = u64::MAX;
+    while lines > 0 && session.open {
+        session = answer_line(session, bytes, payload, buffer);
+        lines -= 1;
     }
-    desk.out.flush(buffer);
+    session.end(buffer);
 }
 
 fn main() {
     let mut bytes = io::large_buffer();
     let mut payload = [0u8; 257];
     let mut buffer = io::large_buffer();
-    run(&mut bytes, &mut payload, &mut buffer);
+    let session = Session::begin(
+        b"test_text: what the crate tool_text makes of lines.\n",
+        &mut buffer,
+    );
+    run(session, &mut bytes, &mut payload, &mut buffer);
 }

@@ -1,10 +1,18 @@
-// How the desk tools write refusals, byte strings, keys and key sets (docs/TOOLS.md), after CBOR's diagnostic notation.
+// How the desk tools write refusals, byte strings, keys and key sets (docs/TOOLS.md), after CBOR's diagnostic notation, and how much they keep
+// of a payload.
 use cojp::Octets;
 use link_key::Key;
 use link_key_set::KeySet;
 use refusal::Refusal;
 use tool_text::output::Buffer;
 use tool_text::output::Output;
+
+// What is kept of a payload: one byte more than it may have is enough to be answered LONG.
+pub type Payload = [u8; 257];
+
+pub fn no_payload() -> Payload {
+    [0; 257]
+}
 
 // A refusal, as refused 5 TYPE; zeros fill its name up.
 pub fn put_refusal(out: Output, refusal: Refusal, buffer: &mut Buffer) -> Output {

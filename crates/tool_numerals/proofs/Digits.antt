@@ -11,7 +11,8 @@ use lib.Dec.{leb, ltb, eqb, eqb→eq}
 use lib.ListN.{length, getD, drop, set, length-set, drop-of-length-le}
 use lib.Seq.{drop-cons, set-out, sets}
 use Rattle.tool_numerals.proofs.Table.{at}
-use Rattle.tool_numerals.specs.Hex.{Sign, Digit, Space, Stray, signOf, signAt, before, digitsOf, isStray, anyStray, bytesOf, isOdd, fresh, withDigit, storedDigit, withCharacter, stored, readOn, writtenOn, HexIsBytes}
+use Rattle.tool_numerals.specs.Hex.{Sign, Digit, Space, Stray, signOf, signAt, before, digitsOf, isStray, anyStray, bytesOf, isOdd}
+use Rattle.tool_numerals.specs.Hex.{fresh, withDigit, storedDigit, withCharacter, stored, readOn, writtenOn, HexIsBytes}
 use Rattle.tool_numerals.specs.declared.hex.Hex.{Hex}
 
 -- a digit's value is below 16
@@ -21,7 +22,8 @@ Small (Digit v) = v < 16
 Small Space = Unit {0}
 Small Stray = Unit {0}
 
-digit-or : (l v c h : ℕ) (a b : Bool) (rest : Sign) → leb c h ≡ b → (c ≤ h → v < 16) → Small rest → Small (cond (a && b) (Digit v) rest)
+digit-or : (l v c h : ℕ) (a b : Bool) (rest : Sign) → leb c h ≡ b → (c ≤ h → v < 16) → Small rest
+    → Small (cond (a && b) (Digit v) rest)
 digit-or l v c h true true rest e low other = low (leb-true c h e)
 digit-or l v c h true false rest e low other = other
 digit-or l v c h false b rest e low other = other
@@ -45,16 +47,23 @@ code Stray = 17
 
 unfoldable pub values : List ℕ
 values =
-    17 ∷ 17 ∷ 17 ∷ 17 ∷ 17 ∷ 17 ∷ 17 ∷ 17 ∷ 17 ∷ 17 ∷ 17 ∷ 17 ∷ 17 ∷ 17 ∷ 17 ∷ 17 ∷ 17 ∷ 17 ∷ 17 ∷ 17 ∷ 17 ∷ 17 ∷ 17 ∷ 17 ∷ 17 ∷ 17 ∷ 17
-    ∷ 17 ∷ 17 ∷ 17 ∷ 17 ∷ 17 ∷ 16 ∷ 17 ∷ 17 ∷ 17 ∷ 17 ∷ 17 ∷ 17 ∷ 17 ∷ 17 ∷ 17 ∷ 17 ∷ 17 ∷ 17 ∷ 17 ∷ 17 ∷ 17 ∷ 0 ∷ 1 ∷ 2 ∷ 3 ∷ 4 ∷ 5 ∷ 6
-    ∷ 7 ∷ 8 ∷ 9 ∷ 17 ∷ 17 ∷ 17 ∷ 17 ∷ 17 ∷ 17 ∷ 17 ∷ 10 ∷ 11 ∷ 12 ∷ 13 ∷ 14 ∷ 15 ∷ 17 ∷ 17 ∷ 17 ∷ 17 ∷ 17 ∷ 17 ∷ 17 ∷ 17 ∷ 17 ∷ 17 ∷ 17
-    ∷ 17 ∷ 17 ∷ 17 ∷ 17 ∷ 17 ∷ 17 ∷ 17 ∷ 17 ∷ 17 ∷ 17 ∷ 17 ∷ 17 ∷ 17 ∷ 17 ∷ 17 ∷ 10 ∷ 11 ∷ 12 ∷ 13 ∷ 14 ∷ 15 ∷ 17 ∷ 17 ∷ 17 ∷ 17 ∷ 17 ∷
-    17 ∷ 17 ∷ 17 ∷ 17 ∷ 17 ∷ 17 ∷ 17 ∷ 17 ∷ 17 ∷ 17 ∷ 17 ∷ 17 ∷ 17 ∷ 17 ∷ 17 ∷ 17 ∷ 17 ∷ 17 ∷ 17 ∷ 17 ∷ 17 ∷ 17 ∷ 17 ∷ 17 ∷ 17 ∷ 17 ∷ 17
-    ∷ 17 ∷ 17 ∷ 17 ∷ 17 ∷ 17 ∷ 17 ∷ 17 ∷ 17 ∷ 17 ∷ 17 ∷ 17 ∷ 17 ∷ 17 ∷ 17 ∷ 17 ∷ 17 ∷ 17 ∷ 17 ∷ 17 ∷ 17 ∷ 17 ∷ 17 ∷ 17 ∷ 17 ∷ 17 ∷ 17 ∷
-    17 ∷ 17 ∷ 17 ∷ 17 ∷ 17 ∷ 17 ∷ 17 ∷ 17 ∷ 17 ∷ 17 ∷ 17 ∷ 17 ∷ 17 ∷ 17 ∷ 17 ∷ 17 ∷ 17 ∷ 17 ∷ 17 ∷ 17 ∷ 17 ∷ 17 ∷ 17 ∷ 17 ∷ 17 ∷ 17 ∷ 17
-    ∷ 17 ∷ 17 ∷ 17 ∷ 17 ∷ 17 ∷ 17 ∷ 17 ∷ 17 ∷ 17 ∷ 17 ∷ 17 ∷ 17 ∷ 17 ∷ 17 ∷ 17 ∷ 17 ∷ 17 ∷ 17 ∷ 17 ∷ 17 ∷ 17 ∷ 17 ∷ 17 ∷ 17 ∷ 17 ∷ 17 ∷
-    17 ∷ 17 ∷ 17 ∷ 17 ∷ 17 ∷ 17 ∷ 17 ∷ 17 ∷ 17 ∷ 17 ∷ 17 ∷ 17 ∷ 17 ∷ 17 ∷ 17 ∷ 17 ∷ 17 ∷ 17 ∷ 17 ∷ 17 ∷ 17 ∷ 17 ∷ 17 ∷ 17 ∷ 17 ∷ 17 ∷ 17
-    ∷ 17 ∷ 17 ∷ 17 ∷ 17 ∷ 17 ∷ 17 ∷ 17 ∷ 17 ∷ 17 ∷ 17 ∷ 17 ∷ 17 ∷ 17 ∷ 17 ∷ 17 ∷ []
+    17 ∷ 17 ∷ 17 ∷ 17 ∷ 17 ∷ 17 ∷ 17 ∷ 17 ∷ 17 ∷ 17 ∷ 17 ∷ 17 ∷ 17 ∷ 17 ∷ 17 ∷ 17
+    ∷ 17 ∷ 17 ∷ 17 ∷ 17 ∷ 17 ∷ 17 ∷ 17 ∷ 17 ∷ 17 ∷ 17 ∷ 17 ∷ 17 ∷ 17 ∷ 17 ∷ 17 ∷ 17
+    ∷ 16 ∷ 17 ∷ 17 ∷ 17 ∷ 17 ∷ 17 ∷ 17 ∷ 17 ∷ 17 ∷ 17 ∷ 17 ∷ 17 ∷ 17 ∷ 17 ∷ 17 ∷ 17
+    ∷ 0 ∷ 1 ∷ 2 ∷ 3 ∷ 4 ∷ 5 ∷ 6 ∷ 7 ∷ 8 ∷ 9 ∷ 17 ∷ 17 ∷ 17 ∷ 17 ∷ 17 ∷ 17
+    ∷ 17 ∷ 10 ∷ 11 ∷ 12 ∷ 13 ∷ 14 ∷ 15 ∷ 17 ∷ 17 ∷ 17 ∷ 17 ∷ 17 ∷ 17 ∷ 17 ∷ 17 ∷ 17
+    ∷ 17 ∷ 17 ∷ 17 ∷ 17 ∷ 17 ∷ 17 ∷ 17 ∷ 17 ∷ 17 ∷ 17 ∷ 17 ∷ 17 ∷ 17 ∷ 17 ∷ 17 ∷ 17
+    ∷ 17 ∷ 10 ∷ 11 ∷ 12 ∷ 13 ∷ 14 ∷ 15 ∷ 17 ∷ 17 ∷ 17 ∷ 17 ∷ 17 ∷ 17 ∷ 17 ∷ 17 ∷ 17
+    ∷ 17 ∷ 17 ∷ 17 ∷ 17 ∷ 17 ∷ 17 ∷ 17 ∷ 17 ∷ 17 ∷ 17 ∷ 17 ∷ 17 ∷ 17 ∷ 17 ∷ 17 ∷ 17
+    ∷ 17 ∷ 17 ∷ 17 ∷ 17 ∷ 17 ∷ 17 ∷ 17 ∷ 17 ∷ 17 ∷ 17 ∷ 17 ∷ 17 ∷ 17 ∷ 17 ∷ 17 ∷ 17
+    ∷ 17 ∷ 17 ∷ 17 ∷ 17 ∷ 17 ∷ 17 ∷ 17 ∷ 17 ∷ 17 ∷ 17 ∷ 17 ∷ 17 ∷ 17 ∷ 17 ∷ 17 ∷ 17
+    ∷ 17 ∷ 17 ∷ 17 ∷ 17 ∷ 17 ∷ 17 ∷ 17 ∷ 17 ∷ 17 ∷ 17 ∷ 17 ∷ 17 ∷ 17 ∷ 17 ∷ 17 ∷ 17
+    ∷ 17 ∷ 17 ∷ 17 ∷ 17 ∷ 17 ∷ 17 ∷ 17 ∷ 17 ∷ 17 ∷ 17 ∷ 17 ∷ 17 ∷ 17 ∷ 17 ∷ 17 ∷ 17
+    ∷ 17 ∷ 17 ∷ 17 ∷ 17 ∷ 17 ∷ 17 ∷ 17 ∷ 17 ∷ 17 ∷ 17 ∷ 17 ∷ 17 ∷ 17 ∷ 17 ∷ 17 ∷ 17
+    ∷ 17 ∷ 17 ∷ 17 ∷ 17 ∷ 17 ∷ 17 ∷ 17 ∷ 17 ∷ 17 ∷ 17 ∷ 17 ∷ 17 ∷ 17 ∷ 17 ∷ 17 ∷ 17
+    ∷ 17 ∷ 17 ∷ 17 ∷ 17 ∷ 17 ∷ 17 ∷ 17 ∷ 17 ∷ 17 ∷ 17 ∷ 17 ∷ 17 ∷ 17 ∷ 17 ∷ 17 ∷ 17
+    ∷ 17 ∷ 17 ∷ 17 ∷ 17 ∷ 17 ∷ 17 ∷ 17 ∷ 17 ∷ 17 ∷ 17 ∷ 17 ∷ 17 ∷ 17 ∷ 17 ∷ 17 ∷ 17
+    ∷ []
 
 right : ℕ → ℕ → Bool
 right c value = eqb value (code (signOf c))
@@ -79,20 +88,24 @@ is-space v e = rw e
 pub is-stray : (v : ℕ) → 16 ≤ v → (v ≡ 16 → ⊥) → signAt v ≡ Stray
 is-stray v h n = rw (le-ltb v 16 h, ne-eqb v 16 n)
 
+-- what was read, by its fields
+abbrev hexOf : ℕ → Bool → ℕ → Bool → Hex
+hexOf len odd high stray = record { len = len; odd = odd; high = high; stray = stray }
+
 -- a digit more: the second of a byte, with room and without, and the first
 
 pub second-digit : (h : Hex) (buffer : List ℕ) (v : ℕ) → h .odd ≡ true → h .len < length buffer
-    → (_≡_ {A = Hex} (record { len = h .len + 1; odd = false; high = 0; stray = h .stray }) (withDigit h (length buffer) v))
+    → (hexOf (h .len + 1) false 0 (h .stray) ≡ withDigit h (length buffer) v)
     × (set buffer (h .len) (h .high % 16 * 16 + v) ≡ storedDigit h buffer v)
 second-digit h buffer v odd room = (rw (odd, lt-ltb (h .len) (length buffer) room), rw odd)
 
 pub passed-digit : (h : Hex) (buffer : List ℕ) (v : ℕ) → h .odd ≡ true → length buffer ≤ h .len
-    → (_≡_ {A = Hex} (record { len = h .len; odd = false; high = 0; stray = h .stray }) (withDigit h (length buffer) v)) × (buffer ≡ storedDigit h buffer v)
+    → (hexOf (h .len) false 0 (h .stray) ≡ withDigit h (length buffer) v) × (buffer ≡ storedDigit h buffer v)
 passed-digit h buffer v odd full =
     (rw (odd, le-ltb (h .len) (length buffer) full), rw odd (sym (set-out buffer (h .len) (h .high % 16 * 16 + v) full)))
 
 pub first-digit : (h : Hex) (buffer : List ℕ) (v : ℕ) → h .odd ≡ false
-    → (_≡_ {A = Hex} (record { len = h .len; odd = true; high = v; stray = h .stray }) (withDigit h (length buffer) v)) × (buffer ≡ storedDigit h buffer v)
+    → (hexOf (h .len) true v (h .stray) ≡ withDigit h (length buffer) v) × (buffer ≡ storedDigit h buffer v)
 first-digit h buffer v odd = (rw odd, rw odd)
 
 -- after i characters of the part: what is left is read and written to the same end
@@ -105,8 +118,8 @@ pub record Going (part buffer₀ : List ℕ) (hex₀ : Hex) (buffer : List ℕ) 
 pub started : (part buffer : List ℕ) (hex : Hex) → Going part buffer hex buffer hex 0
 started part buffer hex = record { within = omega arith; same = refl; reads = refl; writes = refl }
 
-pub onward : (part buffer₀ : List ℕ) (hex₀ : Hex) (buffer : List ℕ) (hex : Hex) (i : ℕ) (buffer′ : List ℕ) (hex′ : Hex) → i < length part
-    → length buffer′ ≡ length buffer
+pub onward : (part buffer₀ : List ℕ) (hex₀ : Hex) (buffer : List ℕ) (hex : Hex) (i : ℕ) (buffer′ : List ℕ) (hex′ : Hex)
+    → i < length part → length buffer′ ≡ length buffer
     → getD part i 0 < 256 → hex′ ≡ withCharacter hex (length buffer) (signAt (getD values (getD part i 0) 0))
     → buffer′ ≡ stored hex buffer (signAt (getD values (getD part i 0) 0))
     → Going part buffer₀ hex₀ buffer hex i → Going part buffer₀ hex₀ buffer′ hex′ (i + 1)
@@ -117,7 +130,8 @@ onward part buffer₀ hex₀ buffer hex i buffer′ hex′ h l b e f g = record 
   writes = rw (e, f, sign-at (getD part i 0) b, g .same, add-one) (rw (drop-cons part i 0 h) at (g .writes));
 }
 
-pub ended : (part buffer₀ : List ℕ) (hex₀ : Hex) (buffer : List ℕ) (hex : Hex) (i : ℕ) → length part ≤ i → Going part buffer₀ hex₀ buffer hex i
+pub ended : (part buffer₀ : List ℕ) (hex₀ : Hex) (buffer : List ℕ) (hex : Hex) (i : ℕ)
+    → length part ≤ i → Going part buffer₀ hex₀ buffer hex i
     → (hex ≡ readOn hex₀ (length buffer₀) part) × (buffer ≡ writtenOn hex₀ buffer₀ (length buffer₀) part)
 ended part buffer₀ hex₀ buffer hex i h g = (rw (drop-of-length-le part h) at (g .reads), rw (drop-of-length-le part h) at (g .writes))
 
@@ -148,8 +162,8 @@ or-true false = refl
 -- a byte's second digit comes: the byte has room, or the buffer is full
 byte-more : (room len v high : ℕ) (stray : Bool) (b : Bool) (buffer digits : List ℕ) (strays : Bool) (last : Hex) (written : List ℕ)
     → ltb len room ≡ b → len ≤ room → length buffer ≡ room
-    → Reached room (record { len = cond b (len + 1) len; odd = false; high = 0; stray = stray }) (set buffer len (high % 16 * 16 + v)) digits strays last written
-    → Reached room (record { len = len; odd = true; high = high; stray = stray }) buffer (v ∷ digits) strays last written
+    → Reached room (hexOf (cond b (len + 1) len) false 0 stray) (set buffer len (high % 16 * 16 + v)) digits strays last written
+    → Reached room (hexOf len true high stray) buffer (v ∷ digits) strays last written
 byte-more room len v high stray true buffer digits strays last written e w l r = record {
   len = rw (r .len) (ap (min room) (omega arith));
   odd = r .odd ∙ even-again (isOdd digits);
@@ -163,16 +177,17 @@ byte-more room len v high stray false buffer digits strays last written e w l r 
       odd = r .odd ∙ even-again (isOdd digits);
       stray = r .stray;
       bytes =
-          r .bytes ∙
-          rw (set-out buffer len (high % 16 * 16 + v) (omega arith), sets-past (bytesOf digits) buffer len (omega arith), sets-past (bytesOf digits) buffer (suc len) (omega arith));
+          let here : sets buffer len (bytesOf digits) ≡ buffer = sets-past (bytesOf digits) buffer len (omega arith) in
+          let after : sets buffer (suc len) (bytesOf digits) ≡ buffer = sets-past (bytesOf digits) buffer (suc len) (omega arith) in
+          r .bytes ∙ rw (set-out buffer len (high % 16 * 16 + v) (omega arith), here, after);
     }
 
 -- a character more
-reached-more : (room len high : ℕ) (odd stray : Bool) (s : Sign) → Small s → (buffer digits : List ℕ) (strays : Bool) (last : Hex) (written : List ℕ)
-    → len ≤ room → length buffer ≡ room
-    → Reached room (withCharacter (record { len = len; odd = odd; high = high; stray = stray }) room s)
-    (stored (record { len = len; odd = odd; high = high; stray = stray }) buffer s) digits strays last written
-    → Reached room (record { len = len; odd = odd; high = high; stray = stray }) buffer (before s digits) (isStray s || strays) last written
+reached-more : (room len high : ℕ) (odd stray : Bool) (s : Sign) → Small s
+    → (buffer digits : List ℕ) (strays : Bool) (last : Hex) (written : List ℕ) → len ≤ room → length buffer ≡ room
+    → Reached room (withCharacter (hexOf len odd high stray) room s)
+    (stored (hexOf len odd high stray) buffer s) digits strays last written
+    → Reached room (hexOf len odd high stray) buffer (before s digits) (isStray s || strays) last written
 reached-more room len high true stray (Digit v) small buffer digits strays last written w l r =
     byte-more room len v high stray (ltb len room) buffer digits strays last written refl w l r
 reached-more room len high false stray (Digit v) small buffer digits strays last written w l r =
@@ -183,7 +198,7 @@ reached-more room len high odd stray Stray small buffer digits strays last writt
 
 -- what is read stays within the buffer, and the buffer keeps its length
 stays : (room len high : ℕ) (odd stray : Bool) (s : Sign) → len ≤ room
-    → withCharacter (record { len = len; odd = odd; high = high; stray = stray }) room s .len ≤ room
+    → withCharacter (hexOf len odd high stray) room s .len ≤ room
 stays room len high true stray (Digit v) w = room-for (ltb len room) refl
   where
     room-for : (b : Bool) → ltb len room ≡ b → cond b (len + 1) len ≤ room
@@ -204,9 +219,11 @@ or-false true = refl
 or-false false = refl
 
 none-more : (room len high : ℕ) (odd stray : Bool) (buffer : List ℕ) → len ≤ room
-    → Reached room (record { len = len; odd = odd; high = high; stray = stray }) buffer [] false (record { len = len; odd = odd; high = high; stray = stray }) buffer
-none-more room len high true stray buffer w = record { len = sym (rw add-zero (min-eq-right w)); odd = refl; stray = or-false stray; bytes = refl }
-none-more room len high false stray buffer w = record { len = sym (rw add-zero (min-eq-right w)); odd = refl; stray = or-false stray; bytes = refl }
+    → Reached room (hexOf len odd high stray) buffer [] false (hexOf len odd high stray) buffer
+none-more room len high true stray buffer w =
+    record { len = sym (rw add-zero (min-eq-right w)); odd = refl; stray = or-false stray; bytes = refl }
+none-more room len high false stray buffer w =
+    record { len = sym (rw add-zero (min-eq-right w)); odd = refl; stray = or-false stray; bytes = refl }
 
 reached : (chars : List ℕ) (room : ℕ) (h : Hex) (buffer : List ℕ) → h .len ≤ room → length buffer ≡ room
     → Reached room h buffer (digitsOf chars) (anyStray chars) (readOn h room chars) (writtenOn h buffer room chars)

@@ -33,7 +33,8 @@ pub onward : (part : List ℕ) (i : ℕ) (d₀ d next : Decimal) → i < length 
 onward part i d₀ d next h e inv = rw (e, add-one) (rw (drop-cons part i 0 h) at inv)
 
 -- after the last turn nothing is left
-pub ended : (part : List ℕ) (i : ℕ) (d₀ d : Decimal) → length part ≤ i → readOn d (drop i part) ≡ readOn d₀ part → d ≡ readOn d₀ part
+pub ended : (part : List ℕ) (i : ℕ) (d₀ d : Decimal) → length part ≤ i → readOn d (drop i part) ≡ readOn d₀ part
+    → d ≡ readOn d₀ part
 ended part i d₀ d h inv = rw (drop-of-length-le part h) at inv
 
 -- a faulty word stays one
@@ -55,7 +56,9 @@ after-digit : (v : ℕ) (word : List ℕ) (b : Bool) → ltb v (2 ^ 64) ≡ b
     → readOn (cond b (Number v) Fault) word ≡ fitting (allDigits word) (valueAfter v word)
 after-digit v word true e on = on (ltb-true v (2 ^ 64) e)
 after-digit v word false e on =
-    rw (fault-stays word, cond-and (allDigits word) (ltb (valueAfter v word) (2 ^ 64)) (Number (valueAfter v word)) (le-ltb (valueAfter v word) (2 ^ 64) (omega (arith, grows word v, ltb-false v (2 ^ 64) e))))
+    let value = valueAfter v word in
+    let large : ltb value (2 ^ 64) ≡ false = le-ltb value (2 ^ 64) (omega (arith, grows word v, ltb-false v (2 ^ 64) e)) in
+    rw (fault-stays word, cond-and (allDigits word) (ltb value (2 ^ 64)) (Number value) large)
 
 after-character : (v : ℕ) (word : List ℕ) (b : Bool)
     → ((v < 2 ^ 64) → readOn (Number v) word ≡ fitting (allDigits word) (valueAfter v word))

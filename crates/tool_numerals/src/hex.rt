@@ -2,7 +2,8 @@
 ghost use mathlib.Core.Path.{_≡_};
 ghost use Prim.Native.Nat.{_<_};
 ghost use lib.ListN.{length};
-ghost use Rattle.tool_numerals.specs.Hex.{fresh, signAt, withDigit, storedDigit, withCharacter, stored, readOn, writtenOn, answerOf, HexIsBytes};
+ghost use Rattle.tool_numerals.specs.Hex.{fresh, signAt, withDigit, storedDigit, withCharacter, stored};
+ghost use Rattle.tool_numerals.specs.Hex.{readOn, writtenOn, answerOf, HexIsBytes};
 
 // What each character is: the value of a digit, 16 for a space, 17 for any other.
 const VALUES: [u8; 256] = *b"\

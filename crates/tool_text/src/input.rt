@@ -1,9 +1,7 @@
-// Standard input, read through a buffer and taken line by line.
+// Standard input, read through a buffer and taken part by part, each part within a line.
 ghost use Prim.Native.Nat.{_≤_};
 ghost use Rattle.tool_text.specs.Line.{Within};
 ghost use lib.ListN.{length};
-use crate::line::Form;
-use crate::line::Line;
 use libc::STDIN_FILENO;
 
 // Which bytes of the buffer were read and not yet taken.
@@ -12,19 +10,12 @@ pub struct Input {
     pub end: usize,
 }
 
-// A line with what was taken of the input for it, and whether that ends it.
-pub struct Taken {
-    pub line: Line,
-    pub input: Input,
-    pub complete: bool,
-}
-
 // What the buffer has of a line: from where to where, where the input goes on, and whether the line ends there.
-struct Part {
-    from: usize,
-    to: usize,
-    next: usize,
-    complete: bool,
+pub struct Part {
+    pub from: usize,
+    pub to: usize,
+    pub next: usize,
+    pub complete: bool,
 }
 
 impl Input {
@@ -50,23 +41,9 @@ impl Input {
         }
     }
 
-    // The line with what the buffer has of it; HEX goes to the payload.
-    pub fn take(self, line: Line, bytes: &[u8], form: Form, payload: &mut [u8]) -> Taken {
-        let part = self.part(bytes);
-        let from = part.from;
-        let to = part.to;
-        Taken {
-            line: line.more(&bytes[from..to], form, payload),
-            input: Input {
-                at: part.next,
-                end: self.end,
-            },
-            complete: part.complete,
-        }
-    }
-
-    // A carriage return before the line's end is passed over; one at the end of what was read waits, since more of the line may come.
-    fn part(self, bytes: &[u8]) -> Part
+    // What the buffer has of the next line. A carriage return before the line's end is passed over; one at the end of what was read waits,
+    // since more of the line may come.
+    pub fn part(self, bytes: &[u8]) -> Part
         ensures { λ r. ⌜ Within (length (now (bytes .entry))) r ⌝ }
     {
         let end = least(self.end, bytes.len());

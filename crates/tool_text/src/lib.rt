@@ -3,10 +3,12 @@
 pub use tool_numerals::decimal;
 pub use tool_numerals::hex;
 
-pub mod desk;
+pub mod arguments;
+pub mod fault;
 pub mod input;
 pub mod line;
 pub mod output;
+pub mod session;
 pub mod word;
 
 // The first `len` of the bytes, or all where there are fewer.

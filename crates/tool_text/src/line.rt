@@ -36,6 +36,8 @@ pub struct Form {
     pub hex_at: usize,
     // whether that word may be a number, or stand for something by itself
     pub is_word: bool,
+    // the command after which that word stands for something by itself, and HEX begins after it; none, if it has no letter
+    pub apart: Word,
 }
 
 pub struct Line {
@@ -138,6 +140,13 @@ impl Tail {
         self.with(&part[0..end], &part[end..], hex)
     }
 
+    // The same where HEX begins after the word.
+    fn more_apart(self, part: &[u8], buffer: &mut [u8]) -> Tail {
+        let end = word_end(part, !self.ended);
+        let hex = self.hex.more(&part[end..], buffer);
+        self.with(&part[0..end], &part[end..], hex)
+    }
+
     // The tail with a part of the word by itself, what comes after it, and HEX.
     fn with(self, part: &[u8], after: &[u8], hex: Hex) -> Tail {
         let number = self.number;
@@ -164,6 +173,12 @@ impl Line {
         let read = self.head.more(part, form.hex_at);
         let head = read.head;
         let at = read.at;
+        if head.command.same(form.apart) {
+            return Line {
+                head,
+                tail: self.tail.more_apart(&part[at..], buffer),
+            };
+        }
         Line {
             head,
             tail: self.tail.more(&part[at..], form.is_word, buffer),

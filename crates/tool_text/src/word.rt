@@ -1,17 +1,24 @@
 // A word's first letters, enough to know a command by.
+use crate::first;
 
 pub struct Word {
-    // how many letters it has; 17 stands for any more
+    // how many letters it has; 25 stands for any more
     pub len: usize,
-    // the first 16 of them
-    pub letters: [u8; 16],
+    // the first 24 of them
+    pub letters: [u8; 24],
 }
+
+// The word with no letter.
+pub const NONE: Word = Word {
+    len: 0,
+    letters: [0; 24],
+};
 
 impl Word {
     pub fn new() -> Word {
         Word {
             len: 0,
-            letters: [0; 16],
+            letters: [0; 24],
         }
     }
 
@@ -21,8 +28,8 @@ impl Word {
         let mut len = self.len;
         let mut i = 0;
         while i < part.len() {
-            if 16 <= len {
-                return Word { len: 17, letters };
+            if 24 <= len {
+                return Word { len: 25, letters };
             }
             letters[len] = part[i];
             len += 1;
@@ -31,13 +38,19 @@ impl Word {
         Word { len, letters }
     }
 
-    // Whether it is the word `name`, which has at most 16 letters.
+    // Whether it is the word `name`, which has at most 24 letters.
     pub fn is(self, name: &[u8]) -> bool {
         let letters = self.letters;
         let mut i = 0;
-        while i < 16 && i < name.len() && letters[i] == name[i] {
+        while i < 24 && i < name.len() && letters[i] == name[i] {
             i += 1;
         }
         (i == self.len) & (i == name.len())
+    }
+
+    // Whether both are one word of at least one letter.
+    pub fn same(self, other: Word) -> bool {
+        let letters = other.letters;
+        (0 < other.len) & self.is(first(&letters, other.len))
     }
 }

@@ -1,10 +1,10 @@
 -- Each law stands in the file of its topic.
 use mathlib.Core.Bool.{false}
 use Rattle.cbor.specs.Decode.{heading, decode, members}
-use Rattle.cbor.specs.Strict.{strictHeading}
-use Rattle.cbor.proofs.RoundTrip.{read-item, reads, strict-reads, read-payload, head-read}
+use Rattle.cbor.specs.Strict.{headBy}
+use Rattle.cbor.proofs.RoundTrip.{read-item, reads, reads-by, read-payload, head-read}
 use Rattle.cbor.proofs.Strict.{payload-loose, never-loose}
-use Rattle.cbor.proofs.Shortest.{head-shortest}
+use Rattle.cbor.proofs.Shortest.{head-shortest, head-flag}
 use Rattle.cbor.proofs.Tails.{suffix, decode-tail, members-tail}
 use Rattle.cbor.proofs.laws.Statement.{statement}
 use Rattle.cbor.proofs.laws.Tie as tie
@@ -12,14 +12,14 @@ use Rattle.cbor.proofs.laws.Tie as tie
 returns : tie.Need-returns
 returns c = record {
   round-trip = read-item heading reads;
-  payload-round-trip = read-payload heading reads;
+  payload-round-trip = λ b. read-payload (headBy b) (reads-by b);
   item-suffix = λ d s i t e. suffix 1 s (decode d s) i t (decode-tail false d s) e;
   members-suffix = λ d n s is t e. suffix n s (members (decode d) n s) is t (members-tail (decode d) (decode-tail false d) n s) e;
   head-read = head-read;
   head-shortest = head-shortest;
+  head-flag = head-flag;
   strict = payload-loose;
   never-loose = never-loose;
-  strict-round-trip = read-payload strictHeading strict-reads;
 }
 
 pub laws-spec : {M : Type 1} → statement M

@@ -12,49 +12,19 @@ Inv-loop count buffer₀ keys out₀ i₀ buffer out i = (i ≤ count) × (lengt
 abbrev μ-loop : tie.MeasureT-loop
 μ-loop count buffer₀ keys out₀ i₀ buffer out i = count - i
 
-loop-holds : tie.Need-loop-holds Inv-loop μ-loop
-loop-holds c = search needs
-
-returns : tie.Need-returns Inv-loop μ-loop
-returns c = search needs
-
-byte-requires : tie.Need-byte-requires Inv-loop μ-loop
-byte-requires c κs = search needs
-
-mul-put-key : tie.Need-mul-put-key Inv-loop μ-loop
-mul-put-key c = search needs
-
-array-copy-out-put-key : tie.Need-array-copy-out-put-key Inv-loop μ-loop
-array-copy-out-put-key c = search needs
-
-put-key-requires : tie.Need-put-key-requires Inv-loop μ-loop
-put-key-requires c κs = search needs
-
-add-i : tie.Need-add-i Inv-loop μ-loop
-add-i c = search needs
-
-loop-less : tie.Need-loop-less Inv-loop μ-loop
-loop-less c = search needs
-
-loop-again : tie.Need-loop-again Inv-loop μ-loop
-loop-again c = search needs
-
-returns-2 : tie.Need-returns-2 Inv-loop μ-loop
-returns-2 c = search needs
-
 pub put-keys-spec : {M : Type 1} → statement M
 put-keys-spec =
     tie.close
     (tie.spec
     Inv-loop
     μ-loop
-    loop-holds
-    returns
-    byte-requires
-    mul-put-key
-    array-copy-out-put-key
-    put-key-requires
-    add-i
-    loop-less
-    loop-again
-    returns-2)
+    (λ c. search needs)
+    (λ c. search needs)
+    (λ c κs. search needs)
+    (λ c. search needs)
+    (λ c. search needs)
+    (λ c κs. search needs)
+    (λ c. search needs)
+    (λ c. search needs)
+    (λ c. search needs)
+    (λ c. search needs))

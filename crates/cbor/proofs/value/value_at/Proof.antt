@@ -2,7 +2,7 @@
 use native.Mathlib.Omega.{arith}
 use borrow.Author.Needs.{needs}
 use Rattle.cbor.proofs.Answers.{head-inside}
-use Rattle.cbor.proofs.Views.{value-refused, value-number, value-string, value-cut, value-array, value-other}
+use Rattle.cbor.proofs.Views.{value-refused, value-number, value-string, value-cut, value-array, value-other, value-told}
 use Rattle.cbor.proofs.value.value_at.Statement.{statement}
 use Rattle.cbor.proofs.value.value_at.Tie as tie
 
@@ -26,42 +26,48 @@ returns : tie.Need-returns
 returns c =
     let r = c .before .before in
     let a = r .before .before .args in
-    value-refused (a .s .now) (a .at) (r .read-head .result) (r .read-head .ensures) (c .enum-told .given .0 .0) (c .enum-told .given .1)
+    value-told (a .s .now) (a .at) _
+    (value-refused (a .s .now) (a .at) (r .read-head .result) (r .read-head .ensures) (c .enum-told .given .0 .0) (c .enum-told .given .1))
 
 returns-2 : tie.Need-returns-2
 returns-2 c =
     let k = c .before .before in
     let r = k .before .before in
     let a = r .before .before .args in
-    value-number (a .s .now) (a .at) (r .read-head .result) (r .read-head .ensures) (k .h .given .0 .0) (k .h .given .1) (omega arith)
+    value-told (a .s .now) (a .at) _
+    (value-number (a .s .now) (a .at) (r .read-head .result) (r .read-head .ensures) (k .h .given .0 .0) (k .h .given .1) (omega arith))
 
 returns-3 : tie.Need-returns-3
 returns-3 c =
     let k = c .before .before .before in
     let r = k .before .before in
     let a = r .before .before .args in
-    value-string (a .s .now) (a .at) (r .read-head .result) (r .read-head .ensures) (k .h .given .0 .0) (k .h .given .1) (omega arith) (c .if1 .taken)
+    value-told (a .s .now) (a .at) _
+    (value-string (a .s .now) (a .at) (r .read-head .result) (r .read-head .ensures) (k .h .given .0 .0) (k .h .given .1) (omega arith) (c .if1 .taken))
 
 returns-4 : tie.Need-returns-4
 returns-4 c =
     let k = c .before .before .before in
     let r = k .before .before in
     let a = r .before .before .args in
-    value-cut (a .s .now) (a .at) (r .read-head .result) (r .read-head .ensures) (k .h .given .0 .0) (k .h .given .1) (omega arith) (c .if1 .left)
+    value-told (a .s .now) (a .at) _
+    (value-cut (a .s .now) (a .at) (r .read-head .result) (r .read-head .ensures) (k .h .given .0 .0) (k .h .given .1) (omega arith) (c .if1 .left))
 
 returns-5 : tie.Need-returns-5
 returns-5 c =
     let k = c .before .before in
     let r = k .before .before in
     let a = r .before .before .args in
-    value-array (a .s .now) (a .at) (r .read-head .result) (r .read-head .ensures) (k .h .given .0 .0) (k .h .given .1) (omega arith)
+    value-told (a .s .now) (a .at) _
+    (value-array (a .s .now) (a .at) (r .read-head .result) (r .read-head .ensures) (k .h .given .0 .0) (k .h .given .1) (omega arith))
 
 returns-6 : tie.Need-returns-6
 returns-6 c =
     let k = c .before .before in
     let r = k .before .before in
     let a = r .before .before .args in
-    value-other (a .s .now) (a .at) (r .read-head .result) (r .read-head .ensures) (k .h .given .0 .0) (k .h .given .1) (λ e. omega arith) (λ e. omega arith) (λ e. omega arith)
+    value-told (a .s .now) (a .at) _
+    (value-other (a .s .now) (a .at) (r .read-head .result) (r .read-head .ensures) (k .h .given .0 .0) (k .h .given .1) (λ e. omega arith) (λ e. omega arith) (λ e. omega arith))
 
 pub value-at-spec : {M : Type 1} → statement M
 value-at-spec =

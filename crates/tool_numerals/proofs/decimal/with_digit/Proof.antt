@@ -17,7 +17,9 @@ sub-if3 : tie.Need-sub-if3
 sub-if3 c = search needs
 
 returns-3 : tie.Need-returns-3
-returns-3 c = let two = c .before .before in over _ _ _ (two .before .if1 .left) (two .if2 .left) (c .before .wide .ensures) (c .if3 .taken)
+returns-3 c =
+    let two = c .before .before in
+    over _ _ _ (two .before .if1 .left) (two .if2 .left) (c .before .wide .ensures) (c .if3 .taken)
 
 mul-t6 : tie.Need-mul-t6
 mul-t6 c = search needs
@@ -26,7 +28,9 @@ add-t7 : tie.Need-add-t7
 add-t7 c = search needs
 
 returns-4 : tie.Need-returns-4
-returns-4 c = let two = c .before .before in within _ _ _ (two .before .if1 .left) (two .if2 .left) (c .before .wide .ensures) (c .if3 .left)
+returns-4 c =
+    let two = c .before .before in
+    within _ _ _ (two .before .if1 .left) (two .if2 .left) (c .before .wide .ensures) (c .if3 .left)
 
 pub with-digit-spec : {M : Type 1} → statement M
 with-digit-spec =

@@ -1,4 +1,4 @@
--- The law of the numbers' file.
+-- Words are numbers: digit after digit, reading goes on to the number that the whole word stands for.
 use Rattle.tool_numerals.proofs.Numbers.{word-is-number}
 use Rattle.tool_numerals.proofs.decimal.words_are_numbers.Statement.{statement}
 use Rattle.tool_numerals.proofs.decimal.words_are_numbers.Tie as tie

@@ -1,4 +1,4 @@
--- The law of the digits' file.
+-- HEX is bytes: character after character, reading goes on to the bytes that all its digits stand for.
 use Rattle.tool_numerals.proofs.Digits.{hex-is-bytes}
 use Rattle.tool_numerals.proofs.hex.hex_is_bytes.Statement.{statement}
 use Rattle.tool_numerals.proofs.hex.hex_is_bytes.Tie as tie

@@ -20,13 +20,19 @@ same-length : tie.Need-same-length
 same-length c = search needs
 
 returns : tie.Need-returns
-returns c = let at = c .before .before .before .args in second-digit (at .self) (at .buffer .now) (at .value) (c .before .before .if1 .taken) (c .before .if2 .taken)
+returns c =
+    let at = c .before .before .before .args in
+    second-digit (at .self) (at .buffer .now) (at .value) (c .before .before .if1 .taken) (c .before .if2 .taken)
 
 returns-2 : tie.Need-returns-2
-returns-2 c = let at = c .before .before .args in passed-digit (at .self) (at .buffer .now) (at .value) (c .before .if1 .taken) (c .if2 .left)
+returns-2 c =
+    let at = c .before .before .args in
+    passed-digit (at .self) (at .buffer .now) (at .value) (c .before .if1 .taken) (c .if2 .left)
 
 returns-3 : tie.Need-returns-3
-returns-3 c = let at = c .before .args in first-digit (at .self) (at .buffer .now) (at .value) (c .if1 .left)
+returns-3 c =
+    let at = c .before .args in
+    first-digit (at .self) (at .buffer .now) (at .value) (c .if1 .left)
 
 pub digit-spec : {M : Type 1} → statement M
 digit-spec =

@@ -1,0 +1,43 @@
+// The command `rewrite READING HEX`: the object that was read, written again.
+use crate::command::Reading;
+use cbor::Written;
+use refusal::Verdict;
+use tool_text::output::Buffer;
+use tool_text::output::Output;
+
+pub fn answer(reading: Reading, payload: &[u8], out: Output, buffer: &mut Buffer) -> Output {
+    let mut dst = [0u8; 256];
+    let written = rewrite(reading, payload, &mut dst);
+    match written {
+        Written::Refused(refusal) => tool_notation::put_refusal(out, refusal, buffer),
+        Written::Length(len) => {
+            let out = out.text(b"wrote ", buffer);
+            out.octets(tool_text::first(&dst, len), buffer)
+        }
+    }
+}
+
+fn rewrite(reading: Reading, payload: &[u8], dst: &mut [u8]) -> Written {
+    if reading.is_request {
+        return rewrite_request(reading.strict, payload, dst);
+    }
+    rewrite_configuration(reading.strict, payload, dst)
+}
+
+fn rewrite_request(strict: bool, payload: &[u8], dst: &mut [u8]) -> Written {
+    let read = crate::request::read(strict, payload);
+    let verdict = read.verdict;
+    match verdict {
+        Verdict::Refused(refusal) => Written::Refused(refusal),
+        Verdict::Accepted => cojp_request_write::write_request(dst, read.request),
+    }
+}
+
+fn rewrite_configuration(strict: bool, payload: &[u8], dst: &mut [u8]) -> Written {
+    let read = crate::configuration::read(strict, payload);
+    let verdict = read.verdict;
+    match verdict {
+        Verdict::Refused(refusal) => Written::Refused(refusal),
+        Verdict::Accepted => cojp_configuration_write::write_configuration(dst, read.configuration),
+    }
+}

@@ -1,0 +1,130 @@
+// How answers are written.
+use crate::reply::Reply;
+use crate::show::put_node;
+use cojp::Report;
+use node::Holding;
+use node::Node;
+use node_attempt::Due;
+use node_key_sets::Change;
+use node_key_sets::KeyAnswer;
+use node_parameters::Reports;
+use refusal::Verdict;
+use simulate_commands::Command;
+use simulate_commands::Verb;
+use simulate_commands::command::byte;
+use tool_notation::put_refusal;
+use tool_text::fault::put_fault;
+use tool_text::output::Buffer;
+use tool_text::output::Output;
+
+// Answers the line, whose command left the node like this; an empty line and a comment are not answered.
+pub fn put_answer(
+    out: Output,
+    reply: Reply,
+    node: Node,
+    command: Command,
+    payload: &[u8],
+    buffer: &mut Buffer,
+) -> Output {
+    if let Reply::Nothing = reply {
+        return out;
+    }
+    if let Reply::Asked = reply {
+        return put_asked(out, node, command, buffer).byte(b'\n', buffer);
+    }
+    put_reply(out, reply, payload, buffer).byte(b'\n', buffer)
+}
+
+// Any reply but a question's.
+fn put_reply(out: Output, reply: Reply, payload: &[u8], buffer: &mut Buffer) -> Output {
+    match reply {
+        Reply::Nothing => out,
+        Reply::Wrong(fault) => put_fault(out, fault, buffer),
+        Reply::Refused(refusal) => put_refusal(out, refusal, buffer),
+        Reply::Made => out.text(b"made", buffer),
+        Reply::Sent(length) => put_sent(out, payload, length, buffer),
+        Reply::Polled(due) => put_due(out, due, buffer),
+        Reply::Delivered(reports) => put_reports(out, reports, buffer),
+        Reply::Held(holding) => put_holding(out, holding, buffer),
+        Reply::Verified(change) => put_change(out, change, buffer),
+        Reply::Failed => out.text(b"failed", buffer),
+        Reply::Asked => out,
+    }
+}
+
+fn put_sent(out: Output, payload: &[u8], length: usize, buffer: &mut Buffer) -> Output {
+    let out = out.text(b"sent ", buffer);
+    out.octets(tool_text::first(payload, length), buffer)
+}
+
+fn put_due(out: Output, due: Due, buffer: &mut Buffer) -> Output {
+    match due {
+        Due::Refused(refusal) => put_refusal(out, refusal, buffer),
+        Due::NotYet => out.text(b"not yet", buffer),
+        Due::SendAgain => out.text(b"send again", buffer),
+        Due::GaveUp => out.text(b"gave up", buffer),
+    }
+}
+
+fn put_holding(out: Output, holding: Holding, buffer: &mut Buffer) -> Output {
+    match holding {
+        Holding::Refused(refusal) => put_refusal(out, refusal, buffer),
+        Holding::Holds => out.text(b"yes", buffer),
+        Holding::Lapsed => out.text(b"no", buffer),
+    }
+}
+
+fn put_change(out: Output, change: Change, buffer: &mut Buffer) -> Output {
+    match change {
+        Change::Refused(refusal) => put_refusal(out, refusal, buffer),
+        Change::Switched => out.text(b"switched", buffer),
+        Change::Kept => out.text(b"kept", buffer),
+    }
+}
+
+fn put_reports(out: Output, reports: Reports, buffer: &mut Buffer) -> Output {
+    let keys = reports.keys;
+    let address = reports.address;
+    let jrc = reports.jrc;
+    let network = reports.network;
+    let prefix = reports.prefix;
+    let out = put_report(out, b"accepted keys=", keys, buffer);
+    let out = put_report(out, b" address=", address, buffer);
+    let out = put_report(out, b" jrc=", jrc, buffer);
+    let out = put_report(out, b" network=", network, buffer);
+    let out = put_report(out, b" prefix=", prefix, buffer);
+    let out = out.text(b" passed=", buffer);
+    out.number(reports.passed, buffer)
+}
+
+// What was made of a parameter, after its name.
+fn put_report(out: Output, name: &[u8], report: Report, buffer: &mut Buffer) -> Output {
+    let out = out.text(name, buffer);
+    match report {
+        Report::Absent => out.text(b"absent", buffer),
+        Report::Taken => out.text(b"taken", buffer),
+        Report::Discarded => out.text(b"discarded", buffer),
+    }
+}
+
+// The commands `send`, `receive` and `show`.
+fn put_asked(out: Output, node: Node, command: Command, buffer: &mut Buffer) -> Output {
+    let verb = command.verb;
+    match verb {
+        Verb::Send => put_key_answer(out, node.sending_key(byte(command.second)), buffer),
+        Verb::Receive => put_key_answer(
+            out,
+            node.receiving_key(byte(command.second), byte(command.third)),
+            buffer,
+        ),
+        _ => put_node(out, node, buffer),
+    }
+}
+
+fn put_key_answer(out: Output, answer: KeyAnswer, buffer: &mut Buffer) -> Output {
+    let verdict = answer.verdict;
+    match verdict {
+        Verdict::Accepted => tool_notation::put_key(out.text(b"key ", buffer), answer.key, buffer),
+        Verdict::Refused(refusal) => put_refusal(out, refusal, buffer),
+    }
+}

@@ -1,0 +1,168 @@
+// What a line asks for: its command, with its numbers and HEX, or what is wrong with it.
+ghost use Prim.Native.Nat.{_<_};
+use crate::verb::ANY;
+use crate::verb::Shape;
+use crate::verb::Verb;
+use crate::verb::shape_of;
+use crate::verb::verb_of;
+use tool_numerals::decimal::Decimal;
+use tool_numerals::hex::Payload;
+use tool_text::fault::Fault;
+use tool_text::line::Line;
+
+// Which of the nodes 0 to 15 are made.
+pub type Made = [bool; 16];
+
+pub struct Command {
+    pub verb: Verb,
+    // its numbers in order; 0 where there is none
+    pub first: u64,
+    pub second: u64,
+    pub third: u64,
+    // how many bytes HEX stands for
+    pub len: usize,
+    // whether `-` stands in its place
+    pub none: bool,
+}
+
+// The place of the node with this number; a command names no larger one.
+pub fn index(number: u64) -> usize
+    ensures { λ r. ⌜ r < 16 ⌝ }
+{
+    (number % 16) as usize
+}
+
+// The number as a byte; a command's roles, frame types and identifiers are no larger.
+pub fn byte(number: u64) -> u8 {
+    (number % 256) as u8
+}
+
+// What a line asks for; nothing, if it is empty or a comment.
+pub fn command_of(line: Line, made: Made) -> Command {
+    let head = line.head;
+    let tail = line.tail;
+    let first = head.first;
+    let second = head.second;
+    let third = tail.number;
+    Command {
+        verb: verb_in(line, made),
+        first: value(first),
+        second: value(second),
+        third: value(third),
+        len: tail.hex.len,
+        none: is_none(line),
+    }
+}
+
+// The number, or 0 where there is none.
+fn value(number: Decimal) -> u64 {
+    match number {
+        Decimal::Number(value) => value,
+        _ => 0,
+    }
+}
+
+fn verb_in(line: Line, made: Made) -> Verb {
+    if line.is_silent() {
+        return Verb::Nothing;
+    }
+    judged(line, verb_of(line.head.command), made)
+}
+
+// The command, or the first thing that is wrong with its line.
+fn judged(line: Line, verb: Verb, made: Made) -> Verb {
+    let shape = shape_of(verb);
+    if !has_words(line, shape) {
+        return Verb::Wrong(Fault::Command);
+    }
+    if !has_numbers(line, shape) {
+        return Verb::Wrong(Fault::Number);
+    }
+    if shape.hex && !has_hex(line, verb) {
+        return Verb::Wrong(Fault::Hex);
+    }
+    if !names_nodes(line, verb, made) {
+        return Verb::Wrong(Fault::Node);
+    }
+    verb
+}
+
+// Whether the line has the words that its command asks for.
+fn has_words(line: Line, shape: Shape) -> bool {
+    if shape.words == 0 {
+        return false;
+    }
+    if shape.hex {
+        return shape.words <= line.words();
+    }
+    shape.words == line.words()
+}
+
+// Whether the numbers that the command asks for are such.
+fn has_numbers(line: Line, shape: Shape) -> bool {
+    let head = line.head;
+    let tail = line.tail;
+    let first = head.first;
+    let second = head.second;
+    let third = tail.number;
+    fits(true, first, ANY)
+        && fits(2 < shape.words, second, shape.second)
+        && fits(3 < shape.words, third, shape.third)
+}
+
+// Whether the word is a number up to `most`, where it is asked for.
+fn fits(asked: bool, number: Decimal, most: u64) -> bool {
+    if !asked {
+        return true;
+    }
+    match number {
+        Decimal::Number(value) => value <= most,
+        _ => false,
+    }
+}
+
+// Whether HEX stands for bytes, or `-` in its place for none, where the command is one that takes it.
+fn has_hex(line: Line, verb: Verb) -> bool {
+    if let Verb::Make = verb {
+        if is_none(line) {
+            return true;
+        }
+    }
+    let hex = line.tail.hex;
+    match hex.payload() {
+        Payload::Bytes(_) => true,
+        Payload::Fault => false,
+    }
+}
+
+// Whether `-` alone stands where HEX would.
+fn is_none(line: Line) -> bool {
+    let tail = line.tail;
+    if tail.extra {
+        return false;
+    }
+    tail.word.is(b"-")
+}
+
+// Whether the numbers name nodes: a turn's two different ones, and that of a new one need not be made.
+fn names_nodes(line: Line, verb: Verb, made: Made) -> bool {
+    let head = line.head;
+    let first = head.first;
+    let second = head.second;
+    match verb {
+        Verb::Make => value(first) < 16,
+        Verb::Turn => are_two(value(first), value(second), made),
+        _ => is_made(value(first), made),
+    }
+}
+
+// Whether two different nodes have these numbers.
+fn are_two(first: u64, second: u64, made: Made) -> bool {
+    first != second && is_made(first, made) && is_made(second, made)
+}
+
+// Whether a node has this number.
+fn is_made(number: u64, made: Made) -> bool {
+    let at = index(number);
+    number < 16 && made[at]
+}

@@ -1,0 +1,24 @@
+// What is wrong with a line that is no command, and its answer.
+use crate::output::Buffer;
+use crate::output::Output;
+
+// In the order in which they are looked for.
+pub enum Fault {
+    // the command is unknown, or a word is missing or too many
+    Command,
+    Number,
+    Hex,
+    // there is no such node
+    Node,
+}
+
+// The answer `error WORD`.
+pub fn put_fault(out: Output, fault: Fault, buffer: &mut Buffer) -> Output {
+    let out = out.text(b"error ", buffer);
+    match fault {
+        Fault::Command => out.text(b"command", buffer),
+        Fault::Number => out.text(b"number", buffer),
+        Fault::Hex => out.text(b"hex", buffer),
+        Fault::Node => out.text(b"node", buffer),
+    }
+}
