@@ -16,6 +16,8 @@ pub enum Command {
     NoNumber,
     // one that takes HEX
     OfHex(Asking),
+    // two configurations joined
+    Merge,
     // so many bytes of the store are lent
     Store(usize),
     // what arrived is read
@@ -49,6 +51,9 @@ pub fn command_of(line: Line) -> Command {
     }
     if word.is(b"rewrite") {
         return rewrite_of(line.tail.word);
+    }
+    if word.is(b"merge") {
+        return Command::Merge;
     }
     let named = reading_of(word);
     match named {

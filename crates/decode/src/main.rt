@@ -2,6 +2,7 @@
 mod command;
 mod configuration;
 mod head;
+mod merge;
 mod parameter;
 mod request;
 mod rewrite;
@@ -33,6 +34,13 @@ const FORM: Form = Form {
     },
 };
 
+// What is kept of HEX: two payloads, one byte more of each than it may have, which is enough to be answered LONG.
+type Payloads = [u8; 514];
+
+fn no_payloads() -> Payloads {
+    [0; 514]
+}
+
 // The store of which a part is lent.
 type Store = [u8; 512];
 
@@ -48,7 +56,7 @@ struct Turn {
 
 fn answer(
     line: Line,
-    payload: &[u8],
+    payloads: &[u8],
     cable: Cable,
     store: &mut [u8],
     out: Output,
@@ -57,6 +65,7 @@ fn answer(
     match command_of(line) {
         Command::Wrong => unchanged(cable, put_fault(out, Fault::Command, buffer)),
         Command::NoNumber => unchanged(cable, put_fault(out, Fault::Number, buffer)),
+        Command::Merge => unchanged(cable, merge::answer(line.tail, payloads, out, buffer)),
         Command::Store(lent) => serial::lend(cable, lent, out, buffer),
         Command::End(reading) => serial::end(cable, reading, store, out, buffer),
         Command::Reset => serial::reset(cable, out, buffer),
@@ -64,7 +73,7 @@ fn answer(
             let Payload::Bytes(len) = line.tail.hex.payload() else {
                 return unchanged(cable, put_fault(out, Fault::Hex, buffer));
             };
-            let payload = tool_text::first(payload, len);
+            let payload = tool_text::first(payloads, len);
             answer_hex(asking, payload, cable, store, out, buffer)
         }
     }
@@ -104,18 +113,18 @@ fn answer_object(reading: Reading, payload: &[u8], out: Output, buffer: &mut Buf
 fn answer_line(
     turn: Turn,
     bytes: &mut Buffer,
-    payload: &mut tool_notation::Payload,
+    payloads: &mut Payloads,
     store: &mut Store,
     buffer: &mut Buffer,
 ) -> Turn {
-    let asked = turn.session.next(FORM, bytes, payload, buffer);
+    let asked = turn.session.next(FORM, bytes, payloads, buffer);
     let line = asked.line;
     let mut session = asked.session;
     let cable = turn.cable;
     if line.is_silent() {
         return Turn { session, cable };
     }
-    let answered = answer(line, payload, cable, store, session.out, buffer);
+    let answered = answer(line, payloads, cable, store, session.out, buffer);
     session.out = answered.out.byte(b'\n', buffer);
     let cable = answered.cable;
     Turn { session, cable }
@@ -125,13 +134,13 @@ fn answer_line(
 fn run(
     mut turn: Turn,
     bytes: &mut Buffer,
-    payload: &mut tool_notation::Payload,
+    payloads: &mut Payloads,
     store: &mut Store,
     buffer: &mut Buffer,
 ) {
     let mut lines = u64::MAX;
     while lines > 0 && turn.session.open {
-        turn = answer_line(turn, bytes, payload, store, buffer);
+        turn = answer_line(turn, bytes, payloads, store, buffer);
         lines -= 1;
     }
     turn.session.end(buffer);
@@ -139,12 +148,13 @@ fn run(
 
 fn main() {
     let mut bytes = io::large_buffer();
-    let mut payload = tool_notation::no_payload();
+    let mut payloads = no_payloads();
     let mut store = empty_store();
     let mut buffer = io::large_buffer();
     let session = Session::begin(
         b"decode: what the payloads of join requests and configurations mean (docs/TOOLS.md).\n\
 READING HEX: the object; rewrite READING HEX: the object, written again; head HEX: the first head.\n\
+merge HEX + HEX: two configurations joined and written.\n\
 part HEX, end READING, reset: a payload that comes in parts; store N: how many bytes are lent for it.\n\
 READING is request, configuration, strict-request or strict-configuration.\n",
         &mut buffer,
@@ -153,7 +163,7 @@ READING is request, configuration, strict-request or strict-configuration.\n",
     run(
         Turn { session, cable },
         &mut bytes,
-        &mut payload,
+        &mut payloads,
         &mut store,
         &mut buffer,
     );
