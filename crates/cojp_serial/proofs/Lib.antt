@@ -1,0 +1,6 @@
+mod Courses
+mod Stores
+mod Whole
+mod Unread
+mod Refused
+mod Until

@@ -1,0 +1,88 @@
+-- A refused part or end, by its course: only where the part passes 256, or the reading refuses what arrived, has the arrival changed.
+use Prim.Native.Nat.{ℕ}
+use mathlib.Core.Path.{_≡_, refl}
+use mathlib.Core.Bool.{Bool}
+use mathlib.Core.List.{List}
+use native.Mathlib.Omega.{arith}
+use lib.ListN.{length, take}
+use Rattle.refusal.specs.declared.Refusal.{Refusal}
+use Rattle.refusal.specs.declared.Refusal.the-variants.{Long}
+use Rattle.refusal.specs.declared.Verdict.the-variants.{Refused}
+use Rattle.cbor.specs.Strict.{headBy}
+use Rattle.cojp.specs.Configuration.{emptyConfiguration, refuseConfiguration, readConfigurationBy}
+use Rattle.cojp.specs.Laws.{ReadersDemand1}
+use Rattle.cojp.specs.Request.{emptyRequest, refuseRequest, readRequestBy}
+use Rattle.cojp_serial.specs.Arrival.{partAnswer, partStore, endRead, endArrival}
+use Rattle.cojp_serial.specs.Calls.{Reader, request, configuration, SerialCall, resetting, sending, ending, Held, courseOn, wholeRead, told, verdictIn}
+use Rattle.cojp_serial.specs.Laws.{EmptyBeside, Left, as-before, overrun-marked, end-marked, RefusedCall, RefusedCalls}
+use Rattle.cojp_serial.specs.declared.arrival.Course.{Course}
+use Rattle.cojp_serial.specs.declared.arrival.Course.the-variants.{Outside, Overrun, Ended, Open}
+
+-- ---- a part
+module _ (h : Held) (p : List ℕ) (k : Refusal) where
+  part-store : (x : Course) → partAnswer x (h .arrival) (length p) .verdict ≡ Refused k → partStore x (h .arrival .arrived) p (h .store) ≡ h .store
+  part-store Outside e = refl
+  part-store Overrun e = refl
+  part-store Ended e = refl
+  part-store Open e = absurd (let z : _≡_ {A = ℕ} 0 1 = cc in omega arith)
+
+  part-left : (x : Course) → partAnswer x (h .arrival) (length p) .verdict ≡ Refused k → Left (sending p) h k (partAnswer x (h .arrival) (length p) .arrival)
+  part-left Outside e = as-before refl
+  part-left Overrun e = overrun-marked {k = k} (cc) refl
+  part-left Ended e = as-before refl
+  part-left Open e = absurd (let z : _≡_ {A = ℕ} 0 1 = cc in omega arith)
+
+-- ---- an end
+module _ (demand1 : ReadersDemand1) (h : Held) (k : Refusal) where
+  request-object : (strict : Bool) (x : Course) (p : List ℕ)
+      → endRead refuseRequest (readRequestBy (headBy strict)) x p .verdict ≡ Refused k
+      → endRead refuseRequest (readRequestBy (headBy strict)) x p .request ≡ emptyRequest
+  request-object strict Outside p e = refl
+  request-object strict Overrun p e = refl
+  request-object strict Ended p e = refl
+  request-object strict Open p e = demand1 .request (headBy strict) p k e
+
+  configuration-object : (strict : Bool) (x : Course) (p : List ℕ)
+      → endRead refuseConfiguration (readConfigurationBy (headBy strict)) x p .verdict ≡ Refused k
+      → endRead refuseConfiguration (readConfigurationBy (headBy strict)) x p .configuration ≡ emptyConfiguration
+  configuration-object strict Outside p e = refl
+  configuration-object strict Overrun p e = refl
+  configuration-object strict Ended p e = refl
+  configuration-object strict Open p e = demand1 .configuration (headBy strict) p k e
+
+  end-object : (r : Reader) → verdictIn (told (ending r) h) ≡ Refused k → EmptyBeside (told (ending r) h)
+  end-object (request strict) e = request-object strict (courseOn h 0) (take (h .arrival .arrived) (h .store)) e
+  end-object (configuration strict) e = configuration-object strict (courseOn h 0) (take (h .arrival .arrived) (h .store)) e
+
+  request-left : (strict : Bool) (x : Course)
+      → endRead refuseRequest (readRequestBy (headBy strict)) x (take (h .arrival .arrived) (h .store)) .verdict ≡ Refused k
+      → Left (ending (request strict)) h k (endArrival x (h .arrival))
+  request-left strict Outside e = as-before refl
+  request-left strict Overrun e = as-before refl
+  request-left strict Ended e = as-before refl
+  request-left strict Open e = end-marked e refl
+
+  configuration-left : (strict : Bool) (x : Course)
+      → endRead refuseConfiguration (readConfigurationBy (headBy strict)) x (take (h .arrival .arrived) (h .store)) .verdict ≡ Refused k
+      → Left (ending (configuration strict)) h k (endArrival x (h .arrival))
+  configuration-left strict Outside e = as-before refl
+  configuration-left strict Overrun e = as-before refl
+  configuration-left strict Ended e = as-before refl
+  configuration-left strict Open e = end-marked e refl
+
+  end-left : (r : Reader) → verdictIn (told (ending r) h) ≡ Refused k → Left (ending r) h k (endArrival (courseOn h 0) (h .arrival))
+  end-left (request strict) e = request-left strict (courseOn h 0) e
+  end-left (configuration strict) e = configuration-left strict (courseOn h 0) e
+
+pub refused-calls : ReadersDemand1 → RefusedCalls
+refused-calls demand1 resetting h k e = absurd (let z : _≡_ {A = ℕ} 0 1 = cc in omega arith)
+refused-calls demand1 (sending p) h k e = record {
+  store = part-store h p k (courseOn h (length p)) e;
+  object = tt;
+  arrival = part-left h p k (courseOn h (length p)) e;
+}
+refused-calls demand1 (ending r) h k e = record {
+  store = refl;
+  object = end-object demand1 h k r e;
+  arrival = end-left demand1 h k r e;
+}

@@ -1,0 +1,36 @@
+-- What a part does to the store: the bytes that arrived are those before and the part's; the length stays.
+use Prim.Native.Nat.{ℕ, _+_, _-_, _≤_}
+use mathlib.Core.Path.{_≡_, refl, ap, sym, _∙_}
+use mathlib.Core.List.{List, [], _++_, append-assoc, append-nil}
+use native.Mathlib.Omega.{arith}
+use lib.ListN.{length, take, drop, length-append, length-take, length-drop, drop-of-length-le}
+use lib.Seq.{take-all, take-at, take-length, drop-drop, length-take-le}
+use Rattle.cojp_serial.specs.Arrival.{placed, courseOf, partAnswer, partStore, Parted}
+use Rattle.cojp_serial.specs.declared.arrival.Arrival.{Arrival}
+use Rattle.cojp_serial.specs.declared.arrival.Course.{Course}
+use Rattle.cojp_serial.specs.declared.parts.PartAnswer.{PartAnswer}
+
+module _ (n : ℕ) (p s : List ℕ) (fits : n + length p ≤ length s) where
+  head-length : length (take n s ++ p) ≡ n + length p
+  head-length = simp (length-append, length-take) (omega arith)
+
+  pub placed-length : length (placed n p s) ≡ length s
+  placed-length = simp (length-append, length-take, length-drop) (omega arith)
+
+  pub placed-take : take (n + length p) (placed n p s) ≡ take n s ++ p
+  placed-take = rw (← append-assoc (take n s) p (drop (n + length p) s)) (take-at (take n s ++ p) (drop (n + length p) s) (n + length p) head-length)
+
+  -- as the copy leaves it: the part of the store from place n on holds q now
+  pub placed-by-copy :
+      (q : List ℕ) → q ≡ take (length p) p ++ drop (length p) (take (length s - n) (drop n s)) →
+      take n s ++ (q ++ drop (length s - n) (drop n s)) ≡ placed n p s
+  placed-by-copy q e =
+      let whole : take (length s - n) (drop n s) ≡ drop n s = take-all (length s - n) (drop n s) (simp length-drop (omega arith)) in
+      let none : drop (length s - n) (drop n s) ≡ [] = drop-of-length-le (drop n s) {i = length s - n} (simp length-drop (omega arith)) in
+      let copied : q ≡ p ++ drop (n + length p) s = rw (take-length p, whole, drop-drop (length p) n s) at e in
+      rw (none, copied, append-nil)
+
+-- a part's promise, where its course is known
+pub parted : (a : Arrival) (s p : List ℕ) (x : Course) → courseOf a (length s) (length p) ≡ x → (r : PartAnswer) → r ≡ partAnswer x a (length p)
+    → (t : List ℕ) → t ≡ partStore x (a .arrived) p s → Parted a s p r t
+parted a s p x e r says t holds = record { says = rw e says; holds = rw e holds }

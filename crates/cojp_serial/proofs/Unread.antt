@@ -1,0 +1,86 @@
+-- Two stores that agree in what arrived give a call the same course and the same bytes to read, and agree again afterwards.
+use Prim.Native.Nat.{ℕ, _+_, _≤_}
+use mathlib.Core.Path.{_≡_, refl, ap, sym, _∙_}
+use mathlib.Core.Bool.{Bool}
+use mathlib.Core.List.{List, [], _∷_, _++_}
+use native.Mathlib.Omega.{arith}
+use lib.Dec.{leb}
+use lib.ListN.{length, take}
+use Rattle.refusal.specs.declared.Refusal.{Refusal}
+use Rattle.cbor.specs.Strict.{headBy}
+use Rattle.cojp.specs.Configuration.{refuseConfiguration, readConfigurationBy}
+use Rattle.cojp.specs.Request.{refuseRequest, readRequestBy}
+use Rattle.cojp_serial.specs.Arrival.{nothingArrived, courseOf, partAnswer, partStore, placed, endArrival, endRead}
+use Rattle.cojp_serial.specs.Calls.{Reader, request, configuration, SerialCall, resetting, sending, ending, Told, part, joinRequest, update, Held, told, left, answers}
+use Rattle.cojp_serial.specs.Laws.{BeyondIsUnread, NothingOfTheFormerBoard}
+use Rattle.cojp_serial.specs.declared.arrival.Arrival.{Arrival}
+use Rattle.cojp_serial.specs.declared.arrival.Course.{Course}
+use Rattle.cojp_serial.specs.declared.arrival.Course.the-variants.{Outside, Overrun, Ended, Open}
+use Rattle.cojp_serial.proofs.Courses.{Fits, open-fits}
+use Rattle.cojp_serial.proofs.Stores.{placed-length, placed-take}
+
+abbrev hold : Arrival → List ℕ → Held
+hold a s = record { arrival = a; store = s }
+
+record Alike (a : Arrival) (s t : List ℕ) : Type 0 where
+  lent : leb 256 (length s) ≡ leb 256 (length t)
+  arrived : take (a .arrived) s ≡ take (a .arrived) t
+
+course-alike : (a : Arrival) (n x y : ℕ) → leb 256 x ≡ leb 256 y → courseOf a x n ≡ courseOf a y n
+unfolding courseOf
+course-alike a n x y e = rw e
+
+-- ---- a part
+room : (a : Arrival) (n lent : ℕ) → courseOf a lent n ≡ Open → a .arrived + n ≤ lent
+room a n lent e = let f = open-fits a lent n e in omega (arith, f .room, f .store)
+
+after-part : (a : Arrival) (s t p : List ℕ) (x : Course) → courseOf a (length s) (length p) ≡ x → courseOf a (length t) (length p) ≡ x
+    → Alike a s t → Alike (partAnswer x a (length p) .arrival) (partStore x (a .arrived) p s) (partStore x (a .arrived) p t)
+after-part a s t p Outside e f w = w
+after-part a s t p Overrun e f w = record { lent = w .lent; arrived = w .arrived }
+after-part a s t p Ended e f w = w
+after-part a s t p Open e f w =
+    let i = room a (length p) (length s) e in
+    let j = room a (length p) (length t) f in
+    record {
+      lent = rw (placed-length (a .arrived) p s i, placed-length (a .arrived) p t j) (w .lent);
+      arrived =
+          placed-take (a .arrived) p s i ∙ ap (λ (y : List ℕ). y ++ p) (w .arrived) ∙ sym (placed-take (a .arrived) p t j);
+    }
+
+-- ---- an end
+after-end : (a : Arrival) (s t : List ℕ) (x : Course) → Alike a s t → Alike (endArrival x a) s t
+after-end a s t Outside w = w
+after-end a s t Overrun w = w
+after-end a s t Ended w = w
+after-end a s t Open w = record { lent = w .lent; arrived = w .arrived }
+
+end-alike : {A : Type 0} (f : A → Told) (refuse : Refusal → A) (reader : List ℕ → A) (a : Arrival) (s t : List ℕ) → Alike a s t
+    → f (endRead refuse reader (courseOf a (length s) 0) (take (a .arrived) s)) ≡ f (endRead refuse reader (courseOf a (length t) 0) (take (a .arrived) t))
+end-alike f refuse reader a s t w = rw (course-alike a 0 (length s) (length t) (w .lent), w .arrived)
+
+told-alike : (c : SerialCall) (a : Arrival) (s t : List ℕ) → Alike a s t → told c (hold a s) ≡ told c (hold a t)
+told-alike resetting a s t w = refl
+told-alike (sending p) a s t w = rw (course-alike a (length p) (length s) (length t) (w .lent))
+told-alike (ending (request strict)) a s t w = end-alike joinRequest refuseRequest (readRequestBy (headBy strict)) a s t w
+told-alike (ending (configuration strict)) a s t w = end-alike update refuseConfiguration (readConfigurationBy (headBy strict)) a s t w
+
+both : {A : Type 0} {x y : A} {xs ys : List A} → x ≡ y → xs ≡ ys → x ∷ xs ≡ y ∷ ys
+both p q = cc
+
+answers-alike : (cs : List SerialCall) (a : Arrival) (s t : List ℕ) → Alike a s t → answers cs (hold a s) ≡ answers cs (hold a t)
+answers-alike [] a s t w = refl
+answers-alike (resetting ∷ cs) a s t w = both refl (answers-alike cs nothingArrived s t (record { lent = w .lent; arrived = refl }))
+answers-alike (sending p ∷ cs) a s t w =
+    let e = course-alike a (length p) (length s) (length t) (w .lent) in
+    both (told-alike (sending p) a s t w) (rw e (answers-alike cs _ _ _ (after-part a s t p (courseOf a (length t) (length p)) e refl w)))
+answers-alike (ending r ∷ cs) a s t w =
+    let e = course-alike a 0 (length s) (length t) (w .lent) in
+    both (told-alike (ending r) a s t w) (rw e (answers-alike cs _ _ _ (after-end a s t (courseOf a (length t) 0) w)))
+
+pub beyond-is-unread : BeyondIsUnread
+beyond-is-unread a s t cs l e = answers-alike cs a s t (record { lent = l; arrived = e })
+
+pub nothing-of-the-former-board : NothingOfTheFormerBoard
+nothing-of-the-former-board g h cs l =
+    both refl (answers-alike cs nothingArrived (g .store) (h .store) (record { lent = l; arrived = refl }))

@@ -1,0 +1,24 @@
+-- Each law by its file; the empty object beside a reading's refusal is the readers' demand 1.
+use borrow.Author.Needs.{needs}
+use Rattle.cojp_serial.proofs.Refused.{refused-calls}
+use Rattle.cojp_serial.proofs.Unread.{beyond-is-unread, nothing-of-the-former-board}
+use Rattle.cojp_serial.proofs.Until.{long-until-reset, phase-until-reset}
+use Rattle.cojp_serial.proofs.Whole.{end-reads-the-whole}
+use Rattle.cojp_serial.proofs.laws.Statement.{statement}
+use Rattle.cojp_serial.proofs.laws.Tie as tie
+
+readers-demand1-requires : tie.Need-readers-demand1-requires
+readers-demand1-requires c κs = search needs
+
+returns : tie.Need-returns
+returns c = record {
+  whole = end-reads-the-whole;
+  unread = beyond-is-unread;
+  former-board = nothing-of-the-former-board;
+  refused = refused-calls (c .readers-demand1 .ensures);
+  long = long-until-reset;
+  phase = phase-until-reset;
+}
+
+pub laws-spec : {M : Type 1} → statement M
+laws-spec = tie.close (tie.spec readers-demand1-requires returns)

@@ -1,0 +1,93 @@
+-- Each course, and the reading of what arrived where it is open.
+use Prim.Native.Nat.{_≤_}
+use mathlib.Core.Path.{sym, _∙_}
+use native.Mathlib.Omega.{arith}
+use borrow.Author.Needs.{needs}
+use lib.ListN.{length}
+use lib.Seq.{length-take-le}
+use Rattle.cojp_serial.proofs.Courses.{open-fits}
+use Rattle.cojp_serial.proofs.request.end_request_by.Statement.{statement}
+use Rattle.cojp_serial.proofs.request.end_request_by.Tie as tie
+
+course-requires : tie.Need-course-requires
+course-requires c κs = search needs
+
+enum-told : tie.Need-enum-told
+enum-told c = search needs
+
+refused-request-requires : tie.Need-refused-request-requires
+refused-request-requires c κs = search needs
+
+enum-told-2 : tie.Need-enum-told-2
+enum-told-2 c = search needs
+
+refused-request-requires-2 : tie.Need-refused-request-requires-2
+refused-request-requires-2 c κs = search needs
+
+enum-told-3 : tie.Need-enum-told-3
+enum-told-3 c = search needs
+
+refused-request-requires-3 : tie.Need-refused-request-requires-3
+refused-request-requires-3 c κs = search needs
+
+enum-told-4 : tie.Need-enum-told-4
+enum-told-4 c = search needs
+
+slice-aggregate-request-by : tie.Need-slice-aggregate-request-by
+slice-aggregate-request-by c =
+    let told = c .before in
+    let found = told .before .before in
+    let a = found .before .before .args in
+    let f = open-fits (a .arrival) (length (a .store .now)) 0 (sym (found .course .ensures) ∙ told .enum-told4 .given .1) in
+    sym (length-take-le (a .arrival .arrived) (a .store .now) (omega (arith, f .room, f .store)))
+
+request-by-requires : tie.Need-request-by-requires
+request-by-requires c κs = search needs
+
+end-marked-requires : tie.Need-end-marked-requires
+end-marked-requires c κs = search needs
+
+returns : tie.Need-returns
+returns c =
+    let told = c .before in
+    let found = told .before .before in
+    rw (sym (found .course .ensures) ∙ told .enum-told .given .1) (c .refused-request .ensures)
+
+returns-2 : tie.Need-returns-2
+returns-2 c =
+    let told = c .before in
+    let found = told .before .before in
+    rw (sym (found .course .ensures) ∙ told .enum-told2 .given .1) (c .refused-request2 .ensures)
+
+returns-3 : tie.Need-returns-3
+returns-3 c =
+    let told = c .before in
+    let found = told .before .before in
+    rw (sym (found .course .ensures) ∙ told .enum-told3 .given .1) (c .refused-request3 .ensures)
+
+returns-4 : tie.Need-returns-4
+returns-4 c =
+    let read = c .before in
+    let told = read .before .before in
+    let found = told .before .before in
+    rw (sym (found .course .ensures) ∙ told .enum-told4 .given .1, read .request-by .ensures, c .end-marked .ensures)
+
+pub end-request-by-spec : {M : Type 1} → statement M
+end-request-by-spec =
+    tie.close
+    (tie.spec
+    course-requires
+    enum-told
+    refused-request-requires
+    enum-told-2
+    refused-request-requires-2
+    enum-told-3
+    refused-request-requires-3
+    enum-told-4
+    slice-aggregate-request-by
+    request-by-requires
+    end-marked-requires
+    returns
+    returns-2
+    returns-3
+    returns-4)

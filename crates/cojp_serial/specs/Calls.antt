@@ -1,0 +1,83 @@
+-- Whole lists of these calls, each of which gets arrival and store as the one before left them: nothing else writes the store.
+use Prim.Native.Nat.{ℕ}
+use mathlib.Core.Bool.{Bool}
+use mathlib.Core.List.{List, [], _∷_, _++_}
+use lib.ListN.{length, take}
+use Rattle.refusal.specs.declared.Verdict.{Verdict}
+use Rattle.refusal.specs.declared.Verdict.the-variants.{Accepted}
+use Rattle.cbor.specs.Strict.{headBy}
+use Rattle.cojp.specs.Configuration.{readConfigurationBy}
+use Rattle.cojp.specs.Request.{readRequestBy}
+use Rattle.cojp.specs.declared.configuration.ConfigurationRead.{ConfigurationRead}
+use Rattle.cojp.specs.declared.request.RequestRead.{RequestRead}
+use Rattle.cojp_serial.specs.Arrival.{nothingArrived, courseOf, partAnswer, partStore, endArrival, requestEnd, configurationEnd}
+use Rattle.cojp_serial.specs.declared.arrival.Arrival.{Arrival}
+use Rattle.cojp_serial.specs.declared.arrival.Course.{Course}
+use Rattle.cojp_serial.specs.declared.parts.PartAnswer.{PartAnswer}
+
+-- the readings: strict or not
+pub data Reader : Type 0 where
+  request : Bool → Reader
+  configuration : Bool → Reader
+
+pub data SerialCall : Type 0 where
+  resetting : SerialCall
+  sending : List ℕ → SerialCall
+  ending : Reader → SerialCall
+
+-- what a call answers
+pub data Told : Type 0 where
+  begun : Told
+  part : PartAnswer → Told
+  joinRequest : RequestRead → Told
+  update : ConfigurationRead → Told
+
+-- what the caller has in hand between two calls
+pub record Held : Type 0 where
+  pub arrival : Arrival
+  pub store : List ℕ
+
+abbrev pub courseOn : Held → ℕ → Course
+courseOn h n = courseOf (h .arrival) (length (h .store)) n
+
+-- one whole reading of a payload
+abbrev pub wholeRead : Reader → List ℕ → Told
+wholeRead (request strict) p = joinRequest (readRequestBy (headBy strict) p)
+wholeRead (configuration strict) p = update (readConfigurationBy (headBy strict) p)
+
+abbrev pub endTold : Reader → Held → Told
+endTold (request strict) h = joinRequest (requestEnd (readRequestBy (headBy strict)) (h .arrival) (h .store) .read)
+endTold (configuration strict) h = update (configurationEnd (readConfigurationBy (headBy strict)) (h .arrival) (h .store) .read)
+
+abbrev pub told : SerialCall → Held → Told
+told resetting h = begun
+told (sending p) h = part (partAnswer (courseOn h (length p)) (h .arrival) (length p))
+told (ending r) h = endTold r h
+
+abbrev pub left : SerialCall → Held → Held
+left resetting h = record { arrival = nothingArrived; store = h .store }
+left (sending p) h = record {
+  arrival = partAnswer (courseOn h (length p)) (h .arrival) (length p) .arrival;
+  store = partStore (courseOn h (length p)) (h .arrival .arrived) p (h .store);
+}
+left (ending r) h = record { arrival = endArrival (courseOn h 0) (h .arrival); store = h .store }
+
+abbrev pub answers : List SerialCall → Held → List Told
+answers [] h = []
+answers (c ∷ cs) h = told c h ∷ answers cs (left c h)
+
+-- ---- a payload cut into parts
+abbrev pub sent : List (List ℕ) → Held → Held
+sent [] h = h
+sent (p ∷ ps) h = sent ps (left (sending p) h)
+
+abbrev pub joined : List (List ℕ) → List ℕ
+joined [] = []
+joined (p ∷ ps) = p ++ joined ps
+
+-- ---- the verdict of an answer
+abbrev pub verdictIn : Told → Verdict
+verdictIn begun = Accepted
+verdictIn (part a) = a .verdict
+verdictIn (joinRequest r) = r .verdict
+verdictIn (update r) = r .verdict

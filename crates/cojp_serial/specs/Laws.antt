@@ -1,0 +1,93 @@
+-- What is promised of whole lists of these calls.
+use Prim.Native.Nat.{ℕ, _+_, _≤_, _<_}
+use mathlib.Core.Path.{_≡_}
+use mathlib.Core.List.{List, [], _∷_}
+use lib.Dec.{leb}
+use lib.ListN.{length, take}
+use Rattle.refusal.specs.declared.Refusal.{Refusal}
+use Rattle.refusal.specs.declared.Refusal.the-variants.{Long, Phase}
+use Rattle.refusal.specs.declared.Verdict.{Verdict}
+use Rattle.refusal.specs.declared.Verdict.the-variants.{Accepted, Refused}
+use Rattle.cojp.specs.Configuration.{emptyConfiguration}
+use Rattle.cojp.specs.Request.{emptyRequest}
+use Rattle.cojp_serial.specs.Arrival.{overran, endMarked}
+use Rattle.cojp_serial.specs.Calls.{Reader, SerialCall, resetting, sending, ending, Told, begun, part, joinRequest, update, Held, wholeRead, told, left, answers, sent, joined, verdictIn}
+use Rattle.cojp_serial.specs.declared.arrival.Arrival.{Arrival}
+
+-- ---- cut anywhere, with empty parts too, after a reset, whatever stood before: the end answers as one whole reading does, LONG included
+abbrev pub EndReadsTheWhole : Type 0
+EndReadsTheWhole =
+    (h : Held) (ps : List (List ℕ)) (r : Reader) → 256 ≤ length (h .store) →
+    told (ending r) (sent ps (left resetting h)) ≡ wholeRead r (joined ps)
+
+-- ---- bytes of the store beyond what arrived are never read: where two stores agree in what arrived, every list of calls is answered alike
+abbrev pub BeyondIsUnread : Type 0
+BeyondIsUnread =
+    (a : Arrival) (s t : List ℕ) (cs : List SerialCall) → leb 256 (length s) ≡ leb 256 (length t) →
+    take (a .arrived) s ≡ take (a .arrived) t →
+    answers cs (record { arrival = a; store = s }) ≡ answers cs (record { arrival = a; store = t })
+
+-- ---- the fault of the recall: after a reset nothing shows of the former board, whatever it left in hand and in the store
+abbrev pub NothingOfTheFormerBoard : Type 0
+NothingOfTheFormerBoard =
+    (g h : Held) (cs : List SerialCall) → leb 256 (length (g .store)) ≡ leb 256 (length (h .store)) →
+    answers (resetting ∷ cs) g ≡ answers (resetting ∷ cs) h
+
+-- ---- a refused call leaves the store, comes with the empty object, and leaves the arrival but for two: a part that passes 256, and an end
+-- whose reading refuses what arrived
+abbrev pub EmptyBeside : Told → Type 0
+EmptyBeside begun = Unit {0}
+EmptyBeside (part a) = Unit {0}
+EmptyBeside (joinRequest r) = r .request ≡ emptyRequest
+EmptyBeside (update r) = r .configuration ≡ emptyConfiguration
+
+pub data Left : SerialCall → Held → Refusal → Arrival → Type 0 where
+  as-before : {c : SerialCall} {h : Held} {k : Refusal} {a : Arrival} → a ≡ h .arrival → Left c h k a
+  overrun-marked : {p : List ℕ} {h : Held} {k : Refusal} {a : Arrival} → k ≡ Long → a ≡ overran (h .arrival) → Left (sending p) h k a
+  end-marked :
+      {r : Reader} {h : Held} {k : Refusal} {a : Arrival} → verdictIn (wholeRead r (take (h .arrival .arrived) (h .store))) ≡ Refused k →
+      a ≡ endMarked (h .arrival) → Left (ending r) h k a
+
+pub record RefusedCall (c : SerialCall) (h : Held) (k : Refusal) : Type 0 where
+  pub store : left c h .store ≡ h .store
+  pub object : EmptyBeside (told c h)
+  pub arrival : Left c h k (left c h .arrival)
+
+abbrev pub RefusedCalls : Type 0
+RefusedCalls = (c : SerialCall) (h : Held) (k : Refusal) → verdictIn (told c h) ≡ Refused k → RefusedCall c h k
+
+-- ---- until a reset: after a part that was LONG each call is LONG; after an end that came to its reading each is LONG or PHASE
+pub data NoReset : List SerialCall → Type 0 where
+  no-calls : NoReset []
+  part-next : {p : List ℕ} {cs : List SerialCall} → NoReset cs → NoReset (sending p ∷ cs)
+  end-next : {r : Reader} {cs : List SerialCall} → NoReset cs → NoReset (ending r ∷ cs)
+
+pub data Each (P : Verdict → Type 0) : List Told → Type 0 where
+  none-told : Each P []
+  next-told : {t : Told} {ts : List Told} → P (verdictIn t) → Each P ts → Each P (t ∷ ts)
+
+abbrev pub IsLong : Verdict → Type 0
+IsLong v = v ≡ Refused Long
+
+pub data LongOrPhase (v : Verdict) : Type 0 where
+  long : v ≡ Refused Long → LongOrPhase v
+  phase : v ≡ Refused Phase → LongOrPhase v
+
+abbrev pub LongUntilReset : Type 0
+LongUntilReset =
+    (h : Held) (p : List ℕ) (cs : List SerialCall) → IsLong (verdictIn (told (sending p) h)) → NoReset cs →
+    Each IsLong (answers cs (left (sending p) h))
+
+-- an end comes to its reading where an empty part would be accepted
+abbrev pub PhaseUntilReset : Type 0
+PhaseUntilReset =
+    (h : Held) (r : Reader) (cs : List SerialCall) → verdictIn (told (sending []) h) ≡ Accepted → NoReset cs →
+    Each LongOrPhase (answers cs (left (ending r) h))
+
+pub record SerialLaws : Type 0 where
+  pub whole : EndReadsTheWhole
+  pub unread : BeyondIsUnread
+  pub former-board : NothingOfTheFormerBoard
+  pub refused : RefusedCalls
+  pub long : LongUntilReset
+  pub phase : PhaseUntilReset

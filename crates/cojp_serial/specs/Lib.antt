@@ -1,0 +1,3 @@
+pub mod Arrival
+pub mod Calls
+pub mod Laws

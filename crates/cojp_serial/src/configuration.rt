@@ -1,0 +1,77 @@
+// The end of a payload that is read as a configuration.
+use crate::arrival::Arrival;
+use crate::arrival::Course;
+use cojp::ConfigurationRead;
+use cojp::empty_configuration;
+use cojp_configuration_read::read_configuration;
+use cojp_configuration_read::read_strict_configuration;
+use refusal::Refusal;
+use refusal::Verdict;
+ghost use mathlib.Core.Path.{_≡_};
+ghost use Rattle.cbor.specs.Strict.{headBy};
+ghost use Rattle.cojp.specs.Configuration.{refuseConfiguration, readConfigurationBy, readConfiguration, readStrictConfiguration};
+ghost use Rattle.cojp_serial.specs.Arrival.{configurationEnd};
+
+// The answer of the reading, or the refusal beside the empty configuration; and the arrival afterwards.
+pub struct ConfigurationEnd {
+    pub read: ConfigurationRead,
+    pub arrival: Arrival,
+}
+
+fn refused_configuration(why: Refusal, arrival: Arrival) -> ConfigurationEnd
+    ensures { λ r. ⌜ r ≡ record { read = refuseConfiguration why; arrival = arrival } ⌝ }
+{
+    let none = empty_configuration();
+    let read = ConfigurationRead {
+        verdict: Verdict::Refused(why),
+        configuration: none,
+    };
+    ConfigurationEnd {
+        read: read,
+        arrival: arrival,
+    }
+}
+
+fn configuration_by(payload: &[u8], strict: bool) -> ConfigurationRead
+    ensures { λ r. ⌜ r ≡ readConfigurationBy (headBy strict) (now (payload .entry)) ⌝ }
+{
+    if strict {
+        return read_strict_configuration(payload);
+    }
+    read_configuration(payload)
+}
+
+// The reading gets the bytes that arrived, and no others of the store.
+fn end_configuration_by(arrival: Arrival, store: &[u8], strict: bool) -> ConfigurationEnd
+    ensures { λ r. ⌜ r ≡ configurationEnd (readConfigurationBy (headBy strict)) arrival (now (store .entry)) ⌝ }
+{
+    let course = arrival.course(store.len(), 0);
+    match course {
+        Course::Outside => refused_configuration(Refusal::Range, arrival),
+        Course::Overrun => refused_configuration(Refusal::Long, arrival),
+        Course::Ended => refused_configuration(Refusal::Phase, arrival),
+        Course::Open => {
+            let n = arrival.arrived;
+            let read = configuration_by(&store[..n], strict);
+            let ended = arrival.end_marked();
+            ConfigurationEnd {
+                read: read,
+                arrival: ended,
+            }
+        }
+    }
+}
+
+// Reads what arrived as a configuration, and marks the end, whatever the reading says.
+pub fn end_configuration(arrival: Arrival, store: &[u8]) -> ConfigurationEnd
+    ensures { λ r. ⌜ r ≡ configurationEnd readConfiguration arrival (now (store .entry)) ⌝ }
+{
+    end_configuration_by(arrival, store, false)
+}
+
+// The same, its heads read strictly.
+pub fn end_strict_configuration(arrival: Arrival, store: &[u8]) -> ConfigurationEnd
+    ensures { λ r. ⌜ r ≡ configurationEnd readStrictConfiguration arrival (now (store .entry)) ⌝ }
+{
+    end_configuration_by(arrival, store, true)
+}

@@ -1,0 +1,26 @@
+// A payload that comes over a serial cable in parts, into a store that the caller lends, and is read at its end. What has come is a value beside
+// the store; no byte of the store beyond it is ever read.
+pub mod arrival;
+pub mod configuration;
+pub mod parts;
+pub mod request;
+
+pub use arrival::Arrival;
+pub use arrival::Course;
+pub use arrival::reset;
+pub use configuration::ConfigurationEnd;
+pub use configuration::end_configuration;
+pub use configuration::end_strict_configuration;
+pub use parts::PartAnswer;
+pub use parts::part;
+pub use request::RequestEnd;
+pub use request::end_request;
+pub use request::end_strict_request;
+ghost use Rattle.cojp_serial.specs.Laws.{SerialLaws};
+
+// What holds of whole lists of these calls.
+pub fn laws()
+    ensures { λ r. ⌜ SerialLaws ⌝ }
+{
+    cojp::readers_demand1();
+}

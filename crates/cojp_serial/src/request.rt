@@ -1,0 +1,77 @@
+// The end of a payload that is read as a join request.
+use crate::arrival::Arrival;
+use crate::arrival::Course;
+use cojp::RequestRead;
+use cojp::empty_request;
+use cojp_request_read::read_request;
+use cojp_request_read::read_strict_request;
+use refusal::Refusal;
+use refusal::Verdict;
+ghost use mathlib.Core.Path.{_≡_};
+ghost use Rattle.cbor.specs.Strict.{headBy};
+ghost use Rattle.cojp.specs.Request.{refuseRequest, readRequestBy, readRequest, readStrictRequest};
+ghost use Rattle.cojp_serial.specs.Arrival.{requestEnd};
+
+// The answer of the reading, or the refusal beside the empty request; and the arrival afterwards.
+pub struct RequestEnd {
+    pub read: RequestRead,
+    pub arrival: Arrival,
+}
+
+fn refused_request(why: Refusal, arrival: Arrival) -> RequestEnd
+    ensures { λ r. ⌜ r ≡ record { read = refuseRequest why; arrival = arrival } ⌝ }
+{
+    let none = empty_request();
+    let read = RequestRead {
+        verdict: Verdict::Refused(why),
+        request: none,
+    };
+    RequestEnd {
+        read: read,
+        arrival: arrival,
+    }
+}
+
+fn request_by(payload: &[u8], strict: bool) -> RequestRead
+    ensures { λ r. ⌜ r ≡ readRequestBy (headBy strict) (now (payload .entry)) ⌝ }
+{
+    if strict {
+        return read_strict_request(payload);
+    }
+    read_request(payload)
+}
+
+// The reading gets the bytes that arrived, and no others of the store.
+fn end_request_by(arrival: Arrival, store: &[u8], strict: bool) -> RequestEnd
+    ensures { λ r. ⌜ r ≡ requestEnd (readRequestBy (headBy strict)) arrival (now (store .entry)) ⌝ }
+{
+    let course = arrival.course(store.len(), 0);
+    match course {
+        Course::Outside => refused_request(Refusal::Range, arrival),
+        Course::Overrun => refused_request(Refusal::Long, arrival),
+        Course::Ended => refused_request(Refusal::Phase, arrival),
+        Course::Open => {
+            let n = arrival.arrived;
+            let read = request_by(&store[..n], strict);
+            let ended = arrival.end_marked();
+            RequestEnd {
+                read: read,
+                arrival: ended,
+            }
+        }
+    }
+}
+
+// Reads what arrived as a join request, and marks the end, whatever the reading says.
+pub fn end_request(arrival: Arrival, store: &[u8]) -> RequestEnd
+    ensures { λ r. ⌜ r ≡ requestEnd readRequest arrival (now (store .entry)) ⌝ }
+{
+    end_request_by(arrival, store, false)
+}
+
+// The same, its heads read strictly.
+pub fn end_strict_request(arrival: Arrival, store: &[u8]) -> RequestEnd
+    ensures { λ r. ⌜ r ≡ requestEnd readStrictRequest arrival (now (store .entry)) ⌝ }
+{
+    end_request_by(arrival, store, true)
+}
