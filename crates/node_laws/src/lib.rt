@@ -2,6 +2,7 @@
 ghost use Rattle.node_laws.specs.Answers.{AnswersSay};
 ghost use Rattle.node_laws.specs.Calls.{Demand1};
 ghost use Rattle.node_laws.specs.Laws.{NodeLaws, GivesUp};
+ghost use Rattle.node_laws.specs.Read.{ReadInRange};
 ghost use Rattle.node_laws.specs.Same.{AppliesAlike};
 
 // Demand 1 for the node: a refused call leaves node and lent bytes as they were, and gives the empty object.
@@ -22,6 +23,11 @@ pub fn gives_up()
 // Applied to the same node, the same configurations give the same verdict and the same node.
 pub fn applies_alike()
     ensures { λ r. ⌜ AppliesAlike ⌝ }
+{}
+
+// A configuration that was read is within its limits.
+pub fn read_in_range()
+    ensures { λ r. ⌜ ReadInRange ⌝ }
 {}
 
 // The answers of the calls in document 01's numbers and values.

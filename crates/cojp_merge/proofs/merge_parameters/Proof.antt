@@ -1,0 +1,30 @@
+-- Each parameter is the later one.
+use borrow.Author.Needs.{needs}
+use Rattle.cojp_merge.proofs.merge_parameters.Statement.{statement}
+use Rattle.cojp_merge.proofs.merge_parameters.Tie as tie
+
+later-keys-requires : tie.Need-later-keys-requires
+later-keys-requires c κs = search needs
+
+later-address-requires : tie.Need-later-address-requires
+later-address-requires c κs = search needs
+
+later-octets-requires : tie.Need-later-octets-requires
+later-octets-requires c κs = search needs
+
+later-octets-requires-2 : tie.Need-later-octets-requires-2
+later-octets-requires-2 c κs = search needs
+
+later-octets-requires-3 : tie.Need-later-octets-requires-3
+later-octets-requires-3 c κs = search needs
+
+returns : tie.Need-returns
+returns c =
+    let network = c .before in
+    let jrc = network .before in
+    let address = jrc .before in
+    let keys = address .before in
+    rw (keys .later-keys .ensures, address .later-address .ensures, jrc .later-octets .ensures, network .later-octets2 .ensures, c .later-octets3 .ensures)
+
+pub merge-parameters-spec : {M : Type 1} → statement M
+merge-parameters-spec = tie.close (tie.spec later-keys-requires later-address-requires later-octets-requires later-octets-requires-2 later-octets-requires-3 returns)

@@ -1,0 +1,31 @@
+-- Two configurations joined into one.
+use mathlib.Core.Bool.{cond, _&&_}
+use Rattle.refusal.specs.declared.Refusal.the-variants.{Range}
+use Rattle.refusal.specs.declared.Verdict.the-variants.{Accepted, Refused}
+use Rattle.cojp.specs.Configuration.{emptyConfiguration}
+use Rattle.cojp.specs.Reading.{ifTaken}
+use Rattle.cojp.specs.Writing.{configurationInRange}
+use Rattle.cojp.specs.declared.configuration.Configuration.{Configuration}
+use Rattle.cojp_merge.specs.declared.Merged.{Merged}
+
+-- each parameter with its report from the second where that is taken, else from the first; a key set whole, a lease with its address. What is
+-- merged is ours to write, so no label was passed over
+abbrev pub merged : Configuration → Configuration → Configuration
+merged first second = record {
+  keys = ifTaken (second .keys .report) (second .keys) (first .keys);
+  address = ifTaken (second .address .report) (second .address) (first .address);
+  jrc = ifTaken (second .jrc .report) (second .jrc) (first .jrc);
+  network = ifTaken (second .network .report) (second .network) (first .network);
+  prefix = ifTaken (second .prefix .report) (second .prefix) (first .prefix);
+  passed = 0;
+}
+
+-- ---- the answer: RANGE where either is outside its limits, and the empty configuration beside it
+abbrev pub outsideLimits : Merged
+outsideLimits = record { verdict = Refused Range; configuration = emptyConfiguration }
+
+unfoldable pub mergeAnswer : Configuration → Configuration → Merged
+mergeAnswer first second =
+    cond (configurationInRange first && configurationInRange second)
+    (record { verdict = Accepted; configuration = merged first second })
+    outsideLimits

@@ -1,0 +1,82 @@
+// Two configurations joined into one, so that two updates cost one frame: each parameter from the second where it is taken there, else from the
+// first. Nothing but values: no payload is read or written here.
+mod address;
+mod keys;
+mod octets;
+
+use address::later_address;
+use cojp::Configuration;
+use cojp::empty_configuration;
+use cojp_range::configuration_in_range;
+use keys::later_keys;
+use octets::later_octets;
+use refusal::Refusal;
+use refusal::Verdict;
+ghost use mathlib.Core.Path.{_≡_};
+ghost use Rattle.cojp.specs.Laws.{LargestConfiguration};
+ghost use Rattle.cojp_merge.specs.Merge.{merged, mergeAnswer, outsideLimits};
+ghost use Rattle.cojp_merge.specs.Laws.{MergeLaws};
+
+// Beside a refusal stands the empty configuration.
+pub struct Merged {
+    pub verdict: Verdict,
+    pub configuration: Configuration,
+}
+
+fn outside_limits() -> Merged
+    ensures { λ r. ⌜ r ≡ outsideLimits ⌝ }
+{
+    let none = empty_configuration();
+    Merged {
+        verdict: Verdict::Refused(Refusal::Range),
+        configuration: none,
+    }
+}
+
+fn merge_parameters(first: Configuration, second: Configuration) -> Configuration
+    ensures { λ r. ⌜ r ≡ merged first second ⌝ }
+{
+    let keys = later_keys(first.keys, second.keys);
+    let address = later_address(first.address, second.address);
+    let jrc = later_octets(first.jrc, second.jrc);
+    let network = later_octets(first.network, second.network);
+    let prefix = later_octets(first.prefix, second.prefix);
+    Configuration {
+        keys: keys,
+        address: address,
+        jrc: jrc,
+        network: network,
+        prefix: prefix,
+        passed: 0,
+    }
+}
+
+// Joins two configurations. RANGE where either holds a taken parameter outside its limits, even one that the other overrides.
+pub fn merge(first: Configuration, second: Configuration) -> Merged
+    ensures { λ r. ⌜ r ≡ mergeAnswer first second ⌝ }
+{
+    if !configuration_in_range(first) {
+        return outside_limits();
+    }
+    if !configuration_in_range(second) {
+        return outside_limits();
+    }
+    let configuration = merge_parameters(first, second);
+    Merged {
+        verdict: Verdict::Accepted,
+        configuration: configuration,
+    }
+}
+
+// Merging is associative, the empty configuration is neutral on either side, and what is merged can be written.
+pub fn laws()
+    ensures { λ r. ⌜ MergeLaws ⌝ }
+{}
+
+// The merged configuration takes no more than 232 bytes.
+pub fn merged_size(first: Configuration, second: Configuration)
+    ensures { λ r. ⌜ LargestConfiguration (merged first second) ⌝ }
+{
+    let both = merge_parameters(first, second);
+    cojp_laws::largest_configuration(both);
+}
