@@ -1,6 +1,7 @@
 -- Joining two updates (document 02, request 10): at one time, where a node accepts the first and then the second, it accepts the merged one,
--- which leaves the same node. Outside this law are reports and passed-over counts, which are no part of the node; a join answer, whose OWED may
--- differ; and pairs of which one is refused: the merged one may then be accepted all the same (Example).
+-- which leaves the same node. Outside this law are reports and passed-over counts, which are no part of the node; a border router's frame
+-- counters, which nodes do not have yet; a join answer, whose OWED may differ; and pairs of which one is refused: the merged one may then be
+-- accepted all the same (Example).
 use Prim.Native.Nat.{ℕ, _≤_}
 use mathlib.Core.Path.{_≡_}
 use mathlib.Core.List.{List}
