@@ -127,5 +127,5 @@ module _ (K : KeyLaws) where
     verified-says = go (valid n)
       where
         go : (b : Bool) → reportBy b .change ≡ change.Switched → Switched n (reportBy b .node)
-        go true e = switched-keyed n reportedSets (sets.verified-says (n .sets) type identifier e)
+        go true e = switched-keyed n reportedSets (sets.verified-says K (n .sets) type identifier e)
         go false e = absurd (let z : _≡_ {A = ℕ} 0 1 = cc in omega arith)
