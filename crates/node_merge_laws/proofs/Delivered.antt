@@ -117,7 +117,7 @@ module _ (laws : MergeLaws) (alike : AppliesAlike) (in-range : ReadsInRange) (fi
       let writes : configurationPlan (mergeAnswer first second .configuration) ≡ emit w =
       planned (mergeAnswer first second .configuration) (good .1) ∙ ap (λ (c : Configuration). emit (encode (map (configurationPairs c)))) is in
       let short = largest w writes in
-      let read = back w writes in
+      let read = back w writes false in
       let arrives : deliver Update n time w ≡ apply Update n time (readConfiguration w .configuration) =
       applied n time w (may-come-too n time (length p) (length w) (a .0) (omega (arith, short))) (read .accepted) in
       let same : SameConfiguration (readConfiguration w .configuration) (merged first second) =
