@@ -1,0 +1,5 @@
+pub mod Bodies
+pub mod Plans
+pub mod Judgements
+pub mod Histories
+pub mod AllLaws

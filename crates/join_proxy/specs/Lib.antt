@@ -1,0 +1,6 @@
+pub mod Body
+pub mod Keys
+pub mod Issuing
+pub mod Judging
+pub mod History
+pub mod Laws
