@@ -6,7 +6,7 @@ use mathlib.Core.List.{List, [], _∷_}
 use lib.Dec.{leb, eqb}
 use Rattle.refusal.specs.declared.Refusal.the-variants.{Range, Owed}
 use Rattle.cbor.specs.Answer.{Plan, refuse, emit}
-use Rattle.cbor.specs.Encode.{encode, encodePairs}
+use Rattle.cbor.specs.Encode.{encode}
 use Rattle.cbor.specs.Item.{Item, Items, Pairs, unsigned, bytes, array, map, none, more, empty, pair}
 use Rattle.link_key_set.specs.KeySet.{keysOf, allowedSet}
 use Rattle.link_key.specs.declared.Key.{Key}
@@ -68,14 +68,6 @@ octetsInRange p = ifTaken (p .report) (leb (p .value .len) 16) true
 
 abbrev pub jrcInRange : OctetsParameter → Bool
 jrcInRange p = ifTaken (p .report) (eqb (p .value .len) 16) true
-
--- by its label: 4 is the JRC address, the others are identifiers and prefixes
-abbrev pub stringInRange : ℕ → OctetsParameter → Bool
-stringInRange n p = cond (eqb n 4) (jrcInRange p) (octetsInRange p)
-
--- a parameter that is a byte string, by itself: RANGE, then the bytes of its pair
-unfoldable pub octetsPlan : ℕ → OctetsParameter → Plan
-octetsPlan n p = cond (not (stringInRange n p)) (refuse Range) (emit (encodePairs (octetsPairs n p)))
 
 abbrev pub addressInRange : AddressParameter → Bool
 addressInRange p = ifTaken (p .report) (isAddress (p .value .bytes)) true

@@ -3,4 +3,3 @@ pub mod Sizes
 pub mod Limits
 pub mod Strings
 pub mod Maps
-pub mod Plans

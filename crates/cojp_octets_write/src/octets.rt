@@ -8,8 +8,6 @@ use cbor_write::write_head;
 use cojp::Octets;
 use cojp::OctetsParameter;
 use cojp_range::is_taken;
-use cojp_range::jrc_in_range;
-use cojp_range::octets_in_range;
 use refusal::Refusal;
 ghost use mathlib.Core.Path.{_≡_};
 ghost use Prim.Native.Nat.{_≤_};
@@ -18,7 +16,7 @@ ghost use Rattle.cbor.specs.Answer.{Did, emit};
 ghost use Rattle.cbor.specs.Encode.{encodePairs};
 ghost use Rattle.cbor.specs.Item.{bytes};
 ghost use Rattle.cojp.specs.Octets.{bytesIn};
-ghost use Rattle.cojp.specs.Writing.{labelled, octetsPairs, stringInRange, octetsPlan};
+ghost use Rattle.cojp.specs.Writing.{labelled, octetsPairs};
 ghost use Rattle.cojp_octets_write.specs.Size.{PairsSize};
 
 // How many bytes a byte string has: its length, and 16 where that is over 16.
@@ -61,18 +59,8 @@ fn write_string(dst: &mut [u8], label: u64, s: &[u8]) -> Written
     Written::Length(whole)
 }
 
-// Whether a parameter under this label is in its limits: a JRC address has 16 bytes, any other at most 16.
-fn string_in_range(label: u64, p: OctetsParameter) -> bool
-    ensures { λ r. ⌜ r ≡ stringInRange label p ⌝ }
-{
-    if label == 4 {
-        return jrc_in_range(p);
-    }
-    octets_in_range(p)
-}
-
-// A parameter in its limits, where it is taken: ROOM, or the length written.
-fn emit_octets(dst: &mut [u8], label: u64, p: OctetsParameter) -> Written
+// Writes a parameter under a label, where it is taken: ROOM, or the length written.
+pub fn write_octets(dst: &mut [u8], label: u64, p: OctetsParameter) -> Written
     ensures { λ r. ⌜ Did (emit (encodePairs (octetsPairs label p))) (now (dst .entry)) r (now (dst .exit)) ⌝ }
 {
     let len = known_len(p.value);
@@ -82,14 +70,4 @@ fn emit_octets(dst: &mut [u8], label: u64, p: OctetsParameter) -> Written
         return write_string(dst, label, &bytes[..len]);
     }
     Written::Length(0)
-}
-
-// Writes a parameter under a label, where it is taken: RANGE, ROOM, or the length written.
-pub fn write_octets(dst: &mut [u8], label: u64, p: OctetsParameter) -> Written
-    ensures { λ r. ⌜ Did (octetsPlan label p) (now (dst .entry)) r (now (dst .exit)) ⌝ }
-{
-    if !string_in_range(label, p) {
-        return Written::Refused(Refusal::Range);
-    }
-    emit_octets(dst, label, p)
 }

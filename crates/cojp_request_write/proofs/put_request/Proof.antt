@@ -3,7 +3,6 @@ use mathlib.Core.Path.{refl}
 use native.Mathlib.Omega.{arith}
 use borrow.Author.Needs.{needs}
 use Rattle.cojp_octets_write.proofs.Limits.{request-fits}
-use Rattle.cojp_octets_write.proofs.Plans.{octets-emitted}
 use Rattle.cojp_request_write.proofs.Requests.{head-part, role-room, network-part, request-wrote}
 use Rattle.cojp_request_write.proofs.put_request.Statement.{statement}
 use Rattle.cojp_request_write.proofs.put_request.Tie as tie
@@ -59,7 +58,7 @@ returns c =
     let head = role .before .before .before .before in
     let start = head .before .before .before in
     request-wrote (start .args .q) (start .args .dst .now) (start .pre .0) (start .pre .2) (start .pre .1) (head .write-head .ensures) (role .put-role .ensures) _ refl
-    (octets-emitted 5 (start .args .q .network) (request-fits (start .args .q) (start .pre .0) .network) (network .write-octets .ensures))
+    (network .write-octets .ensures)
 
 pub put-request-spec : {M : Type 1} → statement M
 put-request-spec =

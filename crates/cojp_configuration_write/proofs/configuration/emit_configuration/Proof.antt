@@ -18,11 +18,9 @@ returns c = map-room (configurationPairs (c .before .before .before .before .arg
 
 put-configuration-requires : tie.Need-put-configuration-requires
 put-configuration-requires c κs =
-    let size = c .before .before .before in
-    let start = size .before .before in
-    let z = size .configuration-size .ensures in
-    let f = map-fits (configurationPairs (start .args .c)) z (omega arith) (start .args .dst .now) (c .before .if1 .left) in
-    (z .members, omega (arith, f, configuration-length (start .args .c) (size .configuration-size .result .members)), start .pre)
+    let z = (c .before .before .before .configuration-size .ensures) in
+    let f = map-fits (configurationPairs (c .before .before .before .before .before .args .c)) z (omega arith) (c .before .before .before .before .before .args .dst .now) (c .before .if1 .left) in
+    (z .members, omega (arith, f, configuration-length (c .before .before .before .before .before .args .c) (c .before .before .before .configuration-size .result .members)))
 
 same-length : tie.Need-same-length
 same-length c = search needs

@@ -6,7 +6,6 @@ use lib.ListN.{length-append}
 use Rattle.cbor.specs.Encode.{shortest, encodePairs}
 use Rattle.cbor.proofs.Writing.{seam, wrote-length}
 use Rattle.cojp.specs.Writing.{keysPairs, addressPairs, configurationPairs}
-use Rattle.cojp_octets_write.proofs.Limits.{configuration-fits}
 use Rattle.cojp_octets_write.proofs.Maps.{map-fitting}
 use Rattle.cojp_configuration_write.proofs.Configurations.{strings-length, configuration-length, configuration-wrote}
 use Rattle.cojp_configuration_write.proofs.configuration.put_configuration.Statement.{statement}
@@ -55,10 +54,7 @@ part-put-strings-end : tie.Need-part-put-strings-end
 part-put-strings-end c = omega arith
 
 put-strings-requires : tie.Need-put-strings-requires
-put-strings-requires c κs =
-    let start = c .before .before .before .before .before .before .before .before .before .before .before .before .before .before in
-    let fits = configuration-fits (start .args .c) (start .pre .2) in
-    (omega (arith, start .pre .1), fits .jrc, fits .network, fits .prefix)
+put-strings-requires c κs = omega (arith, c .before .before .before .before .before .before .before .before .before .before .before .before .before .before .pre .1)
 
 add-result : tie.Need-add-result
 add-result c =

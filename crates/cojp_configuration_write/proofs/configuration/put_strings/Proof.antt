@@ -9,7 +9,7 @@ use Rattle.cojp_configuration_write.proofs.configuration.put_strings.St
 use Rattle.cojp_configuration_write.proofs.configuration.put_strings.Tie as tie
 
 put-octets-requires : tie.Need-put-octets-requires
-put-octets-requires c κs = let start = c .before .before in (start .pre .1, omega (arith, start .pre .0))
+put-octets-requires c κs = omega (arith, c .before .before .pre)
 
 sub-put-octets : tie.Need-sub-put-octets
 sub-put-octets c = omega arith
@@ -21,7 +21,7 @@ part-put-octets-end : tie.Need-part-put-octets-end
 part-put-octets-end c = omega arith
 
 put-octets-requires-2 : tie.Need-put-octets-requires-2
-put-octets-requires-2 c κs = let start = c .before .before .before .before .before .before in (start .pre .2, omega (arith, start .pre .0))
+put-octets-requires-2 c κs = omega (arith, c .before .before .before .before .before .before .pre)
 
 add-n2 : tie.Need-add-n2
 add-n2 c = omega arith
@@ -36,15 +36,15 @@ part-put-octets-end-2 : tie.Need-part-put-octets-end-2
 part-put-octets-end-2 c = omega arith
 
 put-octets-requires-3 : tie.Need-put-octets-requires-3
-put-octets-requires-3 c κs = let start = c .before .before .before .before .before .before .before .before .before .before in (start .pre .3, omega (arith, start .pre .0))
+put-octets-requires-3 c κs = omega (arith, c .before .before .before .before .before .before .before .before .before .before .pre)
 
 add-result : tie.Need-add-result
-add-result c = omega (arith, c .before .before .before .before .before .before .before .before .before .before .before .before .before .pre .0, c .before .before .before .before .before .before .before .before .before .before .put-octets .ensures .many, c .before .before .before .before .before .before .put-octets2 .ensures .many, c .before .before .put-octets3 .ensures .many)
+add-result c = omega (arith, c .before .before .before .before .before .before .before .before .before .before .before .before .before .pre, c .before .before .before .before .before .before .before .before .before .before .put-octets .ensures .many, c .before .before .before .before .before .before .put-octets2 .ensures .many, c .before .before .put-octets3 .ensures .many)
 
 returns : tie.Need-returns
 returns c =
     let a = c .before .before .before .before .before .before .before .before .before .before .before .before .before .args in
-    let room = c .before .before .before .before .before .before .before .before .before .before .before .before .before .pre .0 in
+    let room = c .before .before .before .before .before .before .before .before .before .before .before .before .before .pre in
     seam (omega (arith, room, length-append (encodePairs (octetsPairs 4 (a .jrc))) (encodePairs (octetsPairs 5 (a .network)))))
     (seam (omega (arith, room)) (c .before .before .before .before .before .before .before .before .before .before .put-octets .ensures) (c .before .before .before .before .before .before .put-octets2 .ensures))
     (c .before .before .put-octets3 .ensures)
@@ -52,7 +52,7 @@ returns c =
 same-length : tie.Need-same-length
 same-length c =
     let a = c .before .before .before .before .before .before .before .before .before .before .before .before .before .args in
-    wrote-length (returns c) (omega (arith, c .before .before .before .before .before .before .before .before .before .before .before .before .before .pre .0, strings-length (a .jrc) (a .network) (a .prefix)))
+    wrote-length (returns c) (omega (arith, c .before .before .before .before .before .before .before .before .before .before .before .before .before .pre, strings-length (a .jrc) (a .network) (a .prefix)))
 
 pub put-strings-spec : {M : Type 1} → statement M
 put-strings-spec =
