@@ -1,2 +1,0 @@
-mod Applied
-mod Delivered
