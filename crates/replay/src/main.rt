@@ -11,12 +11,14 @@ use tool_text::line::Form;
 use tool_text::output::Buffer;
 use tool_text::output::Output;
 use tool_text::session::Session;
+use tool_text::word::NONE;
 use tool_text::word::Word;
 
 // A command and HEX.
 const FORM: Form = Form {
     hex_at: 1,
     is_word: false,
+    apart: NONE,
 };
 
 fn answer(command: Word, hex: Hex, trace: &[u8], out: Output, buffer: &mut Buffer) -> Output {
