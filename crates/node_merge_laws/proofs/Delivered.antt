@@ -1,0 +1,138 @@
+-- An accepted payload is applied as the configuration that it reads as; the merged one is written, reads back as the same configuration, and so
+-- does the same to the node.
+use Prim.Native.Nat.{ℕ, _≤_}
+use mathlib.Core.Path.{_≡_, refl, ap, sym, _∙_, subst}
+use mathlib.Core.Bool.{Bool, true, false, cond, not, _&&_}
+use mathlib.Core.List.{List}
+use native.Mathlib.Omega.{arith}
+use borrow.Author.Tests.{le-leb}
+use lib.Dec.{leb}
+use lib.ListN.{length}
+use Rattle.refusal.specs.declared.Refusal.the-variants as refusal
+use Rattle.refusal.specs.declared.Verdict.{Verdict}
+use Rattle.refusal.specs.declared.Verdict.the-variants.{Accepted, Refused}
+use Rattle.cbor.specs.Answer.{Plan, refuse, emit}
+use Rattle.cbor.specs.Encode.{encode}
+use Rattle.cbor.specs.Item.{map}
+use Rattle.cojp.specs.Configuration.{readConfiguration}
+use Rattle.cojp.specs.Laws.{ConfigurationRoundTrip, LargestConfiguration}
+use Rattle.cojp.specs.Same.{SameConfiguration}
+use Rattle.cojp.specs.InRange.{InRange, ReadsInRange}
+use Rattle.cojp.specs.Writing.{keysInRange, addressInRange, jrcInRange, octetsInRange, configurationInRange, configurationPairs, configurationPlan}
+use Rattle.cojp.specs.declared.configuration.Configuration.{Configuration}
+use Rattle.cojp.specs.declared.configuration.ConfigurationRead.{ConfigurationRead}
+use Rattle.cojp_merge.specs.Laws.{MergeLaws}
+use Rattle.cojp_merge.specs.Merge.{merged, mergeAnswer}
+use Rattle.node_attempt.specs.Attempt as attempt
+use Rattle.node_delivery.specs.Delivery.{belongs, mayCome}
+use Rattle.node_delivery.specs.declared.Delivery.the-variants.{Update}
+use Rattle.node.specs.Delivery.{apply, applyRead, deliver, deliverBy, deliverVerdict}
+use Rattle.node.specs.Range.{valid}
+use Rattle.node.specs.declared.delivery.Delivered.{Delivered}
+use Rattle.node.specs.declared.node.Node.{Node}
+use Rattle.node_laws.specs.Same.{SameNode, AppliesAlike}
+use Rattle.node_merge_laws.specs.Merged.{mergedPayload, DeliveredAsOne, MergedDelivers}
+use Rattle.node_merge_laws.proofs.Applied.{merged-applies}
+
+-- ---- an accepted payload
+module _ (n : Node) (time : ℕ) where
+  read-accepted : (v : Verdict) (c : Configuration) → applyRead v Update n time c .verdict ≡ Accepted → v ≡ Accepted
+  read-accepted Accepted c e = refl
+  read-accepted (Refused k) c e = absurd (let z : _≡_ {A = ℕ} 0 1 = cc in omega arith)
+
+  both-accepted : (v : Verdict) (r : ConfigurationRead) → deliverBy v Update n time r .verdict ≡ Accepted → (v ≡ Accepted) × (r .verdict ≡ Accepted)
+  both-accepted Accepted r e = (refl, read-accepted (r .verdict) (r .configuration) e)
+  both-accepted (Refused k) r e = absurd (let z : _≡_ {A = ℕ} 0 1 = cc in omega arith)
+
+  came : (p : List ℕ) → deliver Update n time p .verdict ≡ Accepted
+      → (deliverVerdict Update n time (length p) ≡ Accepted) × (readConfiguration p .verdict ≡ Accepted)
+  unfolding deliver
+  came p e = both-accepted (deliverVerdict Update n time (length p)) (readConfiguration p) e
+
+  by-accepted : (v : Verdict) (r : ConfigurationRead) → v ≡ Accepted → r .verdict ≡ Accepted → deliverBy v Update n time r ≡ apply Update n time (r .configuration)
+  by-accepted v r e f = rw (e, f)
+
+  applied : (p : List ℕ) → deliverVerdict Update n time (length p) ≡ Accepted → readConfiguration p .verdict ≡ Accepted
+      → deliver Update n time p ≡ apply Update n time (readConfiguration p .configuration)
+  unfolding deliver
+  applied p e f = by-accepted (deliverVerdict Update n time (length p)) (readConfiguration p) e f
+
+  -- another payload may come where this one may, if it is not LONG
+  tests : (v a l m c b : Bool)
+      → cond v (cond a (cond l (cond c (cond b Accepted (Refused refusal.Phase)) (Refused refusal.Clock)) (Refused refusal.Long)) (Refused refusal.Range)) (Refused refusal.Range) ≡ Accepted
+      → m ≡ true
+      → cond v (cond a (cond m (cond c (cond b Accepted (Refused refusal.Phase)) (Refused refusal.Clock)) (Refused refusal.Long)) (Refused refusal.Range)) (Refused refusal.Range) ≡ Accepted
+  tests false a l m c b e h = absurd (let z : _≡_ {A = ℕ} 0 1 = cc in omega arith)
+  tests true false l m c b e h = absurd (let z : _≡_ {A = ℕ} 0 1 = cc in omega arith)
+  tests true true false m c b e h = absurd (let z : _≡_ {A = ℕ} 0 1 = cc in omega arith)
+  tests true true true m c b e h = rw h e
+
+  may-come-too : (k len : ℕ) → deliverVerdict Update n time k ≡ Accepted → len ≤ 256 → deliverVerdict Update n time len ≡ Accepted
+  unfolding deliverVerdict mayCome
+  may-come-too k len e h =
+      tests (valid n) (attempt.valid (n .attempt)) (leb k 256) (leb len 256) (leb (n .attempt .clock) time) (belongs Update (n .attempt .phase)) e
+      (le-leb len 256 h)
+
+-- ---- the merged one
+keys-first : (k a j n p : Bool) → (k && a && j && n && p) ≡ true → k ≡ true
+keys-first false a j n p e = absurd (let z : _≡_ {A = ℕ} 0 1 = cc in omega arith)
+keys-first true a j n p e = refl
+
+keys-of : (c : Configuration) → configurationInRange c ≡ true → keysInRange (c .keys) ≡ true
+unfolding configurationInRange
+keys-of c e = keys-first (keysInRange (c .keys)) (addressInRange (c .address)) (jrcInRange (c .jrc)) (octetsInRange (c .network)) (octetsInRange (c .prefix)) e
+
+whole-range : (c : Configuration) → InRange c → configurationInRange c ≡ true
+unfolding configurationInRange
+whole-range c i = rw (i .keys, i .address, i .jrc, i .network, i .prefix)
+
+merge-is : (f s : Configuration) → configurationInRange f ≡ true → configurationInRange s ≡ true → mergeAnswer f s .configuration ≡ merged f s
+unfolding mergeAnswer
+merge-is f s e h = rw (e, h)
+
+planned : (c : Configuration) → configurationInRange c ≡ true → configurationPlan c ≡ emit (encode (map (configurationPairs c)))
+unfolding configurationPlan
+planned c e = rw e
+
+module _ (laws : MergeLaws) (alike : AppliesAlike) (in-range : ReadsInRange) (first second : Configuration)
+    (largest : LargestConfiguration (mergeAnswer first second .configuration))
+    (back : ConfigurationRoundTrip (mergeAnswer first second .configuration)) where
+  pub merged-delivers : MergedDelivers first second
+  merged-delivers n time p q reads-first reads-second e h =
+      let a = came n time p e in
+      let m = deliver Update n time p .node in
+      let b = came m time q h in
+      let i : configurationInRange first ≡ true = rw reads-first at (whole-range _ (in-range p (a .1))) in
+      let j : configurationInRange second ≡ true = rw reads-second at (whole-range _ (in-range q (b .1))) in
+      let once : deliver Update n time p ≡ apply Update n time first = applied n time p (a .0) (a .1) ∙ ap (λ (c : Configuration). apply Update n time c) reads-first in
+      let twice : deliver Update m time q ≡ apply Update m time second = applied m time q (b .0) (b .1) ∙ ap (λ (c : Configuration). apply Update m time c) reads-second in
+      let between : m ≡ apply Update n time first .node = ap (λ (d : Delivered). d .node) once in
+      let then : deliver Update m time q ≡ apply Update (apply Update n time first .node) time second =
+      twice ∙ ap (λ (k : Node). apply Update k time second) between in
+      let one =
+      merged-applies n time first second (sym (ap (λ (d : Delivered). d .verdict) once) ∙ e) (sym (ap (λ (d : Delivered). d .verdict) then) ∙ h) in
+      let good = laws .in-range first second i j in
+      let is : mergeAnswer first second .configuration ≡ merged first second = merge-is first second i j in
+      let w = mergedPayload first second in
+      let writes : configurationPlan (mergeAnswer first second .configuration) ≡ emit w =
+      planned (mergeAnswer first second .configuration) (good .1) ∙ ap (λ (c : Configuration). emit (encode (map (configurationPairs c)))) is in
+      let short = largest w writes in
+      let read = back w writes false in
+      let arrives : deliver Update n time w ≡ apply Update n time (readConfiguration w .configuration) =
+      applied n time w (may-come-too n time (length p) (length w) (a .0) (omega (arith, short))) (read .accepted) in
+      let same : SameConfiguration (readConfiguration w .configuration) (merged first second) =
+      subst (λ (c : Configuration). SameConfiguration (readConfiguration w .configuration) c) is (read .same) in
+      let o =
+      alike Update n time (readConfiguration w .configuration) (merged first second)
+      (in-range w (read .accepted) .keys)
+      (keys-of (merged first second) (subst (λ (c : Configuration). configurationInRange c ≡ true) is (good .1))) same in
+      record {
+        merges = good .0;
+        writes = writes;
+        short = short;
+        accepted = ap (λ (d : Delivered). d .verdict) arrives ∙ o .verdict ∙ one .accepted;
+        node =
+            subst (λ (x : Node). SameNode x (deliver Update m time q .node)) (sym (ap (λ (d : Delivered). d .node) arrives))
+            (subst (λ (y : Node). SameNode (apply Update n time (readConfiguration w .configuration) .node) y)
+            (one .node ∙ sym (ap (λ (d : Delivered). d .node) then)) (o .node));
+      }

@@ -1,0 +1,2 @@
+mod Applied
+mod Delivered

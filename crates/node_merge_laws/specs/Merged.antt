@@ -1,0 +1,50 @@
+-- Joining two updates (document 02, request 10): at one time, where a node accepts the first and then the second, it accepts the merged one,
+-- which leaves the same node. Outside this law are reports and passed-over counts, which are no part of the node; a border router's frame
+-- counters, which nodes do not have yet; a join answer, whose OWED may differ; and pairs of which one is refused: the merged one may then be
+-- accepted all the same (Example).
+use Prim.Native.Nat.{ℕ, _≤_}
+use mathlib.Core.Path.{_≡_}
+use mathlib.Core.List.{List}
+use lib.ListN.{length}
+use Rattle.refusal.specs.declared.Verdict.the-variants.{Accepted}
+use Rattle.cbor.specs.Answer.{emit}
+use Rattle.cbor.specs.Encode.{encode}
+use Rattle.cbor.specs.Item.{map}
+use Rattle.cojp.specs.Configuration.{readConfiguration}
+use Rattle.cojp.specs.Writing.{configurationPairs, configurationPlan}
+use Rattle.cojp.specs.declared.configuration.Configuration.{Configuration}
+use Rattle.cojp_merge.specs.Merge.{merged, mergeAnswer}
+use Rattle.node_delivery.specs.declared.Delivery.the-variants.{Update}
+use Rattle.node.specs.Delivery.{apply, deliver}
+use Rattle.node.specs.declared.node.Node.{Node}
+use Rattle.node_laws.specs.Same.{SameNode}
+
+-- ---- configurations: the node is equal in every field
+pub record AppliedAsOne (n : Node) (time : ℕ) (first second : Configuration) : Type 0 where
+  pub accepted : apply Update n time (merged first second) .verdict ≡ Accepted
+  pub node : apply Update n time (merged first second) .node ≡ apply Update (apply Update n time first .node) time second .node
+
+abbrev pub MergedApplies : Type 0
+MergedApplies =
+    (n : Node) (time : ℕ) (first second : Configuration) → apply Update n time first .verdict ≡ Accepted →
+    apply Update (apply Update n time first .node) time second .verdict ≡ Accepted → AppliedAsOne n time first second
+
+-- ---- payloads: the merged one is written, in at most 232 bytes, and the node holds the same; what stands in places that are never looked at is
+-- not compared, since those of a configuration that is handed in are not written
+abbrev pub mergedPayload : Configuration → Configuration → List ℕ
+mergedPayload first second = encode (map (configurationPairs (merged first second)))
+
+pub record DeliveredAsOne (n : Node) (time : ℕ) (p q : List ℕ) (first second : Configuration) : Type 0 where
+  pub merges : mergeAnswer first second .verdict ≡ Accepted
+  pub writes : configurationPlan (mergeAnswer first second .configuration) ≡ emit (mergedPayload first second)
+  pub short : length (mergedPayload first second) ≤ 232
+  pub accepted : deliver Update n time (mergedPayload first second) .verdict ≡ Accepted
+  pub node :
+      SameNode (deliver Update n time (mergedPayload first second) .node)
+      (deliver Update (deliver Update n time p .node) time q .node)
+
+abbrev pub MergedDelivers : Configuration → Configuration → Type 0
+MergedDelivers first second =
+    (n : Node) (time : ℕ) (p q : List ℕ) → readConfiguration p .configuration ≡ first → readConfiguration q .configuration ≡ second →
+    deliver Update n time p .verdict ≡ Accepted → deliver Update (deliver Update n time p .node) time q .verdict ≡ Accepted →
+    DeliveredAsOne n time p q first second

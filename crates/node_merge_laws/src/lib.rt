@@ -1,0 +1,27 @@
+// Two updates joined into one do to a node what the two did one after the other.
+use cojp::Configuration;
+ghost use Rattle.node_merge_laws.specs.Merged.{MergedApplies, MergedDelivers};
+ghost use Rattle.node_merge_laws.specs.Example.{RefusedPair};
+
+// Applied to a node at one time: where the first and then the second are accepted, the merged one is, and leaves the same node.
+pub fn merged_applies()
+    ensures { λ r. ⌜ MergedApplies ⌝ }
+{}
+
+// The same of payloads: any two that read as these configurations, and the one that is written of the merged one.
+pub fn merged_delivers(first: Configuration, second: Configuration)
+    ensures { λ r. ⌜ MergedDelivers first second ⌝ }
+{
+    let both = cojp_merge::merge(first, second);
+    let configuration = both.configuration;
+    cojp_laws::largest_configuration(configuration);
+    cojp_laws::configuration_round_trip(configuration);
+    cojp_merge::laws();
+    node_laws::applies_alike();
+    cojp::reads_in_range();
+}
+
+// A pair of which one is refused is outside: an example, beside one that is inside.
+pub fn refused_pair()
+    ensures { λ r. ⌜ RefusedPair ⌝ }
+{}
