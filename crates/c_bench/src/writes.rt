@@ -1,0 +1,28 @@
+// Writing: an object is read from a payload and written again. What the writing takes is what this takes less the reading.
+use cbor::Written;
+use cojp_configuration_read::read_configuration;
+use cojp_configuration_write::write_configuration;
+use cojp_request_read::read_request;
+use cojp_request_write::write_request;
+
+// How many bytes were written.
+fn length(written: Written) -> usize {
+    match written {
+        Written::Refused(_) => 0,
+        Written::Length(n) => n,
+    }
+}
+
+#[no_mangle]
+pub extern "C" fn bench_rewrite_configuration(dst: &mut [u8], payload: &[u8]) -> usize {
+    let r = read_configuration(payload);
+    let written = write_configuration(dst, r.configuration);
+    length(written)
+}
+
+#[no_mangle]
+pub extern "C" fn bench_rewrite_request(dst: &mut [u8], payload: &[u8]) -> usize {
+    let r = read_request(payload);
+    let written = write_request(dst, r.request);
+    length(written)
+}
