@@ -38,6 +38,10 @@ sameValue a b = sameBy eqb a b
 unfoldable pub sameKey : Key → Key → Bool
 sameKey k l = (eqb (k .identifier) (l .identifier) && eqb (k .usage) (l .usage) && sameValue (k .value) (l .value))
 
+-- the same identifier and value, whatever the usage
+unfoldable pub sameSecret : Key → Key → Bool
+sameSecret k l = (eqb (k .identifier) (l .identifier) && sameValue (k .value) (l .value))
+
 -- the key covers the frame type; one whose usage is not listed covers none
 unfoldable pub covers : Key → ℕ → Bool
 covers k type = (listed (k .usage) && familyCovers (familyOf (k .usage)) type)

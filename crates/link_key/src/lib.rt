@@ -4,7 +4,7 @@ use link_key_usage::Entry;
 use link_key_usage::entry_at;
 use refusal::Refusal;
 ghost use mathlib.Core.Path.{_≡_};
-ghost use Rattle.link_key.specs.Key.{keyOf, noKey, inLimits, sameKey, sameValue, covers, coverageOf};
+ghost use Rattle.link_key.specs.Key.{keyOf, noKey, inLimits, sameKey, sameSecret, sameValue, covers, coverageOf};
 ghost use Rattle.link_key.specs.Laws.{SameKeyLaws};
 
 pub struct Key {
@@ -74,6 +74,18 @@ impl Key {
             return Coverage::Refused(Refusal::Range);
         }
         Coverage::Covered(self.covers(frame_type))
+    }
+
+    // Whether two keys agree in identifier and value, whatever their usage.
+    pub fn same_secret(self, other: Key) -> bool
+        ensures { λ r. ⌜ r ≡ sameSecret self other ⌝ }
+    {
+        if self.identifier != other.identifier {
+            return false;
+        }
+        let mine = self.value;
+        let theirs = other.value;
+        same_value(mine, theirs)
     }
 
     // Whether two keys agree in identifier, usage and value.

@@ -2,23 +2,38 @@
 use Prim.Native.Nat.{ℕ}
 use mathlib.Core.Bool.{cond}
 use Rattle.refusal.specs.declared.Refusal.the-variants as refusal
-use Rattle.node_key_sets.specs.Frames.{withoutKey, sendingKey, receivingKey, verifiedIn}
+use Rattle.node_key_sets.specs.Frames as sets
+use Rattle.node_key_sets.specs.Frames.{withoutKey, receivingKey, verifiedIn}
 use Rattle.node_key_sets.specs.declared.frames.Change.{Change}
 use Rattle.node_key_sets.specs.declared.frames.Change.the-variants as change
 use Rattle.node_key_sets.specs.declared.frames.Effect.{Effect}
 use Rattle.node_key_sets.specs.declared.frames.KeyAnswer.{KeyAnswer}
+use Rattle.node_key_sets.specs.declared.frames.Sending.{Sending}
 use Rattle.node.specs.Node.{keyed}
 use Rattle.node.specs.Range.{valid}
 use Rattle.node.specs.declared.frames.Reported.{Reported}
+use Rattle.node.specs.declared.frames.Sent.{Sent}
 use Rattle.node.specs.declared.node.Node.{Node}
 
 -- each: RANGE: the node; then as its key sets
-unfoldable pub send : Node → ℕ → KeyAnswer
-send n type = cond (valid n) (sendingKey (n .sets) type) (withoutKey refusal.Range)
+abbrev pub unsent : Node → Sent
+unsent n = record { answer = withoutKey refusal.Range; counter = 0; node = n }
 
--- the node after it was asked to send: as it was
+abbrev pub sentBy : Node → Sending → Sent
+sentBy n x = record { answer = x .answer; counter = x .counter; node = keyed n (x .sets) }
+
+unfoldable pub sending : Node → ℕ → Sent
+sending n type = cond (valid n) (sentBy n (sets.sending (n .sets) type)) (unsent n)
+
+-- the key that is answered, the counter beside it, and the node after it was asked to send
+unfoldable pub send : Node → ℕ → KeyAnswer
+send n type = sending n type .answer
+
+unfoldable pub sendCounter : Node → ℕ → ℕ
+sendCounter n type = sending n type .counter
+
 unfoldable pub afterSend : Node → ℕ → Node
-afterSend n type = n
+afterSend n type = sending n type .node
 
 unfoldable pub receive : Node → ℕ → ℕ → KeyAnswer
 receive n type identifier = cond (valid n) (receivingKey (n .sets) type identifier) (withoutKey refusal.Range)

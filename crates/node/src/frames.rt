@@ -5,7 +5,14 @@ use node_key_sets::KeyAnswer;
 use node_key_sets::frames::without_key;
 use refusal::Refusal;
 ghost use mathlib.Core.Path.{_≡_};
-ghost use Rattle.node.specs.Frames.{send, receive, verified};
+ghost use Rattle.node.specs.Frames.{sending, receive, verified};
+
+// What a frame is sent with: the key and its counter, and the node with that counter one higher. Beside a refusal stand 0 and the node as it was.
+pub struct Sent {
+    pub answer: KeyAnswer,
+    pub counter: u32,
+    pub node: Node,
+}
 
 pub struct Reported {
     pub change: Change,
@@ -13,14 +20,28 @@ pub struct Reported {
 }
 
 impl Node {
-    // The key to send a frame of this type with: the first active one that covers it. RANGE: the node, the type; SILENT.
-    pub fn sending_key(self, frame_type: u8) -> KeyAnswer
-        ensures { λ r. ⌜ r ≡ send self «frame_type» ⌝ }
+    // The key to send a frame of this type with: the first active one that covers it and is not used up. RANGE: the node, the type; SILENT.
+    pub fn sending_key(self, frame_type: u8) -> Sent
+        ensures { λ r. ⌜ r ≡ sending self «frame_type» ⌝ }
     {
-        if self.valid() {
-            return self.sets.sending_key(frame_type);
+        if !self.valid() {
+            let answer = without_key(Refusal::Range);
+            return Sent {
+                answer,
+                counter: 0,
+                node: self,
+            };
         }
-        without_key(Refusal::Range)
+        let sending = self.sets.sending_key(frame_type);
+        let answer = sending.answer;
+        let sets = sending.sets;
+        let mut node = self;
+        node.sets = sets;
+        Sent {
+            answer,
+            counter: sending.counter,
+            node,
+        }
     }
 
     // The key to receive a frame of this type and key identifier with. RANGE: the node, the type, identifier 0; SILENT.

@@ -8,6 +8,7 @@ mod timing;
 
 pub use delivery::Delivered;
 pub use frames::Reported;
+pub use frames::Sent;
 pub use lease::Holding;
 pub use node::Made;
 pub use node::Node;

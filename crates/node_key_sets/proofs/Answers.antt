@@ -10,11 +10,15 @@ use Rattle.link_key.specs.Key.{foundKey, covers}
 use Rattle.link_key_set.specs.KeySet.{has}
 use Rattle.link_key.specs.declared.FoundKey.{FoundKey}
 use Rattle.link_key.specs.declared.Key.{Key}
-use Rattle.node_key_sets.specs.Sets.{activeIn}
-use Rattle.node_key_sets.specs.Frames.{withKey, withoutKey, keyOr, ifCovers, receivingKey, switched, effect, verifiedIn}
+use Rattle.node_key_sets.specs.Sets.{activeIn, twoSets}
+use Rattle.node_key_sets.specs.Frames.{withKey, withoutKey, unsent, sending, ifCovers, receivingKey, switched, effect, verifiedIn}
 use Rattle.node_key_sets.specs.declared.frames.Change.the-variants as change
 use Rattle.node_key_sets.specs.declared.frames.KeyAnswer.{KeyAnswer}
+use Rattle.node_key_sets.specs.declared.frames.Sending.{Sending}
 use Rattle.node_key_sets.specs.declared.sets.KeySets.{KeySets}
+use Rattle.link_key_usage.specs.Usage.{knownType}
+use Rattle.link_key_counters.specs.Counters.{spend}
+use Rattle.link_key_counters.specs.declared.Spent.{Spent}
 
 -- ---- a key that was looked for
 found-some : (o : Option Key) → foundKey o .found ≡ true → o ≡ some (foundKey o .key)
@@ -28,10 +32,6 @@ found-none (some k) e = cc
 -- the answer where it was found, and SILENT where not
 abbrev pub answerOf : FoundKey → KeyAnswer
 answerOf x = cond (x .found) (withKey (x .key)) (withoutKey refusal.Silent)
-
-first-case : (o : Option Key) → answerOf (foundKey o) ≡ keyOr refusal.Silent o
-first-case none = refl
-first-case (some k) = refl
 
 covers-case : (type : ℕ) (o : Option Key) → covers (foundKey o .key) type ≡ true → answerOf (foundKey o) ≡ ifCovers type o
 covers-case type none c = refl
@@ -48,14 +48,23 @@ module _ (o : Option Key) (x : FoundKey) (e : x ≡ foundKey o) where
   pub not-found : x .found ≡ false → o ≡ none
   not-found h = found-none o (rw e at h)
 
-  pub first-answer : answerOf x ≡ keyOr refusal.Silent o
-  first-answer = rw e (first-case o)
-
   pub key-covers : (type : ℕ) → covers (x .key) type ≡ true → answerOf x ≡ ifCovers type o
   key-covers type c = rw e (covers-case type o (rw e at c))
 
   pub key-silent : (type : ℕ) → covers (x .key) type ≡ false → withoutKey refusal.Silent ≡ ifCovers type o
   key-silent type c = silent-case type o (rw e at c)
+
+-- ---- a key that was spent
+module _ (s : KeySets) (type : ℕ) (known : knownType type ≡ true) (x : Spent) (e : x ≡ spend type (s .active)) where
+  pub sent-found :
+      x .found ≡ true →
+      _≡_ {A = Sending} (record { answer = withKey (x .key); counter = x .counter; sets = twoSets (x .set) (s .pending) }) (sending s type)
+  unfolding sending
+  sent-found f = rw (known, ← e, f)
+
+  pub sent-silent : x .found ≡ false → unsent refusal.Silent s ≡ sending s type
+  unfolding sending
+  sent-silent f = rw (known, ← e, f)
 
 -- ---- the verified report
 module _ (s : KeySets) (type identifier : ℕ) (x : KeyAnswer) (e : x ≡ receivingKey s type identifier) where

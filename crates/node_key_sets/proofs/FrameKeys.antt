@@ -1,30 +1,33 @@
 -- Keys for frames: what is sent comes from the active set, what is received from either, and a verified frame switches by a pending key alone.
 use Prim.Native.Nat.{ℕ}
 use native.Mathlib.Omega.{arith}
-use mathlib.Core.Path.{_≡_, refl, subst}
+use mathlib.Core.Path.{_≡_, refl, ap, subst}
 use mathlib.Core.Bool.{Bool, true, false, cond, not, _&&_}
 use mathlib.Core.Logic.{_⊎_, inl, inr, ⊎-elim}
 use mathlib.Core.Option.{Option, none, some}
 use mathlib.Core.List.{List, List·Memᴰ}
-use borrow.Author.Tests.{le-leb, leb-true, ne-eqb}
-use lib.Dec.{leb, eqb}
-use lib.ListN.{length}
+use borrow.Author.Tests.{le-leb, ne-eqb}
+use lib.Dec.{eqb}
 use Rattle.refusal.specs.Verdict.{refused-not}
 use Rattle.refusal.specs.declared.Refusal.the-variants as refusal
 use Rattle.refusal.specs.declared.Verdict.{Verdict}
 use Rattle.refusal.specs.declared.Verdict.the-variants as verdict
 use Rattle.link_key.specs.Key.{inLimits, covers}
-use Rattle.link_key_set.specs.KeySet.{has, Covers, firstCover, findKey}
-use Rattle.link_key_usage.specs.Usage.{knownType, listed}
+use Rattle.link_key_set.specs.KeySet.{has, Covers, findKey}
+use Rattle.link_key_usage.specs.Usage.{knownType}
 use Rattle.link_key.specs.declared.Key.{Key}
 use Rattle.link_key_set.specs.KeyLaws.{KeyLaws}
-use Rattle.node_key_sets.specs.Sets.{activeIn, pendingIn, valid}
-use Rattle.node_key_sets.specs.Frames.{withKey, withoutKey, keyOr, sendingKey, orElse, ifCovers, receivingKey, switched, effectBy, verifiedIn}
+use Rattle.link_key_counters.specs.CounterLaws.{CounterLaws}
+use Rattle.link_key_counters.specs.declared.Spent.{Spent}
+use Rattle.link_key_counters.specs.Counters.{Slot, slotsOf, lastCounter, isUsedUp, serves, firstServing, raised, spentOn, spend}
+use Rattle.node_key_sets.specs.Sets.{activeIn, pendingIn, twoSets, valid}
+use Rattle.node_key_sets.specs.Frames.{withKey, withoutKey, unsent, sentWith, sending, orElse, ifCovers, receivingKey, switched, effectBy, verifiedIn}
 use Rattle.node_key_sets.specs.declared.frames.Change.the-variants as change
 use Rattle.node_key_sets.specs.declared.frames.KeyAnswer.{KeyAnswer}
+use Rattle.node_key_sets.specs.declared.frames.Sending.{Sending}
 use Rattle.node_key_sets.specs.declared.sets.KeySets.{KeySets}
-use Rattle.logic_facts.specs.Tests.{first}
-use Rattle.node_key_sets.proofs.Valid.{pending-valid, member-allowed}
+use Rattle.logic_facts.specs.Tests.{both, both-left}
+use Rattle.node_key_sets.proofs.Valid.{pending-valid, member-allowed, same-valid}
 
 -- no key of the list has the identifier
 abbrev pub Without : ℕ → List Key → Type 0
@@ -44,34 +47,101 @@ pub record Switching (s : KeySets) (type identifier : ℕ) : Type 0 where
   pub covering : covers key type ≡ true
   pub absent : Without identifier (activeIn s)
 
+-- a key that covers the type and is not used up
+pub record Serving (s : KeySets) (type : ℕ) : Type 0 where
+  pub slot : Slot
+  pub member : List·Memᴰ slot (slotsOf (s .active))
+  pub serving : serves type slot ≡ true
+
+-- an accepted sending: the first that serves, its key and counter, and the sets with that counter one higher
+pub record Counted (s : KeySets) (type : ℕ) (x : Sending) : Type 0 where
+  pub slot : Slot
+  pub first : firstServing type (s .active) ≡ some slot
+  pub key : x .answer .key ≡ slot .key
+  pub counter : x .counter ≡ slot .counter
+  pub sets : x .sets ≡ twoSets (raised (s .active) slot) (s .pending)
+
+-- ---- sending, by the laws of counted sets
+module _ (C : CounterLaws) where
+  -- a set that covers the type, where none of its keys that do is used up
+  pub covers-serves :
+      (s : KeySets) (type : ℕ) → Covers (activeIn s) type →
+      ((x : Slot) → List·Memᴰ x (slotsOf (s .active)) → covers (x .key) type ≡ true → x .counter ≡ lastCounter → ⊥) → Serving s type
+  covers-serves s type c fresh =
+      let held = C .key-slot (s .active) (c .key) (c .member) in
+      let covering : covers (held .slot .key) type ≡ true = rw (held .key) (c .covering) in
+      record {
+        slot = held .slot;
+        member = held .member;
+        serving =
+            both (covers (held .slot .key) type) (not (isUsedUp (held .slot))) covering
+            (rw (ne-eqb (held .slot .counter) lastCounter (fresh (held .slot) (held .member) covering)));
+      }
+
+  pub can-send : KeyLaws → (s : KeySets) (type : ℕ) → Serving s type → sending s type .answer .verdict ≡ verdict.Accepted
+  unfolding sending
+  can-send K s type c =
+      let covering = both-left (covers (c .slot .key) type) (not (isUsedUp (c .slot))) (c .serving) in
+      let known : knownType type ≡ true = le-leb type 1 (K .covers-known-type (c .slot .key) type covering) in
+      rw (known, C .spends type (s .active) (c .slot) (c .member) (c .serving))
+
+  -- what sending gives, by the answers to its tests: is the type known, does a key serve
+  module _ (s : KeySets) (type : ℕ) where
+    abbrev sent : Bool → Bool → Sending
+    sent known found =
+        let x = spend type (s .active) in
+        cond known
+        (cond found (record { answer = withKey (x .key); counter = x .counter; sets = twoSets (x .set) (s .pending) }) (unsent refusal.Silent s))
+        (unsent refusal.Range s)
+
+    sent-by :
+        (t b : Bool) → spend type (s .active) .found ≡ b → sent t b .answer .verdict ≡ verdict.Accepted →
+        List·Memᴰ (sent t b .answer .key) (activeIn s) × (covers (sent t b .answer .key) type ≡ true)
+    sent-by true true f a = C .spent-from type (s .active) f
+    sent-by true false f a = refused-not refusal.Silent a
+    sent-by false b f a = refused-not refusal.Range a
+
+    pub sent-from :
+        sending s type .answer .verdict ≡ verdict.Accepted →
+        List·Memᴰ (sending s type .answer .key) (activeIn s) × (covers (sending s type .answer .key) type ≡ true)
+    unfolding sending
+    sent-from a = sent-by (knownType type) (spend type (s .active) .found) refl a
+
+    counted-by :
+        (t : Bool) (o : Option Slot) → firstServing type (s .active) ≡ o →
+        cond t (sentWith s (spentOn (s .active) o)) (unsent refusal.Range s) .answer .verdict ≡ verdict.Accepted →
+        Counted s type (cond t (sentWith s (spentOn (s .active) o)) (unsent refusal.Range s))
+    counted-by true (some x) f a = record { slot = x; first = f; key = refl; counter = refl; sets = refl }
+    counted-by true none f a = refused-not refusal.Silent a
+    counted-by false o f a = refused-not refusal.Range a
+
+    sent-first : sending s type ≡ cond (knownType type) (sentWith s (spentOn (s .active) (firstServing type (s .active)))) (unsent refusal.Range s)
+    unfolding sending
+    sent-first = ap (λ (x : Spent). cond (knownType type) (sentWith s x) (unsent refusal.Range s)) (C .spend-first type (s .active))
+
+    pub sent-counts : sending s type .answer .verdict ≡ verdict.Accepted → Counted s type (sending s type)
+    sent-counts a = rw sent-first (counted-by (knownType type) (firstServing type (s .active)) refl (rw sent-first at a))
+
+    -- sending leaves the keys: only a counter of the active set rises
+    keys-by : (t b : Bool) → (sent t b .sets .active .set ≡ s .active .set) × (sent t b .sets .pending ≡ s .pending)
+    keys-by true true = (C .spend-keys type (s .active), refl)
+    keys-by true false = (refl, refl)
+    keys-by false b = (refl, refl)
+
+    pub sent-keys : (sending s type .sets .active .set ≡ s .active .set) × (sending s type .sets .pending ≡ s .pending)
+    unfolding sending
+    sent-keys = keys-by (knownType type) (spend type (s .active) .found)
+
+  pub sent-valid : (border : Bool) (s : KeySets) (type : ℕ) → valid border s ≡ true → valid border (sending s type .sets) ≡ true
+  sent-valid border s type e = let k = sent-keys s type in same-valid border s (sending s type .sets) (k .0) (k .1) e
+
 -- ---- by the laws of keys
 module _ (K : KeyLaws) where
-  -- ---- sending
-  pub can-send : (s : KeySets) (type : ℕ) → Covers (activeIn s) type → sendingKey s type .verdict ≡ verdict.Accepted
-  unfolding sendingKey
-  can-send s type c =
-      let known : knownType type ≡ true = le-leb type 1 (K .covers-known-type (c .key) type (c .covering)) in
-      rw (known, K .cover-finds type (activeIn s) c .1)
-
-  sent-by :
-      (s : KeySets) (type : ℕ) (t : Bool) (o : Option Key) → firstCover type (activeIn s) ≡ o → (x : KeyAnswer) →
-      x ≡ cond t (keyOr refusal.Silent o) (withoutKey refusal.Range) → x .verdict ≡ verdict.Accepted →
-      List·Memᴰ (x .key) (activeIn s) × (covers (x .key) type ≡ true)
-  sent-by s type true (some k) f x e a = rw e (K .cover-found type (activeIn s) k f)
-  sent-by s type true none f x e a = refused-not refusal.Silent (rw e at a)
-  sent-by s type false o f x e a = refused-not refusal.Range (rw e at a)
-
-  pub sent-from :
-      (s : KeySets) (type : ℕ) → sendingKey s type .verdict ≡ verdict.Accepted →
-      List·Memᴰ (sendingKey s type .key) (activeIn s) × (covers (sendingKey s type .key) type ≡ true)
-  sent-from s type a =
-      sent-by s type (knownType type) (firstCover type (activeIn s)) refl (sendingKey s type) (unfold sendingKey in refl) a
-
   -- ---- receiving
   module _ (border : Bool) (s : KeySets) (type : ℕ) (k : Key) (ok : valid border s ≡ true) (covering : covers k type ≡ true)
       (absent : Without (k .identifier) (activeIn s)) (member : List·Memᴰ k (pendingIn s)) where
     limits : inLimits k ≡ true
-    limits = K .allowed-in-limits (pendingIn s) (member-allowed K (s .pending) k (pending-valid border s ok) member) k member
+    limits = K .allowed-in-limits (pendingIn s) (member-allowed K (s .pending .set) k (pending-valid border s ok) member) k member
 
     not-zero : eqb (k .identifier) 0 ≡ false
     not-zero = let least = K .limits-identifier k limits in ne-eqb (k .identifier) 0 (omega arith)
@@ -80,7 +150,7 @@ module _ (K : KeyLaws) where
     unfolding receivingKey
     receive-pending =
         let known : knownType type ≡ true = le-leb type 1 (K .covers-known-type k type covering) in
-        let allowed = member-allowed K (s .pending) k (pending-valid border s ok) member in
+        let allowed = member-allowed K (s .pending .set) k (pending-valid border s ok) member in
         rw (
           known,
           not-zero,

@@ -11,15 +11,19 @@ use Rattle.refusal.specs.declared.Refusal.the-variants as refusal
 use Rattle.refusal.specs.declared.Verdict.{Verdict}
 use Rattle.refusal.specs.declared.Verdict.the-variants as verdict
 use Rattle.link_key.specs.Key.{noKey, covers}
-use Rattle.link_key_set.specs.KeySet.{keysOf, has, allowedSet, sameKeys, shares, firstCover}
+use Rattle.link_key_set.specs.KeySet.{keysOf, has, allowedSet, sameKeys, shares}
 use Rattle.link_key_set.specs.declared.key_set.KeySet.{KeySet}
 use Rattle.link_key_usage.specs.Usage.{knownType}
 use Rattle.link_key.specs.declared.Key.{Key}
+use Rattle.link_key_counters.specs.Counters.{spend}
+use Rattle.link_key_counters.specs.declared.Spent.{Spent}
 use Rattle.node_key_sets.specs.Sets.{activeIn, install}
-use Rattle.node_key_sets.specs.Frames.{withKey, withoutKey, keyOr, sendingKey, heldKey, ifCovers, receivingKey, effectBy, verifiedIn, changeVerdict}
+use Rattle.node_key_sets.specs.Frames.{withKey, withoutKey, unsent, sentWith, sending, heldKey, ifCovers, receivingKey, effectBy, verifiedIn, changeVerdict}
 use Rattle.node_key_sets.specs.declared.frames.Change.the-variants as change
 use Rattle.node_key_sets.specs.declared.frames.KeyAnswer.{KeyAnswer}
+use Rattle.node_key_sets.specs.declared.frames.Sending.{Sending}
 use Rattle.node_key_sets.specs.declared.sets.KeySets.{KeySets}
+use Rattle.node_key_sets.specs.Demand1.{Unsent}
 use Rattle.node_key_sets.proofs.Valid.{placeBy}
 
 -- ---- keys
@@ -36,18 +40,24 @@ pub cond-unanswered : (b : Bool) (x y : KeyAnswer) → Unanswered x → Unanswer
 cond-unanswered true x y p q = p
 cond-unanswered false x y p q = q
 
-key-or : (j : Refusal) (o : Option Key) → Unanswered (keyOr j o)
-key-or j none = without-key j
-key-or j (some l) = with-key l
-
 if-covers : (type : ℕ) (o : Option Key) → Unanswered (ifCovers type o)
 if-covers type none = without-key refusal.Silent
 if-covers type (some l) = cond-unanswered (covers l type) _ _ (with-key l) (without-key refusal.Silent)
 
-pub send-untouched : (s : KeySets) (type : ℕ) → Unanswered (sendingKey s type)
-unfolding sendingKey
-send-untouched s type =
-    cond-unanswered (knownType type) _ _ (key-or refusal.Silent (firstCover type (activeIn s))) (without-key refusal.Range)
+-- a refused sending: no key, counter 0, and the sets as they were
+unsent-by : (s : KeySets) (y : Spent) (b : Bool) (k : Refusal) → y .found ≡ b → sentWith s y .answer .verdict ≡ verdict.Refused k → Unsent s (sentWith s y)
+unsent-by s y true k f e = accepted-not k (rw f at e)
+unsent-by s y false k f e = rw f (record { key = refl; counter = refl; sets = refl })
+
+send-by :
+    (s : KeySets) (y : Spent) (t : Bool) (k : Refusal) → cond t (sentWith s y) (unsent refusal.Range s) .answer .verdict ≡ verdict.Refused k →
+    Unsent s (cond t (sentWith s y) (unsent refusal.Range s))
+send-by s y true k e = unsent-by s y (y .found) k refl e
+send-by s y false k e = record { key = refl; counter = refl; sets = refl }
+
+pub send-untouched : (s : KeySets) (type : ℕ) (k : Refusal) → sending s type .answer .verdict ≡ verdict.Refused k → Unsent s (sending s type)
+unfolding sending
+send-untouched s type k e = send-by s (spend type (s .active)) (knownType type) k e
 
 pub receive-untouched : (s : KeySets) (type identifier : ℕ) → Unanswered (receivingKey s type identifier)
 unfolding receivingKey

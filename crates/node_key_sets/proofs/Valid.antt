@@ -6,10 +6,13 @@ use borrow.Author.Tests.{eqb-true, not-true}
 use Rattle.refusal.specs.Verdict.{refused-not}
 use Rattle.refusal.specs.declared.Refusal.the-variants as refusal
 use Rattle.refusal.specs.declared.Verdict.the-variants as verdict
-use Rattle.link_key_set.specs.KeySet.{keysOf, noKeys, allowed, allowedSet, sameKeys, shares}
+use Rattle.link_key_set.specs.KeySet.{keysOf, allowed, allowedSet, sameKeys, shares}
 use Rattle.link_key.specs.declared.Key.{Key}
 use Rattle.link_key_set.specs.declared.key_set.KeySet.{KeySet}
 use Rattle.link_key_set.specs.KeyLaws.{KeyLaws}
+use Rattle.link_key_counters.specs.CounterLaws.{CounterLaws}
+use Rattle.link_key_counters.specs.Counters.{arrived, noCounted, succeeded}
+use Rattle.link_key_counters.specs.declared.CountedSet.{CountedSet}
 use Rattle.node_key_sets.specs.Sets.{activeIn, pendingIn, twoSets, isNone, noneOrValid, valid, unplaced, place, install}
 use Rattle.node_key_sets.specs.Frames.{switched}
 use Rattle.node_key_sets.specs.declared.sets.KeySets.{KeySets}
@@ -21,30 +24,37 @@ module _ (border : Bool) (s : KeySets) where
   apart = not (shares (activeIn s) (pendingIn s))
 
   abbrev alone : Bool
-  alone = (not border || isNone (s .pending))
+  alone = (not border || isNone (s .pending .set))
 
   module _ (e : valid border s ≡ true) where
-    pub active-valid : noneOrValid (s .active) ≡ true
+    pub active-valid : noneOrValid (s .active .set) ≡ true
     unfolding valid
-    active-valid = first (noneOrValid (s .active)) (noneOrValid (s .pending)) apart alone e
+    active-valid = first (noneOrValid (s .active .set)) (noneOrValid (s .pending .set)) apart alone e
 
-    pub pending-valid : noneOrValid (s .pending) ≡ true
+    pub pending-valid : noneOrValid (s .pending .set) ≡ true
     unfolding valid
-    pending-valid = second (noneOrValid (s .active)) (noneOrValid (s .pending)) apart alone e
+    pending-valid = second (noneOrValid (s .active .set)) (noneOrValid (s .pending .set)) apart alone e
 
     pub sets-apart : shares (activeIn s) (pendingIn s) ≡ false
     unfolding valid
-    sets-apart = not-true (shares (activeIn s) (pendingIn s)) (third (noneOrValid (s .active)) (noneOrValid (s .pending)) apart alone e)
+    sets-apart = not-true (shares (activeIn s) (pendingIn s)) (third (noneOrValid (s .active .set)) (noneOrValid (s .pending .set)) apart alone e)
 
-    border-alone : border ≡ true → isNone (s .pending) ≡ true
+    border-alone : border ≡ true → isNone (s .pending .set) ≡ true
     unfolding valid
-    border-alone b = then-so border (isNone (s .pending)) (fourth (noneOrValid (s .active)) (noneOrValid (s .pending)) apart alone e) b
+    border-alone b =
+        then-so border (isNone (s .pending .set)) (fourth (noneOrValid (s .active .set)) (noneOrValid (s .pending .set)) apart alone e) b
 
   pub valid-by :
-      noneOrValid (s .active) ≡ true → noneOrValid (s .pending) ≡ true → shares (activeIn s) (pendingIn s) ≡ false →
-      (not border || isNone (s .pending)) ≡ true → valid border s ≡ true
+      noneOrValid (s .active .set) ≡ true → noneOrValid (s .pending .set) ≡ true → shares (activeIn s) (pendingIn s) ≡ false →
+      (not border || isNone (s .pending .set)) ≡ true → valid border s ≡ true
   unfolding valid
-  valid-by a p d b = all-four (noneOrValid (s .active)) (noneOrValid (s .pending)) apart alone a p (rw d) b
+  valid-by a p d b = all-four (noneOrValid (s .active .set)) (noneOrValid (s .pending .set)) apart alone a p (rw d) b
+
+-- sending: only a counter rises, and counters are not looked at
+pub same-valid :
+    (border : Bool) (s t : KeySets) → t .active .set ≡ s .active .set → t .pending ≡ s .pending → valid border s ≡ true → valid border t ≡ true
+unfolding valid
+same-valid border s t a p e = rw (a, p) e
 
 -- ---- a new set
 -- the answer, by whether the set is within its limits and by the three questions of its placing
@@ -52,11 +62,14 @@ abbrev pub placeBy : KeySets → KeySet → Bool → Bool → Bool → Bool → 
 placeBy s set ok border equals shared = cond ok (place s set border equals shared) (unplaced refusal.Range s)
 
 pub border-installs :
-    (s : KeySets) (set : KeySet) → install true s set .verdict ≡ verdict.Accepted → install true s set .sets ≡ twoSets set noKeys
+    (s : KeySets) (set : KeySet) → install true s set .verdict ≡ verdict.Accepted →
+    install true s set .sets ≡ twoSets (succeeded (s .active) set) noCounted
 unfolding install
 border-installs s set = go (allowedSet set)
   where
-    go : (ok : Bool) → placeBy s set ok true false false .verdict ≡ verdict.Accepted → placeBy s set ok true false false .sets ≡ twoSets set noKeys
+    go :
+        (ok : Bool) → placeBy s set ok true false false .verdict ≡ verdict.Accepted →
+        placeBy s set ok true false false .sets ≡ twoSets (succeeded (s .active) set) noCounted
     go true e = refl
     go false e = refused-not refusal.Range e
 
@@ -66,14 +79,14 @@ module _ (K : KeyLaws) where
   none-empty set e = K .keys-of-count-0 set (eqb-true (set .count) 0 e)
 
   pub border-empty : (border : Bool) (s : KeySets) → valid border s ≡ true → border ≡ true → pendingIn s ≡ []
-  border-empty border s e b = none-empty (s .pending) (border-alone border s e b)
+  border-empty border s e b = none-empty (s .pending .set) (border-alone border s e b)
 
   -- one set and no other
   apart-none : (ks : List Key) → shares ks [] ≡ false
   apart-none ks = K .apart-shares ks [] (λ k l m i e. List·Memᴰ·not-nil i)
 
-  pub alone-valid : (border : Bool) (a : KeySet) → noneOrValid a ≡ true → valid border (twoSets a noKeys) ≡ true
-  alone-valid border a e = valid-by border (twoSets a noKeys) e refl (apart-none (keysOf a)) (or-true (not border))
+  pub alone-valid : (border : Bool) (a : CountedSet) → noneOrValid (a .set) ≡ true → valid border (twoSets a noCounted) ≡ true
+  alone-valid border a e = valid-by border (twoSets a noCounted) e refl (apart-none (keysOf (a .set))) (or-true (not border))
 
   pub switched-valid : (border : Bool) (s : KeySets) → valid border s ≡ true → valid border (switched s) ≡ true
   switched-valid border s e = alone-valid border (s .pending) (pending-valid border s e)
@@ -86,7 +99,7 @@ module _ (K : KeyLaws) where
       go true p = absurd (List·Memᴰ·not-nil (rw (none-empty set p) at m))
       go false p = let q : allowedSet set ≡ true = rw p at e in K .set-allowed set q .1
 
-  module _ (s : KeySets) (set : KeySet) where
+  module _ (C : CounterLaws) (s : KeySets) (set : KeySet) where
     set-valid : allowedSet set ≡ true → noneOrValid set ≡ true
     set-valid ok = rw (ok, or-true (isNone set))
 
@@ -94,14 +107,15 @@ module _ (K : KeyLaws) where
         (ok border same shared : Bool) → valid border s ≡ true → allowedSet set ≡ ok → shares (keysOf set) (activeIn s) ≡ shared →
         valid border (placeBy s set ok border same shared .sets) ≡ true
     place-valid false border same shared e ok h = e
-    place-valid true true same shared e ok h = alone-valid true set (set-valid ok)
+    place-valid true true same shared e ok h =
+        alone-valid true (succeeded (s .active) set) (rw (C .succeeded-is (s .active) set) (set-valid ok))
     place-valid true false true shared e ok h = alone-valid false (s .active) (active-valid false s e)
     place-valid true false false true e ok h = e
     place-valid true false false false e ok h =
-        valid-by false (twoSets (s .active) set) (active-valid false s e) (set-valid ok) (K .shares-turned (activeIn s) (keysOf set) ∙ h) refl
+        valid-by false (twoSets (s .active) (arrived set)) (active-valid false s e) (set-valid ok) (K .shares-turned (activeIn s) (keysOf set) ∙ h) refl
 
   pub install-valid :
-      (border : Bool) (s : KeySets) (set : KeySet) → valid border s ≡ true → valid border (install border s set .sets) ≡ true
+      CounterLaws → (border : Bool) (s : KeySets) (set : KeySet) → valid border s ≡ true → valid border (install border s set .sets) ≡ true
   unfolding install
-  install-valid border s set e =
-      place-valid s set (allowedSet set) border (sameKeys (keysOf set) (activeIn s)) (shares (keysOf set) (activeIn s)) e refl refl
+  install-valid C border s set e =
+      place-valid C s set (allowedSet set) border (sameKeys (keysOf set) (activeIn s)) (shares (keysOf set) (activeIn s)) e refl refl

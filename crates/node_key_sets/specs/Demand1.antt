@@ -1,4 +1,4 @@
--- Demand 1 for the two key sets: a refusal leaves them and stands beside the key that is all zero; a set outside its limits, an unknown
+-- Demand 1 for the two key sets: a refusal leaves them and stands beside the key that is all zero and counter 0; a set outside its limits, an unknown
 -- frame type and identifier 0 are RANGE (13).
 use Prim.Native.Nat.{ℕ}
 use mathlib.Core.Path.{_≡_}
@@ -12,8 +12,15 @@ use Rattle.link_key.specs.Key.{noKey}
 use Rattle.link_key_set.specs.KeySet.{allowedSet}
 use Rattle.link_key_set.specs.declared.key_set.KeySet.{KeySet}
 use Rattle.node_key_sets.specs.Sets.{install}
-use Rattle.node_key_sets.specs.Frames.{sendingKey, receivingKey, verifiedIn, changeVerdict, changeNumber}
+use Rattle.node_key_sets.specs.Frames.{sending, receivingKey, verifiedIn, changeVerdict, changeNumber}
+use Rattle.node_key_sets.specs.declared.frames.Sending.{Sending}
 use Rattle.node_key_sets.specs.declared.sets.KeySets.{KeySets}
+
+-- a refused sending: no key, counter 0, and the sets as they were
+pub record Unsent (s : KeySets) (x : Sending) : Type 0 where
+  pub key : x .answer .key ≡ noKey
+  pub counter : x .counter ≡ 0
+  pub sets : x .sets ≡ s
 
 pub record KeySetsDemand1 : Type 0 where
   pub install-refused :
@@ -21,8 +28,8 @@ pub record KeySetsDemand1 : Type 0 where
       install border s set .sets ≡ s
   pub install-invalid :
       (border : Bool) (s : KeySets) (set : KeySet) → allowedSet set ≡ false → verdictNumber (install border s set .verdict) ≡ 13
-  pub send-refused : (s : KeySets) (type : ℕ) (k : Refusal) → sendingKey s type .verdict ≡ Refused k → sendingKey s type .key ≡ noKey
-  pub send-unknown : (s : KeySets) (type : ℕ) → knownType type ≡ false → verdictNumber (sendingKey s type .verdict) ≡ 13
+  pub send-refused : (s : KeySets) (type : ℕ) (k : Refusal) → sending s type .answer .verdict ≡ Refused k → Unsent s (sending s type)
+  pub send-unknown : (s : KeySets) (type : ℕ) → knownType type ≡ false → verdictNumber (sending s type .answer .verdict) ≡ 13
   pub receive-refused :
       (s : KeySets) (type identifier : ℕ) (k : Refusal) → receivingKey s type identifier .verdict ≡ Refused k →
       receivingKey s type identifier .key ≡ noKey

@@ -9,14 +9,17 @@ use Rattle.refusal.specs.declared.Refusal.the-variants as refusal
 use Rattle.refusal.specs.declared.Verdict.{Verdict}
 use Rattle.refusal.specs.declared.Verdict.the-variants as verdict
 use Rattle.link_key.specs.Key.{noKey, covers}
-use Rattle.link_key_set.specs.KeySet.{noKeys, has, firstCover, findKey}
+use Rattle.link_key_set.specs.KeySet.{has, findKey}
 use Rattle.link_key_usage.specs.Usage.{knownType}
 use Rattle.link_key.specs.declared.Key.{Key}
+use Rattle.link_key_counters.specs.Counters.{noCounted, spend}
+use Rattle.link_key_counters.specs.declared.Spent.{Spent}
 use Rattle.node_key_sets.specs.Sets.{activeIn, pendingIn, twoSets}
 use Rattle.node_key_sets.specs.declared.frames.Change.{Change}
 use Rattle.node_key_sets.specs.declared.frames.Change.the-variants as change
 use Rattle.node_key_sets.specs.declared.frames.Effect.{Effect}
 use Rattle.node_key_sets.specs.declared.frames.KeyAnswer.{KeyAnswer}
+use Rattle.node_key_sets.specs.declared.frames.Sending.{Sending}
 use Rattle.node_key_sets.specs.declared.sets.KeySets.{KeySets}
 
 abbrev pub withKey : Key → KeyAnswer
@@ -25,13 +28,16 @@ withKey k = record { verdict = verdict.Accepted; key = k }
 abbrev pub withoutKey : Refusal → KeyAnswer
 withoutKey k = record { verdict = verdict.Refused k; key = noKey }
 
--- ---- sending: the first active key that covers the type; RANGE: the type; SILENT
-abbrev pub keyOr : Refusal → Option Key → KeyAnswer
-keyOr r none = withoutKey r
-keyOr r (some k) = withKey k
+-- ---- sending: the first active key that covers the type and is not used up, with its counter, which rises; RANGE: the type; SILENT
+abbrev pub unsent : Refusal → KeySets → Sending
+unsent k s = record { answer = withoutKey k; counter = 0; sets = s }
 
-unfoldable pub sendingKey : KeySets → ℕ → KeyAnswer
-sendingKey s type = cond (knownType type) (keyOr refusal.Silent (firstCover type (activeIn s))) (withoutKey refusal.Range)
+abbrev pub sentWith : KeySets → Spent → Sending
+sentWith s x =
+    cond (x .found) (record { answer = withKey (x .key); counter = x .counter; sets = twoSets (x .set) (s .pending) }) (unsent refusal.Silent s)
+
+unfoldable pub sending : KeySets → ℕ → Sending
+sending s type = cond (knownType type) (sentWith s (spend type (s .active))) (unsent refusal.Range s)
 
 -- ---- receiving: the key with the identifier, active or else pending, which must cover the type; RANGE: the type, identifier 0; SILENT
 abbrev pub orElse : Option Key → Option Key → Option Key
@@ -51,7 +57,7 @@ receivingKey s type identifier =
 
 -- ---- the radio reports such a frame verified: where its key was pending, the pending set becomes active and the old one is gone
 abbrev pub switched : KeySets → KeySets
-switched s = twoSets (s .pending) noKeys
+switched s = twoSets (s .pending) noCounted
 
 abbrev pub effect : Change → KeySets → Effect
 effect change s = record { change = change; sets = s }

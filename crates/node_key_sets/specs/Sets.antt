@@ -1,28 +1,34 @@
 -- A node's two key sets: which may stand together, and where a new set goes.
 use mathlib.Core.Bool.{Bool, cond, not, _&&_, _||_}
-use mathlib.Core.List.{List}
+use mathlib.Core.List.{List, _++_}
 use lib.Dec.{eqb}
 use Rattle.refusal.specs.declared.Refusal.{Refusal}
 use Rattle.refusal.specs.declared.Refusal.the-variants as refusal
 use Rattle.refusal.specs.declared.Verdict.the-variants as verdict
-use Rattle.link_key_set.specs.KeySet.{keysOf, noKeys, allowedSet, sameKeys, shares}
+use Rattle.link_key_set.specs.KeySet.{keysOf, allowedSet, sameKeys, shares}
 use Rattle.link_key.specs.declared.Key.{Key}
 use Rattle.link_key_set.specs.declared.key_set.KeySet.{KeySet}
+use Rattle.link_key_counters.specs.Counters.{Slot, slotsOf, arrived, noCounted, succeeded}
+use Rattle.link_key_counters.specs.declared.CountedSet.{CountedSet}
 use Rattle.node_key_sets.specs.declared.sets.KeySets.{KeySets}
 use Rattle.node_key_sets.specs.declared.sets.Placement.{Placement}
 
 -- the keys of the two, in order; no keys are no set
 abbrev pub activeIn : KeySets → List Key
-activeIn s = keysOf (s .active)
+activeIn s = keysOf (s .active .set)
 
 abbrev pub pendingIn : KeySets → List Key
-pendingIn s = keysOf (s .pending)
+pendingIn s = keysOf (s .pending .set)
 
-abbrev pub twoSets : KeySet → KeySet → KeySets
+-- all keys of the two with their counters
+abbrev pub slotsIn : KeySets → List Slot
+slotsIn s = slotsOf (s .active) ++ slotsOf (s .pending)
+
+abbrev pub twoSets : CountedSet → CountedSet → KeySets
 twoSets active pending = record { active = active; pending = pending }
 
 abbrev pub noSets : KeySets
-noSets = twoSets noKeys noKeys
+noSets = twoSets noCounted noCounted
 
 -- ---- which may stand together
 -- a set within the limits of KEYS, or none
@@ -35,7 +41,8 @@ noneOrValid set = (isNone set || allowedSet set)
 -- both are in range, they share no identifier, and a border node has no pending one
 unfoldable pub valid : Bool → KeySets → Bool
 valid border s =
-    (noneOrValid (s .active) && noneOrValid (s .pending) && not (shares (activeIn s) (pendingIn s)) && (not border || isNone (s .pending)))
+    (noneOrValid (s .active .set) && noneOrValid (s .pending .set) && not (shares (activeIn s) (pendingIn s))
+    && (not border || isNone (s .pending .set)))
 
 -- ---- where a new set goes
 abbrev pub placed : KeySets → Placement
@@ -45,15 +52,16 @@ placed s = record { verdict = verdict.Accepted; sets = s }
 abbrev pub unplaced : Refusal → KeySets → Placement
 unplaced k s = record { verdict = verdict.Refused k; sets = s }
 
--- a border node's new set replaces its active set at once; at an ordinary node one that equals the active set empties the pending place,
--- one that otherwise shares an identifier with the active set is CLASH, and any other replaces what is pending
+-- a border node's new set replaces its active set at once, and its keys keep the counters that they had there; at an ordinary node one
+-- that equals the active set empties the pending place, one that otherwise shares an identifier with the active set is CLASH, and any
+-- other replaces what is pending, its counters at 0
 abbrev pub place : KeySets → KeySet → Bool → Bool → Bool → Placement
 place s set border equals shared =
     cond border
-    (placed (twoSets set noKeys))
+    (placed (twoSets (succeeded (s .active) set) noCounted))
     (cond equals
-    (placed (twoSets (s .active) noKeys))
-    (cond shared (unplaced refusal.Clash s) (placed (twoSets (s .active) set))))
+    (placed (twoSets (s .active) noCounted))
+    (cond shared (unplaced refusal.Clash s) (placed (twoSets (s .active) (arrived set)))))
 
 -- RANGE: the new set; CLASH
 unfoldable pub install : Bool → KeySets → KeySet → Placement

@@ -3,20 +3,27 @@ use crate::sets::KeySets;
 use link_key::FoundKey;
 use link_key::Key;
 use link_key::no_key;
-use link_key_set::key_set::no_keys;
+use link_key_counters::none_counted;
 use refusal::Refusal;
 use refusal::Verdict;
 ghost use mathlib.Core.Path.{_≡_};
 ghost use mathlib.Core.Bool.{cond};
 ghost use Rattle.refusal.specs.declared.Refusal.the-variants as refusal;
 ghost use Rattle.link_key.specs.Key.{foundKey};
-ghost use Rattle.node_key_sets.specs.Frames.{withKey, withoutKey, heldKey, sendingKey, receivingKey, switched, effect, verifiedIn};
+ghost use Rattle.node_key_sets.specs.Frames.{withKey, withoutKey, heldKey, unsent, sending, receivingKey, switched, effect, verifiedIn};
 ghost use Rattle.node_key_sets.specs.declared.frames.Change.the-variants as change;
 
 // Beside a refusal stands the key that is all zero.
 pub struct KeyAnswer {
     pub verdict: Verdict,
     pub key: Key,
+}
+
+// What a frame is sent with: the key and its counter, and the sets with that counter one higher.
+pub struct Sending {
+    pub answer: KeyAnswer,
+    pub counter: u32,
+    pub sets: KeySets,
 }
 
 // What a verified frame did to the key sets.
@@ -58,26 +65,53 @@ fn answer(held: bool, key: Key) -> KeyAnswer
 // The three calls for frames are parts of a node's calls, which judge the node with its key sets first: no set is judged twice.
 // They are total all the same: of sets outside their limits they answer the first key that is found.
 impl KeySets {
-    // The key to send a frame of this type with: the first active one that covers it. RANGE: the type; SILENT.
-    pub fn sending_key(self, frame_type: u8) -> KeyAnswer
-        ensures { λ r. ⌜ r ≡ sendingKey self «frame_type» ⌝ }
+    fn unsent(self, why: Refusal) -> Sending
+        ensures { λ r. ⌜ r ≡ unsent why self ⌝ }
+    {
+        let answer = without_key(why);
+        Sending {
+            answer,
+            counter: 0,
+            sets: self,
+        }
+    }
+
+    // The key to send a frame of this type with: the first active one that covers it and is not used up. RANGE: the type; SILENT.
+    pub fn sending_key(self, frame_type: u8) -> Sending
+        ensures { λ r. ⌜ r ≡ sending self «frame_type» ⌝ }
     {
         if 1 < frame_type {
-            return without_key(Refusal::Range);
+            return self.unsent(Refusal::Range);
         }
-        let first = self.active.first_cover(frame_type);
-        answer(first.found, first.key)
+        let spent = self.active.spend(frame_type);
+        if spent.found {
+            let key = spent.key;
+            let active = spent.set;
+            let waiting = self.pending;
+            return Sending {
+                answer: KeyAnswer {
+                    verdict: Verdict::Accepted,
+                    key,
+                },
+                counter: spent.counter,
+                sets: KeySets {
+                    active,
+                    pending: waiting,
+                },
+            };
+        }
+        self.unsent(Refusal::Silent)
     }
 
     // The key with the identifier, active or else pending.
     fn held_key(self, identifier: u8) -> FoundKey
         ensures { λ r. ⌜ r ≡ foundKey (heldKey self identifier) ⌝ }
     {
-        let found = self.active.find_key(identifier);
+        let found = self.active.set.find_key(identifier);
         if found.found {
             return found;
         }
-        self.pending.find_key(identifier)
+        self.pending.set.find_key(identifier)
     }
 
     // The key to receive a frame of this type and key identifier with. RANGE: the type, identifier 0; SILENT.
@@ -99,7 +133,7 @@ impl KeySets {
         ensures { λ r. ⌜ r ≡ effect change.Switched (switched self) ⌝ }
     {
         let active = self.pending;
-        let pending = no_keys();
+        let pending = none_counted();
         Effect {
             change: Change::Switched,
             sets: KeySets { active, pending },
@@ -118,7 +152,7 @@ impl KeySets {
                 sets: self,
             },
             Verdict::Accepted => {
-                if self.active.has(identifier) {
+                if self.active.set.has(identifier) {
                     return Effect {
                         change: Change::Kept,
                         sets: self,

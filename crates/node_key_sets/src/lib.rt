@@ -5,6 +5,7 @@ pub mod sets;
 pub use frames::Change;
 pub use frames::Effect;
 pub use frames::KeyAnswer;
+pub use frames::Sending;
 pub use frames::without_key;
 pub use sets::KeySets;
 pub use sets::Placement;

@@ -1,6 +1,8 @@
 // The two sets: which may stand together, and where a new one goes.
+use link_key_counters::CountedSet;
+use link_key_counters::arrived;
+use link_key_counters::none_counted;
 use link_key_set::KeySet;
-use link_key_set::key_set::no_keys;
 use refusal::Refusal;
 use refusal::Verdict;
 ghost use mathlib.Core.Path.{_≡_};
@@ -8,8 +10,8 @@ ghost use Rattle.node_key_sets.specs.Sets.{noSets, noneOrValid, valid, t
 
 // A set whose count is 0 stands for no set.
 pub struct KeySets {
-    pub active: KeySet,
-    pub pending: KeySet,
+    pub active: CountedSet,
+    pub pending: CountedSet,
 }
 
 // The sets after a new one came; beside a refusal they are as they were.
@@ -21,7 +23,7 @@ pub struct Placement {
 pub fn no_sets() -> KeySets
     ensures { λ r. ⌜ r ≡ noSets ⌝ }
 {
-    let none = no_keys();
+    let none = none_counted();
     KeySets {
         active: none,
         pending: none,
@@ -36,7 +38,7 @@ fn none_or_valid(set: KeySet) -> bool
 }
 
 // The two sets after a new one that is not refused.
-fn placed(active: KeySet, pending: KeySet) -> Placement
+fn placed(active: CountedSet, pending: CountedSet) -> Placement
     ensures { λ r. ⌜ r ≡ placed (twoSets active pending) ⌝ }
 {
     Placement {
@@ -50,10 +52,10 @@ impl KeySets {
     pub fn valid(self, border: bool) -> bool
         ensures { λ r. ⌜ r ≡ valid border self ⌝ }
     {
-        none_or_valid(self.active)
-            && none_or_valid(self.pending)
-            && !self.active.shares(self.pending)
-            && (!border || self.pending.count == 0)
+        none_or_valid(self.active.set)
+            && none_or_valid(self.pending.set)
+            && !self.active.set.shares(self.pending.set)
+            && (!border || self.pending.set.count == 0)
     }
 
     fn unplaced(self, why: Refusal) -> Placement
@@ -74,14 +76,14 @@ impl KeySets {
             return self.unplaced(Refusal::Range);
         }
         if border {
-            return placed(set, no_keys());
+            return placed(self.active.succeeded(set), none_counted());
         }
-        if set.same_keys(self.active) {
-            return placed(self.active, no_keys());
+        if set.same_keys(self.active.set) {
+            return placed(self.active, none_counted());
         }
-        if set.shares(self.active) {
+        if set.shares(self.active.set) {
             return self.unplaced(Refusal::Clash);
         }
-        placed(self.active, set)
+        placed(self.active, arrived(set))
     }
 }

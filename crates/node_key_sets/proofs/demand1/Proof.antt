@@ -1,12 +1,12 @@
 -- Demand 1 for the two key sets: a refusal answers the sets that were handed in, and RANGE is the first test of each call.
 use Rattle.node_key_sets.specs.Sets.{install}
-use Rattle.node_key_sets.specs.Frames.{sendingKey, receivingKey, verifiedIn}
+use Rattle.node_key_sets.specs.Frames.{sending, receivingKey, verifiedIn}
 use Rattle.node_key_sets.proofs.Untouched.{install-untouched, send-untouched, receive-untouched, verified-untouched}
 use Rattle.node_key_sets.proofs.demand1.Statement.{statement}
 use Rattle.node_key_sets.proofs.demand1.Tie as tie
 
 returns : tie.Need-returns
-unfolding install sendingKey receivingKey verifiedIn
+unfolding install sending receivingKey verifiedIn
 returns c = record {
   install-refused = install-untouched;
   install-invalid = λ border s set e. rw e;

@@ -16,8 +16,11 @@ returns : tie.Need-returns
 unfolding install
 returns c = c .unplaced .ensures ∙ rw (denied (c .before .before .allowed .ensures) (c .before .if1 .taken))
 
-no-keys-requires : tie.Need-no-keys-requires
-no-keys-requires c κs = search needs
+succeeded-requires : tie.Need-succeeded-requires
+succeeded-requires c κs = search needs
+
+none-counted-requires : tie.Need-none-counted-requires
+none-counted-requires c κs = search needs
 
 placed-requires : tie.Need-placed-requires
 placed-requires c κs = search needs
@@ -25,15 +28,22 @@ placed-requires c κs = search needs
 returns-2 : tie.Need-returns-2
 unfolding install
 returns-2 c =
-    let border = c .before .before in
+    let kept = c .before .before in
+    let border = kept .before in
     let judged = border .before in
-    c .placed .ensures ∙ rw (granted (judged .before .allowed .ensures) (judged .if1 .left), border .if2 .taken, c .before .no-keys .ensures)
+    c .placed .ensures
+    ∙ rw (
+      c .before .none-counted .ensures,
+      kept .succeeded .ensures,
+      granted (judged .before .allowed .ensures) (judged .if1 .left),
+      border .if2 .taken,
+    )
 
 same-keys-requires : tie.Need-same-keys-requires
 same-keys-requires c κs = search needs
 
-no-keys-requires-2 : tie.Need-no-keys-requires-2
-no-keys-requires-2 c κs = search needs
+none-counted-requires-2 : tie.Need-none-counted-requires-2
+none-counted-requires-2 c κs = search needs
 
 placed-requires-2 : tie.Need-placed-requires-2
 placed-requires-2 c κs = search needs
@@ -45,10 +55,10 @@ returns-3 c =
     let judged = asked .before .before in
     c .placed2 .ensures
     ∙ rw (
+      c .before .none-counted2 .ensures,
       granted (judged .before .allowed .ensures) (judged .if1 .left),
       asked .before .if2 .left,
       is-true (asked .same-keys .ensures) (c .before .before .if3 .taken),
-      c .before .no-keys2 .ensures,
     )
 
 shares-requires : tie.Need-shares-requires
@@ -71,22 +81,26 @@ returns-4 c =
       is-true (asked .shares .ensures) (c .before .if4 .taken),
     )
 
+arrived-requires : tie.Need-arrived-requires
+arrived-requires c κs = search needs
+
 placed-requires-3 : tie.Need-placed-requires-3
 placed-requires-3 c κs = search needs
 
 returns-5 : tie.Need-returns-5
 unfolding install
 returns-5 c =
-    let asked = c .before .before in
+    let asked = c .before .before .before in
     let other = asked .before in
     let judged = other .before .before .before in
-    rw (
+    c .placed3 .ensures
+    ∙ rw (
+      c .before .arrived .ensures,
       granted (judged .before .allowed .ensures) (judged .if1 .left),
       other .before .before .if2 .left,
       is-false (other .before .same-keys .ensures) (other .if3 .left),
-      is-false (asked .shares .ensures) (c .before .if4 .left),
+      is-false (asked .shares .ensures) (c .before .before .if4 .left),
     )
-    (c .placed3 .ensures)
 
 pub install-spec : {M : Type 1} → statement M
 install-spec =
@@ -95,15 +109,17 @@ install-spec =
     allowed-requires
     unplaced-requires
     returns
-    no-keys-requires
+    succeeded-requires
+    none-counted-requires
     placed-requires
     returns-2
     same-keys-requires
-    no-keys-requires-2
+    none-counted-requires-2
     placed-requires-2
     returns-3
     shares-requires
     unplaced-requires-2
     returns-4
+    arrived-requires
     placed-requires-3
     returns-5)

@@ -1,34 +1,33 @@
 -- `sending_key` meets its contract: each test of the code is one of the definition's.
 use mathlib.Core.Path.{_∙_}
-use borrow.Author.Needs.{needs}
 use borrow.Author.Tests.{le-leb, lt-leb}
-use Rattle.link_key_set.specs.KeySet.{firstCover}
-use Rattle.node_key_sets.specs.Frames.{sendingKey}
-use Rattle.node_key_sets.specs.Sets.{activeIn}
-use Rattle.node_key_sets.proofs.Answers.{first-answer}
+use Rattle.node_key_sets.specs.Frames.{sending}
+use Rattle.node_key_sets.proofs.Answers.{sent-found, sent-silent}
+use borrow.Author.Needs.{needs}
 use Rattle.node_key_sets.proofs.sets.KeySets.sending_key.Statement.{statement}
 use Rattle.node_key_sets.proofs.sets.KeySets.sending_key.Tie as tie
 
-without-key-requires : tie.Need-without-key-requires
-without-key-requires c κs = search needs
+unsent-requires : tie.Need-unsent-requires
+unsent-requires c κs = search needs
 
 returns : tie.Need-returns
-unfolding sendingKey
-returns c = rw (lt-leb _ _ (c .before .if1 .taken)) (c .without-key .ensures)
+unfolding sending
+returns c = rw (lt-leb _ _ (c .before .if1 .taken)) (c .unsent .ensures)
 
-first-cover-requires : tie.Need-first-cover-requires
-first-cover-requires c κs = search needs
-
-answer-requires : tie.Need-answer-requires
-answer-requires c κs = search needs
+spend-requires : tie.Need-spend-requires
+spend-requires c κs = search needs
 
 returns-2 : tie.Need-returns-2
-unfolding sendingKey
-returns-2 c =
-    let known = c .before .before in
-    let a = known .before .args in
-    rw (le-leb _ _ (known .if1 .left))
-    (c .answer .ensures ∙ first-answer (firstCover (a .frame-type) (activeIn (a .self))) _ (c .before .first-cover .ensures))
+returns-2 c = sent-found (c .before .before .before .before .before .before .args .self) (c .before .before .before .before .before .before .args .frame-type) (le-leb _ _ (c .before .before .before .before .before .if1 .left)) _ (c .before .before .before .before .spend .ensures) (c .before .before .before .if2 .taken)
+
+unsent-requires-2 : tie.Need-unsent-requires-2
+unsent-requires-2 c κs = search needs
+
+returns-3 : tie.Need-returns-3
+returns-3 c =
+    c .unsent2 .ensures ∙ sent-silent (c .before .before .before .before .args .self) (c .before .before .before .before .args .frame-type) (le-leb _ _ (c .before .before .before .if1 .left)) _ (c .before .before .spend .ensures) (c .before .if2 .left)
 
 pub sending-key-spec : {M : Type 1} → statement M
-sending-key-spec = tie.close (tie.spec without-key-requires returns first-cover-requires answer-requires returns-2)
+sending-key-spec =
+    tie.close
+    (tie.spec unsent-requires returns spend-requires returns-2 unsent-requires-2 returns-3)

@@ -20,18 +20,18 @@ shares-requires c κs = search needs
 
 -- where the ways meet, after the second test and after the third
 both-met :
-    (c : tie.Joined1) → c .if1 .if2 ≡ (noneOrValid (c .before .before .args .self .active) && noneOrValid (c .before .before .args .self .pending))
+    (c : tie.Joined1) → c .if1 .if2 ≡ (noneOrValid (c .before .before .args .self .active .set) && noneOrValid (c .before .before .args .self .pending .set))
 both-met c =
     let first = c .before .none-or-valid .ensures in
     ⊎-elim
     (λ w. and-next first (w .0 .taken) (w .1 .ensures) (w .2))
-    (λ w. and-stops (noneOrValid (c .before .before .args .self .pending)) first (w .0 .left) (w .1))
+    (λ w. and-stops (noneOrValid (c .before .before .args .self .pending .set)) first (w .0 .left) (w .1))
     (c .if1 .came)
 
 three-met :
     (c : tie.Joined2) →
     c .if2 .if3
-    ≡ (noneOrValid (c .before .before .before .args .self .active) && noneOrValid (c .before .before .before .args .self .pending)
+    ≡ (noneOrValid (c .before .before .before .args .self .active .set) && noneOrValid (c .before .before .before .args .self .pending .set)
     && not (shares (activeIn (c .before .before .before .args .self)) (pendingIn (c .before .before .before .args .self))))
 three-met c =
     let s = c .before .before .before .args .self in

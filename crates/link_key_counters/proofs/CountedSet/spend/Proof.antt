@@ -1,0 +1,109 @@
+-- `spend` meets its contract: from each place on the question has the answer that it has from the first.
+use Prim.Native.Nat.{_-_}
+use native.Mathlib.Omega.{arith}
+use mathlib.Core.Path.{_≡_, refl, sym, _∙_}
+use mathlib.Core.Logic.{⊎-elim}
+use mathlib.Core.Bool.{false}
+use borrow.Author.Needs.{needs}
+use lib.ListN.{length, getD}
+use Rattle.link_key_set.specs.KeySet.{keysOf}
+use Rattle.link_key_set.specs.Lists.{firstOf}
+use Rattle.link_key_counters.specs.Counters.{serves, slot, spend}
+use Rattle.link_key_counters.proofs.Slots.{past, firsts, within, rest, turn, stop, does-serve, not-covering, used-up}
+use Rattle.link_key_counters.proofs.CountedSet.spend.Statement.{statement}
+use Rattle.link_key_counters.proofs.CountedSet.spend.Tie as tie
+
+abbrev Inv-loop : tie.InvT-loop
+Inv-loop self frame-type n keys counters i₀ i =
+    firstOf (serves frame-type) (rest keys counters n 0) ≡ firstOf (serves frame-type) (rest keys counters n i)
+
+abbrev μ-loop : tie.MeasureT-loop
+μ-loop self frame-type n keys counters i₀ i = n - i
+
+len-requires : tie.Need-len-requires Inv-loop μ-loop
+len-requires c κs = search needs
+
+loop-holds : tie.Need-loop-holds Inv-loop μ-loop
+loop-holds c = refl
+
+mul-key : tie.Need-mul-key Inv-loop μ-loop
+mul-key c = search needs
+
+array-copy-out-key : tie.Need-array-copy-out-key Inv-loop μ-loop
+array-copy-out-key c = search needs
+
+mul-counter : tie.Need-mul-counter Inv-loop μ-loop
+mul-counter c = search needs
+
+array-read-counter : tie.Need-array-read-counter Inv-loop μ-loop
+array-read-counter c = omega (arith, c .before .before .before .before .before .len .ensures)
+
+covers-requires : tie.Need-covers-requires Inv-loop μ-loop
+covers-requires c κs = search needs
+
+used-requires : tie.Need-used-requires Inv-loop μ-loop
+used-requires c κs = (omega (arith, c .before .before .before .before .before .before .before .before .len .ensures), c .before .before .if1 .taken)
+
+returns : tie.Need-returns Inv-loop μ-loop
+unfolding spend
+returns c =
+    let set = c .before .before .before .before .before .before .before .before .before .before .args .self .set in
+    let loop = c .before .before .before .before .before .before .loop in
+    let n = c .before .before .before .before .before .before .before .before .before .len .result in
+    let size : n ≡ length (keysOf set) = c .before .before .before .before .before .before .before .before .before .len .ensures .0 in
+    let key = getD (set .keys) (loop .i) past in
+    let counter = getD (c .before .before .before .before .before .before .before .before .before .before .args .self .counters) (loop .i) 0 in
+    let serving = does-serve (c .before .before .before .before .before .before .before .before .before .before .args .frame-type) (loop .i) key counter (sym (c .before .before .covers .ensures) ∙ c .before .if2 .taken) (c .before .before .before .if1 .taken) in
+    rw (← firsts set n size, loop .inv, turn (set .keys) (c .before .before .before .before .before .before .before .before .before .before .args .self .counters) (firstOf (serves (c .before .before .before .before .before .before .before .before .before .before .args .frame-type))) n (loop .i) (within set n size) (c .before .before .before .before .before .loop-test .taken), serving) (c .used .ensures)
+
+add-i : tie.Need-add-i Inv-loop μ-loop
+add-i c = search needs
+
+loop-less : tie.Need-loop-less Inv-loop μ-loop
+loop-less c = search needs
+
+loop-again : tie.Need-loop-again Inv-loop μ-loop
+loop-again c =
+    let set = c .before .before .before .before .before .before .before .args .self .set in
+    let loop = c .before .before .before .loop in
+    let n = c .before .before .before .before .before .before .len .result in
+    let size : n ≡ length (keysOf set) = c .before .before .before .before .before .before .len .ensures .0 in
+    let key = getD (set .keys) (loop .i) past in
+    let counter = getD (c .before .before .before .before .before .before .before .args .self .counters) (loop .i) 0 in
+    let passed : serves (c .before .before .before .before .before .before .before .args .frame-type) (slot (loop .i) key counter) ≡ false =
+    ⊎-elim (λ w. not-covering (c .before .before .before .before .before .before .before .args .frame-type) (loop .i) key counter (sym (w .1 .ensures) ∙ w .2 .left))
+    (λ w. used-up (c .before .before .before .before .before .before .before .args .frame-type) (loop .i) key counter (w .left)) (c .if1 .came) in
+    rw (loop .inv, turn (set .keys) (c .before .before .before .before .before .before .before .args .self .counters) (firstOf (serves (c .before .before .before .before .before .before .before .args .frame-type))) n (loop .i) (within set n size) (c .before .before .loop-test .taken), passed)
+
+no-key-requires : tie.Need-no-key-requires Inv-loop μ-loop
+no-key-requires c κs = search needs
+
+returns-2 : tie.Need-returns-2 Inv-loop μ-loop
+unfolding spend
+returns-2 c =
+    let set = c .before .before .before .before .before .before .args .self .set in
+    let loop = c .before .before .loop in
+    let n = c .before .before .before .before .before .len .result in
+    let size : n ≡ length (keysOf set) = c .before .before .before .before .before .len .ensures .0 in
+    rw (← firsts set n size, loop .inv, stop (set .keys) (c .before .before .before .before .before .before .args .self .counters) (firstOf (serves (c .before .before .before .before .before .before .args .frame-type))) n (loop .i) (c .before .loop-test .left), c .no-key .ensures)
+
+pub spend-spec : {M : Type 1} → statement M
+spend-spec =
+    tie.close
+    (tie.spec
+    Inv-loop
+    μ-loop
+    len-requires
+    loop-holds
+    mul-key
+    array-copy-out-key
+    mul-counter
+    array-read-counter
+    covers-requires
+    used-requires
+    returns
+    add-i
+    loop-less
+    loop-again
+    no-key-requires
+    returns-2)

@@ -1,0 +1,2 @@
+mod Slots
+mod Counted

@@ -1,0 +1,18 @@
+-- `none_counted` meets its contract.
+use mathlib.Core.Path.{_∙_, ap}
+use Rattle.link_key_counters.specs.Counters.{arrived}
+use borrow.Author.Needs.{needs}
+use Rattle.link_key_counters.proofs.none_counted.Statement.{statement}
+use Rattle.link_key_counters.proofs.none_counted.Tie as tie
+
+no-keys-requires : tie.Need-no-keys-requires
+no-keys-requires c κs = search needs
+
+arrived-requires : tie.Need-arrived-requires
+arrived-requires c κs = search needs
+
+returns : tie.Need-returns
+returns c = c .arrived .ensures ∙ ap arrived (c .before .no-keys .ensures)
+
+pub none-counted-spec : {M : Type 1} → statement M
+none-counted-spec = tie.close (tie.spec no-keys-requires arrived-requires returns)
