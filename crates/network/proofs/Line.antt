@@ -1,14 +1,19 @@
 -- The rekey of a line of three nodes is computed, and demand 3 is applied to it.
 use Prim.Native.Nat.{ℕ, zero, suc, _<_}
 use native.Mathlib.Omega.{arith}
-use mathlib.Core.Path.{_≡_, refl, ap}
+use mathlib.Core.Path.{_≡_, refl, ap, _∙_}
+use mathlib.Core.Bool.{Bool, true, false, not, _&&_}
+use borrow.Author.Tests.{not-true, eqb-false}
 use mathlib.Core.List.{List, [], _∷_, List·Memᴰ, List·Memᴰ·head as at, List·Memᴰ·tail as past, List·Memᴰ·eq-of-singleton}
 use mathlib.Core.List.{_++_, List·Memᴰ·not-nil, List·Memᴰ·append-cases}
 use mathlib.Core.Logic.{inl, inr, ⊎-elim}
 use lib.Dec.{lit<}
 use Rattle.refusal.specs.declared.Refusal.the-variants as refusal
-use Rattle.link_key.specs.Key.{inLimits, sameKey, covers}
+use Rattle.link_key.specs.Key.{inLimits, sameKey, sameSecret, covers}
+use Rattle.logic_facts.specs.Tests.{both-left, both-right, neither-left, neither-right}
+use Rattle.link_key_set.specs.Lists.{anyOf, allOf}
 use Rattle.link_key_set.specs.KeySet.{allowed, allowedSet, Apart}
+use Rattle.link_key_counters.specs.Counters.{Slot, lastCounter, isUsedUp, spend, succeeded}
 use Rattle.link_key.specs.declared.Key.{Key}
 use Rattle.cbor.specs.Decode.{payloadBy, decodeBy, heading, argument, next, digits, members, pairs, majorOf}
 use Rattle.cbor.specs.Encode.{bytesOf, infoOf, extraOf, shortest}
@@ -20,8 +25,9 @@ use Rattle.cojp.specs.Walk.{payloadReadBy}
 use Rattle.cojp.specs.Configuration.{configurationStanding, configurationTaking}
 use Rattle.cojp.specs.Writing.{requestInRange, requestPlan}
 use Rattle.node_key_sets.specs.Sets as sets
-use Rattle.node_key_sets.specs.Sets.{install}
-use Rattle.node_key_sets.specs.Frames.{sendingKey, receivingKey, verifiedIn}
+use Rattle.node_key_sets.specs.Sets.{slotsIn, install}
+use Rattle.node_key_sets.specs.Frames as frames
+use Rattle.node_key_sets.specs.Frames.{receivingKey, verifiedIn}
 use Rattle.node_attempt.specs.Attempt as attempt
 use Rattle.node_attempt.specs.Attempt.{mayStart}
 use Rattle.node_attempt.specs.Poll as polling
@@ -31,16 +37,17 @@ use Rattle.node.specs.Node.{activeOf, pendingOf}
 use Rattle.node.specs.Range.{valid, Valid}
 use Rattle.node.specs.Timing.{requestOf, startVerdict, startPlan, start, poll}
 use Rattle.node.specs.Delivery.{configured, apply, deliverVerdict, deliver}
-use Rattle.node.specs.Frames.{send, afterSend, receive, verified}
+use Rattle.node.specs.Frames.{sending, send, sendCounter, afterSend, receive, verified}
 use Rattle.node_laws.specs.Calls.{perform}
-use Rattle.node_laws.specs.Laws.{Takes}
+use Rattle.node_laws.specs.Laws.{Takes, Unspent}
+use Rattle.node.specs.declared.node.Node.{Node}
 use Rattle.node_delivery.specs.Delivery.{mayCome}
 use Rattle.node_delivery.specs.declared.Delivery.the-variants.{Update}
-use Rattle.network.specs.Network.{nodeAt, withNode}
+use Rattle.network.specs.Network.{Network, nodeAt, withNode}
 use Rattle.network.specs.Turn.{judged, turn}
-use Rattle.network.specs.Events.{turning, step, run, Come, Comes}
+use Rattle.network.specs.Events.{Event, turning, step, run, Come, Comes, Throughout}
 use Rattle.network.specs.Rounds.{Neighbours, Hops, here, hop, Linked, AllLinked, Round, Rounds, none, more}
-use Rattle.network.specs.Demand3.{Supposed, Demand3}
+use Rattle.network.specs.Demand3.{Supposed, NoneUsedUp, Demand3}
 use Rattle.network.specs.Witness
 use Rattle.network.specs.Witness.{oldKeys, newKeys, line, lineLinks, first, taken, worst, twice, Witness}
 
@@ -49,8 +56,9 @@ computing : Unit {0}
 unfolding payloadBy decodeBy heading argument next digits members pairs majorOf bytesOf infoOf extraOf shortest
     inLimits sameKey covers allowed allowedSet
     padded octetsJudged addressIn groups owing payloadReadBy configurationStanding configurationTaking requestInRange requestPlan
-    sets.valid install sendingKey receivingKey verifiedIn attempt.valid mayStart stepped polling.poll
-    valid requestOf startVerdict startPlan start poll reportsOf configured apply mayCome deliverVerdict deliver send afterSend receive verified perform
+    spend sameSecret succeeded sets.valid install frames.sending receivingKey verifiedIn attempt.valid mayStart stepped polling.poll
+    valid requestOf startVerdict startPlan start poll reportsOf configured apply mayCome deliverVerdict deliver
+    sending send sendCounter afterSend receive verified perform
     nodeAt withNode judged turn step run Come Comes
 computing = tt
 
@@ -173,6 +181,47 @@ after = (
   ),
 )
 
+-- ---- no counter has come to its end: one test of every node at every moment
+unspentAt : Node → Bool
+unspentAt n = not (anyOf isUsedUp (slotsIn (n .sets)))
+
+none-used : {xs : List Slot} {x : Slot} → List·Memᴰ x xs → anyOf isUsedUp xs ≡ false → isUsedUp x ≡ false
+none-used (at {x = y} {xs = ys} p) e = ap isUsedUp p ∙ neither-left (isUsedUp y) (anyOf isUsedUp ys) e
+none-used (past {x = y} {xs = ys} m) e = none-used m (neither-right (isUsedUp y) (anyOf isUsedUp ys) e)
+
+unspent-node : (ks : List Key) (type : ℕ) (n : Node) → unspentAt n ≡ true → Unspent ks type n
+unfolding unspentAt
+unspent-node ks type n e k m c u =
+    let test = not-true (anyOf isUsedUp (slotsIn (n .sets))) e in
+    eqb-false (u .slot .counter) lastCounter (none-used (u .member) test) (u .last)
+
+unspent-net : (ks : List Key) (type : ℕ) (net : Network) → allOf unspentAt net ≡ true → NoneUsedUp ks type net
+unfolding nodeAt
+unspent-net ks type [] e i l = absurd (omega (arith, l))
+unspent-net ks type (n ∷ net) e zero l = unspent-node ks type n (both-left (unspentAt n) (allOf unspentAt net) e)
+unspent-net ks type (n ∷ net) e (suc i) l = unspent-net ks type net (both-right (unspentAt n) (allOf unspentAt net) e) i (omega arith)
+
+unspentThrough : Network → List Event → Bool
+unspentThrough net [] = allOf unspentAt net
+unspentThrough net (e ∷ es) = (allOf unspentAt net && unspentThrough (step net e) es)
+
+unspent-through :
+    (ks : List Key) (type : ℕ) (net : Network) (es : List Event) → unspentThrough net es ≡ true → Throughout (NoneUsedUp ks type) net es
+unfolding unspentThrough Throughout
+unspent-through ks type net [] e = unspent-net ks type net e
+unspent-through ks type net (x ∷ es) e = (
+  unspent-net ks type net (both-left (allOf unspentAt net) (unspentThrough (step net x) es) e),
+  unspent-through ks type (step net x) es (both-right (allOf unspentAt net) (unspentThrough (step net x) es) e),
+)
+
+unspent-before : Throughout (NoneUsedUp newKeys 1) line first
+unfolding computing unspentAt unspentThrough
+unspent-before = unspent-through newKeys 1 line first refl
+
+unspent-after : Throughout (NoneUsedUp newKeys 1) taken twice
+unfolding computing unspentAt unspentThrough
+unspent-after = unspent-through newKeys 1 taken twice refl
+
 pub witness : Demand3 → Witness
 unfolding Demand3 computing
 witness claim =
@@ -180,8 +229,10 @@ witness claim =
     record {
       supposed = supposed;
       before = before;
+      unspent-before = unspent-before;
       takes = takes;
       after = after;
+      unspent-after = unspent-after;
       linked = linked-twice;
       rounds = rounds;
       hops = hops;
@@ -190,7 +241,8 @@ witness claim =
       two-rounds-active = refl;
       two-rounds-pending = refl;
       none-sends = said .0;
-      rekeyed = said .1 Update 20000 Witness.payload takes lineLinks 2 twice after linked-twice rounds 2 (lit< tt) hops;
+      rekeyed =
+          said .1 unspent-before Update 20000 Witness.payload takes lineLinks 2 twice after linked-twice rounds unspent-after 2 (lit< tt) hops;
     }
   where
     rounds : Rounds lineLinks 1 2 twice

@@ -13,8 +13,9 @@ use Rattle.node_laws.specs.Calls.{NodeCall, starting, polling, delivering, aski
 use Rattle.node_laws.specs.Laws.{KeysStay, CanSend, NodeLaws}
 use Rattle.node.specs.declared.node.Node.{Node}
 use Rattle.network.specs.Network.{Network, nodeAt, withNode}
-use Rattle.network.specs.Events.{Event, turning, calling, step, run, Permitted, Comes, Come}
+use Rattle.network.specs.Events.{Event, turning, calling, step, run, Permitted, Comes, Come, Throughout}
 use Rattle.network.specs.Rounds.{Links, Linked, AllLinked}
+use Rattle.network.specs.Demand3.{NoneUsedUp}
 use Rattle.network.specs.Turn.{turn}
 use Rattle.network.proofs.Turns.{stay-self, sender-stays, receiver-role}
 use Rattle.network.proofs.Receiving.{Kind, new, Quiet, Is, becomes, stays-is, turn-becomes, new-can}
@@ -112,21 +113,30 @@ module _ (L : NodeLaws) (ks : List Key) where
     run-quiet net [] h a = a
     run-quiet net (e ∷ es) h a = run-quiet (step net e) es (h .1) (step-quiet net e (h .0) a)
 
-  -- with turns of a type that the set covers, the kinds flow
+  -- with turns of a type that the set covers, and its keys not used up, the kinds flow
   module _ (links : Links) (type : ℕ) (covering : Covers ks type) where
-    ready : (kinds : Kinds) (net : Network) (e : Event) → Comes net e → Linked links type e → Are ks kinds net → Ready kinds net e
+    ready :
+        (kinds : Kinds) (net : Network) (e : Event) → Comes net e → Linked links type e → NoneUsedUp ks type net → Are ks kinds net →
+        Ready kinds net e
     unfolding Comes
-    ready kinds net (turning i j u) h l a = λ w. rw (l .1) (new-can L ks (nodeAt net i) type covering (rw w at (a i (h .0))))
-    ready kinds net (calling i c) h l a = tt
+    ready kinds net (turning i j u) h l unspent a =
+        λ w. rw (l .1) (new-can L ks (nodeAt net i) type covering (unspent i (h .0)) (rw w at (a i (h .0))))
+    ready kinds net (calling i c) h l unspent a = tt
 
     pub run-flows :
-        (kinds : Kinds) (net : Network) (es : List Event) → Come net es → AllLinked links type es → Are ks kinds net →
-        Are ks (flows kinds es) (run net es)
-    unfolding run Come
-    run-flows kinds net [] h l a = a
-    run-flows kinds net (e ∷ es) h l a =
-        run-flows (moves kinds e) (step net e) es (h .1) (λ x m. l x (List·Memᴰ·tail m))
-        (step-are kinds net e (h .0) (ready kinds net e (h .0) (l e (List·Memᴰ·head refl)) a) a)
+        (kinds : Kinds) (net : Network) (es : List Event) → Come net es → AllLinked links type es → Throughout (NoneUsedUp ks type) net es →
+        Are ks kinds net → Are ks (flows kinds es) (run net es)
+    unfolding run Come Throughout
+    run-flows kinds net [] h l u a = a
+    run-flows kinds net (e ∷ es) h l u a =
+        run-flows (moves kinds e) (step net e) es (h .1) (λ x m. l x (List·Memᴰ·tail m)) (u .1)
+        (step-are kinds net e (h .0) (ready kinds net e (h .0) (l e (List·Memᴰ·head refl)) (u .0) a) a)
+
+-- ---- what holds at every moment holds at the end
+pub at-end : (P : Network → Type 0) (net : Network) (es : List Event) → Throughout P net es → P (run net es)
+unfolding run Throughout
+at-end P net [] u = u
+at-end P net (e ∷ es) u = at-end P (step net e) es (u .1)
 
 -- ---- sizes and roles stay
 pub size-step : (net : Network) (e : Event) → length (step net e) ≡ length net

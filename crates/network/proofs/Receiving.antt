@@ -9,7 +9,7 @@ use Rattle.link_key.specs.declared.Key.{Key}
 use Rattle.node.specs.Node.{activeOf, pendingOf}
 use Rattle.node.specs.Range.{Valid}
 use Rattle.node.specs.Frames.{send}
-use Rattle.node_laws.specs.Laws.{KeysStay, CanSend, Sends, NodeLaws}
+use Rattle.node_laws.specs.Laws.{KeysStay, Unspent, CanSend, Sends, NodeLaws}
 use Rattle.node.specs.declared.node.Node.{Node}
 use Rattle.network.specs.Events.{Under}
 use Rattle.network.specs.Turn.{turn}
@@ -120,9 +120,9 @@ module _ (L : NodeLaws) (ks : List Key) (a b : Node) (type : ℕ) where
   turn-becomes new new c p q = new-receives q
 
 module _ (L : NodeLaws) (ks : List Key) (a : Node) (type : ℕ) where
-  -- a node that has switched can send a type that the set covers
-  pub new-can : Covers ks type → IsNew ks a → CanSend a type
-  new-can covering w = L .covers-can a type (rw (w .active) covering)
+  -- a node that has switched can send a type that the set covers, where its keys are not used up
+  pub new-can : Covers ks type → Unspent ks type a → IsNew ks a → CanSend a type
+  new-can covering unspent w = L .covers-can a type (rw (w .active) covering) (rw (w .active) unspent)
 
   -- a node that has not switched sends nothing under the set
   other-sends : Apart (activeOf a) ks → Under ks (send a type) → ⊥

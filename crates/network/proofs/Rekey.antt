@@ -15,17 +15,17 @@ use Rattle.link_key.specs.declared.Key.{Key}
 use Rattle.node.specs.Node.{activeOf}
 use Rattle.node.specs.Range.{Valid}
 use Rattle.node.specs.Delivery.{deliver}
-use Rattle.node_laws.specs.Laws.{Takes, NodeLaws}
+use Rattle.node_laws.specs.Laws.{Takes, Unspent, NodeLaws}
 use Rattle.node_delivery.specs.declared.Delivery.{Delivery}
 use Rattle.node_key_sets.specs.declared.frames.KeyAnswer.{KeyAnswer}
 use Rattle.node.specs.declared.node.Node.{Node}
 use Rattle.network.specs.Network.{Network, nodeAt}
-use Rattle.network.specs.Events.{Event, turning, calling, step, run, Comes, Come, answers, Under}
+use Rattle.network.specs.Events.{Event, turning, calling, step, run, Comes, Come, Throughout, answers, Under}
 use Rattle.network.specs.Rounds.{Links, Neighbours, Hops, AllLinked, Rounds}
-use Rattle.network.specs.Demand3.{Supposed, NoneSendsUnder, Rekeyed, handed, Demand3}
+use Rattle.network.specs.Demand3.{Supposed, NoneUsedUp, NoneSendsUnder, Rekeyed, handed, Demand3}
 use Rattle.network.proofs.Receiving.{apart, old, new, Quiet, Carries, IsNew, Is, none-apart, kind-valid, new-can, quiet-sends}
 use Rattle.network.proofs.Flood.{Kinds, with, flows, far}
-use Rattle.network.proofs.Places.{Are, are-with, size-with, size-run, run-role, step-quiet, run-quiet, run-flows}
+use Rattle.network.proofs.Places.{Are, are-with, size-with, size-run, at-end, run-role, step-quiet, run-quiet, run-flows}
 
 -- the kinds at the start, and after the step
 abbrev atStart : ℕ → Kinds
@@ -72,9 +72,9 @@ module _ (L : NodeLaws) where
     }
 
   -- ---- after: a node that has switched is as demand 3 says
-  rekeyed : (ks : List Key) (type : ℕ) (n : Node) → Covers ks type → IsNew ks n → Rekeyed ks type n
-  rekeyed ks type n covering w =
-      let s = L .can-send n type (w .valid) (new-can L ks n type covering w) in
+  rekeyed : (ks : List Key) (type : ℕ) (n : Node) → Covers ks type → Unspent ks type n → IsNew ks n → Rekeyed ks type n
+  rekeyed ks type n covering unspent w =
+      let s = L .can-send n type (w .valid) (new-can L ks n type covering unspent w) in
       record {
         active = w .active;
         none-pending = w .pending;
@@ -116,11 +116,13 @@ module _ (L : NodeLaws) where
 
       followed :
           (links : Links) (h : ℕ) (es : List Event) → Come (handed out border delivery time payload) es → AllLinked links type es →
-          Rounds links type h es → (i : ℕ) → i < length net → Hops (Neighbours links) h border i →
+          Rounds links type h es → Throughout (NoneUsedUp ks type) (handed out border delivery time payload) es →
+          (i : ℕ) → i < length net → Hops (Neighbours links) h border i →
           Rekeyed ks type (nodeAt (run (handed out border delivery time payload) es) i)
-      followed links h es come linked rounds i l hops =
-          rekeyed ks type (nodeAt (run next es) i) (g .covering)
-          (rw reached at (run-flows L ks links type (g .covering) (atStep border) next es come linked step-are i (rw size l)))
+      followed links h es come linked rounds unspent i l hops =
+          let inside : i < length (run next es) = rw size l in
+          rekeyed ks type (nodeAt (run next es) i) (g .covering) (at-end (NoneUsedUp ks type) next es unspent i inside)
+          (rw reached at (run-flows L ks links type (g .covering) (atStep border) next es come linked unspent step-are i inside))
         where
           next : Network
           next = handed out border delivery time payload
@@ -139,6 +141,7 @@ module _ (L : NodeLaws) where
       let quiet = start-quiet border in
       let start = start-are net border ks type g in (
         none-sends ks (atStart border) quiet net before come start,
-        followed net border ks type g (run net before) (size-run net before) (run-quiet L ks (atStart border) quiet net before come start)
+        λ unspent.
+            followed net border ks type g (run net before) (size-run net before) (run-quiet L ks (atStart border) quiet net before come start)
             (run-role L net before border (g .inside) ∙ g .is-border),
       )

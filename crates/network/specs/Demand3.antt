@@ -9,12 +9,12 @@ use Rattle.node.specs.Node.{activeOf, pendingOf}
 use Rattle.node.specs.Range.{Valid}
 use Rattle.node.specs.Delivery.{deliver}
 use Rattle.node.specs.Frames.{send}
-use Rattle.node_laws.specs.Laws.{Takes}
+use Rattle.node_laws.specs.Laws.{Takes, Unspent}
 use Rattle.node_delivery.specs.declared.Delivery.{Delivery}
 use Rattle.node_key_sets.specs.declared.frames.KeyAnswer.{KeyAnswer}
 use Rattle.node.specs.declared.node.Node.{Node}
 use Rattle.network.specs.Network.{Network, nodeAt, withNode}
-use Rattle.network.specs.Events.{Event, run, Come, answers, Under}
+use Rattle.network.specs.Events.{Event, run, Come, Throughout, answers, Under}
 use Rattle.network.specs.Rounds.{Links, Neighbours, Hops, AllLinked, Rounds}
 
 -- what demand 3 supposes at the start, of a network with its border router at that place, the new set and the frame type
@@ -33,6 +33,10 @@ pub record Supposed (net : Network) (border : ℕ) (new : List Key) (type : ℕ)
   pub active-at-none : (i : ℕ) → i < length net → activeOf (nodeAt net i) ≡ new → ⊥
   -- "the single border router's former set shares no key identifier with it"
   pub former-apart : Apart (activeOf (nodeAt net border)) new
+
+-- "the new set's covering keys aren't used up at any node" (02, request 9)
+abbrev pub NoneUsedUp : List Key → ℕ → Network → Type 0
+NoneUsedUp new type net = (i : ℕ) → i < length net → Unspent new type (nodeAt net i)
 
 -- "no node sends anything under it,"
 pub record NoneSendsUnder (new : List Key) (net : Network) (es : List Event) : Type 0 where
@@ -63,8 +67,10 @@ Demand3 =
     (before : List Event) → Come net before →
     -- "no node sends anything under it, in the list or if asked at its end."
     NoneSendsUnder new net before
+    -- "the new set's covering keys aren't used up at any node from the start of its lists"
+    × (Throughout (NoneUsedUp new type) net before →
     -- "then the border router accepts it;"
-    × ((delivery : Delivery) (time : ℕ) (payload : List ℕ) → Takes delivery (nodeAt (run net before) border) time payload new →
+    (delivery : Delivery) (time : ℕ) (payload : List ℕ) → Takes delivery (nodeAt (run net before) border) time payload new →
     -- "from there radio links are fixed"
     (links : Links) →
     -- "for every h, take every further list of such events,"
@@ -73,6 +79,8 @@ Demand3 =
     AllLinked links type after →
     -- "that holds h rounds one after another."
     Rounds links type h after →
+    -- "to their end"
+    Throughout (NoneUsedUp new type) (handed (run net before) border delivery time payload) after →
     -- "after it every node at most h hops from the border router"
     (i : ℕ) → i < length net → Hops (Neighbours links) h border i →
     -- "has the new set active, none pending and no old key, and sends that type under the new set."

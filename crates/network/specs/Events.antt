@@ -59,6 +59,11 @@ unfoldable pub Come : Network → List Event → Type 0
 Come net [] = Unit {0}
 Come net (e ∷ es) = Comes net e × Come (step net e) es
 
+-- at every moment of a list of events, its start and its end included
+unfoldable pub Throughout : (Network → Type 0) → Network → List Event → Type 0
+Throughout P net [] = P net
+Throughout P net (e ∷ es) = P net × Throughout P (step net e) es
+
 -- ---- sending under a set
 -- what the nodes that were asked to send in a list of events answered
 unfoldable pub answers : Network → List Event → List KeyAnswer

@@ -10,6 +10,7 @@ use Rattle.link_key_set.specs.declared.key_set.KeySet.{KeySet}
 use Rattle.link_key.specs.Key.{keyOf}
 use Rattle.cojp.specs.KeySet.{keySetOf}
 use Rattle.cojp.specs.Octets.{octetsOf}
+use Rattle.link_key_counters.specs.Counters.{arrived}
 use Rattle.node_key_sets.specs.Sets.{twoSets}
 use Rattle.node_attempt.specs.Attempt.{attempt}
 use Rattle.node_attempt.specs.declared.attempt.Phase.the-variants.{Joined}
@@ -20,9 +21,9 @@ use Rattle.node_delivery.specs.declared.Delivery.the-variants.{JoinAnswer, Upda
 use Rattle.node_parameters.specs.declared.octets.HeldOctets.{HeldOctets}
 use Rattle.node.specs.declared.node.Node.{Node}
 use Rattle.network.specs.Network.{Network, nodeAt}
-use Rattle.network.specs.Events.{Event, turning, calling, run, Come}
+use Rattle.network.specs.Events.{Event, turning, calling, run, Come, Throughout}
 use Rattle.network.specs.Rounds.{Links, Neighbours, Hops, AllLinked, Rounds}
-use Rattle.network.specs.Demand3.{Supposed, NoneSendsUnder, Rekeyed, handed}
+use Rattle.network.specs.Demand3.{Supposed, NoneUsedUp, NoneSendsUnder, Rekeyed, handed}
 
 -- ---- the nodes: the old set is one key with identifier 1, the new one a key with identifier 5, both for all frames
 abbrev pub oldKeys : List Key
@@ -37,7 +38,7 @@ cafe = record { held = true; value = octetsOf (0xCA ∷ 0xFE ∷ []) }
 -- a node that joined at time 12,000
 abbrev pub joined : ℕ → KeySet → Node
 joined role pending =
-    attempting (keyed (freshNode role cafe) (twoSets (keySetOf oldKeys) pending)) (attempt Joined 12000 10000 10000 0)
+    attempting (keyed (freshNode role cafe) (twoSets (arrived (keySetOf oldKeys)) (arrived pending))) (attempt Joined 12000 10000 10000 0)
 
 -- the border router, one in the middle, and one far from it
 abbrev pub line : Network
@@ -81,8 +82,10 @@ twice = worst ++ (worst ++ [])
 pub record Witness : Type 0 where
   pub supposed : Supposed line 0 newKeys 1
   pub before : Come line first
+  pub unspent-before : Throughout (NoneUsedUp newKeys 1) line first
   pub takes : Takes Update (nodeAt (run line first) 0) 20000 payload newKeys
   pub after : Come taken twice
+  pub unspent-after : Throughout (NoneUsedUp newKeys 1) taken twice
   pub linked : AllLinked lineLinks 1 twice
   pub rounds : Rounds lineLinks 1 2 twice
   pub hops : Hops (Neighbours lineLinks) 2 0 2

@@ -10,6 +10,8 @@ use Rattle.refusal.specs.declared.Verdict.{Verdict}
 use Rattle.refusal.specs.declared.Verdict.the-variants as verdict
 use Rattle.link_key_set.specs.KeySet.{keysOf, allowedSet}
 use Rattle.link_key_set.specs.declared.key_set.KeySet.{KeySet}
+use Rattle.link_key_counters.specs.CounterLaws.{CounterLaws}
+use Rattle.link_key_counters.specs.Counters.{slotsOf}
 use Rattle.node_key_sets.specs.Sets.{activeIn, pendingIn, placed, install}
 use Rattle.node_key_sets.specs.declared.sets.Placement.{Placement}
 use Rattle.node_key_sets.proofs.Alike.{install-alike}
@@ -54,12 +56,15 @@ record SamePlace (p q : Placement) : Type 0 where
   verdict : p .verdict ≡ q .verdict
   active : activeIn (p .sets) ≡ activeIn (q .sets)
   pending : pendingIn (p .sets) ≡ pendingIn (q .sets)
+  active-slots : slotsOf (p .sets .active) ≡ slotsOf (q .sets .active)
+  pending-slots : slotsOf (p .sets .pending) ≡ slotsOf (q .sets .pending)
 
 install-same :
-    (n : Node) (u v : KeySet) → allowedSet u ≡ true → allowedSet v ≡ true → keysOf u ≡ keysOf v →
+    CounterLaws → (n : Node) (u v : KeySet) → allowedSet u ≡ true → allowedSet v ≡ true → keysOf u ≡ keysOf v →
     SamePlace (install (isBorder n) (n .sets) u) (install (isBorder n) (n .sets) v)
-install-same n u v p q e =
-    let a = install-alike (isBorder n) (n .sets) u v (p ∙ sym q) e in record { verdict = a .0; active = a .1; pending = a .2 }
+install-same C n u v p q e =
+    let a = install-alike C (isBorder n) (n .sets) u v (p ∙ sym q) e in
+    record { verdict = a .0; active = a .1; pending = a .2; active-slots = a .3; pending-slots = a .4 }
 
 -- ---- the other parameters
 octets-same :
@@ -103,20 +108,22 @@ same-self n = record {
   attempt = refl;
   active = refl;
   pending = refl;
+  active-slots = refl;
+  pending-slots = refl;
   address = refl;
   jrc = refl;
   network = refl;
   prefix = refl;
 }
 
-module _ (delivery : Delivery) (n : Node) (time : ℕ) (c d : Configuration)
+module _ (C : CounterLaws) (delivery : Delivery) (n : Node) (time : ℕ) (c d : Configuration)
     (p : keysInRange (c .keys) ≡ true) (q : keysInRange (d .keys) ≡ true) (h : SameConfiguration c d) where
   places : SamePlace (placementOf n (c .keys)) (placementOf n (d .keys))
   places =
       alike SamePlace (c .keys .report) (d .keys .report) (keysOf (c .keys .value)) (keysOf (d .keys .value))
       (install (isBorder n) (n .sets) (c .keys .value)) (install (isBorder n) (n .sets) (d .keys .value)) (placed (n .sets)) (h .keys)
-      (λ e f. install-same n (c .keys .value) (d .keys .value) (rw e at p) (rw f at q))
-      (record { verdict = refl; active = refl; pending = refl })
+      (λ e f. install-same C n (c .keys .value) (d .keys .value) (rw e at p) (rw f at q))
+      (record { verdict = refl; active = refl; pending = refl; active-slots = refl; pending-slots = refl })
 
   owing : ifTaken (c .network .report) true false ≡ ifTaken (d .network .report) true false
   owing =
@@ -135,6 +142,8 @@ module _ (delivery : Delivery) (n : Node) (time : ℕ) (c d : Configuration)
     attempt = refl;
     active = places .active;
     pending = places .pending;
+    active-slots = places .active-slots;
+    pending-slots = places .pending-slots;
     address = address-same time (c .address) (d .address) (n .address) (h .address);
     jrc = octets-same (c .jrc .report) (d .jrc .report) (c .jrc .value) (d .jrc .value) (n .jrc) (h .jrc);
     network = border-same (isBorder n) (c .network .report) (d .network .report) (c .network .value) (d .network .value) (n .network) (h .network);
@@ -154,5 +163,5 @@ module _ (delivery : Delivery) (n : Node) (time : ℕ) (c d : Configuration)
   applied-alike =
       rw (owes-same, places .verdict) (outcomes (owesIdentifier delivery n (d .network .report)) (placementOf n (d .keys) .verdict))
 
-pub applies-alike : AppliesAlike
-applies-alike delivery n time c d p q h = applied-alike delivery n time c d p q h
+pub applies-alike : CounterLaws → AppliesAlike
+applies-alike C delivery n time c d p q h = applied-alike C delivery n time c d p q h

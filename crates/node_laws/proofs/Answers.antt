@@ -18,7 +18,7 @@ use Rattle.logic_facts.specs.Tests.{never}
 use Rattle.link_key_usage.specs.Usage.{knownType}
 use Rattle.link_key.specs.Key.{covers}
 use Rattle.link_key.specs.declared.Key.{Key}
-use Rattle.link_key_set.specs.KeySet.{keysOf, allowedSet, sameKeys, shares, has, firstCover}
+use Rattle.link_key_set.specs.KeySet.{keysOf, allowedSet, sameKeys, shares, has}
 use Rattle.link_key_set.specs.declared.key_set.KeySet.{KeySet}
 use Rattle.cbor.specs.Answer.{Plan, refuse, answer}
 use Rattle.cbor.specs.declared.write.Written.{Written}
@@ -31,7 +31,11 @@ use Rattle.cojp.specs.declared.configuration.ConfigurationRead.{ConfigurationRe
 use Rattle.cojp.specs.declared.report.Report.{Report}
 use Rattle.cojp.specs.declared.report.Report.the-variants.{Absent, Taken, Discarded}
 use Rattle.node_key_sets.specs.Sets.{placed, install}
-use Rattle.node_key_sets.specs.Frames.{withKey, withoutKey, keyOr, ifCovers, heldKey, sendingKey, receivingKey, effectBy, verifiedIn}
+use Rattle.link_key_counters.specs.CounterLaws.{CounterLaws}
+use Rattle.link_key_counters.specs.Counters.{Slot, firstServing, spentOn}
+use Rattle.link_key_counters.specs.declared.Spent.{Spent}
+use Rattle.node_key_sets.specs.Frames as sets
+use Rattle.node_key_sets.specs.Frames.{withKey, withoutKey, ifCovers, heldKey, receivingKey, effectBy, verifiedIn}
 use Rattle.node_key_sets.specs.Frames.{changeNumber, hasSwitched, hasKept}
 use Rattle.node_key_sets.specs.declared.frames.Change.the-variants as change
 use Rattle.node_key_sets.specs.declared.frames.KeyAnswer.{KeyAnswer}
@@ -53,12 +57,14 @@ use Rattle.node_parameters.specs.Octets.{validOctets}
 use Rattle.node_parameters.specs.Reports.{reportsOf}
 use Rattle.node_parameters.specs.declared.octets.HeldOctets.{HeldOctets}
 use Rattle.node.specs.Delivery.{placementOf, placedBy, owesIdentifier, undelivered, apply, applyRead, deliverVerdict, deliverBy, readFor, deliver}
-use Rattle.node.specs.Frames.{send, receive, reported, reportedBy, verified}
+use Rattle.node.specs.Frames as frames
+use Rattle.node.specs.Frames.{unsent, sentBy, send, receive, reported, reportedBy, verified}
 use Rattle.node.specs.Lease.{holds, holdingNumber, holdsNow}
 use Rattle.node.specs.Node.{emptyNode, activeOf, isBorder, clockOf, validRole, unmade, made}
 use Rattle.node.specs.Range.{valid, Valid}
 use Rattle.node.specs.Timing.{requestOf, startVerdict, planBy, startPlan, startedFrom, startedBy, start, polled, polledBy, poll}
 use Rattle.node.specs.declared.frames.Reported.{Reported}
+use Rattle.node.specs.declared.frames.Sent.{Sent}
 use Rattle.node.specs.declared.lease.Holding.the-variants as holding
 use Rattle.node.specs.declared.node.Made.{Made}
 use Rattle.node.specs.declared.node.Node.{Node}
@@ -66,16 +72,18 @@ use Rattle.node_laws.specs.Answers.{early, reached, isPolled, isDue, cla
 use Rattle.node_laws.specs.Phases.{waits}
 use Rattle.node_laws.specs.Calls.{NodeCall, starting, polling, delivering, asking, sending, receiving, reporting, perform}
 use Rattle.node_laws.proofs.Deliveries.{accepted-reports}
+use Rattle.node_laws.proofs.FrameKeys.{send-counts}
 use Rattle.node_laws.proofs.Valid.{attempt-valid}
 
 -- ---- a node that is not valid
 invalid : (c : NodeCall) (n : Node) → valid n ≡ false → verdictNumber (perform c n .verdict) ≡ 13
-unfolding perform start startPlan startVerdict poll deliver deliverVerdict holds send receive verified
+unfolding perform start startPlan startVerdict poll deliver deliverVerdict holds send frames.sending receive verified
 invalid (starting time timeout d) n e = rw e
 invalid (polling time) n e = rw e
 invalid (delivering delivery time payload) n e = rw e
 invalid (asking time) n e = rw e
-invalid (sending type) n e = rw e
+invalid (sending type) n e =
+    ap (λ (b : Bool). verdictNumber (cond b (sentBy n (sets.sending (n .sets) type)) (unsent n) .answer .verdict)) e
 invalid (receiving type identifier) n e = rw e
 invalid (reporting type identifier) n e = rw e
 
@@ -419,33 +427,36 @@ passed false t x e = refused-not refusal.Range e
 passed true false x e = refused-not refusal.Range e
 passed true true x e = (refl, e)
 
-sent-number :
-    (v t : Bool) (o : Option Key) →
-    verdictNumber (answered v t (keyOr refusal.Silent o) .verdict)
-    ≡ inOrder (refusedIf (not v) 13 ∷ refusedIf (not t) 13 ∷ refusedIf (isMissing o) 14 ∷ [])
-sent-number false t o = refl
-sent-number true false o = refl
-sent-number true true none = refl
-sent-number true true (some k) = refl
+-- sending, by the answers to its tests: is the node valid, is the type known, which key serves first
+abbrev sentAs : Node → Bool → Bool → Option Slot → Sent
+sentAs n v t o =
+    cond v (sentBy n (cond t (sets.sentWith (n .sets) (spentOn (n .sets .active) o)) (sets.unsent refusal.Range (n .sets)))) (unsent n)
 
-sent-key : (o : Option Key) → keyOr refusal.Silent o .verdict ≡ verdict.Accepted → o ≡ some (keyOr refusal.Silent o .key)
-sent-key none e = refused-not refusal.Silent e
-sent-key (some k) e = refl
+sent-is : CounterLaws → (n : Node) (type : ℕ) → frames.sending n type ≡ sentAs n (valid n) (knownType type) (firstServing type (n .sets .active))
+unfolding frames.sending sets.sending
+sent-is C n type =
+    ap
+    (λ (x : Spent). cond (valid n) (sentBy n (cond (knownType type) (sets.sentWith (n .sets) x) (sets.unsent refusal.Range (n .sets)))) (unsent n))
+    (C .spend-first type (n .sets .active))
+
+sent-number :
+    (n : Node) (v t : Bool) (o : Option Slot) →
+    verdictNumber (sentAs n v t o .answer .verdict)
+    ≡ inOrder (refusedIf (not v) 13 ∷ refusedIf (not t) 13 ∷ refusedIf (isMissing o) 14 ∷ [])
+sent-number n false t o = refl
+sent-number n true false o = refl
+sent-number n true true none = refl
+sent-number n true true (some x) = refl
 
 send-number :
-    (n : Node) (type : ℕ) →
+    CounterLaws → (n : Node) (type : ℕ) →
     verdictNumber (send n type .verdict)
     ≡ inOrder
-    (refusedIf (not (valid n)) 13 ∷ refusedIf (not (knownType type)) 13 ∷ refusedIf (isMissing (firstCover type (activeOf n))) 14 ∷ [])
-unfolding send sendingKey
-send-number n type = sent-number (valid n) (knownType type) (firstCover type (activeOf n))
-
-send-key : (n : Node) (type : ℕ) → send n type .verdict ≡ verdict.Accepted → firstCover type (activeOf n) ≡ some (send n type .key)
-unfolding send sendingKey
-send-key n type e =
-    let x = keyOr refusal.Silent (firstCover type (activeOf n)) in
-    let p = passed (valid n) (knownType type) x e in
-    sent-key (firstCover type (activeOf n)) (p .1) ∙ ap (λ (y : KeyAnswer). some (y .key)) (sym (p .0))
+    (refusedIf (not (valid n)) 13 ∷ refusedIf (not (knownType type)) 13 ∷ refusedIf (isMissing (firstServing type (n .sets .active))) 14 ∷ [])
+unfolding send
+send-number C n type =
+    ap (λ (x : Sent). verdictNumber (x .answer .verdict)) (sent-is C n type)
+    ∙ sent-number n (valid n) (knownType type) (firstServing type (n .sets .active))
 
 received-number :
     (type : ℕ) (v t : Bool) (o : Option Key) →
@@ -537,15 +548,15 @@ module _ (n : Node) (type identifier : ℕ) where
       go true = kept-by (receivingKey (n .sets) type identifier .verdict) active
       go false = refl
 
-pub answers-say : ReadsInRange → AnswersSay
-answers-say R = record {
+pub answers-say : CounterLaws → ReadsInRange → AnswersSay
+answers-say C R = record {
   invalid = invalid;
   made-number = made-number;
   start-number = start-number;
   poll-number = poll-number;
   delivery-number = λ delivery n time payload. delivery-number delivery n time R payload;
   holding-number = holding-number;
-  send-number = send-number;
+  send-number = send-number C;
   receive-number = receive-number;
   report-number = report-number;
   start-length = start-length;
@@ -554,7 +565,7 @@ answers-say R = record {
   gives-up = gives-up;
   delivery-reports = accepted-reports;
   holds-now = holds-now;
-  send-key = send-key;
+  send-counts = send-counts C;
   receive-key = receive-key;
   has-switched = has-switched;
   has-kept = has-kept;

@@ -13,13 +13,14 @@ use Rattle.refusal.specs.declared.Refusal.{Refusal}
 use Rattle.refusal.specs.declared.Refusal.the-variants as refusal
 use Rattle.refusal.specs.declared.Verdict.{Verdict}
 use Rattle.refusal.specs.declared.Verdict.the-variants as verdict
-use Rattle.link_key_set.specs.KeySet.{noKeys}
 use Rattle.link_key.specs.declared.Key.{Key}
 use Rattle.link_key_set.specs.declared.key_set.KeySet.{KeySet}
+use Rattle.link_key_counters.specs.Counters.{noCounted, succeeded}
 use Rattle.node_key_sets.specs.Sets.{twoSets, placed, install}
 use Rattle.node_key_sets.specs.Sets as sets
 use Rattle.node_key_sets.specs.declared.sets.KeySets.{KeySets}
 use Rattle.link_key_set.specs.KeyLaws.{KeyLaws}
+use Rattle.link_key_counters.specs.CounterLaws.{CounterLaws}
 use Rattle.node_key_sets.proofs.Valid.{install-valid, border-installs}
 use Rattle.node_attempt.specs.Attempt as attempt
 use Rattle.node_parameters.specs.Lease.{validAddress}
@@ -205,19 +206,19 @@ deliver-role delivery n time payload = go (deliver delivery n time payload .verd
 border-place :
     (n : Node) (r : Report) (set : KeySet) → n .role ≡ 1 → r ≡ Taken →
     ifTaken r (install (isBorder n) (n .sets) set) (placed (n .sets)) .verdict ≡ verdict.Accepted →
-    ifTaken r (install (isBorder n) (n .sets) set) (placed (n .sets)) .sets ≡ twoSets set noKeys
+    ifTaken r (install (isBorder n) (n .sets) set) (placed (n .sets)) .sets ≡ twoSets (succeeded (n .sets .active) set) noCounted
 border-place n r set b e a =
     let border = eq-eqb (n .role) 1 b in
     rw (e, border) (border-installs (n .sets) set (rw (e, border) at a))
 
--- ---- by the laws of keys and of what is read
-module _ (K : KeyLaws) (R : ReadsInRange) where
+-- ---- by the laws of keys, of counted sets and of what is read
+module _ (K : KeyLaws) (C : CounterLaws) (R : ReadsInRange) where
   placement-valid :
       (n : Node) (r : Report) (set : KeySet) → sets.valid (isBorder n) (n .sets) ≡ true →
       sets.valid (isBorder n) (ifTaken r (install (isBorder n) (n .sets) set) (placed (n .sets)) .sets) ≡ true
   placement-valid n Absent set v = v
   placement-valid n Discarded set v = v
-  placement-valid n Taken set v = install-valid K (isBorder n) (n .sets) set v
+  placement-valid n Taken set v = install-valid K C (isBorder n) (n .sets) set v
 
   -- ---- the node stays valid
   module _ (delivery : Delivery) (n : Node) (time : ℕ) (c : Configuration) (v : Valid n) (h : clockOf n ≤ time) (r : InRange c) where
@@ -266,7 +267,7 @@ module _ (K : KeyLaws) (R : ReadsInRange) where
       let taken : c .keys .report ≡ Taken = sym (ap (λ (m : Delivered). m .reports .keys) (p .is)) ∙ h .taken in
       let place = border-place n (c .keys .report) (c .keys .value) b taken (p .placed) in
       record {
-        active = rw (p .is) (rw place (h .set));
+        active = rw (p .is) (rw (place, C .succeeded-is (n .sets .active) (c .keys .value)) (h .set));
         pending = rw (p .is) (rw place);
         role = deliver-role delivery n time payload;
         valid = deliver-valid delivery n time payload v;

@@ -1,16 +1,25 @@
 -- Keys for frames: a valid node answers as its key sets do, and a verified frame leaves the sets or switches them.
 use Prim.Native.Nat.{ℕ}
 use native.Mathlib.Omega.{arith}
-use mathlib.Core.Path.{_≡_, refl, _∙_}
-use mathlib.Core.Bool.{Bool, true, false, cond}
+use mathlib.Core.Path.{_≡_, refl, sym, _∙_, ap}
+use mathlib.Core.Bool.{Bool, true, false, cond, not}
+use mathlib.Core.Option.{some}
+use borrow.Author.Tests.{eqb-false, not-true}
 use mathlib.Core.Logic.{_⊎_, inl, inr, ⊎-elim}
-use mathlib.Core.List.{List·Memᴰ}
+use mathlib.Core.List.{List·Memᴰ, Memᴰ·append-left}
+use Rattle.refusal.specs.Verdict.{refused-not}
 use Rattle.refusal.specs.declared.Refusal.the-variants as refusal
 use Rattle.refusal.specs.declared.Verdict.the-variants as verdict
 use Rattle.link_key.specs.Key.{covers}
-use Rattle.link_key_set.specs.KeySet.{Covers}
+use Rattle.link_key_set.specs.KeySet.{keysOf, Covers}
 use Rattle.link_key.specs.declared.Key.{Key}
-use Rattle.node_key_sets.specs.Frames.{withKey, withoutKey, sendingKey, receivingKey, verifiedIn, switched}
+use Rattle.link_key_counters.specs.CounterLaws.{CounterLaws}
+use Rattle.link_key_counters.specs.Counters.{Slot, slotsOf, lastCounter, isUsedUp, serves, firstServing, raised}
+use Rattle.link_key_counters.specs.declared.CountedSet.{CountedSet}
+use Rattle.logic_facts.specs.Tests.{both-right}
+use Rattle.node_key_sets.specs.Sets.{twoSets}
+use Rattle.node_key_sets.specs.Frames as sets-spec
+use Rattle.node_key_sets.specs.Frames.{withKey, withoutKey, receivingKey, verifiedIn, switched}
 use Rattle.node_key_sets.specs.declared.frames.Change.the-variants as change
 use Rattle.node_key_sets.specs.declared.frames.KeyAnswer.{KeyAnswer}
 use Rattle.node_key_sets.specs.declared.sets.KeySets.{KeySets}
@@ -19,9 +28,10 @@ use Rattle.node_key_sets.proofs.Valid.{switched-valid}
 use Rattle.node_key_sets.proofs.FrameKeys as sets
 use Rattle.node.specs.Node.{activeOf, pendingOf, isBorder, keyed}
 use Rattle.node.specs.Range.{valid, Valid}
-use Rattle.node.specs.Frames.{send, receive, reported, reportedBy, verified}
-use Rattle.node_laws.specs.Laws.{Without, KeysStay, Switched, Sends, Switching}
+use Rattle.node.specs.Frames.{unsent, sentBy, sending, send, sendCounter, afterSend, receive, reported, reportedBy, verified}
+use Rattle.node_laws.specs.Laws.{Without, KeysStay, Switched, Unspent, CanSend, Sends, Counts, Switching}
 use Rattle.node.specs.declared.frames.Reported.{Reported}
+use Rattle.node.specs.declared.frames.Sent.{Sent}
 use Rattle.node.specs.declared.node.Node.{Node}
 use Rattle.node_laws.proofs.Valid.{keys-valid, attempt-valid, address-valid, others-valid, valid-by}
 use Rattle.node_laws.proofs.KeysStay.{stay-self, stay-keyed}
@@ -31,24 +41,83 @@ answered-valid : (b : Bool) (x : KeyAnswer) → cond b x (withoutKey refusal.Ran
 answered-valid true x e = refl
 answered-valid false x e = absurd (let z : _≡_ {A = ℕ} 0 1 = cc in omega arith)
 
+-- ---- sending, by the laws of counted sets
+module _ (C : CounterLaws) (n : Node) (type : ℕ) where
+  abbrev asked : Bool → Sent
+  asked b = cond b (sentBy n (sets-spec.sending (n .sets) type)) (unsent n)
+
+  send-is : Valid n → send n type ≡ sets-spec.sending (n .sets) type .answer
+  unfolding send sending
+  send-is v = ap (λ (b : Bool). asked b .answer) v
+
+  asked-from :
+      (b : Bool) → asked b .answer .verdict ≡ verdict.Accepted →
+      List·Memᴰ (asked b .answer .key) (activeOf n) × (covers (asked b .answer .key) type ≡ true)
+  asked-from true a = sets.sent-from C (n .sets) type a
+  asked-from false a = refused-not refusal.Range a
+
+  pub send-from : send n type .verdict ≡ verdict.Accepted → Sends n type
+  unfolding send sending
+  send-from a = let s = asked-from (valid n) a in record { accepted = a; member = s .0; covering = s .1 }
+
+  pub can-send : KeyLaws → Valid n → CanSend n type → Sends n type
+  can-send K v c =
+      send-from (rw (send-is v) (sets.can-send C K (n .sets) type (record { slot = c .slot; member = c .member; serving = c .serving })))
+
+  pub covers-can : Covers (activeOf n) type → Unspent (activeOf n) type n → CanSend n type
+  covers-can c unspent =
+      let s = sets.covers-serves C (n .sets) type c fresh in record { slot = s .slot; member = s .member; serving = s .serving }
+    where
+      fresh : (x : Slot) → List·Memᴰ x (slotsOf (n .sets .active)) → covers (x .key) type ≡ true → x .counter ≡ lastCounter → ⊥
+      fresh x m e f =
+          unspent (x .key) (C .slot-key (n .sets .active) x m) e
+          (record { slot = x; member = Memᴰ·append-left (slotsOf (n .sets .pending)) m; key = refl; last = f })
+
+  asked-counts :
+      (b : Bool) → asked b .answer .verdict ≡ verdict.Accepted →
+      (x : Slot) × (firstServing type (n .sets .active) ≡ some x) × (asked b .answer .key ≡ x .key) × (asked b .counter ≡ x .counter)
+      × (asked b .node ≡ keyed n (twoSets (raised (n .sets .active) x) (n .sets .pending)))
+  asked-counts true a = let c = sets.sent-counts C (n .sets) type a in (c .slot, c .first, c .key, c .counter, ap (keyed n) (c .sets))
+  asked-counts false a = refused-not refusal.Range a
+
+  pub send-counts : send n type .verdict ≡ verdict.Accepted → Counts n type
+  unfolding send sendCounter afterSend sending
+  send-counts a =
+      let c = asked-counts (valid n) a in
+      let test = both-right (covers (c .0 .key) type) (not (isUsedUp (c .0))) (C .first-serves type (n .sets .active) (c .0) (c .1) .1) in
+      record {
+        slot = c .0;
+        first = c .1;
+        key = c .2;
+        counter = c .3;
+        unused = λ e. eqb-false (c .0 .counter) lastCounter (not-true (isUsedUp (c .0)) test) (sym (c .3) ∙ e);
+        after = c .4;
+      }
+
+  -- only a counter rises
+  stay-sent : KeysStay n (keyed n (sets-spec.sending (n .sets) type .sets))
+  stay-sent =
+      let k = sets.sent-keys C (n .sets) type in
+      let after = keyed n (sets-spec.sending (n .sets) type .sets) in
+      record {
+        active = ap keysOf (k .0);
+        pending = ap (λ (s : CountedSet). keysOf (s .set)) (k .1);
+        role = refl;
+        valid =
+            λ v. valid-by after (sets.sent-valid C (isBorder n) (n .sets) type (keys-valid n v)) (attempt-valid n v) (address-valid n v)
+            (others-valid n v);
+      }
+
+  pub send-stays : KeysStay n (afterSend n type)
+  unfolding afterSend sending
+  send-stays = go (valid n)
+    where
+      go : (b : Bool) → KeysStay n (asked b .node)
+      go true = stay-sent
+      go false = stay-self n
+
 -- ---- by the laws of keys
 module _ (K : KeyLaws) where
-  -- ---- sending
-  module _ (n : Node) (type : ℕ) where
-    send-is : Valid n → send n type ≡ sendingKey (n .sets) type
-    unfolding send
-    send-is v = rw v
-
-    pub send-from : send n type .verdict ≡ verdict.Accepted → Sends n type
-    unfolding send
-    send-from a =
-        let v : Valid n = answered-valid (valid n) (sendingKey (n .sets) type) a in
-        let s = sets.sent-from K (n .sets) type (rw v at a) in
-        record { accepted = a; member = rw v (s .0); covering = rw v (s .1) }
-
-    pub can-send : Valid n → Covers (activeOf n) type → Sends n type
-    can-send v c = send-from (rw (send-is v) (sets.can-send K (n .sets) type c))
-
   -- ---- receiving
   module _ (n : Node) (type identifier : ℕ) where
     receive-is : Valid n → receive n type identifier ≡ receivingKey (n .sets) type identifier

@@ -9,24 +9,20 @@ use Rattle.refusal.specs.declared.Verdict.the-variants.{Refused}
 use Rattle.link_key_set.specs.KeySet.{Apart}
 use Rattle.node_key_sets.specs.Frames.{changeVerdict}
 use Rattle.link_key_set.specs.KeyLaws.{KeyLaws}
+use Rattle.link_key_counters.specs.CounterLaws.{CounterLaws}
 use Rattle.cojp.specs.InRange.{ReadsInRange}
 use Rattle.node_key_sets.proofs.Valid.{sets-apart, border-empty}
 use Rattle.node.specs.Node.{activeOf, pendingOf, isBorder}
 use Rattle.node.specs.Range.{Valid}
 use Rattle.node.specs.Frames.{send, afterSend, verified}
 use Rattle.node_laws.specs.Calls.{NodeCall, starting, polling, delivering, asking, sending, receiving, reporting, perform}
-use Rattle.node_laws.specs.Laws.{KeysStay, NodeLaws}
+use Rattle.node_laws.specs.Laws.{NodeLaws}
 use Rattle.node.specs.declared.node.Node.{Node}
 use Rattle.node_laws.proofs.Valid.{keys-valid}
-use Rattle.node_laws.proofs.KeysStay.{stay-self}
 use Rattle.node_laws.proofs.Timings.{start-stays, poll-stays}
 use Rattle.node_laws.proofs.Deliveries.{deliver-leaves, deliver-valid, deliver-role, border-takes}
-use Rattle.node_laws.proofs.FrameKeys.{can-send, send-from, receive-pending, receive-from, verified-either, verified-switches, verified-stays, verified-says}
+use Rattle.node_laws.proofs.FrameKeys.{covers-can, can-send, send-from, send-stays, receive-pending, receive-from, verified-either, verified-switches, verified-stays, verified-says}
 use Rattle.node_laws.proofs.Untouched.{node-demand1}
-
-send-stays : (n : Node) (type : ℕ) → KeysStay n (afterSend n type)
-unfolding afterSend
-send-stays n type = stay-self n
 
 send-refused : (n : Node) (type : ℕ) (k : Refusal) → send n type .verdict ≡ Refused k → afterSend n type ≡ n
 unfolding perform
@@ -38,8 +34,8 @@ report-refused :
 unfolding perform
 report-refused n type identifier k e = node-demand1 .calls (reporting type identifier) n k e .node
 
--- ---- by the laws of keys and of what is read
-module _ (K : KeyLaws) (R : ReadsInRange) where
+-- ---- by the laws of keys, of counted sets and of what is read
+module _ (K : KeyLaws) (C : CounterLaws) (R : ReadsInRange) where
   valid-apart : (n : Node) → Valid n → Apart (activeOf n) (pendingOf n)
   valid-apart n v = K .shares-apart (activeOf n) (pendingOf n) (sets-apart (isBorder n) (n .sets) (keys-valid n v))
 
@@ -47,22 +43,22 @@ module _ (K : KeyLaws) (R : ReadsInRange) where
   border-none n v b = border-empty K (isBorder n) (n .sets) (keys-valid n v) (eq-eqb (n .role) 1 b)
 
   role-stays : (c : NodeCall) (n : Node) → perform c n .node .role ≡ n .role
-  unfolding perform afterSend
+  unfolding perform
   role-stays (starting time timeout d) n = start-stays n time timeout d .role
   role-stays (polling time) n = poll-stays n time .role
   role-stays (delivering delivery time payload) n = deliver-role delivery n time payload
   role-stays (asking time) n = refl
-  role-stays (sending type) n = refl
+  role-stays (sending type) n = send-stays C n type .role
   role-stays (receiving type identifier) n = refl
   role-stays (reporting type identifier) n = ⊎-elim (λ k. k .role) (λ s. s .1 .role) (verified-either K n type identifier)
 
   stays-valid : (c : NodeCall) (n : Node) → Valid n → Valid (perform c n .node)
-  unfolding perform afterSend
+  unfolding perform
   stays-valid (starting time timeout d) n v = start-stays n time timeout d .valid v
   stays-valid (polling time) n v = poll-stays n time .valid v
-  stays-valid (delivering delivery time payload) n v = deliver-valid K R delivery n time payload v
+  stays-valid (delivering delivery time payload) n v = deliver-valid K C R delivery n time payload v
   stays-valid (asking time) n v = v
-  stays-valid (sending type) n v = v
+  stays-valid (sending type) n v = send-stays C n type .valid v
   stays-valid (receiving type identifier) n v = v
   stays-valid (reporting type identifier) n v =
       ⊎-elim (λ k. k .valid v) (λ s. s .1 .valid v) (verified-either K n type identifier)
@@ -75,10 +71,10 @@ module _ (K : KeyLaws) (R : ReadsInRange) where
         stays-valid = stays-valid;
         role-stays = role-stays;
         refused-stays = λ c n k e. node-demand1 .calls c n k e .node;
-        covers-can = λ n type c. c;
-        can-send = can-send K;
-        send-from = send-from K;
-        send-stays = send-stays;
+        covers-can = covers-can C;
+        can-send = λ n type. can-send C n type K;
+        send-from = send-from C;
+        send-stays = send-stays C;
         send-refused = send-refused;
         receive-pending = receive-pending K;
         receive-from = receive-from K;
@@ -91,5 +87,5 @@ module _ (K : KeyLaws) (R : ReadsInRange) where
         start-stays = start-stays;
         poll-stays = poll-stays;
         deliver-refused = λ delivery n time payload k e. deliver-leaves n delivery time payload k e .0;
-        border-takes = border-takes K R;
+        border-takes = border-takes K C R;
       }

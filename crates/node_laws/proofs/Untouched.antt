@@ -13,7 +13,8 @@ use Rattle.refusal.specs.declared.Verdict.the-variants as verdict
 use Rattle.cbor.specs.Answer.{Plan, refuse, emit, answer, after}
 use Rattle.cbor.specs.declared.write.Written.the-variants as w
 use Rattle.link_key.specs.Key.{noKey}
-use Rattle.node_key_sets.specs.Frames.{withoutKey, sendingKey, receivingKey, verifiedIn, changeVerdict}
+use Rattle.node_key_sets.specs.Frames as sets-spec
+use Rattle.node_key_sets.specs.Frames.{withoutKey, receivingKey, verifiedIn, changeVerdict}
 use Rattle.node_key_sets.specs.declared.frames.Change.the-variants as change
 use Rattle.node_key_sets.specs.declared.frames.KeyAnswer.{KeyAnswer}
 use Rattle.node_key_sets.proofs.Untouched as sets
@@ -24,10 +25,12 @@ use Rattle.node_parameters.specs.Octets.{validOctets}
 use Rattle.node.specs.Node.{emptyNode, validRole, attempting, keyed, made}
 use Rattle.node.specs.Range.{valid}
 use Rattle.node.specs.Timing.{startPlan, startedFrom, startedBy, start, startAfter, polled, polledBy, poll}
-use Rattle.node.specs.Frames.{send, afterSend, receive, reported, reportedBy, verified}
+use Rattle.node.specs.Frames as frames
+use Rattle.node.specs.Frames.{unsent, sentBy, send, sendCounter, afterSend, receive, reported, reportedBy, verified}
 use Rattle.node.specs.Lease.{holds, holdingVerdict}
-use Rattle.node_laws.specs.Calls.{NodeCall, starting, polling, delivering, asking, sending, receiving, reporting, nothing, written, reports, key, dueObject, holdingObject, changeObject, perform, Untouched, Demand1}
+use Rattle.node_laws.specs.Calls.{NodeCall, starting, polling, delivering, asking, sending, receiving, reporting, nothing, written, reports, key, counted, dueObject, holdingObject, changeObject, perform, Untouched, Demand1}
 use Rattle.node.specs.declared.frames.Reported.{Reported}
+use Rattle.node.specs.declared.frames.Sent.{Sent}
 use Rattle.node.specs.declared.lease.Holding.{Holding}
 use Rattle.node.specs.declared.lease.Holding.the-variants as holding
 use Rattle.node_parameters.specs.declared.octets.HeldOctets.{HeldOctets}
@@ -77,9 +80,20 @@ range-or : (b : Bool) (x : KeyAnswer) → Unanswered x → Unanswered (cond b x 
 range-or true x p = p
 range-or false x p = λ k e. refl
 
-send-untouched : (n : Node) (type : ℕ) → Unanswered (send n type)
-unfolding send
-send-untouched n type = range-or (valid n) (sendingKey (n .sets) type) (sets.send-untouched (n .sets) type)
+send-untouched :
+    (n : Node) (type : ℕ) (k : Refusal) → send n type .verdict ≡ verdict.Refused k →
+    (afterSend n type ≡ n) × (counted (send n type .key) (sendCounter n type) ≡ counted noKey 0)
+unfolding send sendCounter afterSend frames.sending
+send-untouched n type k = go (valid n)
+  where
+    asked : Bool → Sent
+    asked b = cond b (sentBy n (sets-spec.sending (n .sets) type)) (unsent n)
+
+    go :
+        (b : Bool) → asked b .answer .verdict ≡ verdict.Refused k →
+        (asked b .node ≡ n) × (counted (asked b .answer .key) (asked b .counter) ≡ counted noKey 0)
+    go true e = let u = sets.send-untouched (n .sets) type k e in (ap (keyed n) (u .sets), rw (u .key, u .counter))
+    go false e = (refl, refl)
 
 receive-untouched : (n : Node) (type identifier : ℕ) → Unanswered (receive n type identifier)
 unfolding receive
@@ -100,7 +114,7 @@ report-untouched n type identifier k = go (valid n)
 
 -- ---- all calls
 untouched : (c : NodeCall) (n : Node) (k : Refusal) → perform c n .verdict ≡ verdict.Refused k → Untouched c n (perform c n)
-unfolding perform start startAfter afterSend
+unfolding perform start startAfter
 untouched (starting time timeout d) n k e =
     let u = start-untouched n (startedFrom n time timeout) d k (startPlan n time timeout) e in
     record { node = u .0; lent = u .1; object = ap written (u .2) }
@@ -108,7 +122,7 @@ untouched (polling time) n k e = let u = node-polled n time k e in record { node
 untouched (delivering delivery time payload) n k e =
     let u = deliver-leaves n delivery time payload k e in record { node = u .0; lent = refl; object = ap reports (u .1) }
 untouched (asking time) n k e = record { node = refl; lent = refl; object = holding-untouched (holds n time) k e }
-untouched (sending type) n k e = record { node = refl; lent = refl; object = ap key (send-untouched n type k e) }
+untouched (sending type) n k e = let u = send-untouched n type k e in record { node = u .0; lent = refl; object = u .1 }
 untouched (receiving type identifier) n k e =
     record { node = refl; lent = refl; object = ap key (receive-untouched n type identifier k e) }
 untouched (reporting type identifier) n k e =

@@ -14,7 +14,8 @@ use Rattle.refusal.specs.declared.Verdict.the-variants.{Accepted}
 use Rattle.link_key_usage.specs.Usage.{knownType}
 use Rattle.link_key.specs.Key.{covers}
 use Rattle.link_key.specs.declared.Key.{Key}
-use Rattle.link_key_set.specs.KeySet.{keysOf, sameKeys, shares, has, firstCover}
+use Rattle.link_key_set.specs.KeySet.{keysOf, sameKeys, shares, has}
+use Rattle.link_key_counters.specs.Counters.{Slot, firstServing}
 use Rattle.cbor.specs.Answer.{answer}
 use Rattle.cbor.specs.declared.write.Written.{Written}
 use Rattle.cbor.specs.declared.write.Written.the-variants as written
@@ -38,6 +39,7 @@ use Rattle.node.specs.Range.{valid}
 use Rattle.node.specs.Timing.{requestOf, start, poll}
 use Rattle.node.specs.declared.node.Node.{Node}
 use Rattle.node_laws.specs.Calls.{NodeCall, perform}
+use Rattle.node_laws.specs.Laws.{Counts}
 use Rattle.node_laws.specs.Phases.{waits}
 
 -- ---- the tests in 01's words
@@ -63,10 +65,10 @@ clashes n p =
     (not (isBorder n) && not (sameKeys (keysOf (p .value)) (activeOf n)) && shares (keysOf (p .value)) (activeOf n))
     false
 
--- SILENT: no such key, or none that covers the type
-abbrev pub isMissing : Option Key → Bool
+-- SILENT: no active key that covers the type and is not used up; no such key, or none that covers the type
+abbrev pub isMissing : Option Slot → Bool
 isMissing none = true
-isMissing (some k) = false
+isMissing (some x) = false
 
 abbrev pub isUncovered : ℕ → Option Key → Bool
 isUncovered type none = true
@@ -117,7 +119,10 @@ pub record AnswersSay : Type 0 where
       (n : Node) (type : ℕ) →
       verdictNumber (send n type .verdict)
       ≡ inOrder
-      (refusedIf (not (valid n)) 13 ∷ refusedIf (not (knownType type)) 13 ∷ refusedIf (isMissing (firstCover type (activeOf n))) 14 ∷ [])
+      (refusedIf (not (valid n)) 13
+      ∷ refusedIf (not (knownType type)) 13
+      ∷ refusedIf (isMissing (firstServing type (n .sets .active))) 14
+      ∷ [])
   pub receive-number :
       (n : Node) (type identifier : ℕ) →
       verdictNumber (receive n type identifier .verdict)
@@ -145,8 +150,9 @@ pub record AnswersSay : Type 0 where
       deliver delivery n time payload .reports ≡ reportsOf (isBorder n) (readFor n payload .configuration)
   -- yes
   pub holds-now : (n : Node) (time : ℕ) → holdsNow (holds n time) ≡ (valid n && not (early n time) && holdsAt (n .address) time)
-  -- the key: the first active one that covers the type; the active or else pending one with the identifier
-  pub send-key : (n : Node) (type : ℕ) → send n type .verdict ≡ Accepted → firstCover type (activeOf n) ≡ some (send n type .key)
+  -- the key, and sending's counter: the first active one that covers the type and is not used up; the active or else pending one with
+  -- the identifier
+  pub send-counts : (n : Node) (type : ℕ) → send n type .verdict ≡ Accepted → Counts n type
   pub receive-key :
       (n : Node) (type identifier : ℕ) → receive n type identifier .verdict ≡ Accepted →
       heldKey (n .sets) identifier ≡ some (receive n type identifier .key)

@@ -18,7 +18,7 @@ use Rattle.node.specs.Timing.{start, startAfter, poll}
 use Rattle.node_parameters.specs.Reports.{noReports}
 use Rattle.node.specs.Delivery.{deliver}
 use Rattle.node.specs.Lease.{holds, holdingVerdict}
-use Rattle.node.specs.Frames.{send, afterSend, receive, verified}
+use Rattle.node.specs.Frames.{send, sendCounter, afterSend, receive, verified}
 use Rattle.node_delivery.specs.declared.Delivery.{Delivery}
 use Rattle.node_parameters.specs.declared.reports.Reports.{Reports}
 use Rattle.node.specs.declared.lease.Holding.{Holding}
@@ -50,6 +50,8 @@ pub data Object : Type 0 where
   reports : Reports → Object
   state : Holding → Object
   key : Key → Object
+  -- with its counter
+  counted : Key → ℕ → Object
   effect : Change → Object
 
 -- an answer that is a refusal is no object
@@ -75,7 +77,7 @@ emptyObject (starting time timeout d) = written 0
 emptyObject (polling time) = nothing
 emptyObject (delivering delivery time payload) = reports noReports
 emptyObject (asking time) = nothing
-emptyObject (sending type) = key noKey
+emptyObject (sending type) = counted noKey 0
 emptyObject (receiving type identifier) = key noKey
 emptyObject (reporting type identifier) = nothing
 
@@ -108,7 +110,7 @@ perform (delivering delivery time payload) n =
     performed (deliver delivery n time payload .verdict) (deliver delivery n time payload .node)
     (reports (deliver delivery n time payload .reports)) payload
 perform (asking time) n = performed (holdingVerdict (holds n time)) n (holdingObject (holds n time)) []
-perform (sending type) n = performed (send n type .verdict) (afterSend n type) (key (send n type .key)) []
+perform (sending type) n = performed (send n type .verdict) (afterSend n type) (counted (send n type .key) (sendCounter n type)) []
 perform (receiving type identifier) n = performed (receive n type identifier .verdict) n (key (receive n type identifier .key)) []
 perform (reporting type identifier) n =
     performed (changeVerdict (verified n type identifier .change)) (verified n type identifier .node)

@@ -3,6 +3,7 @@ use Prim.Native.Nat.{ℕ, zero, suc, _+_, _*_, _≤_}
 use mathlib.Core.Path.{_≡_}
 use mathlib.Core.Bool.{true}
 use mathlib.Core.Logic.{_⊎_}
+use mathlib.Core.Option.{some}
 use mathlib.Core.List.{List, [], _∷_, List·Memᴰ}
 use Rattle.refusal.specs.declared.Refusal.{Refusal}
 use Rattle.refusal.specs.declared.Verdict.the-variants.{Accepted, Refused}
@@ -10,6 +11,8 @@ use Rattle.link_key.specs.Key.{covers, sameKey}
 use Rattle.link_key_set.specs.KeySet.{keysOf, Apart, Covers}
 use Rattle.link_key.specs.declared.Key.{Key}
 use Rattle.link_key_set.specs.declared.key_set.KeySet.{KeySet}
+use Rattle.link_key_counters.specs.Counters.{Slot, slotsOf, serves, firstServing, raised}
+use Rattle.node_key_sets.specs.Sets.{slotsIn, twoSets}
 use Rattle.node_key_sets.specs.Frames.{withKey, changeVerdict}
 use Rattle.node_key_sets.specs.declared.frames.Change.the-variants as change
 use Rattle.node_attempt.specs.Poll as attempt
@@ -17,11 +20,11 @@ use Rattle.node_attempt.specs.declared.attempt.Phase.the-variants as phase
 use Rattle.node_attempt.specs.declared.poll.Due.{Due}
 use Rattle.node_attempt.specs.declared.poll.Due.the-variants.{SendAgain, GaveUp}
 use Rattle.cojp.specs.declared.report.Report.the-variants.{Taken}
-use Rattle.node.specs.Node.{activeOf, pendingOf, clockOf}
+use Rattle.node.specs.Node.{activeOf, pendingOf, clockOf, keyed}
 use Rattle.node.specs.Range.{Valid}
 use Rattle.node.specs.Timing.{start, poll}
 use Rattle.node.specs.Delivery.{readFor, deliver}
-use Rattle.node.specs.Frames.{send, afterSend, receive, verified}
+use Rattle.node.specs.Frames.{send, sendCounter, afterSend, receive, verified}
 use Rattle.node_laws.specs.Calls.{NodeCall, perform}
 use Rattle.node_delivery.specs.declared.Delivery.{Delivery}
 use Rattle.node.specs.declared.node.Node.{Node}
@@ -45,15 +48,38 @@ pub record Switched (n m : Node) : Type 0 where
   pub role : m .role ≡ n .role
   pub valid : Valid n → Valid m
 
--- the node can send the type: its active set covers it
-abbrev pub CanSend : Node → ℕ → Type 0
-CanSend n type = Covers (activeOf n) type
+-- the node holds the key, active or pending, with the counter that is never used
+pub record UsedUp (n : Node) (k : Key) : Type 0 where
+  pub slot : Slot
+  pub member : List·Memᴰ slot (slotsIn (n .sets))
+  pub key : slot .key ≡ k
+  pub last : slot .counter ≡ 4294967295
+
+-- no key of the list that covers the type is used up at the node
+abbrev pub Unspent : List Key → ℕ → Node → Type 0
+Unspent ks type n = (k : Key) → List·Memᴰ k ks → covers k type ≡ true → UsedUp n k → ⊥
+
+-- the node can send the type: an active key covers it and is not used up
+pub record CanSend (n : Node) (type : ℕ) : Type 0 where
+  pub slot : Slot
+  pub member : List·Memᴰ slot (slotsOf (n .sets .active))
+  pub serving : serves type slot ≡ true
 
 -- asked to send the type, the node answers with an active key that covers it
 pub record Sends (n : Node) (type : ℕ) : Type 0 where
   pub accepted : send n type .verdict ≡ Accepted
   pub member : List·Memᴰ (send n type .key) (activeOf n)
   pub covering : covers (send n type .key) type ≡ true
+
+-- the first active key that covers the type and is not used up is sent with its counter, which is one higher afterwards; nothing else
+-- changes
+pub record Counts (n : Node) (type : ℕ) : Type 0 where
+  pub slot : Slot
+  pub first : firstServing type (n .sets .active) ≡ some slot
+  pub key : send n type .key ≡ slot .key
+  pub counter : sendCounter n type ≡ slot .counter
+  pub unused : sendCounter n type ≡ 4294967295 → ⊥
+  pub after : afterSend n type ≡ keyed n (twoSets (raised (n .sets .active) slot) (n .sets .pending))
 
 -- the key set that a payload holds, as the node reads it
 abbrev pub setIn : Node → List ℕ → KeySet
@@ -88,8 +114,9 @@ pub record NodeLaws : Type 0 where
   pub stays-valid : (c : NodeCall) (n : Node) → Valid n → Valid (perform c n .node)
   pub role-stays : (c : NodeCall) (n : Node) → perform c n .node .role ≡ n .role
   pub refused-stays : (c : NodeCall) (n : Node) (k : Refusal) → perform c n .verdict ≡ Refused k → perform c n .node ≡ n
-  -- a node that can send a type sends it; a key that is sent is an active one and covers the type; sending leaves the keys
-  pub covers-can : (n : Node) (type : ℕ) → Covers (activeOf n) type → CanSend n type
+  -- a node whose active set covers a type, with no covering key used up, can send it; a node that can sends it; a key that is sent is an
+  -- active one and covers the type; sending leaves the keys
+  pub covers-can : (n : Node) (type : ℕ) → Covers (activeOf n) type → Unspent (activeOf n) type n → CanSend n type
   pub can-send : (n : Node) (type : ℕ) → Valid n → CanSend n type → Sends n type
   pub send-from : (n : Node) (type : ℕ) → send n type .verdict ≡ Accepted → Sends n type
   pub send-stays : (n : Node) (type : ℕ) → KeysStay n (afterSend n type)

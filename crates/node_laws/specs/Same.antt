@@ -4,6 +4,7 @@ use mathlib.Core.Path.{_≡_}
 use mathlib.Core.Bool.{true, cond}
 use mathlib.Core.List.{List}
 use mathlib.Core.Option.{Option, none, some}
+use Rattle.link_key_counters.specs.Counters.{slotsOf}
 use Rattle.cojp.specs.Octets.{bytesIn}
 use Rattle.cojp.specs.Same.{leaseOf, SameConfiguration}
 use Rattle.cojp.specs.Writing.{keysInRange}
@@ -30,6 +31,8 @@ pub record SameNode (n m : Node) : Type 0 where
   pub attempt : n .attempt ≡ m .attempt
   pub active : activeOf n ≡ activeOf m
   pub pending : pendingOf n ≡ pendingOf m
+  pub active-slots : slotsOf (n .sets .active) ≡ slotsOf (m .sets .active)
+  pub pending-slots : slotsOf (n .sets .pending) ≡ slotsOf (m .sets .pending)
   pub address : addressHeld (n .address) ≡ addressHeld (m .address)
   pub jrc : octetsHeld (n .jrc) ≡ octetsHeld (m .jrc)
   pub network : octetsHeld (n .network) ≡ octetsHeld (m .network)

@@ -16,6 +16,7 @@ pub fn laws()
     ensures { λ r. ⌜ NodeLaws ⌝ }
 {
     link_key_set::laws();
+    link_key_counters::laws();
     cojp::reads_in_range();
 }
 
@@ -27,12 +28,15 @@ pub fn gives_up()
 // Applied to the same node, the same configurations give the same verdict and the same node.
 pub fn applies_alike()
     ensures { λ r. ⌜ AppliesAlike ⌝ }
-{}
+{
+    link_key_counters::laws();
+}
 
 // The answers of the calls in document 01's numbers and values.
 pub fn answers_say()
     ensures { λ r. ⌜ AnswersSay ⌝ }
 {
+    link_key_counters::laws();
     cojp::reads_in_range();
 }
 
