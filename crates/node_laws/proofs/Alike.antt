@@ -32,7 +32,7 @@ use Rattle.node_parameters.specs.Reports.{discarded, reportsOf}
 use Rattle.node.specs.Node.{isBorder}
 use Rattle.node.specs.Delivery.{placementOf, configured, undelivered, owesIdentifier, placedBy, apply}
 use Rattle.node_delivery.specs.Delivery.{asksIdentifier}
-use Rattle.node_laws.specs.Same.{octetsHeld, addressHeld, SameNode, SameOutcome, AppliesAlike}
+use Rattle.node_laws.specs.Same.{octetsHeld, addressHeld, SameNode, SameCounters, SameOutcome, AppliesAlike}
 use Rattle.node_delivery.specs.declared.Delivery.{Delivery}
 use Rattle.node_parameters.specs.declared.octets.HeldOctets.{HeldOctets}
 use Rattle.node.specs.declared.node.Node.{Node}
@@ -108,13 +108,14 @@ same-self n = record {
   attempt = refl;
   active = refl;
   pending = refl;
-  active-slots = refl;
-  pending-slots = refl;
   address = refl;
   jrc = refl;
   network = refl;
   prefix = refl;
 }
+
+same-counters : (n : Node) → SameCounters n n
+same-counters n = record { active = refl; pending = refl }
 
 module _ (C : CounterLaws) (delivery : Delivery) (n : Node) (time : ℕ) (c d : Configuration)
     (p : keysInRange (c .keys) ≡ true) (q : keysInRange (d .keys) ≡ true) (h : SameConfiguration c d) where
@@ -142,21 +143,25 @@ module _ (C : CounterLaws) (delivery : Delivery) (n : Node) (time : ℕ) (c d : 
     attempt = refl;
     active = places .active;
     pending = places .pending;
-    active-slots = places .active-slots;
-    pending-slots = places .pending-slots;
     address = address-same time (c .address) (d .address) (n .address) (h .address);
     jrc = octets-same (c .jrc .report) (d .jrc .report) (c .jrc .value) (d .jrc .value) (n .jrc) (h .jrc);
     network = border-same (isBorder n) (c .network .report) (d .network .report) (c .network .value) (d .network .value) (n .network) (h .network);
     prefix = border-same (isBorder n) (c .prefix .report) (d .prefix .report) (c .prefix .value) (d .prefix .value) (n .prefix) (h .prefix);
   }
 
+  counters-same :
+      SameCounters (configured delivery n time c (placementOf n (c .keys) .sets) (reportsOf (isBorder n) c))
+      (configured delivery n time d (placementOf n (d .keys) .sets) (reportsOf (isBorder n) d))
+  unfolding configured reportsOf
+  counters-same = record { active = places .active-slots; pending = places .pending-slots }
+
   outcomes :
       (o : Bool) (v : Verdict) →
       SameOutcome (cond o (undelivered refusal.Owed n) (placedBy v delivery n time c (placementOf n (c .keys) .sets)))
       (cond o (undelivered refusal.Owed n) (placedBy v delivery n time d (placementOf n (d .keys) .sets)))
-  outcomes true v = record { verdict = refl; node = same-self n }
-  outcomes false (verdict.Refused k) = record { verdict = refl; node = same-self n }
-  outcomes false verdict.Accepted = record { verdict = refl; node = node-same }
+  outcomes true v = record { verdict = refl; node = same-self n; counters = same-counters n }
+  outcomes false (verdict.Refused k) = record { verdict = refl; node = same-self n; counters = same-counters n }
+  outcomes false verdict.Accepted = record { verdict = refl; node = node-same; counters = counters-same }
 
   applied-alike : SameOutcome (apply delivery n time c) (apply delivery n time d)
   unfolding apply

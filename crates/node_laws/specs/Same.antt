@@ -25,22 +25,26 @@ octetsHeld h = cond (h .held) (some (bytesIn (h .value))) none
 abbrev pub addressHeld : HeldAddress → Option (List ℕ × Option ℕ × ℕ)
 addressHeld a = cond (a .held) (some (a .value .bytes, leaseOf (a .value), a .received)) none
 
--- two nodes that differ at most in places that are never looked at
+-- two nodes that differ at most in places that are never looked at, and in their counters
 pub record SameNode (n m : Node) : Type 0 where
   pub role : n .role ≡ m .role
   pub attempt : n .attempt ≡ m .attempt
   pub active : activeOf n ≡ activeOf m
   pub pending : pendingOf n ≡ pendingOf m
-  pub active-slots : slotsOf (n .sets .active) ≡ slotsOf (m .sets .active)
-  pub pending-slots : slotsOf (n .sets .pending) ≡ slotsOf (m .sets .pending)
   pub address : addressHeld (n .address) ≡ addressHeld (m .address)
   pub jrc : octetsHeld (n .jrc) ≡ octetsHeld (m .jrc)
   pub network : octetsHeld (n .network) ≡ octetsHeld (m .network)
   pub prefix : octetsHeld (n .prefix) ≡ octetsHeld (m .prefix)
 
+-- their keys have the same counters too
+pub record SameCounters (n m : Node) : Type 0 where
+  pub active : slotsOf (n .sets .active) ≡ slotsOf (m .sets .active)
+  pub pending : slotsOf (n .sets .pending) ≡ slotsOf (m .sets .pending)
+
 pub record SameOutcome (x y : Delivered) : Type 0 where
   pub verdict : x .verdict ≡ y .verdict
   pub node : SameNode (x .node) (y .node)
+  pub counters : SameCounters (x .node) (y .node)
 
 -- both with key sets within their limits, as every configuration that was read has
 abbrev pub AppliesAlike : Type 0

@@ -1,5 +1,6 @@
 -- Parameter by parameter: what the second takes overrides the first, what it does not take leaves what the first left. A key set's place
--- goes by the active set alone, which an accepted set leaves at an ordinary node, and at a border router by nothing that is held.
+-- goes by the active set alone, which an accepted set leaves at an ordinary node, and at a border router by nothing that is held but the
+-- counters.
 use Prim.Native.Nat.{ℕ}
 use mathlib.Core.Path.{_≡_, refl, ap, sym, _∙_}
 use mathlib.Core.Bool.{Bool, true, false, cond}
@@ -7,8 +8,11 @@ use native.Mathlib.Omega.{arith}
 use Rattle.refusal.specs.declared.Refusal.the-variants as refusal
 use Rattle.refusal.specs.declared.Verdict.{Verdict}
 use Rattle.refusal.specs.declared.Verdict.the-variants.{Accepted, Refused}
-use Rattle.link_key_set.specs.KeySet.{keysOf, noKeys, allowedSet, sameKeys, shares}
+use Rattle.link_key_set.specs.KeySet.{keysOf, allowedSet, sameKeys, shares}
 use Rattle.link_key_set.specs.declared.key_set.KeySet.{KeySet}
+use Rattle.link_key_counters.specs.CounterLaws.{CounterLaws}
+use Rattle.link_key_counters.specs.Counters.{arrived, noCounted, succeeded}
+use Rattle.link_key_counters.specs.declared.CountedSet.{CountedSet}
 use Rattle.cojp.specs.Reading.{ifTaken}
 use Rattle.cojp.specs.declared.address.AddressParameter.{AddressParameter}
 use Rattle.cojp.specs.declared.configuration.Configuration.{Configuration}
@@ -19,7 +23,7 @@ use Rattle.cojp.specs.declared.report.Report.the-variants.{Absent, Taken, Disca
 use Rattle.cojp_merge.specs.Merge.{merged}
 use Rattle.node_attempt.specs.declared.attempt.Attempt.{Attempt}
 use Rattle.node_delivery.specs.declared.Delivery.the-variants.{Update}
-use Rattle.node_key_sets.specs.Sets.{activeIn, twoSets, placed, unplaced, place, install}
+use Rattle.node_key_sets.specs.Sets.{activeIn, twoSets, placed, unplaced, install}
 use Rattle.node_key_sets.specs.declared.sets.KeySets.{KeySets}
 use Rattle.node_key_sets.specs.declared.sets.Placement.{Placement}
 use Rattle.node_parameters.specs.Lease.{addressAfter}
@@ -29,10 +33,10 @@ use Rattle.node_parameters.specs.declared.address.HeldAddress.{HeldAddress}
 use Rattle.node_parameters.specs.declared.octets.HeldOctets.{HeldOctets}
 use Rattle.node_parameters.specs.declared.reports.Reports.{Reports}
 use Rattle.node.specs.Delivery.{apply, configured, placementOf, placedBy, delivered}
-use Rattle.node.specs.Node.{isBorder}
+use Rattle.node.specs.Node.{isBorder, keyed}
 use Rattle.node.specs.declared.delivery.Delivered.{Delivered}
 use Rattle.node.specs.declared.node.Node.{Node}
-use Rattle.node_merge_laws.specs.Merged.{AppliedAsOne, MergedApplies}
+use Rattle.node_merge_laws.specs.Merged.{uncounted, MergedApplies}
 
 -- ---- the parameters but the key set
 address-as-one : (time : ℕ) (f s : AddressParameter) (old : HeldAddress) (r : Report) → s .report ≡ r
@@ -62,10 +66,38 @@ jrc-as-one : (f s : OctetsParameter) (old : HeldOctets) (r : Report) → s .repo
 jrc-as-one f s old r e = octets-as-one true f s old r e
 
 -- ---- the key set
+-- the same keys, and at an ordinary node the same counters
+record SameSets (border : Bool) (u v : KeySets) : Type 0 where
+  active : u .active .set ≡ v .active .set
+  pending : u .pending .set ≡ v .pending .set
+  ordinary : border ≡ false → u ≡ v
+
+record SamePlace (border : Bool) (p q : Placement) : Type 0 where
+  verdict : p .verdict ≡ q .verdict
+  sets : SameSets border (p .sets) (q .sets)
+
+equal-place : (border : Bool) (p q : Placement) → p ≡ q → SamePlace border p q
+equal-place border p q e = record {
+  verdict = ap (λ (x : Placement). x .verdict) e;
+  sets =
+      record {
+        active = ap (λ (x : Placement). x .sets .active .set) e;
+        pending = ap (λ (x : Placement). x .sets .pending .set) e;
+        ordinary = λ b. ap (λ (x : Placement). x .sets) e;
+      };
+}
+
+-- an ordinary node's answer to a set, by whether the set is within its limits, equal to the active one, or shares an identifier with it
+abbrev ordinaryPlace : KeySets → KeySet → Bool → Bool → Bool → Placement
+ordinaryPlace sets set allowed same shared =
+    cond allowed
+    (cond same (placed (twoSets (sets .active) noCounted)) (cond shared (unplaced refusal.Clash sets) (placed (twoSets (sets .active) (arrived set)))))
+    (unplaced refusal.Range sets)
+
 -- an accepted set leaves an ordinary node's active set
-ordinary-stays : (sets : KeySets) (set : KeySet) (allowed same shared : Bool)
-    → cond allowed (cond same (placed (twoSets (sets .active) noKeys)) (cond shared (unplaced refusal.Clash sets) (placed (twoSets (sets .active) set)))) (unplaced refusal.Range sets) .verdict ≡ Accepted
-    → cond allowed (cond same (placed (twoSets (sets .active) noKeys)) (cond shared (unplaced refusal.Clash sets) (placed (twoSets (sets .active) set)))) (unplaced refusal.Range sets) .sets .active ≡ sets .active
+ordinary-stays :
+    (sets : KeySets) (set : KeySet) (allowed same shared : Bool) → ordinaryPlace sets set allowed same shared .verdict ≡ Accepted →
+    ordinaryPlace sets set allowed same shared .sets .active ≡ sets .active
 ordinary-stays sets set false same shared e = absurd (let z : _≡_ {A = ℕ} 0 1 = cc in omega arith)
 ordinary-stays sets set true true shared e = refl
 ordinary-stays sets set true false true e = absurd (let z : _≡_ {A = ℕ} 0 1 = cc in omega arith)
@@ -77,53 +109,78 @@ active-stays sets set e =
     ordinary-stays sets set (allowedSet set) (sameKeys (keysOf set) (activeIn sets)) (shares (keysOf set) (activeIn sets)) e
 
 -- two pairs of sets with the same active one take an accepted set alike
-alike-by : (a b : KeySets) (set : KeySet) (allowed same shared : Bool) → b .active ≡ a .active
-    → cond allowed (cond same (placed (twoSets (b .active) noKeys)) (cond shared (unplaced refusal.Clash b) (placed (twoSets (b .active) set)))) (unplaced refusal.Range b) .verdict ≡ Accepted
-    → cond allowed (cond same (placed (twoSets (a .active) noKeys)) (cond shared (unplaced refusal.Clash a) (placed (twoSets (a .active) set)))) (unplaced refusal.Range a)
-    ≡ cond allowed (cond same (placed (twoSets (b .active) noKeys)) (cond shared (unplaced refusal.Clash b) (placed (twoSets (b .active) set)))) (unplaced refusal.Range b)
+alike-by :
+    (a b : KeySets) (set : KeySet) (allowed same shared : Bool) → b .active ≡ a .active → ordinaryPlace b set allowed same shared .verdict ≡ Accepted →
+    ordinaryPlace a set allowed same shared ≡ ordinaryPlace b set allowed same shared
 alike-by a b set false same shared h e = absurd (let z : _≡_ {A = ℕ} 0 1 = cc in omega arith)
 alike-by a b set true true shared h e = rw h
 alike-by a b set true false true h e = absurd (let z : _≡_ {A = ℕ} 0 1 = cc in omega arith)
 alike-by a b set true false false h e = rw h
 
-install-alike : (a b : KeySets) (set : KeySet) → b .active ≡ a .active → install false b set .verdict ≡ Accepted → install false a set ≡ install false b set
+install-alike :
+    (a b : KeySets) (set : KeySet) → b .active ≡ a .active → install false b set .verdict ≡ Accepted → install false a set ≡ install false b set
 unfolding install
 install-alike a b set h e =
+    let keys : activeIn b ≡ activeIn a = ap (λ (s : CountedSet). keysOf (s .set)) h in
     let t = alike-by a b set (allowedSet set) (sameKeys (keysOf set) (activeIn a)) (shares (keysOf set) (activeIn a)) h
-    in t (rw (ap keysOf h) at e) ∙ rw (ap keysOf h)
-
-border-alike : (a b : KeySets) (set : KeySet) → install true b set .verdict ≡ Accepted → install true a set ≡ install true b set
-unfolding install
-border-alike a b set e = go (allowedSet set) e
-  where
-    go : (t : Bool) → cond t (placed (twoSets set noKeys)) (unplaced refusal.Range b) .verdict ≡ Accepted
-        → cond t (placed (twoSets set noKeys)) (unplaced refusal.Range a) ≡ cond t (placed (twoSets set noKeys)) (unplaced refusal.Range b)
-    go true h = refl
-    go false h = absurd (let z : _≡_ {A = ℕ} 0 1 = cc in omega arith)
-
--- the second's set, installed after the first's or at once
-both-taken : (border : Bool) (sets : KeySets) (f s : KeySet) → install border sets f .verdict ≡ Accepted
-    → install border (install border sets f .sets) s .verdict ≡ Accepted → install border sets s ≡ install border (install border sets f .sets) s
-both-taken true sets f s e h = border-alike sets (install true sets f .sets) s h
-both-taken false sets f s e h = install-alike sets (install false sets f .sets) s (active-stays sets f e) h
+    in t (rw keys at e) ∙ rw keys
 
 accepted-placement : (p : Placement) → p .verdict ≡ Accepted → p ≡ placed (p .sets)
 accepted-placement p e = ap (λ (v : Verdict). record { verdict = v; sets = p .sets }) e
 
-keys-by : (border : Bool) (sets : KeySets) (f s : KeysParameter) (q r : Report)
-    → ifTaken q (install border sets (f .value)) (placed sets) .verdict ≡ Accepted
-    → ifTaken r (install border (ifTaken q (install border sets (f .value)) (placed sets) .sets) (s .value)) (placed (ifTaken q (install border sets (f .value)) (placed sets) .sets)) .verdict ≡ Accepted
-    → ifTaken r (install border sets (s .value)) (ifTaken q (install border sets (f .value)) (placed sets))
-    ≡ ifTaken r (install border (ifTaken q (install border sets (f .value)) (placed sets) .sets) (s .value)) (placed (ifTaken q (install border sets (f .value)) (placed sets) .sets))
-keys-by border sets f s Absent Absent e h = refl
-keys-by border sets f s Discarded Absent e h = refl
-keys-by border sets f s Taken Absent e h = accepted-placement (install border sets (f .value)) e
-keys-by border sets f s Absent Taken e h = refl
-keys-by border sets f s Discarded Taken e h = refl
-keys-by border sets f s Taken Taken e h = both-taken border sets (f .value) (s .value) e h
-keys-by border sets f s Absent Discarded e h = refl
-keys-by border sets f s Discarded Discarded e h = refl
-keys-by border sets f s Taken Discarded e h = accepted-placement (install border sets (f .value)) e
+module _ (C : CounterLaws) where
+  -- a border router's set is the new one, whatever it held
+  border-by :
+      (a b : KeySets) (set : KeySet) (allowed : Bool) →
+      cond allowed (placed (twoSets (succeeded (b .active) set) noCounted)) (unplaced refusal.Range b) .verdict ≡ Accepted →
+      SamePlace true (cond allowed (placed (twoSets (succeeded (a .active) set) noCounted)) (unplaced refusal.Range a))
+      (cond allowed (placed (twoSets (succeeded (b .active) set) noCounted)) (unplaced refusal.Range b))
+  border-by a b set true e = record {
+    verdict = refl;
+    sets =
+        record {
+          active = rw (C .succeeded-is (a .active) set, C .succeeded-is (b .active) set);
+          pending = refl;
+          ordinary = λ h. absurd (let z : _≡_ {A = ℕ} 0 1 = cc in omega arith);
+        };
+  }
+  border-by a b set false e = absurd (let z : _≡_ {A = ℕ} 0 1 = cc in omega arith)
+
+  border-alike : (a b : KeySets) (set : KeySet) → install true b set .verdict ≡ Accepted → SamePlace true (install true a set) (install true b set)
+  unfolding install
+  border-alike a b set e = border-by a b set (allowedSet set) e
+
+  -- the second's set, installed after the first's or at once
+  both-taken :
+      (border : Bool) (sets : KeySets) (f s : KeySet) → install border sets f .verdict ≡ Accepted →
+      install border (install border sets f .sets) s .verdict ≡ Accepted →
+      SamePlace border (install border sets s) (install border (install border sets f .sets) s)
+  both-taken true sets f s e h = border-alike sets (install true sets f .sets) s h
+  both-taken false sets f s e h =
+      equal-place false (install false sets s) (install false (install false sets f .sets) s)
+      (install-alike sets (install false sets f .sets) s (active-stays sets f e) h)
+
+  -- what the first made of the sets, and what the second makes of those
+  abbrev once : Bool → KeySets → KeysParameter → Report → Placement
+  once border sets f q = ifTaken q (install border sets (f .value)) (placed sets)
+
+  abbrev twice : Bool → KeySets → KeysParameter → KeysParameter → Report → Report → Placement
+  twice border sets f s q r =
+      ifTaken r (install border (once border sets f q .sets) (s .value)) (placed (once border sets f q .sets))
+
+  keys-by :
+      (border : Bool) (sets : KeySets) (f s : KeysParameter) (q r : Report) → once border sets f q .verdict ≡ Accepted →
+      twice border sets f s q r .verdict ≡ Accepted →
+      SamePlace border (ifTaken r (install border sets (s .value)) (once border sets f q)) (twice border sets f s q r)
+  keys-by border sets f s Absent Absent e h = equal-place border _ _ refl
+  keys-by border sets f s Discarded Absent e h = equal-place border _ _ refl
+  keys-by border sets f s Taken Absent e h = equal-place border _ _ (accepted-placement (install border sets (f .value)) e)
+  keys-by border sets f s Absent Taken e h = equal-place border _ _ refl
+  keys-by border sets f s Discarded Taken e h = equal-place border _ _ refl
+  keys-by border sets f s Taken Taken e h = both-taken border sets (f .value) (s .value) e h
+  keys-by border sets f s Absent Discarded e h = equal-place border _ _ refl
+  keys-by border sets f s Discarded Discarded e h = equal-place border _ _ refl
+  keys-by border sets f s Taken Discarded e h = equal-place border _ _ (accepted-placement (install border sets (f .value)) e)
 
 merged-place : (border : Bool) (sets : KeySets) (f s : KeysParameter) (r : Report) → s .report ≡ r
     → ifTaken (ifTaken (s .report) s f .report) (install border sets (ifTaken (s .report) s f .value)) (placed sets)
@@ -158,34 +215,45 @@ node-of : {r : ℕ} {t : Attempt} {u v : KeySets} {a b : HeldAddress} {j i n m p
     (record { role = r; attempt = t; sets = v; address = b; jrc = i; network = m; prefix = q })
 node-of e f g h o = rw (e, f, g, h, o)
 
-module _ (n : Node) (time : ℕ) (f s : Configuration) (e : placementOf n (f .keys) .verdict ≡ Accepted) where
-  same-place : placementOf (after n time f) (s .keys) .verdict ≡ Accepted → placementOf n (merged f s .keys) ≡ placementOf (after n time f) (s .keys)
+module _ (C : CounterLaws) (n : Node) (time : ℕ) (f s : Configuration) (e : placementOf n (f .keys) .verdict ≡ Accepted) where
+  same-place :
+      placementOf (after n time f) (s .keys) .verdict ≡ Accepted →
+      SamePlace (isBorder n) (placementOf n (merged f s .keys)) (placementOf (after n time f) (s .keys))
   unfolding configured
   same-place h =
-      merged-place (isBorder n) (n .sets) (f .keys) (s .keys) (s .keys .report) refl
-      ∙ keys-by (isBorder n) (n .sets) (f .keys) (s .keys) (f .keys .report) (s .keys .report) e h
+      rw (merged-place (isBorder n) (n .sets) (f .keys) (s .keys) (s .keys .report) refl)
+      (keys-by C (isBorder n) (n .sets) (f .keys) (s .keys) (f .keys .report) (s .keys .report) e h)
 
-  same-after : placementOf n (merged f s .keys) .sets ≡ placementOf (after n time f) (s .keys) .sets → after n time (merged f s) ≡ after (after n time f) time s
-  unfolding configured reportsOf
-  same-after sets =
-      node-of sets
-      (address-as-one time (f .address) (s .address) (n .address) (s .address .report) refl)
-      (jrc-as-one (f .jrc) (s .jrc) (n .jrc) (s .jrc .report) refl)
-      (octets-as-one (isBorder n) (f .network) (s .network) (n .network) (s .network .report) refl)
-      (octets-as-one (isBorder n) (f .prefix) (s .prefix) (n .prefix) (s .prefix .report) refl)
+  module _ (sets : SameSets (isBorder n) (placementOf n (merged f s .keys) .sets) (placementOf (after n time f) (s .keys) .sets)) where
+    -- the sets of the two nodes, seen as they are or with their counters at 0
+    seen-alike :
+        (seen : KeySets → KeySets) → seen (placementOf n (merged f s .keys) .sets) ≡ seen (placementOf (after n time f) (s .keys) .sets) →
+        keyed (after n time (merged f s)) (seen (after n time (merged f s) .sets)) ≡ keyed (after (after n time f) time s) (seen (after (after n time f) time s .sets))
+    unfolding configured reportsOf
+    seen-alike seen same =
+        node-of same
+        (address-as-one time (f .address) (s .address) (n .address) (s .address .report) refl)
+        (jrc-as-one (f .jrc) (s .jrc) (n .jrc) (s .jrc .report) refl)
+        (octets-as-one (isBorder n) (f .network) (s .network) (n .network) (s .network .report) refl)
+        (octets-as-one (isBorder n) (f .prefix) (s .prefix) (n .prefix) (s .prefix .report) refl)
 
-pub merged-applies : MergedApplies
-merged-applies n time f s e h =
+    same-after : uncounted (after n time (merged f s)) ≡ uncounted (after (after n time f) time s)
+    same-after = seen-alike (λ (x : KeySets). twoSets (arrived (x .active .set)) (arrived (x .pending .set))) (rw (sets .active, sets .pending))
+
+    ordinary-after : isBorder n ≡ false → after n time (merged f s) ≡ after (after n time f) time s
+    ordinary-after b = seen-alike (λ (x : KeySets). x) (sets .ordinary b)
+
+pub merged-applies : CounterLaws → MergedApplies
+merged-applies C n time f s e h =
     let first = placement-accepted n time f e in
     let between : apply Update n time f .node ≡ after n time f = ap (λ (d : Delivered). d .node) (apply-is n time f first) in
     let second = placement-accepted (after n time f) time s (rw between at h) in
-    let place = same-place n time f s first second in
-    let joined = apply-is n time (merged f s) (ap (λ (p : Placement). p .verdict) place ∙ second) in
+    let place = same-place C n time f s first second in
+    let joined = ap (λ (d : Delivered). d .node) (apply-is n time (merged f s) (place .verdict ∙ second)) in
+    let parted : after (after n time f) time s ≡ apply Update (apply Update n time f .node) time s .node =
+    sym (ap (λ (d : Delivered). d .node) (apply-is (after n time f) time s second)) ∙ ap (λ (m : Node). apply Update m time s .node) (sym between) in
     record {
-      accepted = ap (λ (d : Delivered). d .verdict) joined;
-      node =
-          ap (λ (d : Delivered). d .node) joined
-          ∙ same-after n time f s first (ap (λ (p : Placement). p .sets) place)
-          ∙ sym (ap (λ (d : Delivered). d .node) (apply-is (after n time f) time s second))
-          ∙ ap (λ (m : Node). apply Update m time s .node) (sym between);
+      accepted = ap (λ (d : Delivered). d .verdict) (apply-is n time (merged f s) (place .verdict ∙ second));
+      node = ap uncounted joined ∙ same-after C n time f s first (place .sets) ∙ ap uncounted parted;
+      ordinary = λ b. joined ∙ ordinary-after C n time f s first (place .sets) b ∙ parted;
     }

@@ -30,9 +30,9 @@ use Rattle.node.specs.Delivery.{apply, applyRead, deliver, deliverBy, deliverVe
 use Rattle.node.specs.Range.{valid}
 use Rattle.node.specs.declared.delivery.Delivered.{Delivered}
 use Rattle.node.specs.declared.node.Node.{Node}
-use Rattle.node_laws.specs.Same.{SameNode, AppliesAlike}
-use Rattle.node_merge_laws.specs.Merged.{mergedPayload, DeliveredAsOne, MergedDelivers}
-use Rattle.node_merge_laws.proofs.Applied.{merged-applies}
+use Rattle.node_laws.specs.Same.{octetsHeld, addressHeld, SameNode, SameCounters, AppliesAlike}
+use Rattle.node.specs.Node.{activeOf, pendingOf}
+use Rattle.node_merge_laws.specs.Merged.{uncounted, MergedApplies, mergedPayload, DeliveredAsOne, MergedDelivers}
 
 -- ---- an accepted payload
 module _ (n : Node) (time : ℕ) where
@@ -94,7 +94,20 @@ planned : (c : Configuration) → configurationInRange c ≡ true → configurat
 unfolding configurationPlan
 planned c e = rw e
 
-module _ (laws : MergeLaws) (alike : AppliesAlike) (in-range : ReadsInRange) (first second : Configuration)
+-- a node that is the same is so whatever the counters
+same-but : {x y z : Node} → SameNode x y → uncounted y ≡ uncounted z → SameNode x z
+same-but s e = record {
+  role = s .role ∙ ap (λ (n : Node). n .role) e;
+  attempt = s .attempt ∙ ap (λ (n : Node). n .attempt) e;
+  active = s .active ∙ ap activeOf e;
+  pending = s .pending ∙ ap pendingOf e;
+  address = s .address ∙ ap (λ (n : Node). addressHeld (n .address)) e;
+  jrc = s .jrc ∙ ap (λ (n : Node). octetsHeld (n .jrc)) e;
+  network = s .network ∙ ap (λ (n : Node). octetsHeld (n .network)) e;
+  prefix = s .prefix ∙ ap (λ (n : Node). octetsHeld (n .prefix)) e;
+}
+
+module _ (applies : MergedApplies) (laws : MergeLaws) (alike : AppliesAlike) (in-range : ReadsInRange) (first second : Configuration)
     (largest : LargestConfiguration (mergeAnswer first second .configuration))
     (back : ConfigurationRoundTrip (mergeAnswer first second .configuration)) where
   pub merged-delivers : MergedDelivers first second
@@ -110,7 +123,7 @@ module _ (laws : MergeLaws) (alike : AppliesAlike) (in-range : ReadsInRange) (fi
       let then : deliver Update m time q ≡ apply Update (apply Update n time first .node) time second =
       twice ∙ ap (λ (k : Node). apply Update k time second) between in
       let one =
-      merged-applies n time first second (sym (ap (λ (d : Delivered). d .verdict) once) ∙ e) (sym (ap (λ (d : Delivered). d .verdict) then) ∙ h) in
+      applies n time first second (sym (ap (λ (d : Delivered). d .verdict) once) ∙ e) (sym (ap (λ (d : Delivered). d .verdict) then) ∙ h) in
       let good = laws .in-range first second i j in
       let is : mergeAnswer first second .configuration ≡ merged first second = merge-is first second i j in
       let w = mergedPayload first second in
@@ -133,6 +146,9 @@ module _ (laws : MergeLaws) (alike : AppliesAlike) (in-range : ReadsInRange) (fi
         accepted = ap (λ (d : Delivered). d .verdict) arrives ∙ o .verdict ∙ one .accepted;
         node =
             subst (λ (x : Node). SameNode x (deliver Update m time q .node)) (sym (ap (λ (d : Delivered). d .node) arrives))
-            (subst (λ (y : Node). SameNode (apply Update n time (readConfiguration w .configuration) .node) y)
-            (one .node ∙ sym (ap (λ (d : Delivered). d .node) then)) (o .node));
+            (same-but (o .node) (one .node ∙ ap uncounted (sym (ap (λ (d : Delivered). d .node) then))));
+        ordinary =
+            λ b. subst (λ (x : Node). SameCounters x (deliver Update m time q .node)) (sym (ap (λ (d : Delivered). d .node) arrives))
+            (subst (λ (y : Node). SameCounters (apply Update n time (readConfiguration w .configuration) .node) y)
+            (one .ordinary b ∙ sym (ap (λ (d : Delivered). d .node) then)) (o .counters));
       }

@@ -7,7 +7,6 @@ use lib.ListN.{replicate}
 use Prim.Native.Nat.{ℕ}
 use Rattle.refusal.specs.declared.Refusal.the-variants.{Clash}
 use Rattle.refusal.specs.declared.Verdict.the-variants.{Accepted, Refused}
-use Rattle.link_key_set.specs.KeySet.{noKeys}
 use Rattle.cojp.specs.Configuration.{emptyConfiguration, withKeys, withAddress}
 use Rattle.link_key.specs.Key.{keyOf}
 use Rattle.cojp.specs.KeySet.{keySetOf}
@@ -17,6 +16,7 @@ use Rattle.cojp_merge.specs.Merge.{merged}
 use Rattle.node_attempt.specs.Attempt.{attempt}
 use Rattle.node_attempt.specs.declared.attempt.Phase.the-variants.{Joined}
 use Rattle.node_delivery.specs.declared.Delivery.the-variants.{Update}
+use Rattle.link_key_counters.specs.Counters.{arrived, noCounted}
 use Rattle.node_key_sets.specs.Sets.{twoSets}
 use Rattle.node_parameters.specs.Lease.{absentAddress}
 use Rattle.node_parameters.specs.Octets.{absentOctets}
@@ -27,7 +27,7 @@ abbrev pub joined : Node
 joined = record {
   role = 0;
   attempt = attempt Joined 12000 10000 10000 0;
-  sets = twoSets (keySetOf (keyOf 1 0 (replicate 16 0x11) ∷ [])) noKeys;
+  sets = twoSets (arrived (keySetOf (keyOf 1 0 (replicate 16 0x11) ∷ []))) noCounted;
   address = absentAddress;
   jrc = absentOctets;
   network = absentOctets;

@@ -1,9 +1,10 @@
 -- Joining two updates (document 02, request 10): at one time, where a node accepts the first and then the second, it accepts the merged one,
 -- which leaves the same node. Outside this law are reports and passed-over counts, which are no part of the node; a border router's frame
--- counters, which nodes do not have yet; a join answer, whose OWED may differ; and pairs of which one is refused: the merged one may then be
+-- counters, since a key that the first set has and the second has not begins at 0 again; a join answer, whose OWED may differ; and pairs of which one is refused: the merged one may then be
 -- accepted all the same (Example).
 use Prim.Native.Nat.{ℕ, _≤_}
 use mathlib.Core.Path.{_≡_}
+use mathlib.Core.Bool.{false}
 use mathlib.Core.List.{List}
 use lib.ListN.{length}
 use Rattle.refusal.specs.declared.Verdict.the-variants.{Accepted}
@@ -14,15 +15,27 @@ use Rattle.cojp.specs.Configuration.{readConfiguration}
 use Rattle.cojp.specs.Writing.{configurationPairs, configurationPlan}
 use Rattle.cojp.specs.declared.configuration.Configuration.{Configuration}
 use Rattle.cojp_merge.specs.Merge.{merged, mergeAnswer}
+use Rattle.link_key_counters.specs.Counters.{arrived}
 use Rattle.node_delivery.specs.declared.Delivery.the-variants.{Update}
+use Rattle.node_key_sets.specs.Sets.{twoSets}
 use Rattle.node.specs.Delivery.{apply, deliver}
 use Rattle.node.specs.declared.node.Node.{Node}
-use Rattle.node_laws.specs.Same.{SameNode}
+use Rattle.node.specs.Node.{isBorder, keyed}
+use Rattle.node_laws.specs.Same.{SameNode, SameCounters}
 
--- ---- configurations: the node is equal in every field
+-- ---- configurations: the node is equal in every field, but that a border router's counters are not looked at
+-- the node with all counters at 0
+abbrev pub uncounted : Node → Node
+uncounted n = keyed n (twoSets (arrived (n .sets .active .set)) (arrived (n .sets .pending .set)))
+
 pub record AppliedAsOne (n : Node) (time : ℕ) (first second : Configuration) : Type 0 where
   pub accepted : apply Update n time (merged first second) .verdict ≡ Accepted
-  pub node : apply Update n time (merged first second) .node ≡ apply Update (apply Update n time first .node) time second .node
+  pub node :
+      uncounted (apply Update n time (merged first second) .node)
+      ≡ uncounted (apply Update (apply Update n time first .node) time second .node)
+  pub ordinary :
+      isBorder n ≡ false →
+      apply Update n time (merged first second) .node ≡ apply Update (apply Update n time first .node) time second .node
 
 abbrev pub MergedApplies : Type 0
 MergedApplies =
@@ -41,6 +54,10 @@ pub record DeliveredAsOne (n : Node) (time : ℕ) (p q : List ℕ) (first second
   pub accepted : deliver Update n time (mergedPayload first second) .verdict ≡ Accepted
   pub node :
       SameNode (deliver Update n time (mergedPayload first second) .node)
+      (deliver Update (deliver Update n time p .node) time q .node)
+  pub ordinary :
+      isBorder n ≡ false →
+      SameCounters (deliver Update n time (mergedPayload first second) .node)
       (deliver Update (deliver Update n time p .node) time q .node)
 
 abbrev pub MergedDelivers : Configuration → Configuration → Type 0

@@ -3,15 +3,19 @@ use cojp::Configuration;
 ghost use Rattle.node_merge_laws.specs.Merged.{MergedApplies, MergedDelivers};
 ghost use Rattle.node_merge_laws.specs.Example.{RefusedPair};
 
-// Applied to a node at one time: where the first and then the second are accepted, the merged one is, and leaves the same node.
+// Applied to a node at one time: where the first and then the second are accepted, the merged one is, and leaves the same node, but for a
+// border router's frame counters.
 pub fn merged_applies()
     ensures { λ r. ⌜ MergedApplies ⌝ }
-{}
+{
+    link_key_counters::laws();
+}
 
 // The same of payloads: any two that read as these configurations, and the one that is written of the merged one.
 pub fn merged_delivers(first: Configuration, second: Configuration)
     ensures { λ r. ⌜ MergedDelivers first second ⌝ }
 {
+    merged_applies();
     let both = cojp_merge::merge(first, second);
     let configuration = both.configuration;
     cojp_laws::largest_configuration(configuration);

@@ -7,6 +7,9 @@ use Rattle.node_merge_laws.proofs.Delivered.{merged-delivers}
 use Rattle.node_merge_laws.proofs.merged_delivers.Statement.{statement}
 use Rattle.node_merge_laws.proofs.merged_delivers.Tie as tie
 
+merged-applies-requires : tie.Need-merged-applies-requires
+merged-applies-requires c κs = search needs
+
 merge-requires : tie.Need-merge-requires
 merge-requires c κs = search needs
 
@@ -32,10 +35,11 @@ returns c =
     let back = laws .before in
     let largest = back .before in
     let both = largest .before .before in
-    let a = both .before .args in
-    merged-delivers (laws .laws .ensures) (alike .applies-alike .ensures) (c .reads-in-range .ensures) (a .first) (a .second)
+    let applies = both .before in
+    let a = applies .before .args in
+    merged-delivers (applies .merged-applies .ensures) (laws .laws .ensures) (alike .applies-alike .ensures) (c .reads-in-range .ensures) (a .first) (a .second)
     (subst (λ (m : Merged). LargestConfiguration (m .configuration)) (both .merge .ensures) (largest .largest-configuration .ensures))
     (subst (λ (m : Merged). ConfigurationRoundTrip (m .configuration)) (both .merge .ensures) (back .configuration-round-trip .ensures))
 
 pub merged-delivers-spec : {M : Type 1} → statement M
-merged-delivers-spec = tie.close (tie.spec merge-requires largest-configuration-requires configuration-round-trip-requires laws-requires applies-alike-requires reads-in-range-requires returns)
+merged-delivers-spec = tie.close (tie.spec merged-applies-requires merge-requires largest-configuration-requires configuration-round-trip-requires laws-requires applies-alike-requires reads-in-range-requires returns)

@@ -1,0 +1,71 @@
+-- The calls are computed, and the law is applied to their answers.
+use mathlib.Core.Path.{_≡_, refl}
+use mathlib.Core.Bool.{true}
+use mathlib.Core.List.{List·Memᴰ·head as at, List·Memᴰ·tail as past}
+use Rattle.link_key.specs.Key.{inLimits, sameKey, sameSecret, covers}
+use Rattle.link_key_set.specs.KeySet.{allowed, allowedSet}
+use Rattle.link_key_counters.specs.Counters.{spend, succeeded}
+use Rattle.cbor.specs.Decode.{payloadBy, decodeBy, heading, argument, next, digits, members, pairs, majorOf}
+use Rattle.cbor.specs.Encode.{bytesOf, infoOf, extraOf, shortest}
+use Rattle.cojp.specs.Octets.{padded, octetsJudged}
+use Rattle.cojp.specs.Address.{addressIn}
+use Rattle.cojp.specs.KeySet.{groups}
+use Rattle.cojp.specs.Request.{owing}
+use Rattle.cojp.specs.Walk.{payloadReadBy}
+use Rattle.cojp.specs.Configuration.{configurationStanding, configurationTaking}
+use Rattle.cojp.specs.Writing.{requestInRange, requestPlan}
+use Rattle.node_key_sets.specs.Sets as sets
+use Rattle.node_key_sets.specs.Sets.{install}
+use Rattle.node_key_sets.specs.Frames as frames
+use Rattle.node_attempt.specs.Attempt as attempt
+use Rattle.node_attempt.specs.Attempt.{mayStart}
+use Rattle.node_parameters.specs.Reports.{reportsOf}
+use Rattle.node.specs.Node.{made}
+use Rattle.node.specs.Range.{valid}
+use Rattle.node.specs.Timing.{requestOf, startVerdict, startPlan, start}
+use Rattle.node.specs.Delivery.{configured, apply, deliverVerdict, deliver}
+use Rattle.node.specs.Frames as node
+use Rattle.node.specs.Frames.{send, sendCounter, afterSend}
+use Rattle.node_laws.specs.Calls.{perform}
+use Rattle.node_delivery.specs.Delivery.{mayCome}
+use Rattle.node_counter_laws.specs.Rising.{after, Answers, Stays, CountersRise}
+use Rattle.node_counter_laws.specs.Example.{cafe, key, joining, joined, sent, kept, left, Witness}
+
+-- what computing unfolds: items, keys, objects and the node's calls
+computing : Unit {0}
+unfolding payloadBy decodeBy heading argument next digits members pairs majorOf bytesOf infoOf extraOf shortest
+    inLimits sameKey sameSecret covers allowed allowedSet spend succeeded
+    padded octetsJudged addressIn groups owing payloadReadBy configurationStanding configurationTaking requestInRange requestPlan
+    sets.valid install frames.sending attempt.valid mayStart
+    made valid requestOf startVerdict startPlan start reportsOf configured apply mayCome deliverVerdict deliver
+    node.sending send sendCounter afterSend perform
+computing = tt
+
+first : Answers joined 1 key 0
+unfolding computing
+first = record { accepted = refl; object = refl }
+
+stays : Stays key sent kept
+unfolding computing
+stays = (record { key = key; member = at refl; same = refl }, record { key = key; member = past (at refl); same = refl })
+
+second : Answers (after sent kept) 1 key 1
+unfolding computing
+second = record { accepted = refl; object = refl }
+
+again : Answers (after sent left) 1 key 0
+unfolding computing
+again = record { accepted = refl; object = refl }
+
+same : sameSecret key key ≡ true
+unfolding computing
+same = refl
+
+pub witness : CountersRise → Witness
+witness law = record {
+  first = first;
+  stays = stays;
+  second = second;
+  higher = law .rises 1 cafe joining 1 key 0 first kept stays 1 key 1 second same;
+  again = again;
+}

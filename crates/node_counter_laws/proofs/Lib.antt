@@ -1,0 +1,3 @@
+mod Moves
+mod Rising
+mod Example
