@@ -1,10 +1,11 @@
 """Rekeys of networks of up to 16 nodes as lines of simulate, which tools/simulate_edges.py adds to its input: lines, rings, stars and grids.
 
 It knows a network's links, the hops that they make, the order of the turns, which usages cover which frame types, and who has switched: node
-0, the border router, at the beginning, and whoever hears one that has. In the worst order, farther senders first, the nodes within h hops
+0, the border router, at the beginning, and whoever hears one that has; and how often each node was asked for each key. In the worst order, farther senders first, the nodes within h hops
 have switched after round h; in the best order, nearer senders first, all have after one round. Between the turns come starts, polls and
 refused updates and join answers, which change no key set.
 """
+from collections import Counter
 from itertools import cycle
 
 BEACON, DATA = 0, 1
@@ -87,6 +88,7 @@ class Network:
     def __init__(self, n, old, new):
         self.n, self.old, self.new = n, old, new
         self.switched = set()
+        self.sendings = Counter()  # by node and identifier: the next counter of the key
         self.now = 3000
         self.waiting = {}  # the last sending, the timeout and the count of those that wait for an answer
         self.gave_up = set()
@@ -94,6 +96,11 @@ class Network:
 
     def keys(self, i):
         return self.new if i in self.switched else self.old
+
+    def count(self, i, key):
+        """The key's counter at this node, which is one higher from then on."""
+        self.sendings[i, key[0]] += 1
+        return self.sendings[i, key[0]] - 1
 
     def joined(self):
         """The nodes join and use the old key set; the ordinary ones take it up by a frame of the border router."""
@@ -103,6 +110,7 @@ class Network:
             yield "start %d 1000 10000" % i, self.sent(i)
             yield "answer %d 2000 %s" % (i, payload(self.old)), TAKEN
         for i in range(1, self.n):
+            self.count(0, sends(self.old, frame))
             yield "turn 0 %d %d" % (i, frame), SWITCHED
 
     def updated(self, nodes):
@@ -115,13 +123,16 @@ class Network:
         for i in range(self.n):
             for frame in (BEACON, DATA):
                 key = sends(self.keys(i), frame)
-                yield "send %d %d" % (i, frame), "key %d/%d/h'%s'" % (key[0], key[1], key[2].hex()) if key else SILENT
+                said = "key %d/%d/h'%s' counter=%d" % (key[0], key[1], key[2].hex(), self.count(i, key)) if key else SILENT
+                yield "send %d %d" % (i, frame), said
 
     def turn(self, sender, receiver, frame):
         """One that has switched knows the old set no more, and the new one waits at all others."""
-        if not sends(self.keys(sender), frame):
-            answer = SILENT
-        elif sender in self.switched:
+        key = sends(self.keys(sender), frame)
+        if not key:
+            return "turn %d %d %d" % (sender, receiver, frame), SILENT
+        self.count(sender, key)
+        if sender in self.switched:
             answer = KEPT if receiver in self.switched else SWITCHED
             self.switched.add(receiver)
         else:

@@ -61,7 +61,7 @@ NIGHT = [
 
 KEY = bytes(range(16))
 SET = b"\xa1\x02\x82\x01\x50" + KEY
-KEYS = "[1/0/h'%s']" % KEY.hex()
+KEYS = "[1/0/h'%s'#0]" % KEY.hex()
 
 # whole nights with their answers: readings that tell two programs apart
 NIGHTS = [

@@ -12,7 +12,7 @@ from rekey import networks, payload
 ROOT = os.path.dirname(os.path.dirname(os.path.abspath(__file__)))
 MARK = b"# Lines of tools/simulate_edges.py\n"
 
-COMMAND, NUMBER, HEX, NODE = "error command", "error number", "error hex", "error node"
+COMMAND, NUMBER, HEX, NODE, KEY = "error command", "error number", "error hex", "error node", "error key"
 RANGE, PHASE, LONG, SILENT, CLOCK = "refused 13 RANGE", "refused 16 PHASE", "refused 15 LONG", "refused 14 SILENT", "refused 11 CLOCK"
 MOST = 2**64 - 1
 FAR = 66000  # longer than the buffer that the tool reads through
@@ -123,6 +123,9 @@ def bench():
         ("set x clock 1", NUMBER), ("set 7 clock x", NUMBER), ("set 7 clock none", NUMBER), ("set 7 role 256", NUMBER), ("set 7 count 256", NUMBER),
         ("set 7 lease -", NUMBER), ("set 7 lease %d" % (MOST + 1), NUMBER), ("set x address zz", NUMBER), ("set 17 clock x", NUMBER),
         ("set 7 address zz", HEX), ("set 7 address 123", HEX), ("set 7 address 12", HEX), ("set 7 address 123456", HEX), ("set 7 address -", HEX),
+        ("set 7 counter", COMMAND), ("set 7 counter 1", COMMAND), ("set 7 counter 1 2 3", COMMAND), ("set x counter 1 2", NUMBER), ("set 7 counter x 1", NUMBER),
+        ("set 7 counter none 1", NUMBER), ("set 7 counter 256 1", NUMBER), ("set 7 counter 1 x", NUMBER), ("set 7 counter 1 4294967296", NUMBER),
+        ("set 17 counter 1 1", NODE), ("set 7 counter 1 1", KEY), ("set 7 counter 0 4294967295", KEY),
         ("set 17 address zz", HEX), ("set 17 address 1234", NODE), ("set 16 phase idle", NODE), ("set 17 active none", NODE), ("set %d role 0" % MOST, NODE),
     ]:
         yield text, answer
@@ -157,13 +160,33 @@ def bench():
     yield "set 6 active pending", "set"
     yield "send 6 1", RANGE
     yield "set 6 pending none", "set"
-    yield "send 6 1", data
+    yield "send 6 1", data + " counter=0"
     yield "set 6 pending active", "set"
     yield "set 6 active none", "set"
     yield "receive 6 0 3", beacons
     yield "send 6 0", SILENT
     yield "set 6 pending none", "set"
     yield "receive 6 0 3", SILENT
+    # counters: the last one is never used, a copy has its own, and a key is looked for in the active set first
+    yield "node 6 1 CAFE", "made"
+    yield "start 6 0 10000", "sent h'a201010542cafe'"
+    yield "answer 6 0 " + payload(keys), "accepted keys=taken address=absent jrc=absent network=absent prefix=absent passed=0"
+    yield "send 6 1", data + " counter=0"
+    yield "set 6 counter 200 4294967294", "set"
+    yield "send 6 1", data + " counter=4294967294"
+    yield "send 6 1", SILENT
+    yield "receive 6 1 200", data
+    yield "set 6 counter 4 0", KEY
+    yield "set 6" + " " * FAR + "counter" + " " * FAR + "0" * FAR + "200 " + "0" * FAR + "7" + " " * FAR + "\r", "set"
+    yield "set 6 counter 200 7" + " " * FAR + "8", COMMAND
+    yield "set 6 pending active", "set"
+    yield "set 6 counter 200 5", "set"
+    yield "set 6 active none", "set"
+    yield "set 6 counter 3 9", "set"
+    yield "set 6 active pending", "set"
+    yield "set 6 pending none", "set"
+    yield "send 6 1", data + " counter=7"
+    yield "send 6 0", beacons + " counter=9"
 
 
 def is_silent(line):

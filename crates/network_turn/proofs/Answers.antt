@@ -1,18 +1,19 @@
 -- What the code of a turn answers at each of its ends is what the definition says: one law for each end.
 use Prim.Native.Nat.{ℕ}
-use mathlib.Core.Path.{_≡_, sym}
+use mathlib.Core.Path.{_≡_, sym, _∙_, ap}
 use mathlib.Core.Bool.{Bool, true, false}
 use Rattle.refusal.specs.declared.Refusal.{Refusal}
 use Rattle.refusal.specs.declared.Verdict.the-variants as verdict
 use Rattle.link_key.specs.Key.{sameKey}
 use Rattle.link_key.specs.declared.Key.{Key}
-use Rattle.node.specs.Frames.{send, afterSend, receive, verified}
+use Rattle.node.specs.Frames.{sending, send, afterSend, receive, verified}
 use Rattle.node_key_sets.specs.declared.frames.Change.{Change}
 use Rattle.node_key_sets.specs.declared.frames.Change.the-variants as change
 use Rattle.node.specs.declared.frames.Reported.{Reported}
+use Rattle.node.specs.declared.frames.Sent.{Sent}
 use Rattle.node_key_sets.specs.declared.frames.KeyAnswer.{KeyAnswer}
 use Rattle.node.specs.declared.node.Node.{Node}
-use Rattle.network.specs.Turn.{turned, answerOf, judged, receives, turn}
+use Rattle.network.specs.Turn.{turned, answerOf, judged, receives, sent, turn}
 use Rattle.network.specs.declared.turn.Answer.{Answer}
 use Rattle.network.specs.declared.turn.Answer.the-variants.{Refused, Failed}
 use Rattle.network.specs.declared.turn.Turned.{Turned}
@@ -44,14 +45,16 @@ module _ (a b : Node) (type : ℕ) where
         t ≡ receives a b type key (receive b type (key .identifier))
     receiver-finds t v w = rw (sym e, v) w
 
-  -- the sender, which answered `sent`
-  module _ (sent : KeyAnswer) (e : sent ≡ send a type) where
-    pub sender-refuses : (why : Refusal) → sent .verdict ≡ verdict.Refused why → turned a b (Refused why) ≡ turn a b type
-    unfolding turn afterSend
-    sender-refuses why v = rw (sym e, v)
+  -- the sender, which answered `x`
+  module _ (x : Sent) (e : x ≡ sending a type) where
+    turn-is : sent (x .node) b type (x .answer .verdict) (x .answer .key) ≡ turn a b type
+    unfolding turn send afterSend
+    turn-is = ap (λ (y : Sent). sent (y .node) b type (y .answer .verdict) (y .answer .key)) e
+
+    pub sender-refuses : (why : Refusal) → x .answer .verdict ≡ verdict.Refused why → turned (x .node) b (Refused why) ≡ turn a b type
+    sender-refuses why v = rw v at turn-is
 
     pub sender-finds :
-        (t : Turned) → sent .verdict ≡ verdict.Accepted →
-        t ≡ receives a b type (sent .key) (receive b type (sent .key .identifier)) → t ≡ turn a b type
-    unfolding turn afterSend
-    sender-finds t v w = rw (sym e, v) w
+        (t : Turned) → x .answer .verdict ≡ verdict.Accepted →
+        t ≡ receives (x .node) b type (x .answer .key) (receive b type (x .answer .key .identifier)) → t ≡ turn a b type
+    sender-finds t v w = w ∙ rw v at turn-is

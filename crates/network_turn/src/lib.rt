@@ -15,16 +15,18 @@ pub fn turn(sender: Node, receiver: Node, frame_type: u8) -> Turned
     ensures { λ r. ⌜ r ≡ turn sender receiver «frame_type» ⌝ }
 {
     let sent = sender.sending_key(frame_type);
-    let verdict = sent.verdict;
+    let after = sent.node;
+    let answer = sent.answer;
+    let verdict = answer.verdict;
     match verdict {
         Verdict::Refused(why) => Turned {
-            sender,
+            sender: after,
             receiver,
             answer: Answer::Refused(why),
         },
         Verdict::Accepted => {
-            let key = sent.key;
-            received(sender, receiver, frame_type, key)
+            let key = answer.key;
+            received(after, receiver, frame_type, key)
         }
     }
 }

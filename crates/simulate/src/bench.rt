@@ -1,5 +1,6 @@
 // The bench command `set`: puts a value into a node by hand, and judges nothing.
-use link_key_set::key_set::no_keys;
+use link_key_counters::CountedSet;
+use link_key_counters::none_counted;
 use node::Node;
 use node_attempt::Attempt;
 use node_attempt::Phase;
@@ -79,7 +80,7 @@ fn with_sets(mut node: Node, edit: Edit) -> Node {
     let mut sets = node.sets;
     let active = sets.active;
     let pending = sets.pending;
-    let none = no_keys();
+    let none = none_counted();
     match edit {
         Edit::ActiveOfPending => sets.active = pending,
         Edit::NoActive => sets.active = none,
@@ -89,4 +90,45 @@ fn with_sets(mut node: Node, edit: Edit) -> Node {
     }
     node.sets = sets;
     node
+}
+
+// The node with this next counter at its key with the identifier, active or else pending; found is false where it has no such key.
+pub struct Recounted {
+    pub found: bool,
+    pub node: Node,
+}
+
+pub fn with_counter(mut node: Node, identifier: u8, counter: u32) -> Recounted {
+    let mut sets = node.sets;
+    let active = sets.active;
+    let pending = sets.pending;
+    let is_active = active.set.has(identifier);
+    let is_pending = pending.set.has(identifier);
+    if is_active {
+        sets.active = counted(active, identifier, counter);
+    } else if is_pending {
+        sets.pending = counted(pending, identifier, counter);
+    }
+    node.sets = sets;
+    Recounted {
+        found: is_active || is_pending,
+        node,
+    }
+}
+
+// The set with this counter at its first key with the identifier.
+fn counted(held: CountedSet, identifier: u8, counter: u32) -> CountedSet {
+    let set = held.set;
+    let keys = set.keys;
+    let mut counters = held.counters;
+    let mut i: usize = 0;
+    while i < 8 {
+        let key = keys[i];
+        if key.identifier == identifier {
+            counters[i] = counter;
+            return CountedSet { set, counters };
+        }
+        i += 1;
+    }
+    held
 }

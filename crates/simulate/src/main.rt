@@ -33,12 +33,12 @@ fn answer_line(
     let commanded = next_command(simulation.session, made, bytes, payload, buffer);
     let command = commanded.command;
     let mut session = commanded.session;
+    let asked = load(nodes, command.first);
     let done = execute(nodes, command, payload);
     let reply = done.reply;
     let nodes = done.nodes;
     let made = marked(made, command.first, reply);
-    let node = load(nodes, command.first);
-    session.out = put_answer(session.out, reply, node, command, payload, buffer);
+    session.out = put_answer(session.out, reply, asked, command, payload, buffer);
     Simulation {
         session,
         nodes,
@@ -69,7 +69,7 @@ fn main() {
         b"simulate: up to 16 nodes and their life, joining, updates, frames (docs/TOOLS.md).\n\
 node I ROLE NETWORK, start I TIME TIMEOUT, poll I TIME, answer I TIME HEX, update I TIME HEX,\n\
 holds I TIME, send I TYPE, receive I TYPE IDENTIFIER, verified I TYPE IDENTIFIER, turn I J TYPE, show I,\n\
-set I FIELD VALUE\n",
+set I FIELD VALUE, set I counter IDENTIFIER N\n",
         &mut buffer,
     );
     let nodes = no_nodes();

@@ -1,5 +1,6 @@
 // What a command does to one node, and what it is answered.
 use crate::bench::edited;
+use crate::bench::with_counter;
 use cojp::Octets;
 use node::Delivered;
 use node::Node;
@@ -10,8 +11,11 @@ use simulate_answers::Reply;
 use simulate_answers::reply::delivery_reply;
 use simulate_answers::reply::start_reply;
 use simulate_commands::Command;
+use simulate_commands::Edit;
 use simulate_commands::Verb;
 use simulate_commands::command::byte;
+use simulate_commands::command::counter;
+use tool_text::fault::Fault;
 
 // The node as the command left it, and what it is answered.
 pub struct Done {
@@ -66,12 +70,13 @@ fn start(node: Node, command: Command, request: &mut tool_notation::Payload) -> 
 fn call(node: Node, command: Command, payload: &[u8]) -> Done {
     let verb = command.verb;
     match verb {
-        Verb::Set(edit) => with_reply(edited(node, edit, command.third, payload), Reply::Set),
+        Verb::Set(edit) => set(node, edit, command, payload),
         Verb::Make => make(node, command, payload),
         Verb::Answer => delivered(node.join_answer(command.second, payload)),
         Verb::Update => delivered(node.update(command.second, payload)),
         Verb::Poll => poll(node, command.second),
         Verb::Verified => verified(node, command),
+        Verb::Send => sent(node, command),
         _ => with_reply(node, left(node, command)),
     }
 }
@@ -101,6 +106,24 @@ fn verified(node: Node, command: Command) -> Done {
     let heard = node.verified(byte(command.second), byte(command.third));
     let change = heard.change;
     with_reply(heard.node, Reply::Verified(change))
+}
+
+// A sending is answered from the node that was asked; here it is as sending left it.
+fn sent(node: Node, command: Command) -> Done {
+    let sent = node.sending_key(byte(command.second));
+    with_reply(sent.node, Reply::Asked)
+}
+
+// The bench command `set I FIELD VALUE`.
+fn set(node: Node, edit: Edit, command: Command, payload: &[u8]) -> Done {
+    if let Edit::Counter = edit {
+        let counted = with_counter(node, byte(command.third), counter(command.fourth));
+        if counted.found {
+            return with_reply(counted.node, Reply::Set);
+        }
+        return with_reply(node, Reply::Wrong(Fault::Key));
+    }
+    with_reply(edited(node, edit, command.third, payload), Reply::Set)
 }
 
 // What is answered where the node is left as it is.

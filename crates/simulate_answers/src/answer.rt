@@ -1,9 +1,11 @@
 // How answers are written.
 use crate::reply::Reply;
+use crate::show::put_counter;
 use crate::show::put_node;
 use cojp::Report;
 use node::Holding;
 use node::Node;
+use node::Sent;
 use node_attempt::Due;
 use node_key_sets::Change;
 use node_key_sets::KeyAnswer;
@@ -17,7 +19,7 @@ use tool_text::fault::put_fault;
 use tool_text::output::Buffer;
 use tool_text::output::Output;
 
-// Answers the line, whose command left the node like this; an empty line and a comment are not answered.
+// Answers the line; a question is answered from the node that was asked. An empty line and a comment are not answered.
 pub fn put_answer(
     out: Output,
     reply: Reply,
@@ -112,13 +114,23 @@ fn put_report(out: Output, name: &[u8], report: Report, buffer: &mut Buffer) -> 
 fn put_asked(out: Output, node: Node, command: Command, buffer: &mut Buffer) -> Output {
     let verb = command.verb;
     match verb {
-        Verb::Send => put_key_answer(out, node.sending_key(byte(command.second)), buffer),
+        Verb::Send => put_sending(out, node.sending_key(byte(command.second)), buffer),
         Verb::Receive => put_key_answer(
             out,
             node.receiving_key(byte(command.second), byte(command.third)),
             buffer,
         ),
         _ => put_node(out, node, buffer),
+    }
+}
+
+fn put_sending(out: Output, sent: Sent, buffer: &mut Buffer) -> Output {
+    let answer = sent.answer;
+    let verdict = answer.verdict;
+    let out = put_key_answer(out, answer, buffer);
+    match verdict {
+        Verdict::Accepted => put_counter(out, b" counter=", sent.counter, buffer),
+        Verdict::Refused(_) => out,
     }
 }
 

@@ -25,7 +25,7 @@ pub enum Reply {
     Verified(Change),
     // a turn whose frame was not verified
     Failed,
-    // a question, which is answered from the node as it stands
+    // a question, which is answered from the node that was asked
     Asked,
 }
 

@@ -1,5 +1,6 @@
 // The command `show I`: a node on one line.
-use link_key_set::KeySet;
+use link_key::Key;
+use link_key_counters::CountedSet;
 use node::Node;
 use node_attempt::Attempt;
 use node_attempt::Phase;
@@ -43,12 +44,46 @@ fn put_phase(out: Output, phase: Phase, buffer: &mut Buffer) -> Output {
     }
 }
 
-fn put_key_set(out: Output, name: &[u8], set: KeySet, buffer: &mut Buffer) -> Output {
+fn put_key_set(out: Output, name: &[u8], held: CountedSet, buffer: &mut Buffer) -> Output {
     let out = out.text(name, buffer);
+    let set = held.set;
     if set.count == 0 {
         return out.text(b"none", buffer);
     }
-    tool_notation::put_key_set(out, set, buffer)
+    let keys = set.keys;
+    let counters = held.counters;
+    let out = out.byte(b'[', buffer);
+    let out = put_counted(out, keys, counters, set.count, buffer);
+    out.byte(b']', buffer)
+}
+
+// The first `count` of eight keys, each with its counter, with commas between them.
+fn put_counted(
+    out: Output,
+    keys: [Key; 8],
+    counters: [u32; 8],
+    count: usize,
+    buffer: &mut Buffer,
+) -> Output {
+    let mut out = out;
+    let mut i = 0;
+    while i < count {
+        if 8 <= i {
+            return out;
+        }
+        if 0 < i {
+            out = out.byte(b',', buffer);
+        }
+        out = tool_notation::put_key(out, keys[i], buffer);
+        out = put_counter(out, b"#", counters[i], buffer);
+        i += 1;
+    }
+    out
+}
+
+// A frame counter, after what stands before it.
+pub fn put_counter(out: Output, name: &[u8], counter: u32, buffer: &mut Buffer) -> Output {
+    put_number(out, name, counter as u64, buffer)
 }
 
 // The short address, its lease and its time of receipt.

@@ -21,6 +21,7 @@ pub struct Command {
     pub first: u64,
     pub second: u64,
     pub third: u64,
+    pub fourth: u64,
     // how many bytes HEX stands for
     pub len: usize,
     // whether `-` stands in its place
@@ -39,6 +40,11 @@ pub fn byte(number: u64) -> u8 {
     (number % 256) as u8
 }
 
+// The number as a frame counter; a command's counter is no larger.
+pub fn counter(number: u64) -> u32 {
+    (number % 4294967296) as u32
+}
+
 // What a line asks for; nothing, if it is empty or a comment.
 pub fn command_of(line: Line, made: Made) -> Command {
     let head = line.head;
@@ -46,11 +52,14 @@ pub fn command_of(line: Line, made: Made) -> Command {
     let first = head.first;
     let second = head.second;
     let third = tail.number;
+    let next = tail.next;
+    let fourth = next.number;
     Command {
         verb: verb_in(line, made),
         first: value(first),
         second: value(second),
         third: value(third),
+        fourth: value(fourth),
         len: tail.hex.len,
         none: is_none(line),
     }
@@ -108,9 +117,12 @@ fn has_numbers(line: Line, shape: Shape) -> bool {
     let first = head.first;
     let second = head.second;
     let third = tail.number;
+    let next = tail.next;
+    let fourth = next.number;
     let of_second = shape.second;
     let of_third = shape.third;
-    is_number(first) && fits(of_second, second) && fits(of_third, third)
+    let of_fourth = shape.fourth;
+    is_number(first) && fits(of_second, second) && fits(of_third, third) && fits(of_fourth, fourth)
 }
 
 fn is_number(number: Decimal) -> bool {

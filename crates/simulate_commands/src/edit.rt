@@ -16,6 +16,8 @@ pub enum Edit {
     // two bytes
     Address,
     NoAddress,
+    // a key identifier and its next counter
+    Counter,
     // a phase
     Idle,
     Waiting,
@@ -74,7 +76,7 @@ fn phase_of(value: Word) -> Edit {
     Edit::Unknown
 }
 
-// A field that takes a number.
+// A field that takes a number, or two.
 fn number_of(field: Word) -> Edit {
     if field.is(b"role") {
         return Edit::Role;
@@ -93,6 +95,9 @@ fn number_of(field: Word) -> Edit {
     }
     if field.is(b"received") {
         return Edit::Received;
+    }
+    if field.is(b"counter") {
+        return Edit::Counter;
     }
     Edit::Unknown
 }

@@ -47,13 +47,16 @@ pub struct Shape {
     pub words: usize,
     pub second: Number,
     pub third: Number,
+    pub fourth: Number,
     pub bytes: Bytes,
 }
 
 const ANY: Number = Number::UpTo(u64::MAX);
 
-// A role, a frame type, a key identifier or a counter is a byte.
+// A role, a frame type, a key identifier or a count of sendings is a byte.
 const BYTE: Number = Number::UpTo(255);
+
+const COUNTER: Number = Number::UpTo(4294967295);
 
 // The command that the line's first word names, with what a bench command's other words do.
 pub fn verb_of(line: Line) -> Verb {
@@ -136,6 +139,13 @@ fn edit_shape(edit: Edit) -> Shape {
         Edit::Clock | Edit::Sent | Edit::Timeout => shaped(4, Number::No, ANY, Bytes::No),
         Edit::Received | Edit::Lease => shaped(4, Number::No, ANY, Bytes::No),
         Edit::Address => shaped(4, Number::No, Number::No, Bytes::Two),
+        Edit::Counter => Shape {
+            words: 5,
+            second: Number::No,
+            third: BYTE,
+            fourth: COUNTER,
+            bytes: Bytes::No,
+        },
         _ => shaped(4, Number::No, Number::No, Bytes::No),
     }
 }
@@ -145,6 +155,7 @@ fn shaped(words: usize, second: Number, third: Number, bytes: Bytes) -> Shape {
         words,
         second,
         third,
+        fourth: Number::No,
         bytes,
     }
 }

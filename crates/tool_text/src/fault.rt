@@ -10,6 +10,8 @@ pub enum Fault {
     Hex,
     // there is no such node
     Node,
+    // the node has no such key
+    Key,
     // there are more bytes than the tool takes
     Long,
     // there is no such file, or it cannot be read
@@ -24,6 +26,7 @@ pub fn put_fault(out: Output, fault: Fault, buffer: &mut Buffer) -> Output {
         Fault::Number => out.text(b"number", buffer),
         Fault::Hex => out.text(b"hex", buffer),
         Fault::Node => out.text(b"node", buffer),
+        Fault::Key => out.text(b"key", buffer),
         Fault::Long => out.text(b"long", buffer),
         Fault::File => out.text(b"file", buffer),
     }

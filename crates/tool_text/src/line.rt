@@ -28,8 +28,18 @@ pub struct Tail {
     pub number: Decimal,
     pub ended: bool,
     pub extra: bool,
+    // the word after it
+    pub next: Next,
     // all of it as HEX
     pub hex: Hex,
+}
+
+// A word by its number, whether it has begun and ended, and whether another comes after it.
+pub struct Next {
+    pub number: Decimal,
+    begun: bool,
+    ended: bool,
+    pub extra: bool,
 }
 
 // What the lines of a tool look like.
@@ -137,6 +147,7 @@ impl Tail {
             number: Decimal::Empty,
             ended: false,
             extra: false,
+            next: Next::new(),
             hex: Hex::new(),
         }
     }
@@ -163,7 +174,33 @@ impl Tail {
             number: number.more(part),
             ended: self.ended | (0 < after.len()),
             extra: self.extra | has_word(after),
+            next: self.next.more(after),
             hex,
+        }
+    }
+}
+
+impl Next {
+    fn new() -> Next {
+        Next {
+            number: Decimal::Empty,
+            begun: false,
+            ended: false,
+            extra: false,
+        }
+    }
+
+    // The word with a part of the line, from where it begins or goes on.
+    fn more(self, part: &[u8]) -> Next {
+        let start = word_from(part, self.begun);
+        let word = &part[start..];
+        let end = word_end(word, !self.ended);
+        let number = self.number;
+        Next {
+            number: number.more(&word[0..end]),
+            begun: self.begun | (0 < word.len()),
+            ended: self.ended | (end < word.len()),
+            extra: self.extra | has_word(&word[end..]),
         }
     }
 }
@@ -199,11 +236,14 @@ impl Line {
         command.len == 0 || command.letters[0] == b'#'
     }
 
-    // How many words it has, counted no further than one after the word at which HEX begins.
+    // How many words it has, counted no further than two after the word at which HEX begins.
     pub fn words(self) -> usize {
         let words = self.head.words;
         if 16 < words || !self.head.full {
             return words;
+        }
+        if self.tail.next.extra {
+            return words + 3;
         }
         if self.tail.extra {
             return words + 2;
@@ -222,11 +262,28 @@ fn word_end(part: &[u8], goes_on: bool) -> usize
     0
 }
 
-// Whether there is anything but spaces.
-fn has_word(part: &[u8]) -> bool {
+// Where the next word begins: at the first byte that is no space, or at the part's end.
+fn word_start(part: &[u8]) -> usize
+    ensures { λ r. ⌜ r ≤ length (now (part .entry)) ⌝ }
+{
     let mut i = 0;
     while i < part.len() && part[i] == b' ' {
         i += 1;
     }
-    i < part.len()
+    i
+}
+
+// Where a word begins, or goes on that has begun.
+fn word_from(part: &[u8], begun: bool) -> usize
+    ensures { λ r. ⌜ r ≤ length (now (part .entry)) ⌝ }
+{
+    if begun {
+        return 0;
+    }
+    word_start(part)
+}
+
+// Whether there is anything but spaces.
+fn has_word(part: &[u8]) -> bool {
+    word_start(part) < part.len()
 }

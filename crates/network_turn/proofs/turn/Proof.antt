@@ -18,14 +18,14 @@ received-requires c κs = search needs
 
 returns : tie.Need-returns
 returns c =
-    let asked = c .before .before .before in
+    let asked = c .before .before .before .before .before in
     let x = asked .before .args in
     sender-refuses (x .sender) (x .receiver) (x .frame-type) (asked .sending-key .result) (asked .sending-key .ensures) _
     (c .before .verdict .given .1)
 
 returns-2 : tie.Need-returns-2
 returns-2 c =
-    let asked = c .before .before .before .before in
+    let asked = c .before .before .before .before .before .before in
     let x = asked .before .args in
     sender-finds (x .sender) (x .receiver) (x .frame-type) (asked .sending-key .result) (asked .sending-key .ensures)
     (c .received .result) (c .before .before .enum-told .given .1) (c .received .ensures)

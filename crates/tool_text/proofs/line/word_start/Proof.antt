@@ -1,9 +1,9 @@
--- `has_word` is safe and ends. The measure is what is left of the part.
+-- `word_start` meets its contract: it goes no further than the part. The measure is what is left of the part.
 use Prim.Native.Nat.{_≤_, _-_}
 use lib.ListN.{length}
 use borrow.Author.Needs.{needs}
-use Rattle.tool_text.proofs.line.has_word.Statement.{statement}
-use Rattle.tool_text.proofs.line.has_word.Tie as tie
+use Rattle.tool_text.proofs.line.word_start.Statement.{statement}
+use Rattle.tool_text.proofs.line.word_start.Tie as tie
 
 abbrev Inv-loop : tie.InvT-loop
 Inv-loop part i₀ i = i ≤ length part
@@ -11,12 +11,13 @@ Inv-loop part i₀ i = i ≤ length part
 abbrev μ-loop : tie.MeasureT-loop
 μ-loop part i₀ i = length part - i
 
-pub has-word-spec : {M : Type 1} → statement M
-has-word-spec =
+pub word-start-spec : {M : Type 1} → statement M
+word-start-spec =
     tie.close
     (tie.spec
     Inv-loop
     μ-loop
+    (λ c. search needs)
     (λ c. search needs)
     (λ c. search needs)
     (λ c. search needs)
