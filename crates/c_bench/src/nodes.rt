@@ -17,7 +17,7 @@ fn joined(dst: &mut [u8], answer: &[u8], id: u8) -> Node {
 
 fn node_number(node: Node) -> u64 {
     let sets = node.sets;
-    keys_number(sets.active, 0) ^ keys_number(sets.pending, 0)
+    keys_number(sets.active.set, 0) ^ keys_number(sets.pending.set, 0)
 }
 
 #[no_mangle]
@@ -52,14 +52,17 @@ pub extern "C" fn bench_poll(dst: &mut [u8], answer: &[u8], id: u8, n: u64) -> u
 
 #[no_mangle]
 pub extern "C" fn bench_sending(dst: &mut [u8], answer: &[u8], id: u8, n: u64) -> u64 {
-    let node = joined(dst, answer, id);
+    let mut node = joined(dst, answer, id);
     let mut seen: u64 = 0;
     let mut i: u64 = 0;
     while i < n {
-        let r = node.sending_key(1);
-        let key = r.key;
-        seen = seen ^ wide(key.identifier) ^ i;
+        let turn = i;
         i += 1;
+        let r = node.sending_key(1);
+        let answer = r.answer;
+        let key = answer.key;
+        node = r.node;
+        seen = seen ^ wide(key.identifier) ^ turn;
     }
     seen
 }

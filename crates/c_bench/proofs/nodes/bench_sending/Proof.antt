@@ -5,10 +5,10 @@ use Rattle.c_bench.proofs.nodes.bench_sending.Statement.{statement}
 use Rattle.c_bench.proofs.nodes.bench_sending.Tie as tie
 
 abbrev Inv-loop : tie.InvT-loop
-Inv-loop dst answer id n node seen₀ i₀ seen i = i ≤ n
+Inv-loop dst answer id n node₀ seen₀ i₀ node seen i = i ≤ n
 
 abbrev μ-loop : tie.MeasureT-loop
-μ-loop dst answer id n node seen₀ i₀ seen i = n - i
+μ-loop dst answer id n node₀ seen₀ i₀ node seen i = n - i
 
 joined-requires : tie.Need-joined-requires Inv-loop μ-loop
 joined-requires c κs = search needs
@@ -45,9 +45,9 @@ bench-sending-spec =
     μ-loop
     joined-requires
     loop-holds
+    add-i
     sending-key-requires
     wide-requires
-    add-i
     loop-less
     loop-again
     same-length
