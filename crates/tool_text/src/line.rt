@@ -1,6 +1,8 @@
 // A line of a tool's input: a command word, numbers, and HEX to the line's end, read in as many parts as it comes in.
 ghost use Prim.Native.Nat.{_≤_};
 ghost use lib.ListN.{length};
+use crate::parting::Parted;
+use crate::parting::Parting;
 use crate::word::Word;
 use tool_numerals::decimal::Decimal;
 use tool_numerals::hex::Hex;
@@ -28,8 +30,9 @@ pub struct Tail {
     pub number: Decimal,
     pub ended: bool,
     pub extra: bool,
-    // all of it as HEX
+    // all of it as HEX, and how a `+` parts that
     pub hex: Hex,
+    pub parting: Parting,
 }
 
 // What the lines of a tool look like.
@@ -138,32 +141,43 @@ impl Tail {
             ended: false,
             extra: false,
             hex: Hex::new(),
+            parting: Parting::new(),
         }
     }
 
     // The tail with a part of the line.
     fn more(self, part: &[u8], is_word: bool, buffer: &mut [u8]) -> Tail {
-        let hex = self.hex.more(part, buffer);
+        let parted = self.parted().more(part, buffer);
         let end = word_end(part, is_word & !self.ended);
-        self.with(&part[0..end], &part[end..], hex)
+        self.with(&part[0..end], &part[end..], parted)
     }
 
     // The same where HEX begins after the word.
     fn more_apart(self, part: &[u8], buffer: &mut [u8]) -> Tail {
         let end = word_end(part, !self.ended);
-        let hex = self.hex.more(&part[end..], buffer);
-        self.with(&part[0..end], &part[end..], hex)
+        let parted = self.parted().more(&part[end..], buffer);
+        self.with(&part[0..end], &part[end..], parted)
+    }
+
+    // HEX, and how a `+` parts it.
+    pub fn parted(self) -> Parted {
+        let hex = self.hex;
+        let parting = self.parting;
+        Parted { hex, parting }
     }
 
     // The tail with a part of the word by itself, what comes after it, and HEX.
-    fn with(self, part: &[u8], after: &[u8], hex: Hex) -> Tail {
+    fn with(self, part: &[u8], after: &[u8], parted: Parted) -> Tail {
         let number = self.number;
+        let hex = parted.hex;
+        let parting = parted.parting;
         Tail {
             word: self.word.more(part),
             number: number.more(part),
             ended: self.ended | (0 < after.len()),
             extra: self.extra | has_word(after),
             hex,
+            parting,
         }
     }
 }
