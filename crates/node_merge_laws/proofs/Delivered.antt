@@ -2,7 +2,7 @@
 -- does the same to the node.
 use Prim.Native.Nat.{ℕ, _≤_}
 use mathlib.Core.Path.{_≡_, refl, ap, sym, _∙_, subst}
-use mathlib.Core.Bool.{Bool, true, false, cond, not, _&&_}
+use mathlib.Core.Bool.{Bool, true, false, cond, not}
 use mathlib.Core.List.{List}
 use native.Mathlib.Omega.{arith}
 use borrow.Author.Tests.{le-leb}
@@ -11,17 +11,17 @@ use lib.ListN.{length}
 use Rattle.refusal.specs.declared.Refusal.the-variants as refusal
 use Rattle.refusal.specs.declared.Verdict.{Verdict}
 use Rattle.refusal.specs.declared.Verdict.the-variants.{Accepted, Refused}
-use Rattle.cbor.specs.Answer.{Plan, refuse, emit}
+use Rattle.cbor.specs.Answer.{emit}
 use Rattle.cbor.specs.Encode.{encode}
 use Rattle.cbor.specs.Item.{map}
 use Rattle.cojp.specs.Configuration.{readConfiguration}
 use Rattle.cojp.specs.Laws.{ConfigurationRoundTrip, LargestConfiguration}
 use Rattle.cojp.specs.Same.{SameConfiguration}
 use Rattle.cojp.specs.InRange.{InRange, ReadsInRange}
-use Rattle.cojp.specs.Writing.{keysInRange, addressInRange, jrcInRange, octetsInRange, configurationInRange, configurationPairs, configurationPlan}
+use Rattle.cojp.specs.Writing.{configurationInRange, configurationPairs, configurationPlan}
 use Rattle.cojp.specs.declared.configuration.Configuration.{Configuration}
 use Rattle.cojp.specs.declared.configuration.ConfigurationRead.{ConfigurationRead}
-use Rattle.cojp_merge.specs.Laws.{MergeLaws}
+use Rattle.cojp_merge.specs.Laws.{MergeLaws, TakesEqual}
 use Rattle.cojp_merge.specs.Merge.{merged, mergeAnswer}
 use Rattle.node_attempt.specs.Attempt as attempt
 use Rattle.node_delivery.specs.Delivery.{belongs, mayCome}
@@ -30,9 +30,9 @@ use Rattle.node.specs.Delivery.{apply, applyRead, deliver, deliverBy, deliverVe
 use Rattle.node.specs.Range.{valid}
 use Rattle.node.specs.declared.delivery.Delivered.{Delivered}
 use Rattle.node.specs.declared.node.Node.{Node}
-use Rattle.node_laws.specs.Same.{SameNode, AppliesAlike}
-use Rattle.node_merge_laws.specs.Merged.{mergedPayload, DeliveredAsOne, MergedDelivers}
+use Rattle.node_merge_laws.specs.Merged.{mergedPayload, MergedDelivers}
 use Rattle.node_merge_laws.proofs.Applied.{merged-applies}
+use Rattle.node_merge_laws.proofs.Exactly.{applies-exactly}
 
 -- ---- an accepted payload
 module _ (n : Node) (time : ℕ) where
@@ -74,14 +74,6 @@ module _ (n : Node) (time : ℕ) where
       (le-leb len 256 h)
 
 -- ---- the merged one
-keys-first : (k a j n p : Bool) → (k && a && j && n && p) ≡ true → k ≡ true
-keys-first false a j n p e = absurd (let z : _≡_ {A = ℕ} 0 1 = cc in omega arith)
-keys-first true a j n p e = refl
-
-keys-of : (c : Configuration) → configurationInRange c ≡ true → keysInRange (c .keys) ≡ true
-unfolding configurationInRange
-keys-of c e = keys-first (keysInRange (c .keys)) (addressInRange (c .address)) (jrcInRange (c .jrc)) (octetsInRange (c .network)) (octetsInRange (c .prefix)) e
-
 whole-range : (c : Configuration) → InRange c → configurationInRange c ≡ true
 unfolding configurationInRange
 whole-range c i = rw (i .keys, i .address, i .jrc, i .network, i .prefix)
@@ -94,9 +86,13 @@ planned : (c : Configuration) → configurationInRange c ≡ true → configurat
 unfolding configurationPlan
 planned c e = rw e
 
-module _ (laws : MergeLaws) (alike : AppliesAlike) (in-range : ReadsInRange) (first second : Configuration)
+module _ (laws : MergeLaws) (in-range : ReadsInRange) (first second : Configuration)
     (largest : LargestConfiguration (mergeAnswer first second .configuration))
     (back : ConfigurationRoundTrip (mergeAnswer first second .configuration)) where
+  exact : (p q w : List ℕ) (f s : Configuration) → readConfiguration p .configuration ≡ f → readConfiguration q .configuration ≡ s
+      → SameConfiguration (readConfiguration w .configuration) (merged f s) → TakesEqual (readConfiguration w .configuration) (merged f s)
+  exact p q w f s e h = rw (← e, ← h) (laws .exact p q w)
+
   pub merged-delivers : MergedDelivers first second
   merged-delivers n time p q reads-first reads-second e h =
       let a = came n time p e in
@@ -122,17 +118,12 @@ module _ (laws : MergeLaws) (alike : AppliesAlike) (in-range : ReadsInRange) (fi
       applied n time w (may-come-too n time (length p) (length w) (a .0) (omega (arith, short))) (read .accepted) in
       let same : SameConfiguration (readConfiguration w .configuration) (merged first second) =
       subst (λ (c : Configuration). SameConfiguration (readConfiguration w .configuration) c) is (read .same) in
-      let o =
-      alike Update n time (readConfiguration w .configuration) (merged first second)
-      (in-range w (read .accepted) .keys)
-      (keys-of (merged first second) (subst (λ (c : Configuration). configurationInRange c ≡ true) is (good .1))) same in
+      let equal : TakesEqual (readConfiguration w .configuration) (merged first second) = exact p q w first second reads-first reads-second same in
+      let o = applies-exactly n time (readConfiguration w .configuration) (merged first second) equal (one .accepted) in
       record {
         merges = good .0;
         writes = writes;
         short = short;
-        accepted = ap (λ (d : Delivered). d .verdict) arrives ∙ o .verdict ∙ one .accepted;
-        node =
-            subst (λ (x : Node). SameNode x (deliver Update m time q .node)) (sym (ap (λ (d : Delivered). d .node) arrives))
-            (subst (λ (y : Node). SameNode (apply Update n time (readConfiguration w .configuration) .node) y)
-            (one .node ∙ sym (ap (λ (d : Delivered). d .node) then)) (o .node));
+        accepted = ap (λ (d : Delivered). d .verdict) arrives ∙ o .0;
+        node = ap (λ (d : Delivered). d .node) arrives ∙ o .1 ∙ one .node ∙ sym (ap (λ (d : Delivered). d .node) then);
       }

@@ -1,7 +1,7 @@
 -- Joining two updates (document 02, request 10): at one time, where a node accepts the first and then the second, it accepts the merged one,
--- which leaves the same node. Outside this law are reports and passed-over counts, which are no part of the node; a border router's frame
--- counters, which nodes do not have yet; a join answer, whose OWED may differ; and pairs of which one is refused: the merged one may then be
--- accepted all the same (Example).
+-- which leaves the same node. Only a joined node that may be handed in accepts an update. Outside this law are reports and passed-over counts,
+-- which are no part of the node; a border router's frame counters, which nodes do not have yet; a join answer, whose OWED may differ; and pairs
+-- of which one is refused: the merged one may then be accepted all the same (Example).
 use Prim.Native.Nat.{ℕ, _≤_}
 use mathlib.Core.Path.{_≡_}
 use mathlib.Core.List.{List}
@@ -17,20 +17,22 @@ use Rattle.cojp_merge.specs.Merge.{merged, mergeAnswer}
 use Rattle.node_delivery.specs.declared.Delivery.the-variants.{Update}
 use Rattle.node.specs.Delivery.{apply, deliver}
 use Rattle.node.specs.declared.node.Node.{Node}
-use Rattle.node_laws.specs.Same.{SameNode}
 
--- ---- configurations: the node is equal in every field
+-- ---- the same node: equal in every field, the places that are never looked at among them. What a border router may differ in is left out here
+abbrev pub TheSame : Node → Node → Type 0
+TheSame one two = one ≡ two
+
+-- ---- configurations
 pub record AppliedAsOne (n : Node) (time : ℕ) (first second : Configuration) : Type 0 where
   pub accepted : apply Update n time (merged first second) .verdict ≡ Accepted
-  pub node : apply Update n time (merged first second) .node ≡ apply Update (apply Update n time first .node) time second .node
+  pub node : TheSame (apply Update n time (merged first second) .node) (apply Update (apply Update n time first .node) time second .node)
 
 abbrev pub MergedApplies : Type 0
 MergedApplies =
     (n : Node) (time : ℕ) (first second : Configuration) → apply Update n time first .verdict ≡ Accepted →
     apply Update (apply Update n time first .node) time second .verdict ≡ Accepted → AppliedAsOne n time first second
 
--- ---- payloads: the merged one is written, in at most 232 bytes, and the node holds the same; what stands in places that are never looked at is
--- not compared, since those of a configuration that is handed in are not written
+-- ---- payloads: any two, and the one that is written of the merged configuration, in at most 232 bytes
 abbrev pub mergedPayload : Configuration → Configuration → List ℕ
 mergedPayload first second = encode (map (configurationPairs (merged first second)))
 
@@ -40,7 +42,7 @@ pub record DeliveredAsOne (n : Node) (time : ℕ) (p q : List ℕ) (first second
   pub short : length (mergedPayload first second) ≤ 232
   pub accepted : deliver Update n time (mergedPayload first second) .verdict ≡ Accepted
   pub node :
-      SameNode (deliver Update n time (mergedPayload first second) .node)
+      TheSame (deliver Update n time (mergedPayload first second) .node)
       (deliver Update (deliver Update n time p .node) time q .node)
 
 abbrev pub MergedDelivers : Configuration → Configuration → Type 0
