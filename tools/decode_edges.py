@@ -200,8 +200,130 @@ def lines(r):
     yield b"strict-configurationA0", "error command"
     yield b"strict-configuratio A0", "error command"
     yield b"strict request A0", "error command"
+    yield from merges()
+    yield from parts()
     # the last line has no end
     yield b"request A1 01 01\r", "accepted role=1 network=absent passed=0"
+
+
+def merges():
+    """Two configurations joined: paper 02, request 10. A `+` is a word of its own, wherever a buffer ends."""
+    far = b" " * 66000
+    one, other, both = b"A1 03 82 42 12 34 0A", b"A1 05 42 CA FE", "merged h'a203824212340a0542cafe'"
+    yield b"merge " + one + b" + " + other, both
+    yield b"merge" + far + one + far + b"+" + far + other + far + b"\r", both
+    # the `+` before, at and after the end of a buffer
+    for size in range(65520, 65550):
+        yield b"merge " + one + b" " * (size - 20) + b"+ " + other, both
+    yield b"merge A1 03 82 42 12 34 0A + A1 03 81 42 56 78", "merged h'a10381425678'"
+    yield b"merge A1 03 82 42 12 34 0A + A1 03 81 42 FF FF", "merged h'a103824212340a'"
+    yield b"merge A0 + A0", "merged h'a0'"
+    yield b"merge A0+A0", "error command"
+    yield b"merge A0 +A0", "error command"
+    yield b"merge A0+ A0", "error command"
+    yield b"merge A0 ++ A0", "error command"
+    yield b"merge A0 A0", "error command"
+    yield b"merge zz", "error command"
+    yield b"merge", "error command"
+    yield b"merge A0 + A0 + A0", "error hex"
+    yield b"merge A0 + A0 +", "error hex"
+    yield b"merge A0 + A0+", "error hex"
+    yield b"merge A0+ + A0", "error hex"
+    yield b"merge A + 0A0", "error hex"
+    yield b"merge A0 + A", "error hex"
+    yield b"merge x + A0", "error hex"
+    yield b"merge A0 + x", "error hex"
+    yield b"merge + A0", "first refused 1 CUT"
+    yield b"merge +", "first refused 1 CUT"
+    yield b"merge +\r", "first refused 1 CUT"
+    yield b"merge A0 +", "second refused 1 CUT"
+    yield b"merge A1 02 80 + A1 01", "first refused 7 KEYS"
+    for size in (256, 257, 300, 513, 514, 515, 33000):
+        whole = (padded(256) if size == 256 else "A0" + "00" * (size - 1)).encode()
+        yield b"merge " + whole + b" + A0", "first " + LONG if 256 < size else "merged h'a0'"
+        yield b"merge A0 + " + whole, "second " + LONG if 256 < size else "merged h'a0'"
+        yield b"merge " + whole + b" + 0", "error hex"
+    yield b"merge " + padded(256).encode() + b" + " + padded(256).encode(), "merged h'a0'"
+    yield b"merges A0 + A0", "error command"
+    yield b"configuration A0 + A0", "error hex"
+    yield b"+", "error command"
+
+
+def parts():
+    """A payload that comes in parts: paper 02, request 12. The store's bytes from an earlier board are never seen."""
+    cafe = "accepted role=0 network=h'cafe' passed=0"
+    phase, out_of_range = "refused 16 PHASE", "refused 13 RANGE"
+    reset = (b"reset", "reset")
+    yield reset
+    for cut in range(6):
+        digits = bytes.fromhex("A10542CAFE")
+        yield b"part " + digits[:cut].hex().encode(), "held %d" % cut
+        yield b"part", "held %d" % cut
+        yield b"part " + digits[cut:].hex().encode(), "held 5"
+        yield b"end request", cafe
+        yield b"part", phase
+        yield b"end strict-request", phase
+        yield reset
+    # an end that is refused is an end; what arrived is no request
+    yield b"part A0", "held 1"
+    yield b"end request", "refused 9 OWED"
+    yield b"end configuration", phase
+    yield reset
+    yield b"end configuration", CUT
+    yield b"end configuration", phase
+    yield reset
+    # 256 and one more, also after an end; a part that does not fit leaves what arrived
+    whole = padded(256).encode()
+    yield b"part " + whole[:400], "held 200"
+    yield b"part " + whole[400:], "held 256"
+    yield b"part", "held 256"
+    yield b"end configuration", "accepted " + NONE + " passed=1"
+    yield b"part", phase
+    yield b"part 00", LONG
+    yield b"part", LONG
+    yield b"end configuration", LONG
+    yield reset
+    yield b"part A0", "held 1"
+    yield b"part " + b"FF" * 256, LONG
+    yield b"part", LONG
+    yield b"end request", LONG
+    yield reset
+    yield b"part " + b"FF" * 33000, LONG
+    yield reset
+    yield b"end configuration", CUT
+    yield reset
+    # a store that is too short is RANGE before all else; the arrival stays
+    yield b"part A1 05 42", "held 3"
+    yield b"store 255", "lent 255"
+    yield b"part " + b"00" * 300, out_of_range
+    yield b"end request", out_of_range
+    yield b"reset", "reset"
+    yield b"part", out_of_range
+    yield b"store 512", "lent 512"
+    yield b"part A1 05 42", "held 3"
+    yield b"store 256", "lent 256"
+    yield b"part CA FE", "held 5"
+    yield b"end request", cafe
+    yield b"store 0", "lent 0"
+    yield b"part", out_of_range
+    yield b"store 256", "lent 256"
+    yield reset
+    yield b"store 513", "error number"
+    yield b"store 18446744073709551616", "error number"
+    yield b"store x", "error number"
+    yield b"store", "error command"
+    yield b"store 1 2", "error command"
+    yield b"store " + b"0" * 66000 + b"256", "lent 256"
+    yield b"end", "error command"
+    yield b"end request A0", "error command"
+    yield b"end rewrite", "error command"
+    yield b"ends request", "error command"
+    yield b"reset 1", "error command"
+    yield b"resets", "error command"
+    yield b"part x", "error hex"
+    yield b"part 0", "error hex"
+    yield b"part A1" + b" " * 66000 + b"05 42CA FE" + b" " * 66000 + b"\r", "held 5"
+    yield b"end" + b" " * 66000 + b"request" + b" " * 66000 + b"\r", cafe
 
 
 def is_silent(line):

@@ -4,6 +4,6 @@ mod Strict
 pub mod Strings
 pub mod Arrays
 mod Addresses
-mod Walks
+pub mod Walks
 mod Reading
 pub mod Nexts

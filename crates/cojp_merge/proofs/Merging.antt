@@ -18,7 +18,7 @@ use Rattle.cojp.specs.declared.key_set.KeysParameter.{KeysParameter}
 use Rattle.cojp.specs.declared.octets.OctetsParameter.{OctetsParameter}
 use Rattle.cojp.specs.declared.report.Report.{Report}
 use Rattle.cojp.specs.declared.report.Report.the-variants.{Absent, Taken, Discarded}
-use Rattle.cojp_merge.specs.Laws.{Associative, NeutralFirst, NeutralSecond, StaysInRange, RefusedEmpty, MergeLaws}
+use Rattle.cojp_merge.specs.Laws.{Associative, NeutralFirst, NeutralSecond, StaysInRange, RefusedEmpty}
 use Rattle.cojp_merge.specs.Merge.{merged, mergeAnswer, outsideLimits}
 use Rattle.cojp_merge.specs.declared.Merged.{Merged}
 
@@ -38,7 +38,7 @@ module _ {A : Type 0} (report : A → Report) where
   seen-after value absent x Discarded n e = rw (e, n)
 
 -- what holds of both holds of the later one
-of-both : {A : Type 0} (P : A → Type 0) (x y : A) (r : Report) → P x → P y → P (ifTaken r y x)
+pub of-both : {A : Type 0} (P : A → Type 0) (x y : A) (r : Report) → P x → P y → P (ifTaken r y x)
 of-both P x y Absent p q = p
 of-both P x y Taken p q = q
 of-both P x y Discarded p q = p
@@ -116,7 +116,7 @@ accepted-is a b e =
     let r = accepted-in-range a b e in
     ap (λ (m : Merged). m .configuration) (sym (merge-answered a b (r .0) (r .1)))
 
-associative : Associative
+pub associative : Associative
 associative a b c e f =
     let r = accepted-in-range a b e in
     let s = accepted-in-range b c f in
@@ -125,7 +125,7 @@ associative a b c e f =
     ∙ ap answered (brackets a b c)
     ∙ merge-answered a (merged b c) (r .0) (merged-in-range b c (s .0) (s .1)))
 
-neutral-first : NeutralFirst
+pub neutral-first : NeutralFirst
 neutral-first c e = rw (accepted-is emptyConfiguration c e) same
   where
     same : SameConfiguration (merged emptyConfiguration c) c
@@ -142,10 +142,10 @@ neutral-first c e = rw (accepted-is emptyConfiguration c e) same
         octets : (p : OctetsParameter) → octetsTaken (ifTaken (p .report) p (noOctetsParameter Absent)) ≡ octetsTaken p
         octets p = seen-after (λ (x : OctetsParameter). x .report) (λ (x : OctetsParameter). bytesIn (x .value)) (noOctetsParameter Absent) p (p .report) refl refl
 
-neutral-second : NeutralSecond
+pub neutral-second : NeutralSecond
 neutral-second c e = rw (accepted-is c emptyConfiguration e) (record { keys = refl; address = refl; jrc = refl; network = refl; prefix = refl })
 
-in-range : StaysInRange
+pub in-range : StaysInRange
 in-range a b e f =
     let answer = sym (merge-answered a b e f) in
     (ap (λ (m : Merged). m .verdict) answer, rw answer (merged-in-range a b e f))
@@ -155,15 +155,6 @@ refused-test : (t : Bool) (c : Configuration) (k : Refusal) → cond t (answered
 refused-test true c k e = absurd (let z : _≡_ {A = ℕ} 0 1 = cc in omega arith)
 refused-test false c k e = refl
 
-refused : RefusedEmpty
+pub refused : RefusedEmpty
 unfolding mergeAnswer
 refused a b k e = refused-test (configurationInRange a && configurationInRange b) (merged a b) k e
-
-pub merge-laws : MergeLaws
-merge-laws = record {
-  associative = associative;
-  neutral-first = neutral-first;
-  neutral-second = neutral-second;
-  in-range = in-range;
-  refused = refused;
-}

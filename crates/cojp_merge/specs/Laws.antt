@@ -1,13 +1,17 @@
 -- What is promised of merging. The law on a node stands with the node.
+use Prim.Native.Nat.{ℕ}
 use mathlib.Core.Path.{_≡_}
 use mathlib.Core.Bool.{true}
+use mathlib.Core.List.{List}
+use mathlib.Core.Option.{none, some}
 use Rattle.refusal.specs.declared.Refusal.{Refusal}
 use Rattle.refusal.specs.declared.Verdict.the-variants.{Accepted, Refused}
-use Rattle.cojp.specs.Configuration.{emptyConfiguration}
+use Rattle.cojp.specs.Configuration.{emptyConfiguration, readConfiguration}
+use Rattle.cojp.specs.Reading.{ifTaken}
 use Rattle.cojp.specs.Same.{SameConfiguration}
 use Rattle.cojp.specs.Writing.{configurationInRange}
 use Rattle.cojp.specs.declared.configuration.Configuration.{Configuration}
-use Rattle.cojp_merge.specs.Merge.{mergeAnswer}
+use Rattle.cojp_merge.specs.Merge.{merged, mergeAnswer}
 
 -- ---- three configurations come to the same in either bracket, reports included
 abbrev pub Associative : Type 0
@@ -35,9 +39,25 @@ StaysInRange =
 abbrev pub RefusedEmpty : Type 0
 RefusedEmpty = (a b : Configuration) (k : Refusal) → mergeAnswer a b .verdict ≡ Refused k → mergeAnswer a b .configuration ≡ emptyConfiguration
 
+-- ---- what is taken is equal, also in the places that are not looked at
+pub record TakesEqual (c d : Configuration) : Type 0 where
+  pub keys : ifTaken (c .keys .report) (some (c .keys .value)) none ≡ ifTaken (d .keys .report) (some (d .keys .value)) none
+  pub address : ifTaken (c .address .report) (some (c .address .value)) none ≡ ifTaken (d .address .report) (some (d .address .value)) none
+  pub jrc : ifTaken (c .jrc .report) (some (c .jrc .value)) none ≡ ifTaken (d .jrc .report) (some (d .jrc .value)) none
+  pub network : ifTaken (c .network .report) (some (c .network .value)) none ≡ ifTaken (d .network .report) (some (d .network .value)) none
+  pub prefix : ifTaken (c .prefix .report) (some (c .prefix .value)) none ≡ ifTaken (d .prefix .report) (some (d .prefix .value)) none
+
+-- ---- readings leave nothing in those places: a payload w that says what two others say, merged, reads as exactly that
+abbrev pub ReadsExactly : Type 0
+ReadsExactly =
+    (p q w : List ℕ) →
+    SameConfiguration (readConfiguration w .configuration) (merged (readConfiguration p .configuration) (readConfiguration q .configuration)) →
+    TakesEqual (readConfiguration w .configuration) (merged (readConfiguration p .configuration) (readConfiguration q .configuration))
+
 pub record MergeLaws : Type 0 where
   pub associative : Associative
   pub neutral-first : NeutralFirst
   pub neutral-second : NeutralSecond
   pub in-range : StaysInRange
   pub refused : RefusedEmpty
+  pub exact : ReadsExactly

@@ -1,11 +1,11 @@
 -- How a call finds an arrival, from the tests that the code makes in order, and what each course says of the arrival.
-use Prim.Native.Nat.{ℕ, _+_, _-_, _≤_, _<_}
+use Prim.Native.Nat.{ℕ, _+_, _≤_, _<_}
 use mathlib.Core.Path.{_≡_, refl}
 use mathlib.Core.Bool.{Bool, true, false, cond, not, _&&_, _||_}
 use native.Mathlib.Omega.{arith}
-use borrow.Author.Tests.{leb-true, ltb-true, ltb-false, le-leb, lt-leb, lt-ltb, le-ltb}
+use borrow.Author.Tests.{leb-true, ltb-false, le-leb, lt-leb, lt-ltb, le-ltb}
 use lib.Dec.{leb, ltb}
-use Rattle.cojp_serial.specs.Arrival.{courseOf, inLimits, passes}
+use Rattle.cojp_serial.specs.Arrival.{courseOf}
 use Rattle.cojp_serial.specs.declared.arrival.Arrival.{Arrival}
 use Rattle.cojp_serial.specs.declared.arrival.Course.{Course}
 use Rattle.cojp_serial.specs.declared.arrival.Course.the-variants.{Outside, Overrun, Ended, Open}

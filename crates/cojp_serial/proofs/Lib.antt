@@ -4,3 +4,4 @@ mod Whole
 mod Unread
 mod Refused
 mod Until
+mod Passed

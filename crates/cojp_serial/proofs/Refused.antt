@@ -6,15 +6,14 @@ use mathlib.Core.List.{List}
 use native.Mathlib.Omega.{arith}
 use lib.ListN.{length, take}
 use Rattle.refusal.specs.declared.Refusal.{Refusal}
-use Rattle.refusal.specs.declared.Refusal.the-variants.{Long}
 use Rattle.refusal.specs.declared.Verdict.the-variants.{Refused}
 use Rattle.cbor.specs.Strict.{headBy}
 use Rattle.cojp.specs.Configuration.{emptyConfiguration, refuseConfiguration, readConfigurationBy}
 use Rattle.cojp.specs.Laws.{ReadersDemand1}
 use Rattle.cojp.specs.Request.{emptyRequest, refuseRequest, readRequestBy}
 use Rattle.cojp_serial.specs.Arrival.{partAnswer, partStore, endRead, endArrival}
-use Rattle.cojp_serial.specs.Calls.{Reader, request, configuration, SerialCall, resetting, sending, ending, Held, courseOn, wholeRead, told, verdictIn}
-use Rattle.cojp_serial.specs.Laws.{EmptyBeside, Left, as-before, overrun-marked, end-marked, RefusedCall, RefusedCalls}
+use Rattle.cojp_serial.specs.Calls.{Reader, request, configuration, resetting, sending, ending, Held, courseOn, told, verdictIn}
+use Rattle.cojp_serial.specs.Laws.{EmptyBeside, Left, as-before, overrun-marked, end-marked, RefusedCalls}
 use Rattle.cojp_serial.specs.declared.arrival.Course.{Course}
 use Rattle.cojp_serial.specs.declared.arrival.Course.the-variants.{Outside, Overrun, Ended, Open}
 

@@ -1,11 +1,12 @@
 -- What a part does to the store: the bytes that arrived are those before and the part's; the length stays.
 use Prim.Native.Nat.{ℕ, _+_, _-_, _≤_}
-use mathlib.Core.Path.{_≡_, refl, ap, sym, _∙_}
+use mathlib.Core.Path.{_≡_, refl}
 use mathlib.Core.List.{List, [], _++_, append-assoc, append-nil}
 use native.Mathlib.Omega.{arith}
 use lib.ListN.{length, take, drop, length-append, length-take, length-drop, drop-of-length-le}
-use lib.Seq.{take-all, take-at, take-length, drop-drop, length-take-le}
+use lib.Seq.{take-all, take-at, drop-at, take-length, drop-drop, length-take-le}
 use Rattle.cojp_serial.specs.Arrival.{placed, courseOf, partAnswer, partStore, Parted}
+use Rattle.cojp_serial.specs.Laws.{OwnBytes}
 use Rattle.cojp_serial.specs.declared.arrival.Arrival.{Arrival}
 use Rattle.cojp_serial.specs.declared.arrival.Course.{Course}
 use Rattle.cojp_serial.specs.declared.parts.PartAnswer.{PartAnswer}
@@ -19,6 +20,17 @@ module _ (n : ℕ) (p s : List ℕ) (fits : n + length p ≤ length s) where
 
   pub placed-take : take (n + length p) (placed n p s) ≡ take n s ++ p
   placed-take = rw (← append-assoc (take n s) p (drop (n + length p) s)) (take-at (take n s ++ p) (drop (n + length p) s) (n + length p) head-length)
+
+  pub placed-own : OwnBytes n p s (placed n p s)
+  placed-own =
+      let ahead : length (take n s) ≡ n = length-take-le n s (omega arith) in
+      record {
+        size = placed-length;
+        ahead = take-at (take n s) (p ++ drop (n + length p) s) n ahead;
+        own = rw (drop-at (take n s) (p ++ drop (n + length p) s) n ahead) (take-at p (drop (n + length p) s) (length p) refl);
+        behind =
+            rw (← append-assoc (take n s) p (drop (n + length p) s)) (drop-at (take n s ++ p) (drop (n + length p) s) (n + length p) head-length);
+      }
 
   -- as the copy leaves it: the part of the store from place n on holds q now
   pub placed-by-copy :

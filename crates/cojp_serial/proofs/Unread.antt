@@ -1,7 +1,6 @@
 -- Two stores that agree in what arrived give a call the same course and the same bytes to read, and agree again afterwards.
 use Prim.Native.Nat.{ℕ, _+_, _≤_}
 use mathlib.Core.Path.{_≡_, refl, ap, sym, _∙_}
-use mathlib.Core.Bool.{Bool}
 use mathlib.Core.List.{List, [], _∷_, _++_}
 use native.Mathlib.Omega.{arith}
 use lib.Dec.{leb}
@@ -10,13 +9,13 @@ use Rattle.refusal.specs.declared.Refusal.{Refusal}
 use Rattle.cbor.specs.Strict.{headBy}
 use Rattle.cojp.specs.Configuration.{refuseConfiguration, readConfigurationBy}
 use Rattle.cojp.specs.Request.{refuseRequest, readRequestBy}
-use Rattle.cojp_serial.specs.Arrival.{nothingArrived, courseOf, partAnswer, partStore, placed, endArrival, endRead}
-use Rattle.cojp_serial.specs.Calls.{Reader, request, configuration, SerialCall, resetting, sending, ending, Told, part, joinRequest, update, Held, told, left, answers}
+use Rattle.cojp_serial.specs.Arrival.{nothingArrived, courseOf, partAnswer, partStore, endArrival, endRead}
+use Rattle.cojp_serial.specs.Calls.{request, configuration, SerialCall, resetting, sending, ending, Told, joinRequest, update, Held, told, answers}
 use Rattle.cojp_serial.specs.Laws.{BeyondIsUnread, NothingOfTheFormerBoard}
 use Rattle.cojp_serial.specs.declared.arrival.Arrival.{Arrival}
 use Rattle.cojp_serial.specs.declared.arrival.Course.{Course}
 use Rattle.cojp_serial.specs.declared.arrival.Course.the-variants.{Outside, Overrun, Ended, Open}
-use Rattle.cojp_serial.proofs.Courses.{Fits, open-fits}
+use Rattle.cojp_serial.proofs.Courses.{open-fits}
 use Rattle.cojp_serial.proofs.Stores.{placed-length, placed-take}
 
 abbrev hold : Arrival → List ℕ → Held

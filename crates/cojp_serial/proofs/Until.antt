@@ -1,5 +1,5 @@
 -- What a marked overrun or a marked end makes of every call until a reset: no call but that takes a mark away.
-use Prim.Native.Nat.{ℕ, _≤_}
+use Prim.Native.Nat.{ℕ}
 use mathlib.Core.Path.{_≡_, refl, sym}
 use mathlib.Core.Bool.{true}
 use mathlib.Core.List.{List, [], _∷_}
@@ -19,7 +19,7 @@ use Rattle.cojp_serial.specs.Calls.{Reader, request, configuration, Seri
 use Rattle.cojp_serial.specs.Laws.{NoReset, no-calls, part-next, end-next, Each, none-told, next-told, IsLong, LongOrPhase, long, phase, LongUntilReset, PhaseUntilReset}
 use Rattle.cojp_serial.specs.declared.arrival.Course.{Course}
 use Rattle.cojp_serial.specs.declared.arrival.Course.the-variants.{Outside, Overrun, Ended, Open}
-use Rattle.cojp_serial.proofs.Courses.{Fits, Limited, Shut, by-overrun, by-end, overrun-before, open-fits, overrun-limited, ended-shut}
+use Rattle.cojp_serial.proofs.Courses.{Limited, Shut, by-overrun, by-end, overrun-before, open-fits, overrun-limited, ended-shut}
 
 -- ---- after an overrun
 record Over (h : Held) : Type 0 where
@@ -49,7 +49,7 @@ all-long (ending r ∷ cs) h (end-next q) w =
     next-told (end-is-long r h (over-course h 0 w)) (all-long cs (left (ending r) h) q (over-end h r w))
 
 -- a part is LONG where its course is overrun
-long-course : (x : Course) (h : Held) (n : ℕ) → partAnswer x (h .arrival) n .verdict ≡ Refused Long → x ≡ Overrun
+pub long-course : (x : Course) (h : Held) (n : ℕ) → partAnswer x (h .arrival) n .verdict ≡ Refused Long → x ≡ Overrun
 long-course Outside h n e = absurd (let z : _≡_ {A = ℕ} 0 1 = cc in omega arith)
 long-course Overrun h n e = refl
 long-course Ended h n e = absurd (let z : _≡_ {A = ℕ} 0 1 = cc in omega arith)
@@ -101,12 +101,12 @@ all-shut (ending r ∷ cs) h (end-next q) w =
     let s = shut h 0 w in
     next-told (shut-end r h s) (all-shut cs (left (ending r) h) q (closed-end h (courseOn h 0) s w))
 
--- an empty part is accepted where the course is open
-open-course : (x : Course) (h : Held) → partAnswer x (h .arrival) 0 .verdict ≡ Accepted → x ≡ Open
-open-course Outside h e = absurd (let z : _≡_ {A = ℕ} 0 1 = cc in omega arith)
-open-course Overrun h e = absurd (let z : _≡_ {A = ℕ} 0 1 = cc in omega arith)
-open-course Ended h e = absurd (let z : _≡_ {A = ℕ} 0 1 = cc in omega arith)
-open-course Open h e = refl
+-- a part is accepted where its course is open
+pub open-course : (x : Course) (h : Held) (n : ℕ) → partAnswer x (h .arrival) n .verdict ≡ Accepted → x ≡ Open
+open-course Outside h n e = absurd (let z : _≡_ {A = ℕ} 0 1 = cc in omega arith)
+open-course Overrun h n e = absurd (let z : _≡_ {A = ℕ} 0 1 = cc in omega arith)
+open-course Ended h n e = absurd (let z : _≡_ {A = ℕ} 0 1 = cc in omega arith)
+open-course Open h n e = refl
 
 just-ended : (h : Held) (r : Reader) → courseOn h 0 ≡ Open → Closed (left (ending r) h)
 just-ended h r e =
@@ -114,4 +114,4 @@ just-ended h r e =
     rw e (record { limited = record { store = f .store; arrived = omega (arith, f .room) }; marked = refl })
 
 pub phase-until-reset : PhaseUntilReset
-phase-until-reset h r cs e q = all-shut cs (left (ending r) h) q (just-ended h r (open-course (courseOn h 0) h e))
+phase-until-reset h r cs e q = all-shut cs (left (ending r) h) q (just-ended h r (open-course (courseOn h 0) h 0 e))

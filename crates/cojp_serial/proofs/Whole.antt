@@ -2,7 +2,7 @@
 -- end then reads those bytes, or is LONG as the whole reading is.
 use Prim.Native.Nat.{ℕ, _+_, _≤_, _<_}
 use mathlib.Core.Path.{_≡_, refl, ap, sym, _∙_}
-use mathlib.Core.Bool.{Bool, true, false, cond}
+use mathlib.Core.Bool.{Bool, true, false}
 use mathlib.Core.List.{List, [], _∷_, _++_, append-assoc, append-nil}
 use native.Mathlib.Omega.{arith}
 use borrow.Author.Tests.{ltb-true, ltb-false, lt-ltb}
@@ -14,12 +14,11 @@ use Rattle.cbor.specs.Strict.{headBy}
 use Rattle.cojp.specs.Configuration.{refuseConfiguration, readConfigurationBy}
 use Rattle.cojp.specs.Request.{refuseRequest, readRequestBy}
 use Rattle.cojp.specs.Walk.{payloadReadBy}
-use Rattle.cojp_serial.specs.Arrival.{nothingArrived, courseOf, partAnswer, partStore, placed, endRead}
-use Rattle.cojp_serial.specs.Calls.{Reader, request, configuration, sending, ending, resetting, Told, joinRequest, update, Held, courseOn, wholeRead, told, left, sent, joined}
+use Rattle.cojp_serial.specs.Arrival.{partAnswer, partStore}
+use Rattle.cojp_serial.specs.Calls.{Reader, request, configuration, sending, ending, resetting, Held, courseOn, wholeRead, told, left, sent, joined}
 use Rattle.cojp_serial.specs.Laws.{EndReadsTheWhole}
-use Rattle.cojp_serial.specs.declared.arrival.Arrival.{Arrival}
 use Rattle.cojp_serial.specs.declared.arrival.Course.{Course}
-use Rattle.cojp_serial.specs.declared.arrival.Course.the-variants.{Outside, Overrun, Ended, Open}
+use Rattle.cojp_serial.specs.declared.arrival.Course.the-variants.{Overrun, Open}
 use Rattle.cojp_serial.proofs.Courses.{overrun-before, overrun-now, open-to}
 use Rattle.cojp_serial.proofs.Stores.{placed-length, placed-take}
 

@@ -1,10 +1,10 @@
 -- Whole lists of these calls, each of which gets arrival and store as the one before left them: nothing else writes the store.
-use Prim.Native.Nat.{ℕ}
+use Prim.Native.Nat.{ℕ, _+_}
 use mathlib.Core.Bool.{Bool}
 use mathlib.Core.List.{List, [], _∷_, _++_}
-use lib.ListN.{length, take}
+use lib.ListN.{length}
 use Rattle.refusal.specs.declared.Verdict.{Verdict}
-use Rattle.refusal.specs.declared.Verdict.the-variants.{Accepted}
+use Rattle.refusal.specs.declared.Verdict.the-variants.{Accepted, Refused}
 use Rattle.cbor.specs.Strict.{headBy}
 use Rattle.cojp.specs.Configuration.{readConfigurationBy}
 use Rattle.cojp.specs.Request.{readRequestBy}
@@ -66,6 +66,10 @@ abbrev pub answers : List SerialCall → Held → List Told
 answers [] h = []
 answers (c ∷ cs) h = told c h ∷ answers cs (left c h)
 
+abbrev pub leftBy : List SerialCall → Held → Held
+leftBy [] h = h
+leftBy (c ∷ cs) h = leftBy cs (left c h)
+
 -- ---- a payload cut into parts
 abbrev pub sent : List (List ℕ) → Held → Held
 sent [] h = h
@@ -75,9 +79,27 @@ abbrev pub joined : List (List ℕ) → List ℕ
 joined [] = []
 joined (p ∷ ps) = p ++ joined ps
 
+abbrev pub sendings : List (List ℕ) → List SerialCall
+sendings [] = []
+sendings (p ∷ ps) = sending p ∷ sendings ps
+
 -- ---- the verdict of an answer
 abbrev pub verdictIn : Told → Verdict
 verdictIn begun = Accepted
 verdictIn (part a) = a .verdict
 verdictIn (joinRequest r) = r .verdict
 verdictIn (update r) = r .verdict
+
+-- ---- how many bytes the accepted parts had, counted from the calls and what they were answered
+abbrev pub ifAccepted : Verdict → ℕ → ℕ
+ifAccepted Accepted n = n
+ifAccepted (Refused k) n = 0
+
+abbrev pub takenBy : SerialCall → Told → ℕ
+takenBy resetting t = 0
+takenBy (sending p) t = ifAccepted (verdictIn t) (length p)
+takenBy (ending r) t = 0
+
+abbrev pub takenIn : List SerialCall → Held → ℕ
+takenIn [] h = 0
+takenIn (c ∷ cs) h = takenBy c (told c h) + takenIn cs (left c h)

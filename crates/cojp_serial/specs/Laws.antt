@@ -3,7 +3,7 @@ use Prim.Native.Nat.{ℕ, _+_, _≤_, _<_}
 use mathlib.Core.Path.{_≡_}
 use mathlib.Core.List.{List, [], _∷_}
 use lib.Dec.{leb}
-use lib.ListN.{length, take}
+use lib.ListN.{length, take, drop}
 use Rattle.refusal.specs.declared.Refusal.{Refusal}
 use Rattle.refusal.specs.declared.Refusal.the-variants.{Long, Phase}
 use Rattle.refusal.specs.declared.Verdict.{Verdict}
@@ -11,7 +11,7 @@ use Rattle.refusal.specs.declared.Verdict.the-variants.{Accepted, Refused}
 use Rattle.cojp.specs.Configuration.{emptyConfiguration}
 use Rattle.cojp.specs.Request.{emptyRequest}
 use Rattle.cojp_serial.specs.Arrival.{overran, endMarked}
-use Rattle.cojp_serial.specs.Calls.{Reader, SerialCall, resetting, sending, ending, Told, begun, part, joinRequest, update, Held, wholeRead, told, left, answers, sent, joined, verdictIn}
+use Rattle.cojp_serial.specs.Calls.{Reader, SerialCall, resetting, sending, ending, Told, begun, part, joinRequest, update, Held, wholeRead, told, left, leftBy, answers, sent, joined, sendings, verdictIn, takenIn}
 use Rattle.cojp_serial.specs.declared.arrival.Arrival.{Arrival}
 
 -- ---- cut anywhere, with empty parts too, after a reset, whatever stood before: the end answers as one whole reading does, LONG included
@@ -78,6 +78,41 @@ LongUntilReset =
     (h : Held) (p : List ℕ) (cs : List SerialCall) → IsLong (verdictIn (told (sending p) h)) → NoReset cs →
     Each IsLong (answers cs (left (sending p) h))
 
+-- ---- LONG comes where 256 is passed and nowhere else: while no call since a reset was LONG, a part is LONG exactly where its bytes and those of
+-- the accepted parts are more than 256
+abbrev pub NotLong : Verdict → Type 0
+NotLong v = IsLong v → ⊥
+
+pub record LongExactly (v : Verdict) (n : ℕ) : Type 0 where
+  pub passed : 256 < n → IsLong v
+  pub only : IsLong v → 256 < n
+
+abbrev pub LongWherePassed : Type 0
+LongWherePassed =
+    (h : Held) (cs : List SerialCall) (p : List ℕ) → 256 ≤ length (h .store) → NoReset cs → Each NotLong (answers cs (left resetting h)) →
+    LongExactly (verdictIn (told (sending p) (leftBy cs (left resetting h)))) (takenIn cs (left resetting h) + length p)
+
+-- ---- each part of a payload that fits is accepted, from a reset on
+abbrev pub IsAccepted : Verdict → Type 0
+IsAccepted v = v ≡ Accepted
+
+abbrev pub FittingPartsTaken : Type 0
+FittingPartsTaken =
+    (h : Held) (ps : List (List ℕ)) → 256 ≤ length (h .store) → length (joined ps) ≤ 256 →
+    Each IsAccepted (answers (sendings ps) (left resetting h))
+
+-- ---- an accepted part stands behind what had arrived, and no other byte of the store changes
+pub record OwnBytes (n : ℕ) (p before after : List ℕ) : Type 0 where
+  pub size : length after ≡ length before
+  pub ahead : take n after ≡ take n before
+  pub own : take (length p) (drop n after) ≡ p
+  pub behind : drop (n + length p) after ≡ drop (n + length p) before
+
+abbrev pub WritesItsOwn : Type 0
+WritesItsOwn =
+    (h : Held) (p : List ℕ) → IsAccepted (verdictIn (told (sending p) h)) →
+    OwnBytes (h .arrival .arrived) p (h .store) (left (sending p) h .store)
+
 -- an end comes to its reading where an empty part would be accepted
 abbrev pub PhaseUntilReset : Type 0
 PhaseUntilReset =
@@ -91,3 +126,6 @@ pub record SerialLaws : Type 0 where
   pub refused : RefusedCalls
   pub long : LongUntilReset
   pub phase : PhaseUntilReset
+  pub passed : LongWherePassed
+  pub fitting : FittingPartsTaken
+  pub own : WritesItsOwn

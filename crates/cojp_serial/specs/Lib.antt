@@ -1,3 +1,4 @@
 pub mod Arrival
 pub mod Calls
 pub mod Laws
+pub mod Example

@@ -16,6 +16,7 @@ pub use parts::part;
 pub use request::RequestEnd;
 pub use request::end_request;
 pub use request::end_strict_request;
+ghost use Rattle.cojp_serial.specs.Example.{TwoBoards};
 ghost use Rattle.cojp_serial.specs.Laws.{SerialLaws};
 
 // What holds of whole lists of these calls.
@@ -24,3 +25,8 @@ pub fn laws()
 {
     cojp::readers_demand1();
 }
+
+// A board after another at one fixture, computed, so that the laws speak of something.
+pub fn two_boards()
+    ensures { λ r. ⌜ TwoBoards ⌝ }
+{}

@@ -19,7 +19,11 @@ pub fn read(strict: bool, payload: &[u8]) -> ConfigurationRead {
 }
 
 pub fn answer(strict: bool, payload: &[u8], out: Output, buffer: &mut Buffer) -> Output {
-    let read = read(strict, payload);
+    put_read(out, read(strict, payload), buffer)
+}
+
+// The object, or the refusal.
+pub fn put_read(out: Output, read: ConfigurationRead, buffer: &mut Buffer) -> Output {
     let verdict = read.verdict;
     match verdict {
         Verdict::Accepted => put_configuration(out, read.configuration, buffer),

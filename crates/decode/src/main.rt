@@ -2,13 +2,18 @@
 mod command;
 mod configuration;
 mod head;
+mod merge;
 mod parameter;
 mod request;
 mod rewrite;
+mod serial;
 
+use command::Asking;
 use command::Command;
 use command::Reading;
 use command::command_of;
+use serial::Answered;
+use serial::Cable;
 use tool_text::fault::Fault;
 use tool_text::fault::put_fault;
 use tool_text::hex::Payload;
@@ -19,33 +24,80 @@ use tool_text::output::Output;
 use tool_text::session::Session;
 use tool_text::word::Word;
 
-// A command and HEX; `rewrite` has a reading before HEX.
+// A command and HEX, or a word; `rewrite` has a reading before HEX.
 const FORM: Form = Form {
     hex_at: 1,
-    is_word: false,
+    is_word: true,
     apart: Word {
         len: 7,
         letters: *b"rewrite\0\0\0\0\0\0\0\0\0\0\0\0\0\0\0\0\0",
     },
 };
 
-fn answer(line: Line, payload: &[u8], out: Output, buffer: &mut Buffer) -> Output {
-    let command = command_of(line);
-    if let Command::Wrong = command {
-        return put_fault(out, Fault::Command, buffer);
-    }
-    let Payload::Bytes(len) = line.tail.hex.payload() else {
-        return put_fault(out, Fault::Hex, buffer);
-    };
-    answer_command(command, tool_text::first(payload, len), out, buffer)
+// What is kept of HEX: two payloads, one byte more of each than it may have, which is enough to be answered LONG.
+type Payloads = [u8; 514];
+
+fn no_payloads() -> Payloads {
+    [0; 514]
 }
 
-fn answer_command(command: Command, payload: &[u8], out: Output, buffer: &mut Buffer) -> Output {
-    match command {
-        Command::Wrong => put_fault(out, Fault::Command, buffer),
-        Command::Head => head::answer(payload, out, buffer),
-        Command::Read(reading) => answer_object(reading, payload, out, buffer),
-        Command::Rewrite(reading) => rewrite::answer(reading, payload, out, buffer),
+// The store of which a part is lent.
+type Store = [u8; 512];
+
+fn empty_store() -> Store {
+    [0; 512]
+}
+
+// What is kept from line to line.
+struct Turn {
+    session: Session,
+    cable: Cable,
+}
+
+fn answer(
+    line: Line,
+    payloads: &[u8],
+    cable: Cable,
+    store: &mut [u8],
+    out: Output,
+    buffer: &mut Buffer,
+) -> Answered {
+    match command_of(line) {
+        Command::Wrong => unchanged(cable, put_fault(out, Fault::Command, buffer)),
+        Command::NoNumber => unchanged(cable, put_fault(out, Fault::Number, buffer)),
+        Command::Merge => unchanged(cable, merge::answer(line.tail, payloads, out, buffer)),
+        Command::Store(lent) => serial::lend(cable, lent, out, buffer),
+        Command::End(reading) => serial::end(cable, reading, store, out, buffer),
+        Command::Reset => serial::reset(cable, out, buffer),
+        Command::OfHex(asking) => {
+            let Payload::Bytes(len) = line.tail.hex.payload() else {
+                return unchanged(cable, put_fault(out, Fault::Hex, buffer));
+            };
+            let payload = tool_text::first(payloads, len);
+            answer_hex(asking, payload, cable, store, out, buffer)
+        }
+    }
+}
+
+fn unchanged(cable: Cable, out: Output) -> Answered {
+    Answered { cable, out }
+}
+
+fn answer_hex(
+    asking: Asking,
+    payload: &[u8],
+    cable: Cable,
+    store: &mut [u8],
+    out: Output,
+    buffer: &mut Buffer,
+) -> Answered {
+    match asking {
+        Asking::Head => unchanged(cable, head::answer(payload, out, buffer)),
+        Asking::Read(reading) => unchanged(cable, answer_object(reading, payload, out, buffer)),
+        Asking::Rewrite(reading) => {
+            unchanged(cable, rewrite::answer(reading, payload, out, buffer))
+        }
+        Asking::Part => serial::part(cable, payload, store, out, buffer),
     }
 }
 
@@ -59,45 +111,60 @@ fn answer_object(reading: Reading, payload: &[u8], out: Output, buffer: &mut Buf
 
 // Answers the next line; an empty one and a comment are not answered.
 fn answer_line(
-    session: Session,
+    turn: Turn,
     bytes: &mut Buffer,
-    payload: &mut tool_notation::Payload,
+    payloads: &mut Payloads,
+    store: &mut Store,
     buffer: &mut Buffer,
-) -> Session {
-    let asked = session.next(FORM, bytes, payload, buffer);
+) -> Turn {
+    let asked = turn.session.next(FORM, bytes, payloads, buffer);
     let line = asked.line;
     let mut session = asked.session;
-    if !line.is_silent() {
-        let out = answer(line, payload, session.out, buffer);
-        session.out = out.byte(b'\n', buffer);
+    let cable = turn.cable;
+    if line.is_silent() {
+        return Turn { session, cable };
     }
-    session
+    let answered = answer(line, payloads, cable, store, session.out, buffer);
+    session.out = answered.out.byte(b'\n', buffer);
+    let cable = answered.cable;
+    Turn { session, cable }
 }
 
 // Answers line after line until the input ends or nobody reads the answers.
 fn run(
-    mut session: Session,
+    mut turn: Turn,
     bytes: &mut Buffer,
-    payload: &mut tool_notation::Payload,
+    payloads: &mut Payloads,
+    store: &mut Store,
     buffer: &mut Buffer,
 ) {
     let mut lines = u64::MAX;
-    while lines > 0 && session.open {
-        session = answer_line(session, bytes, payload, buffer);
+    while lines > 0 && turn.session.open {
+        turn = answer_line(turn, bytes, payloads, store, buffer);
         lines -= 1;
     }
-    session.end(buffer);
+    turn.session.end(buffer);
 }
 
 fn main() {
     let mut bytes = io::large_buffer();
-    let mut payload = tool_notation::no_payload();
+    let mut payloads = no_payloads();
+    let mut store = empty_store();
     let mut buffer = io::large_buffer();
     let session = Session::begin(
         b"decode: what the payloads of join requests and configurations mean (docs/TOOLS.md).\n\
 READING HEX: the object; rewrite READING HEX: the object, written again; head HEX: the first head.\n\
+merge HEX + HEX: two configurations joined and written.\n\
+part HEX, end READING, reset: a payload that comes in parts; store N: how many bytes are lent for it.\n\
 READING is request, configuration, strict-request or strict-configuration.\n",
         &mut buffer,
     );
-    run(session, &mut bytes, &mut payload, &mut buffer);
+    let cable = Cable::new();
+    run(
+        Turn { session, cable },
+        &mut bytes,
+        &mut payloads,
+        &mut store,
+        &mut buffer,
+    );
 }

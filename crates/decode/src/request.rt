@@ -14,7 +14,11 @@ pub fn read(strict: bool, payload: &[u8]) -> RequestRead {
 }
 
 pub fn answer(strict: bool, payload: &[u8], out: Output, buffer: &mut Buffer) -> Output {
-    let read = read(strict, payload);
+    put_read(out, read(strict, payload), buffer)
+}
+
+// The object, or the refusal.
+pub fn put_read(out: Output, read: RequestRead, buffer: &mut Buffer) -> Output {
     let verdict = read.verdict;
     match verdict {
         Verdict::Accepted => put_request(out, read.request, buffer),

@@ -17,6 +17,7 @@ use Rattle.cojp.specs.Reading.{ifTaken}
 use Rattle.cojp.specs.declared.address.AddressParameter.{AddressParameter}
 use Rattle.cojp.specs.declared.configuration.Configuration.{Configuration}
 use Rattle.cojp.specs.declared.key_set.KeysParameter.{KeysParameter}
+use Rattle.cojp.specs.declared.octets.Octets.{Octets}
 use Rattle.cojp.specs.declared.octets.OctetsParameter.{OctetsParameter}
 use Rattle.cojp.specs.declared.report.Report.{Report}
 use Rattle.cojp.specs.declared.report.Report.the-variants.{Absent, Taken, Discarded}
@@ -31,7 +32,6 @@ use Rattle.node_parameters.specs.Octets.{octetsAfter}
 use Rattle.node_parameters.specs.Reports.{borderOnly, reportsOf}
 use Rattle.node_parameters.specs.declared.address.HeldAddress.{HeldAddress}
 use Rattle.node_parameters.specs.declared.octets.HeldOctets.{HeldOctets}
-use Rattle.node_parameters.specs.declared.reports.Reports.{Reports}
 use Rattle.node.specs.Delivery.{apply, configured, placementOf, placedBy, delivered}
 use Rattle.node.specs.Node.{isBorder, keyed}
 use Rattle.node.specs.declared.delivery.Delivered.{Delivered}
@@ -45,6 +45,12 @@ address-as-one time f s old Absent e = rw e
 address-as-one time f s old Taken e = rw e
 address-as-one time f s old Discarded e = rw e
 
+-- an ordinary node discards network identifier and prefix
+pub leaves : (o : Octets) (old : HeldOctets) (r : Report) → octetsAfter (borderOnly false r) o old ≡ old
+leaves o old Absent = refl
+leaves o old Taken = refl
+leaves o old Discarded = refl
+
 octets-as-one : (border : Bool) (f s : OctetsParameter) (old : HeldOctets) (r : Report) → s .report ≡ r
     → octetsAfter (borderOnly border (ifTaken (s .report) s f .report)) (ifTaken (s .report) s f .value) old
     ≡ octetsAfter (borderOnly border (s .report)) (s .value) (octetsAfter (borderOnly border (f .report)) (f .value) old)
@@ -52,12 +58,7 @@ octets-as-one true f s old Absent e = rw e
 octets-as-one true f s old Taken e = rw e
 octets-as-one true f s old Discarded e = rw e
 octets-as-one false f s old Absent e = rw e
-octets-as-one false f s old Taken e = rw e (sym (leaves (f .report)))
-  where
-    leaves : (r : Report) → octetsAfter (borderOnly false r) (f .value) old ≡ old
-    leaves Absent = refl
-    leaves Taken = refl
-    leaves Discarded = refl
+octets-as-one false f s old Taken e = rw e (sym (leaves (f .value) old (f .report)))
 octets-as-one false f s old Discarded e = rw e
 
 jrc-as-one : (f s : OctetsParameter) (old : HeldOctets) (r : Report) → s .report ≡ r
@@ -194,23 +195,23 @@ placed-accepted : (v : Verdict) (n : Node) (time : ℕ) (c : Configuration) (set
 placed-accepted Accepted n time c sets e = refl
 placed-accepted (Refused k) n time c sets e = absurd (let z : _≡_ {A = ℕ} 0 1 = cc in omega arith)
 
-placement-accepted : (n : Node) (time : ℕ) (c : Configuration) → apply Update n time c .verdict ≡ Accepted → placementOf n (c .keys) .verdict ≡ Accepted
+pub placement-accepted : (n : Node) (time : ℕ) (c : Configuration) → apply Update n time c .verdict ≡ Accepted → placementOf n (c .keys) .verdict ≡ Accepted
 unfolding apply
 placement-accepted n time c e = placed-accepted (placementOf n (c .keys) .verdict) n time c (placementOf n (c .keys) .sets) e
 
-abbrev after : Node → ℕ → Configuration → Node
+abbrev pub after : Node → ℕ → Configuration → Node
 after n time c = configured Update n time c (placementOf n (c .keys) .sets) (reportsOf (isBorder n) c)
 
 placed-by : (v : Verdict) (n : Node) (time : ℕ) (c : Configuration) (sets : KeySets) → v ≡ Accepted
     → placedBy v Update n time c sets ≡ delivered (reportsOf (isBorder n) c) (configured Update n time c sets (reportsOf (isBorder n) c))
 placed-by v n time c sets e = rw e
 
-apply-is : (n : Node) (time : ℕ) (c : Configuration) → placementOf n (c .keys) .verdict ≡ Accepted
+pub apply-is : (n : Node) (time : ℕ) (c : Configuration) → placementOf n (c .keys) .verdict ≡ Accepted
     → apply Update n time c ≡ delivered (reportsOf (isBorder n) c) (after n time c)
 unfolding apply
 apply-is n time c e = placed-by (placementOf n (c .keys) .verdict) n time c (placementOf n (c .keys) .sets) e
 
-node-of : {r : ℕ} {t : Attempt} {u v : KeySets} {a b : HeldAddress} {j i n m p q : HeldOctets} → u ≡ v → a ≡ b → j ≡ i → n ≡ m → p ≡ q
+pub node-of : {r : ℕ} {t : Attempt} {u v : KeySets} {a b : HeldAddress} {j i n m p q : HeldOctets} → u ≡ v → a ≡ b → j ≡ i → n ≡ m → p ≡ q
     → _≡_ {A = Node} (record { role = r; attempt = t; sets = u; address = a; jrc = j; network = n; prefix = p })
     (record { role = r; attempt = t; sets = v; address = b; jrc = i; network = m; prefix = q })
 node-of e f g h o = rw (e, f, g, h, o)
@@ -254,6 +255,9 @@ merged-applies C n time f s e h =
     sym (ap (λ (d : Delivered). d .node) (apply-is (after n time f) time s second)) ∙ ap (λ (m : Node). apply Update m time s .node) (sym between) in
     record {
       accepted = ap (λ (d : Delivered). d .verdict) (apply-is n time (merged f s) (place .verdict ∙ second));
-      node = ap uncounted joined ∙ same-after C n time f s first (place .sets) ∙ ap uncounted parted;
-      ordinary = λ b. joined ∙ ordinary-after C n time f s first (place .sets) b ∙ parted;
+      node =
+          record {
+            but-counters = ap uncounted joined ∙ same-after C n time f s first (place .sets) ∙ ap uncounted parted;
+            ordinary = λ b. joined ∙ ordinary-after C n time f s first (place .sets) b ∙ parted;
+          };
     }

@@ -2,7 +2,7 @@
 -- does the same to the node.
 use Prim.Native.Nat.{ℕ, _≤_}
 use mathlib.Core.Path.{_≡_, refl, ap, sym, _∙_, subst}
-use mathlib.Core.Bool.{Bool, true, false, cond, not, _&&_}
+use mathlib.Core.Bool.{Bool, true, false, cond, not}
 use mathlib.Core.List.{List}
 use native.Mathlib.Omega.{arith}
 use borrow.Author.Tests.{le-leb}
@@ -11,17 +11,17 @@ use lib.ListN.{length}
 use Rattle.refusal.specs.declared.Refusal.the-variants as refusal
 use Rattle.refusal.specs.declared.Verdict.{Verdict}
 use Rattle.refusal.specs.declared.Verdict.the-variants.{Accepted, Refused}
-use Rattle.cbor.specs.Answer.{Plan, refuse, emit}
+use Rattle.cbor.specs.Answer.{emit}
 use Rattle.cbor.specs.Encode.{encode}
 use Rattle.cbor.specs.Item.{map}
 use Rattle.cojp.specs.Configuration.{readConfiguration}
 use Rattle.cojp.specs.Laws.{ConfigurationRoundTrip, LargestConfiguration}
 use Rattle.cojp.specs.Same.{SameConfiguration}
 use Rattle.cojp.specs.InRange.{InRange, ReadsInRange}
-use Rattle.cojp.specs.Writing.{keysInRange, addressInRange, jrcInRange, octetsInRange, configurationInRange, configurationPairs, configurationPlan}
+use Rattle.cojp.specs.Writing.{configurationInRange, configurationPairs, configurationPlan}
 use Rattle.cojp.specs.declared.configuration.Configuration.{Configuration}
 use Rattle.cojp.specs.declared.configuration.ConfigurationRead.{ConfigurationRead}
-use Rattle.cojp_merge.specs.Laws.{MergeLaws}
+use Rattle.cojp_merge.specs.Laws.{MergeLaws, TakesEqual}
 use Rattle.cojp_merge.specs.Merge.{merged, mergeAnswer}
 use Rattle.node_attempt.specs.Attempt as attempt
 use Rattle.node_delivery.specs.Delivery.{belongs, mayCome}
@@ -30,9 +30,8 @@ use Rattle.node.specs.Delivery.{apply, applyRead, deliver, deliverBy, deliverVe
 use Rattle.node.specs.Range.{valid}
 use Rattle.node.specs.declared.delivery.Delivered.{Delivered}
 use Rattle.node.specs.declared.node.Node.{Node}
-use Rattle.node_laws.specs.Same.{octetsHeld, addressHeld, SameNode, SameCounters, AppliesAlike}
-use Rattle.node.specs.Node.{activeOf, pendingOf}
-use Rattle.node_merge_laws.specs.Merged.{uncounted, MergedApplies, mergedPayload, DeliveredAsOne, MergedDelivers}
+use Rattle.node_merge_laws.specs.Merged.{uncounted, MergedApplies, mergedPayload, MergedDelivers}
+use Rattle.node_merge_laws.proofs.Exactly.{applies-exactly}
 
 -- ---- an accepted payload
 module _ (n : Node) (time : ℕ) where
@@ -74,14 +73,6 @@ module _ (n : Node) (time : ℕ) where
       (le-leb len 256 h)
 
 -- ---- the merged one
-keys-first : (k a j n p : Bool) → (k && a && j && n && p) ≡ true → k ≡ true
-keys-first false a j n p e = absurd (let z : _≡_ {A = ℕ} 0 1 = cc in omega arith)
-keys-first true a j n p e = refl
-
-keys-of : (c : Configuration) → configurationInRange c ≡ true → keysInRange (c .keys) ≡ true
-unfolding configurationInRange
-keys-of c e = keys-first (keysInRange (c .keys)) (addressInRange (c .address)) (jrcInRange (c .jrc)) (octetsInRange (c .network)) (octetsInRange (c .prefix)) e
-
 whole-range : (c : Configuration) → InRange c → configurationInRange c ≡ true
 unfolding configurationInRange
 whole-range c i = rw (i .keys, i .address, i .jrc, i .network, i .prefix)
@@ -94,22 +85,13 @@ planned : (c : Configuration) → configurationInRange c ≡ true → configurat
 unfolding configurationPlan
 planned c e = rw e
 
--- a node that is the same is so whatever the counters
-same-but : {x y z : Node} → SameNode x y → uncounted y ≡ uncounted z → SameNode x z
-same-but s e = record {
-  role = s .role ∙ ap (λ (n : Node). n .role) e;
-  attempt = s .attempt ∙ ap (λ (n : Node). n .attempt) e;
-  active = s .active ∙ ap activeOf e;
-  pending = s .pending ∙ ap pendingOf e;
-  address = s .address ∙ ap (λ (n : Node). addressHeld (n .address)) e;
-  jrc = s .jrc ∙ ap (λ (n : Node). octetsHeld (n .jrc)) e;
-  network = s .network ∙ ap (λ (n : Node). octetsHeld (n .network)) e;
-  prefix = s .prefix ∙ ap (λ (n : Node). octetsHeld (n .prefix)) e;
-}
-
-module _ (applies : MergedApplies) (laws : MergeLaws) (alike : AppliesAlike) (in-range : ReadsInRange) (first second : Configuration)
+module _ (applies : MergedApplies) (laws : MergeLaws) (in-range : ReadsInRange) (first second : Configuration)
     (largest : LargestConfiguration (mergeAnswer first second .configuration))
     (back : ConfigurationRoundTrip (mergeAnswer first second .configuration)) where
+  exact : (p q w : List ℕ) (f s : Configuration) → readConfiguration p .configuration ≡ f → readConfiguration q .configuration ≡ s
+      → SameConfiguration (readConfiguration w .configuration) (merged f s) → TakesEqual (readConfiguration w .configuration) (merged f s)
+  exact p q w f s e h = rw (← e, ← h) (laws .exact p q w)
+
   pub merged-delivers : MergedDelivers first second
   merged-delivers n time p q reads-first reads-second e h =
       let a = came n time p e in
@@ -135,20 +117,18 @@ module _ (applies : MergedApplies) (laws : MergeLaws) (alike : AppliesAlike) (in
       applied n time w (may-come-too n time (length p) (length w) (a .0) (omega (arith, short))) (read .accepted) in
       let same : SameConfiguration (readConfiguration w .configuration) (merged first second) =
       subst (λ (c : Configuration). SameConfiguration (readConfiguration w .configuration) c) is (read .same) in
-      let o =
-      alike Update n time (readConfiguration w .configuration) (merged first second)
-      (in-range w (read .accepted) .keys)
-      (keys-of (merged first second) (subst (λ (c : Configuration). configurationInRange c ≡ true) is (good .1))) same in
+      let equal : TakesEqual (readConfiguration w .configuration) (merged first second) = exact p q w first second reads-first reads-second same in
+      let o = applies-exactly n time (readConfiguration w .configuration) (merged first second) equal (one .accepted) in
+      let comes = ap (λ (d : Delivered). d .node) arrives ∙ o .1 in
+      let left = ap (λ (d : Delivered). d .node) then in
       record {
         merges = good .0;
         writes = writes;
         short = short;
-        accepted = ap (λ (d : Delivered). d .verdict) arrives ∙ o .verdict ∙ one .accepted;
+        accepted = ap (λ (d : Delivered). d .verdict) arrives ∙ o .0;
         node =
-            subst (λ (x : Node). SameNode x (deliver Update m time q .node)) (sym (ap (λ (d : Delivered). d .node) arrives))
-            (same-but (o .node) (one .node ∙ ap uncounted (sym (ap (λ (d : Delivered). d .node) then))));
-        ordinary =
-            λ b. subst (λ (x : Node). SameCounters x (deliver Update m time q .node)) (sym (ap (λ (d : Delivered). d .node) arrives))
-            (subst (λ (y : Node). SameCounters (apply Update n time (readConfiguration w .configuration) .node) y)
-            (one .ordinary b ∙ sym (ap (λ (d : Delivered). d .node) then)) (o .counters));
+            record {
+              but-counters = ap uncounted comes ∙ one .node .but-counters ∙ ap uncounted (sym left);
+              ordinary = λ b. comes ∙ one .node .ordinary b ∙ sym left;
+            };
       }

@@ -1,2 +1,4 @@
 mod Applied
+mod Exactly
 mod Delivered
+mod Example

@@ -1,18 +1,15 @@
--- A node that joined with the key of identifier 1. A set with another key of identifier 1 is CLASH; merged with a set that shares none it is not
--- there any more, and the merged one is accepted. After a set that shares none, and then an address, nothing is refused: the law speaks of these.
-use mathlib.Core.Path.{_≡_}
-use mathlib.Core.Bool.{false}
-use mathlib.Core.List.{[], _∷_}
-use lib.ListN.{replicate}
+-- Two examples at 20,000 ms, on a node that joined with the key of identifier 1. A new key and then an address are accepted: the law speaks of
+-- these. A set with another key of identifier 1 is CLASH; merged with the new key it is not there any more, and the merged one is accepted:
+-- the law does not speak of such a pair.
 use Prim.Native.Nat.{ℕ}
+use mathlib.Core.Path.{_≡_}
+use mathlib.Core.List.{List, [], _∷_, _++_}
+use lib.ListN.{replicate}
 use Rattle.refusal.specs.declared.Refusal.the-variants.{Clash}
 use Rattle.refusal.specs.declared.Verdict.the-variants.{Accepted, Refused}
-use Rattle.cojp.specs.Configuration.{emptyConfiguration, withKeys, withAddress}
 use Rattle.link_key.specs.Key.{keyOf}
+use Rattle.cojp.specs.Configuration.{readConfiguration}
 use Rattle.cojp.specs.KeySet.{keySetOf}
-use Rattle.cojp.specs.declared.configuration.Configuration.{Configuration}
-use Rattle.cojp.specs.declared.report.Report.the-variants.{Taken}
-use Rattle.cojp_merge.specs.Merge.{merged}
 use Rattle.node_attempt.specs.Attempt.{attempt}
 use Rattle.node_attempt.specs.declared.attempt.Phase.the-variants.{Joined}
 use Rattle.node_delivery.specs.declared.Delivery.the-variants.{Update}
@@ -20,8 +17,10 @@ use Rattle.link_key_counters.specs.Counters.{arrived, noCounted}
 use Rattle.node_key_sets.specs.Sets.{twoSets}
 use Rattle.node_parameters.specs.Lease.{absentAddress}
 use Rattle.node_parameters.specs.Octets.{absentOctets}
-use Rattle.node.specs.Delivery.{apply}
+use Rattle.node.specs.Delivery.{deliver}
+use Rattle.node.specs.declared.delivery.Delivered.{Delivered}
 use Rattle.node.specs.declared.node.Node.{Node}
+use Rattle.node_merge_laws.specs.Merged.{mergedPayload}
 
 abbrev pub joined : Node
 joined = record {
@@ -34,16 +33,35 @@ joined = record {
   prefix = absentOctets;
 }
 
-abbrev pub keyed : ℕ → ℕ → Configuration
-keyed identifier byte =
-    withKeys emptyConfiguration (record { report = Taken; value = keySetOf (keyOf identifier 0 (replicate 16 byte) ∷ []) })
+abbrev pub updated : Node → List ℕ → Delivered
+updated n payload = deliver Update n 20000 payload
 
-abbrev pub addressed : Configuration
-addressed =
-    withAddress emptyConfiguration (record { report = Taken; value = record { bytes = 0x12 ∷ 0x34 ∷ []; leased = false; lease = 0 } })
+-- what is written of two payloads' configurations
+abbrev pub joinedPayload : List ℕ → List ℕ → List ℕ
+joinedPayload p q = mergedPayload (readConfiguration p .configuration) (readConfiguration q .configuration)
+
+-- ---- the payloads
+abbrev pub oneKey : ℕ → ℕ → List ℕ
+oneKey identifier byte = 0x02 ∷ 0x82 ∷ identifier ∷ 0x50 ∷ replicate 16 byte
+
+abbrev pub anAddress : List ℕ
+anAddress = 0x03 ∷ 0x81 ∷ 0x42 ∷ 0x12 ∷ 0x34 ∷ []
+
+abbrev pub newKey : List ℕ
+newKey = 0xA1 ∷ oneKey 2 0x33
+
+abbrev pub clashing : List ℕ
+clashing = 0xA1 ∷ oneKey 1 0x22
+
+abbrev pub newAddress : List ℕ
+newAddress = 0xA1 ∷ anAddress
+
+-- ---- inside and outside
+pub record AcceptedPair : Type 0 where
+  pub first : updated joined newKey .verdict ≡ Accepted
+  pub second : updated (updated joined newKey .node) newAddress .verdict ≡ Accepted
+  pub written : joinedPayload newKey newAddress ≡ 0xA2 ∷ (oneKey 2 0x33 ++ anAddress)
 
 pub record RefusedPair : Type 0 where
-  pub first : apply Update joined 20000 (keyed 1 0x22) .verdict ≡ Refused Clash
-  pub merged-all-the-same : apply Update joined 20000 (merged (keyed 1 0x22) (keyed 2 0x33)) .verdict ≡ Accepted
-  pub inside : apply Update joined 20000 (keyed 2 0x33) .verdict ≡ Accepted
-  pub inside-then : apply Update (apply Update joined 20000 (keyed 2 0x33) .node) 20000 addressed .verdict ≡ Accepted
+  pub first : updated joined clashing .verdict ≡ Refused Clash
+  pub merged-all-the-same : updated joined (joinedPayload clashing newKey) .verdict ≡ Accepted

@@ -1,7 +1,8 @@
 -- Joining two updates (document 02, request 10): at one time, where a node accepts the first and then the second, it accepts the merged one,
--- which leaves the same node. Outside this law are reports and passed-over counts, which are no part of the node; a border router's frame
--- counters, since a key that the first set has and the second has not begins at 0 again; a join answer, whose OWED may differ; and pairs of which one is refused: the merged one may then be
--- accepted all the same (Example).
+-- which leaves the same node. Only a joined node that may be handed in accepts an update. Outside this law are reports and passed-over counts,
+-- which are no part of the node; a border router's frame counters, since a key that it held, that the first has not and the second has, begins
+-- at 0 again after the two; a join answer, whose OWED may differ; and pairs of which one is refused: the merged one may then be accepted all the
+-- same (Example).
 use Prim.Native.Nat.{ℕ, _≤_}
 use mathlib.Core.Path.{_≡_}
 use mathlib.Core.Bool.{false}
@@ -19,31 +20,30 @@ use Rattle.link_key_counters.specs.Counters.{arrived}
 use Rattle.node_delivery.specs.declared.Delivery.the-variants.{Update}
 use Rattle.node_key_sets.specs.Sets.{twoSets}
 use Rattle.node.specs.Delivery.{apply, deliver}
-use Rattle.node.specs.declared.node.Node.{Node}
 use Rattle.node.specs.Node.{isBorder, keyed}
-use Rattle.node_laws.specs.Same.{SameNode, SameCounters}
+use Rattle.node.specs.declared.node.Node.{Node}
 
--- ---- configurations: the node is equal in every field, but that a border router's counters are not looked at
+-- ---- the same node
 -- the node with all counters at 0
 abbrev pub uncounted : Node → Node
 uncounted n = keyed n (twoSets (arrived (n .sets .active .set)) (arrived (n .sets .pending .set)))
 
+-- two nodes that were made of n: equal in every field, the places that are never looked at among them; of a border router but for its counters
+pub record TheSame (n one two : Node) : Type 0 where
+  pub but-counters : uncounted one ≡ uncounted two
+  pub ordinary : isBorder n ≡ false → one ≡ two
+
+-- ---- configurations
 pub record AppliedAsOne (n : Node) (time : ℕ) (first second : Configuration) : Type 0 where
   pub accepted : apply Update n time (merged first second) .verdict ≡ Accepted
-  pub node :
-      uncounted (apply Update n time (merged first second) .node)
-      ≡ uncounted (apply Update (apply Update n time first .node) time second .node)
-  pub ordinary :
-      isBorder n ≡ false →
-      apply Update n time (merged first second) .node ≡ apply Update (apply Update n time first .node) time second .node
+  pub node : TheSame n (apply Update n time (merged first second) .node) (apply Update (apply Update n time first .node) time second .node)
 
 abbrev pub MergedApplies : Type 0
 MergedApplies =
     (n : Node) (time : ℕ) (first second : Configuration) → apply Update n time first .verdict ≡ Accepted →
     apply Update (apply Update n time first .node) time second .verdict ≡ Accepted → AppliedAsOne n time first second
 
--- ---- payloads: the merged one is written, in at most 232 bytes, and the node holds the same; what stands in places that are never looked at is
--- not compared, since those of a configuration that is handed in are not written
+-- ---- payloads: any two, and the one that is written of the merged configuration, in at most 232 bytes
 abbrev pub mergedPayload : Configuration → Configuration → List ℕ
 mergedPayload first second = encode (map (configurationPairs (merged first second)))
 
@@ -53,11 +53,7 @@ pub record DeliveredAsOne (n : Node) (time : ℕ) (p q : List ℕ) (first second
   pub short : length (mergedPayload first second) ≤ 232
   pub accepted : deliver Update n time (mergedPayload first second) .verdict ≡ Accepted
   pub node :
-      SameNode (deliver Update n time (mergedPayload first second) .node)
-      (deliver Update (deliver Update n time p .node) time q .node)
-  pub ordinary :
-      isBorder n ≡ false →
-      SameCounters (deliver Update n time (mergedPayload first second) .node)
+      TheSame n (deliver Update n time (mergedPayload first second) .node)
       (deliver Update (deliver Update n time p .node) time q .node)
 
 abbrev pub MergedDelivers : Configuration → Configuration → Type 0

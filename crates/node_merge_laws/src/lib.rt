@@ -1,7 +1,7 @@
 // Two updates joined into one do to a node what the two did one after the other.
 use cojp::Configuration;
 ghost use Rattle.node_merge_laws.specs.Merged.{MergedApplies, MergedDelivers};
-ghost use Rattle.node_merge_laws.specs.Example.{RefusedPair};
+ghost use Rattle.node_merge_laws.specs.Example.{AcceptedPair, RefusedPair};
 
 // Applied to a node at one time: where the first and then the second are accepted, the merged one is, and leaves the same node, but for a
 // border router's frame counters.
@@ -21,11 +21,15 @@ pub fn merged_delivers(first: Configuration, second: Configuration)
     cojp_laws::largest_configuration(configuration);
     cojp_laws::configuration_round_trip(configuration);
     cojp_merge::laws();
-    node_laws::applies_alike();
     cojp::reads_in_range();
 }
 
-// A pair of which one is refused is outside: an example, beside one that is inside.
+// A pair of which both are accepted, so that the law speaks of something.
+pub fn accepted_pair()
+    ensures { λ r. ⌜ AcceptedPair ⌝ }
+{}
+
+// A pair of which the first is refused is outside: the merged one is accepted all the same.
 pub fn refused_pair()
     ensures { λ r. ⌜ RefusedPair ⌝ }
 {}

@@ -8,6 +8,7 @@ pub mod fault;
 pub mod input;
 pub mod line;
 pub mod output;
+pub mod parting;
 pub mod session;
 pub mod word;
 
@@ -17,4 +18,12 @@ pub fn first<'a>(bytes: &'a [u8], len: usize) -> &'a [u8] {
         return bytes;
     }
     &bytes[0..len]
+}
+
+// The bytes from place `from` on, or none where there are fewer.
+pub fn rest<'a>(bytes: &'a [u8], from: usize) -> &'a [u8] {
+    if bytes.len() < from {
+        return &bytes[0..0];
+    }
+    &bytes[from..]
 }

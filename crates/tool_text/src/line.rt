@@ -1,6 +1,8 @@
 // A line of a tool's input: a command word, numbers, and HEX to the line's end, read in as many parts as it comes in.
 ghost use Prim.Native.Nat.{_≤_};
 ghost use lib.ListN.{length};
+use crate::parting::Parted;
+use crate::parting::Parting;
 use crate::word::Word;
 use tool_numerals::decimal::Decimal;
 use tool_numerals::hex::Hex;
@@ -30,8 +32,9 @@ pub struct Tail {
     pub extra: bool,
     // the word after it
     pub next: Next,
-    // all of it as HEX
+    // all of it as HEX, and how a `+` parts that
     pub hex: Hex,
+    pub parting: Parting,
 }
 
 // A word by its number, whether it has begun and ended, and whether another comes after it.
@@ -149,26 +152,36 @@ impl Tail {
             extra: false,
             next: Next::new(),
             hex: Hex::new(),
+            parting: Parting::new(),
         }
     }
 
     // The tail with a part of the line.
     fn more(self, part: &[u8], is_word: bool, buffer: &mut [u8]) -> Tail {
-        let hex = self.hex.more(part, buffer);
+        let parted = self.parted().more(part, buffer);
         let end = word_end(part, is_word & !self.ended);
-        self.with(&part[0..end], &part[end..], hex)
+        self.with(&part[0..end], &part[end..], parted)
     }
 
     // The same where HEX begins after the word.
     fn more_apart(self, part: &[u8], buffer: &mut [u8]) -> Tail {
         let end = word_end(part, !self.ended);
-        let hex = self.hex.more(&part[end..], buffer);
-        self.with(&part[0..end], &part[end..], hex)
+        let parted = self.parted().more(&part[end..], buffer);
+        self.with(&part[0..end], &part[end..], parted)
+    }
+
+    // HEX, and how a `+` parts it.
+    pub fn parted(self) -> Parted {
+        let hex = self.hex;
+        let parting = self.parting;
+        Parted { hex, parting }
     }
 
     // The tail with a part of the word by itself, what comes after it, and HEX.
-    fn with(self, part: &[u8], after: &[u8], hex: Hex) -> Tail {
+    fn with(self, part: &[u8], after: &[u8], parted: Parted) -> Tail {
         let number = self.number;
+        let hex = parted.hex;
+        let parting = parted.parting;
         Tail {
             word: self.word.more(part),
             number: number.more(part),
@@ -176,6 +189,7 @@ impl Tail {
             extra: self.extra | has_word(after),
             next: self.next.more(after),
             hex,
+            parting,
         }
     }
 }

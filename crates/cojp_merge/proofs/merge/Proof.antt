@@ -2,7 +2,6 @@
 use mathlib.Core.Path.{ap, sym, _∙_}
 use borrow.Author.Tests.{not-true, not-false}
 use borrow.Author.Needs.{needs}
-use Rattle.cojp.specs.declared.configuration.Configuration.{Configuration}
 use Rattle.cojp_merge.proofs.Merging.{answered, merge-answered, merge-first-outside, merge-second-outside}
 use Rattle.cojp_merge.proofs.merge.Statement.{statement}
 use Rattle.cojp_merge.proofs.merge.Tie as tie

@@ -1,5 +1,6 @@
 -- Each law by its file; the empty object beside a reading's refusal is the readers' demand 1.
 use borrow.Author.Needs.{needs}
+use Rattle.cojp_serial.proofs.Passed.{long-where-passed, fitting-parts-taken, writes-its-own}
 use Rattle.cojp_serial.proofs.Refused.{refused-calls}
 use Rattle.cojp_serial.proofs.Unread.{beyond-is-unread, nothing-of-the-former-board}
 use Rattle.cojp_serial.proofs.Until.{long-until-reset, phase-until-reset}
@@ -18,6 +19,9 @@ returns c = record {
   refused = refused-calls (c .readers-demand1 .ensures);
   long = long-until-reset;
   phase = phase-until-reset;
+  passed = long-where-passed;
+  fitting = fitting-parts-taken;
+  own = writes-its-own;
 }
 
 pub laws-spec : {M : Type 1} → statement M

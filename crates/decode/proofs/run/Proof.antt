@@ -4,10 +4,10 @@ use Rattle.decode.proofs.run.Statement.{statement}
 use Rattle.decode.proofs.run.Tie as tie
 
 abbrev Inv-loop : tie.InvT-loop
-Inv-loop session₀ bytes₀ payload₀ buffer₀ lines₀ session bytes payload buffer lines = Unit {0}
+Inv-loop turn₀ bytes₀ payloads₀ store₀ buffer₀ lines₀ turn bytes payloads store buffer lines = Unit {0}
 
 abbrev μ-loop : tie.MeasureT-loop
-μ-loop session₀ bytes₀ payload₀ buffer₀ lines₀ session bytes payload buffer lines = lines
+μ-loop turn₀ bytes₀ payloads₀ store₀ buffer₀ lines₀ turn bytes payloads store buffer lines = lines
 
 pub run-spec : {M : Type 1} → statement M
 run-spec =

@@ -22,24 +22,20 @@ configuration-round-trip-requires c κs = search needs
 laws-requires : tie.Need-laws-requires
 laws-requires c κs = search needs
 
-applies-alike-requires : tie.Need-applies-alike-requires
-applies-alike-requires c κs = search needs
-
 reads-in-range-requires : tie.Need-reads-in-range-requires
 reads-in-range-requires c κs = search needs
 
 returns : tie.Need-returns
 returns c =
-    let alike = c .before in
-    let laws = alike .before in
+    let laws = c .before in
     let back = laws .before in
     let largest = back .before in
     let both = largest .before .before in
     let applies = both .before in
     let a = applies .before .args in
-    merged-delivers (applies .merged-applies .ensures) (laws .laws .ensures) (alike .applies-alike .ensures) (c .reads-in-range .ensures) (a .first) (a .second)
+    merged-delivers (applies .merged-applies .ensures) (laws .laws .ensures) (c .reads-in-range .ensures) (a .first) (a .second)
     (subst (λ (m : Merged). LargestConfiguration (m .configuration)) (both .merge .ensures) (largest .largest-configuration .ensures))
     (subst (λ (m : Merged). ConfigurationRoundTrip (m .configuration)) (both .merge .ensures) (back .configuration-round-trip .ensures))
 
 pub merged-delivers-spec : {M : Type 1} → statement M
-merged-delivers-spec = tie.close (tie.spec merged-applies-requires merge-requires largest-configuration-requires configuration-round-trip-requires laws-requires applies-alike-requires reads-in-range-requires returns)
+merged-delivers-spec = tie.close (tie.spec merged-applies-requires merge-requires largest-configuration-requires configuration-round-trip-requires laws-requires reads-in-range-requires returns)

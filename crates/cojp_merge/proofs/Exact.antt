@@ -1,0 +1,197 @@
+-- A reader puts zeros after the last byte and the last key and no number beside an absent lease, so a value is told by what it means.
+use Prim.Native.Nat.{ℕ, _-_, _+_}
+use mathlib.Core.Path.{_≡_, refl, ap, sym, _∙_}
+use mathlib.Core.Bool.{Bool, true, false, cond, _&&_}
+use mathlib.Core.List.{List, [], _∷_}
+use mathlib.Core.Option.{Option, none, some}
+use lib.Dec.{leb, eqb}
+use lib.ListN.{length, replicate}
+use lib.Seq.{take-at}
+use Rattle.cbor.specs.Decode.{heading}
+use Rattle.cbor.specs.View.{Plain, number, string, other, View, plain, list}
+use Rattle.short_address.specs.Address.{isAddress}
+use Rattle.link_key.specs.Key.{noKey}
+use Rattle.link_key_set.specs.KeySet.{keysOf, allowed}
+use Rattle.link_key.specs.declared.Key.{Key}
+use Rattle.cojp.specs.Address.{addressIn, addressOf, addressConcluded, addressRead}
+use Rattle.cojp.specs.Configuration.{emptyConfiguration, withKeys, withAddress, withJrc, withNetwork, withPrefix, withPassed}
+use Rattle.cojp.specs.Configuration.{configurationTaking, configurationForm, configurationAnswer, readConfiguration}
+use Rattle.cojp.specs.KeySet.{Groups, notGroups, groupsOf, groups, keysIn, keySetOf, keysConcluded, keysRead}
+use Rattle.cojp.specs.Octets.{bytesIn, octetsOf, octetsJudged, octetsParameter, noOctetsParameter, octetsRead, padded}
+use Rattle.cojp.specs.Reading.{Reading, refused, read, put, unfit, good, concluded, ifTaken}
+use Rattle.cojp.specs.Same.{leaseOf, SameConfiguration}
+use Rattle.cojp.specs.Walk.{payloadRead}
+use Rattle.cojp.specs.declared.address.AddressParameter.{AddressParameter}
+use Rattle.cojp.specs.declared.address.ShortAddress.{ShortAddress}
+use Rattle.cojp.specs.declared.configuration.Configuration.{Configuration}
+use Rattle.cojp.specs.declared.key_set.KeysParameter.{KeysParameter}
+use Rattle.cojp.specs.declared.octets.OctetsParameter.{OctetsParameter}
+use Rattle.cojp.specs.declared.report.Report.{Report}
+use Rattle.cojp.specs.declared.report.Report.the-variants.{Absent, Taken, Discarded}
+use Rattle.cojp.proofs.Walks.{Gives, payload-gives}
+use Rattle.cojp_merge.specs.Laws.{TakesEqual, ReadsExactly}
+use Rattle.cojp_merge.specs.Merge.{merged}
+use Rattle.cojp_merge.proofs.Merging.{of-both}
+
+-- ---- values that are told by what they mean
+leased : List ℕ → Option ℕ → ShortAddress
+leased s none = addressOf s false 0
+leased s (some lease) = addressOf s true lease
+
+abbrev SetTold : KeysParameter → Type 0
+SetTold p = p .value ≡ keySetOf (keysOf (p .value))
+
+abbrev AddressTold : AddressParameter → Type 0
+AddressTold p = p .value ≡ leased (p .value .bytes) (leaseOf (p .value))
+
+abbrev OctetsTold : OctetsParameter → Type 0
+OctetsTold p = p .value ≡ octetsOf (bytesIn (p .value))
+
+record Told (c : Configuration) : Type 0 where
+  keys : SetTold (c .keys)
+  address : AddressTold (c .address)
+  jrc : OctetsTold (c .jrc)
+  network : OctetsTold (c .network)
+  prefix : OctetsTold (c .prefix)
+
+-- ---- what a reader makes of a value
+keys-told : (v : View) → Gives SetTold (keysRead v)
+keys-told (plain p) = tt
+keys-told (list ps) = by-groups (groups ps)
+  where
+    by-limits : (b : Bool) (ks : List Key) → Gives SetTold (keysConcluded (cond b (good (keySetOf ks)) unfit))
+    by-limits true ks = ap keySetOf (sym (take-at ks (replicate (8 - length ks) noKey) (length ks) refl))
+    by-limits false ks = tt
+
+    by-groups : (g : Groups) → Gives SetTold (keysConcluded (keysIn g))
+    by-groups notGroups = tt
+    by-groups (groupsOf ks) = by-limits (allowed ks) ks
+
+address-by : (b : Bool) (s : List ℕ) (l : Bool) (n : ℕ) → addressOf s l n ≡ leased s (leaseOf (addressOf s l n))
+    → Gives AddressTold (addressConcluded (cond b (good (addressOf s l n)) unfit))
+unfolding leased
+address-by true s l n e = e
+address-by false s l n e = refl
+
+address-in : (ps : List Plain) → Gives AddressTold (addressConcluded (addressIn ps))
+unfolding addressIn leased
+address-in [] = tt
+address-in (number n ∷ r) = tt
+address-in (other ∷ r) = tt
+address-in (string s ∷ []) = address-by (isAddress s) s false 0 refl
+address-in (string s ∷ number n ∷ []) = address-by (isAddress s) s true n refl
+address-in (string s ∷ number n ∷ p ∷ r) = tt
+address-in (string s ∷ string t ∷ r) = tt
+address-in (string s ∷ other ∷ r) = tt
+
+address-told : (v : View) → Gives AddressTold (addressRead v)
+address-told (plain p) = tt
+address-told (list ps) = address-in ps
+
+octets-told : (least : ℕ) (v : View) → Gives OctetsTold (octetsRead least v)
+unfolding octetsJudged padded
+octets-told least (plain (string s)) = by-length (leb least (length s) && leb (length s) 16)
+  where
+    by-length : (b : Bool) → Gives OctetsTold (concluded (read (noOctetsParameter Discarded)) (octetsParameter Taken) (cond b (good (octetsOf s)) unfit))
+    by-length true = ap octetsOf (sym (take-at s (replicate (16 - length s) 0) (length s) refl))
+    by-length false = refl
+octets-told least (plain (number n)) = tt
+octets-told least (plain other) = tt
+octets-told least (list ps) = tt
+
+-- ---- a configuration
+put-told : {A : Type 0} (P : A → Type 0) (f : A → Configuration) (r : Reading A) → Gives P r → ((a : A) → P a → Told (f a)) → Gives Told (put f r)
+put-told P f (refused k) g h = tt
+put-told P f (read a) g h = h a g
+
+module _ (c : Configuration) (h : Told c) where
+  passing-told : (m : ℕ) → Told (withPassed c m)
+  passing-told m = record { keys = h .keys; address = h .address; jrc = h .jrc; network = h .network; prefix = h .prefix }
+
+  either-told : (b : Bool) (x y : Reading Configuration) → Gives Told x → Gives Told y → Gives Told (cond b x y)
+  either-told true x y p q = p
+  either-told false x y p q = q
+
+  taking-told : (n : ℕ) (v : View) → Gives Told (configurationTaking c n v)
+  unfolding configurationTaking
+  taking-told n v =
+      either-told (eqb n 2) _ _
+      (put-told SetTold (withKeys c) (keysRead v) (keys-told v)
+      (λ p e. record { keys = e; address = h .address; jrc = h .jrc; network = h .network; prefix = h .prefix }))
+      (either-told (eqb n 3) _ _
+      (put-told AddressTold (withAddress c) (addressRead v) (address-told v)
+      (λ p e. record { keys = h .keys; address = e; jrc = h .jrc; network = h .network; prefix = h .prefix }))
+      (either-told (eqb n 4) _ _
+      (put-told OctetsTold (withJrc c) (octetsRead 16 v) (octets-told 16 v)
+      (λ p e. record { keys = h .keys; address = h .address; jrc = e; network = h .network; prefix = h .prefix }))
+      (either-told (eqb n 5) _ _
+      (put-told OctetsTold (withNetwork c) (octetsRead 0 v) (octets-told 0 v)
+      (λ p e. record { keys = h .keys; address = h .address; jrc = h .jrc; network = e; prefix = h .prefix }))
+      (put-told OctetsTold (withPrefix c) (octetsRead 0 v) (octets-told 0 v)
+      (λ p e. record { keys = h .keys; address = h .address; jrc = h .jrc; network = h .network; prefix = e })))))
+
+empty-told : Told emptyConfiguration
+unfolding leased padded
+empty-told = record { keys = refl; address = refl; jrc = refl; network = refl; prefix = refl }
+
+read-told : (p : List ℕ) → Told (readConfiguration p .configuration)
+read-told p =
+    go (payloadRead configurationForm emptyConfiguration p)
+    (payload-gives configurationForm Told (λ c h. passing-told c h (c .passed + 1)) taking-told heading emptyConfiguration empty-told p)
+  where
+    go : (r : Reading Configuration) → Gives Told r → Told (configurationAnswer r .configuration)
+    go (refused k) h = empty-told
+    go (read c) h = h
+
+merged-told : (a b : Configuration) → Told a → Told b → Told (merged a b)
+merged-told a b x y = record {
+  keys = of-both SetTold (a .keys) (b .keys) (b .keys .report) (x .keys) (y .keys);
+  address = of-both AddressTold (a .address) (b .address) (b .address .report) (x .address) (y .address);
+  jrc = of-both OctetsTold (a .jrc) (b .jrc) (b .jrc .report) (x .jrc) (y .jrc);
+  network = of-both OctetsTold (a .network) (b .network) (b .network .report) (x .network) (y .network);
+  prefix = of-both OctetsTold (a .prefix) (b .prefix) (b .prefix .report) (x .prefix) (y .prefix);
+}
+
+-- ---- two that mean the same are equal where they are taken
+module _ {A B : Type 0} (means : A → B) (back : B → A) where
+  over : Option B → Option A
+  over none = none
+  over (some b) = some (back b)
+
+  seen : (x : A) (r : Report) → x ≡ back (means x) → over (ifTaken r (some (means x)) none) ≡ ifTaken r (some x) none
+  unfolding over
+  seen x Absent e = refl
+  seen x Taken e = ap some (sym e)
+  seen x Discarded e = refl
+
+  equal : (x y : A) (r s : Report) → x ≡ back (means x) → y ≡ back (means y) → ifTaken r (some (means x)) none ≡ ifTaken s (some (means y)) none
+      → ifTaken r (some x) none ≡ ifTaken s (some y) none
+  equal x y r s e f g = sym (seen x r e) ∙ ap over g ∙ seen y s f
+
+abbrev addressMeans : ShortAddress → List ℕ × Option ℕ
+addressMeans a = (a .bytes, leaseOf a)
+
+abbrev addressBack : List ℕ × Option ℕ → ShortAddress
+addressBack m = leased (m .0) (m .1)
+
+octets-equal : (p q : OctetsParameter) → OctetsTold p → OctetsTold q
+    → ifTaken (p .report) (some (bytesIn (p .value))) none ≡ ifTaken (q .report) (some (bytesIn (q .value))) none
+    → ifTaken (p .report) (some (p .value)) none ≡ ifTaken (q .report) (some (q .value)) none
+octets-equal p q e f g = equal bytesIn octetsOf (p .value) (q .value) (p .report) (q .report) e f g
+
+exactly : (c d : Configuration) → Told c → Told d → SameConfiguration c d → TakesEqual c d
+exactly c d x y same = record {
+  keys = equal keysOf keySetOf (c .keys .value) (d .keys .value) (c .keys .report) (d .keys .report) (x .keys) (y .keys) (same .keys);
+  address =
+      equal addressMeans addressBack (c .address .value) (d .address .value) (c .address .report) (d .address .report) (x .address) (y .address)
+      (same .address);
+  jrc = octets-equal (c .jrc) (d .jrc) (x .jrc) (y .jrc) (same .jrc);
+  network = octets-equal (c .network) (d .network) (x .network) (y .network) (same .network);
+  prefix = octets-equal (c .prefix) (d .prefix) (x .prefix) (y .prefix) (same .prefix);
+}
+
+pub reads-exactly : ReadsExactly
+reads-exactly p q w same =
+    let first = readConfiguration p .configuration in
+    let second = readConfiguration q .configuration in
+    exactly (readConfiguration w .configuration) (merged first second) (read-told w) (merged-told first second (read-told p) (read-told q)) same
