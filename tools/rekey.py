@@ -1,9 +1,9 @@
 """Rekeys of networks of up to 16 nodes as lines of simulate, which tools/simulate_edges.py adds to its input: lines, rings, stars and grids.
 
-It knows a network's links, the hops that they make, the order of the turns, which usages cover which frame types, and who has switched: node
-0, the border router, at the beginning, and whoever hears one that has; and how often each node was asked for each key. In the worst order, farther senders first, the nodes within h hops
-have switched after round h; in the best order, nearer senders first, all have after one round. Between the turns come starts, polls and
-refused updates and join answers, which change no key set.
+It knows a network's links, the hops that they make, the order of the turns, which usages cover which frame types, which sets each node has, and who
+has switched: node 0, the border router, at the beginning, and whoever hears one that has and waits for its set; and how often each node was
+asked for each key. In the worst order, farther senders first, the nodes within h hops have switched after round h; in the best order, nearer senders first, all have after one round. Between the turns come starts, polls and
+refused updates and join answers, which change no key set. Where nodes are asleep, hops count only along the others.
 """
 from collections import Counter
 from itertools import cycle
@@ -26,6 +26,9 @@ REKEYS = [
     (key_set(b"both", (9, 5), (8, 6), (7, 12)), key_set(b"eight", *zip([31, 30, 29, 28, 27, 26, 25, 23], [14, 11, 10, 7, 4, 2, 1, 0])), [DATA, DATA, BEACON]),
     (key_set(b"old", (1, 2), (2, 7)), key_set(b"data alone", (11, 12), (12, 10)), [DATA]),
 ]
+
+
+THIRD = key_set(b"third", (100, 0))
 
 
 def covers(usage, frame):
@@ -83,19 +86,20 @@ def payload(keys):
 
 
 class Network:
-    """The nodes of a rekey: who has switched, and how far the join attempt of each has come."""
+    """The nodes of a rekey: their key sets, and how far the join attempt of each has come."""
 
     def __init__(self, n, old, new):
         self.n, self.old, self.new = n, old, new
-        self.switched = set()
+        self.active = [old] * n
+        self.pending = [None] * n
         self.sendings = Counter()  # by node and identifier: the next counter of the key
         self.now = 3000
         self.waiting = {}  # the last sending, the timeout and the count of those that wait for an answer
         self.gave_up = set()
         self.events = enumerate(cycle([self.clashing, self.poll, self.start, self.poll, self.clashing, self.poll, self.bad_answer]))
 
-    def keys(self, i):
-        return self.new if i in self.switched else self.old
+    def switched(self):
+        return {i for i in range(self.n) if self.active[i] is self.new}
 
     def count(self, i, key):
         """The key's counter at this node, which is one higher from then on."""
@@ -113,30 +117,39 @@ class Network:
             self.count(0, sends(self.old, frame))
             yield "turn 0 %d %d" % (i, frame), SWITCHED
 
-    def updated(self, nodes):
-        """These nodes get the new key set."""
+    def updated(self, nodes, keys):
+        """These nodes get the key set."""
         for i in nodes:
-            yield "update %d %d %s" % (i, self.now, payload(self.new)), TAKEN
+            self.pending[i] = keys
+            yield "update %d %d %s" % (i, self.now, payload(keys)), TAKEN
+
+    def moved(self, i):
+        """This node hears of a frame under its pending set."""
+        frame = next(f for f in (DATA, BEACON) if sends(self.pending[i], f))
+        said = "verified %d %d %d" % (i, frame, sends(self.pending[i], frame)[0])
+        self.active[i], self.pending[i] = self.pending[i], None
+        return said, SWITCHED
 
     def sending(self):
         """Each node is asked for the key of either type, which says whether it has switched."""
         for i in range(self.n):
             for frame in (BEACON, DATA):
-                key = sends(self.keys(i), frame)
+                key = sends(self.active[i], frame)
                 said = "key %d/%d/h'%s' counter=%d" % (key[0], key[1], key[2].hex(), self.count(i, key)) if key else SILENT
                 yield "send %d %d" % (i, frame), said
 
     def turn(self, sender, receiver, frame):
-        """One that has switched knows the old set no more, and the new one waits at all others."""
-        key = sends(self.keys(sender), frame)
+        """The receiver keeps its active set under a frame of it, switches under one of its pending set, and knows no other."""
+        key = sends(self.active[sender], frame)
         if not key:
             return "turn %d %d %d" % (sender, receiver, frame), SILENT
         self.count(sender, key)
-        if sender in self.switched:
-            answer = KEPT if receiver in self.switched else SWITCHED
-            self.switched.add(receiver)
-        else:
-            answer = SILENT if receiver in self.switched else KEPT
+        answer = SILENT
+        if self.active[receiver] is self.active[sender]:
+            answer = KEPT
+        elif self.pending[receiver] is self.active[sender]:
+            answer = SWITCHED
+            self.active[receiver], self.pending[receiver] = self.active[sender], None
         return "turn %d %d %d" % (sender, receiver, frame), answer
 
     @staticmethod
@@ -151,7 +164,7 @@ class Network:
 
     def clashing(self, i):
         """An update whose set has an identifier of the set in use; the border router would take it, and gets no key at all."""
-        identifier, usage, _ = self.keys(i)[-1]
+        identifier, usage, _ = self.active[i][-1]
         keys, refused = ([], KEYS) if i == 0 else ([(identifier, usage, b"not the same key")], CLASH)
         return "update %d %d %s" % (i, self.now, payload(keys)), PHASE if i in self.waiting or i in self.gave_up else refused
 
@@ -178,14 +191,19 @@ class Network:
         return "poll %d %d" % (i, self.now), said
 
 
-def rekey(n, links, order, old, new, types):
-    """The lines of a network from the beginning to its last round, with their answers."""
-    far = hops(n, links)
-    turns = sorted(both_ways(links), key=lambda t: far[t[0]], reverse=order == "worst")
+def rekey(n, links, order, old, new, types, asleep=(), third=None):
+    """The lines of a network from the beginning to its last round, with their answers. The nodes asleep miss the new set; of the two
+    of `third`, which lack it too, the first has a third set active, and the second has that one pending."""
+    lacking = [*asleep, *(third or ())]
+    far = hops(n, [(a, b) for a, b in links if a not in lacking and b not in lacking])
+    turns = sorted(both_ways(links), key=lambda t: n if far[t[0]] is None else far[t[0]], reverse=order == "worst")
     frames = cycle(types)
     network = Network(n, old, new)
     yield from network.joined()
-    yield from network.updated(range(1, n))
+    yield from network.updated([i for i in range(1, n) if i not in lacking], new)
+    if third:
+        yield from network.updated(third, THIRD)
+        yield network.moved(third[0])
     for _ in range(n):
         yield network.event()
     # a round of turns under the old set, of either type
@@ -196,15 +214,25 @@ def rekey(n, links, order, old, new, types):
     assert 0 not in network.gave_up
     yield "%s 0 %d %s" % ("answer" if 0 in network.waiting else "update", network.now, payload(new)), TAKEN
     network.waiting.pop(0, None)
-    network.switched.add(0)
+    network.active[0] = new
     yield from network.sending()
-    for h in range(1, max(far) + 1 if order == "worst" else 2):
+    reached = {i for i in range(n) if far[i] is not None}
+    for h in range(1, max(far[i] for i in reached) + 1 if order == "worst" else 2):
         for k, (a, b) in enumerate(turns):
             yield network.turn(a, b, next(frames))
             if k % 3 == 2:
                 yield network.event()
-        assert network.switched == {i for i in range(n) if order == "best" or far[i] <= h}
+        assert network.switched() == {i for i in reached if order == "best" or far[i] <= h}
+        # a node that lacks the set and has none pending keeps its keys; one that has another set pending may switch to that one
+        assert all(network.active[i] is network.old for i in asleep)
         yield from network.sending()
+
+
+# Networks with nodes that lack the new set: those asleep, and two with a third set.
+SLEEPERS = [
+    ("line", line, 5, [2], None), ("ring", ring, 8, [3], None), ("star", star, 9, [2, 5], (7, 8)), ("grid", grid, 16, [1, 6, 9], (14, 15)),
+    ("line", line, 4, [1, 2, 3], None),
+]
 
 
 def networks():
@@ -216,3 +244,8 @@ def networks():
                 old, new, types = next(rekeys)
                 yield "# a %s of %d nodes, %s order, sets of %d and %d keys" % (name, n, order, len(old), len(new)), None
                 yield from rekey(n, links(n), order, old, new, types)
+    for name, links, n, asleep, third in SLEEPERS:
+        for order in ["worst", "best"]:
+            old, new, types = next(rekeys)
+            yield "# a %s of %d nodes, %s order, %s asleep" % (name, n, order, " and ".join(map(str, asleep))), None
+            yield from rekey(n, links(n), order, old, new, types, asleep, third)

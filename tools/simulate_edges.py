@@ -1,5 +1,5 @@
 #!/usr/bin/env python3
-"""Adds to crates/simulate/stdin and stdout, after the vectors, the story examples/rekey.txt with the answers of rekey.out, the networks of
+"""Adds to crates/simulate/stdin and stdout, after the vectors, the stories of examples/ with the answers that stand beside them, the networks of
 tools/rekey.py, and lines at the edges of the tool's rules: missing and extra words, numbers and bytes around their limits, `-`, lines far longer
 than any buffer, and the bench command.
 
@@ -201,7 +201,7 @@ def main():
         vectors = f.read().split(MARK)[0]
     with open(stdout, "rb") as f:
         answers = f.read().splitlines(keepends=True)[: sum(not is_silent(line) for line in vectors.split(b"\n"))]
-    every = [*story("rekey"), *networks(), *bench(), *edges()]
+    every = [*story("rekey"), *story("sleeper"), *networks(), *bench(), *edges()]
     with open(stdin, "wb") as f:
         f.write(vectors + MARK + b"\n".join(line.encode() for line, _ in every))
     with open(stdout, "wb") as f:

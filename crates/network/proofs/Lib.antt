@@ -4,5 +4,6 @@ mod Places
 mod Flood
 mod Rekey
 mod Line
+mod Building
 mod Answers
 mod Untouched

@@ -52,7 +52,7 @@ use Rattle.network.specs.Witness
 use Rattle.network.specs.Witness.{oldKeys, newKeys, line, lineLinks, first, taken, worst, twice, Witness}
 
 -- what computing unfolds: items, keys, objects, the node's calls, and the network's events
-computing : Unit {0}
+unfoldable pub computing : Unit {0}
 unfolding payloadBy decodeBy heading argument next digits members pairs majorOf bytesOf infoOf extraOf shortest
     inLimits sameKey covers allowed allowedSet
     padded octetsJudged addressIn groups owing payloadReadBy configurationStanding configurationTaking requestInRange requestPlan
@@ -68,13 +68,13 @@ three P a b c (suc zero) l = b
 three P a b c (suc (suc zero)) l = c
 three P a b c (suc (suc (suc i))) l = absurd (omega arith)
 
-apart : Apart oldKeys newKeys
+pub apart : Apart oldKeys newKeys
 apart k l m m′ e =
     let a = ap (λ (x : Key). x .identifier) (List·Memᴰ·eq-of-singleton m) in
     let b = ap (λ (x : Key). x .identifier) (List·Memᴰ·eq-of-singleton m′) in
     omega (arith, a, b, e)
 
-differ : oldKeys ≡ newKeys → ⊥
+pub differ : oldKeys ≡ newKeys → ⊥
 differ e = let z : _≡_ {A = ℕ} 1 5 = ap first-id e in omega arith
   where
     first-id : List Key → ℕ
@@ -105,7 +105,7 @@ linked-worst e (past (past (at q))) = rw q (inr (at refl), refl)
 linked-worst e (past (past (past (at q)))) = rw q (inl (at refl), refl)
 
 -- what holds of the two nodes of a link
-of-link : (P : ℕ → ℕ → Type 0) (i j x y : ℕ) → _≡_ {A = ℕ × ℕ} (i, j) (x, y) → P x y → P i j
+pub of-link : (P : ℕ → ℕ → Type 0) (i j x y : ℕ) → _≡_ {A = ℕ × ℕ} (i, j) (x, y) → P x y → P i j
 of-link P i j x y q p =
     let a : i ≡ x = ap (λ (l : ℕ × ℕ). l .0) q in
     let b : j ≡ y = ap (λ (l : ℕ × ℕ). l .1) q in
@@ -182,7 +182,7 @@ after = (
 )
 
 -- ---- no counter has come to its end: one test of every node at every moment
-unspentAt : Node → Bool
+unfoldable pub unspentAt : Node → Bool
 unspentAt n = not (anyOf isUsedUp (slotsIn (n .sets)))
 
 none-used : {xs : List Slot} {x : Slot} → List·Memᴰ x xs → anyOf isUsedUp xs ≡ false → isUsedUp x ≡ false
@@ -201,11 +201,11 @@ unspent-net ks type [] e i l = absurd (omega (arith, l))
 unspent-net ks type (n ∷ net) e zero l = unspent-node ks type n (both-left (unspentAt n) (allOf unspentAt net) e)
 unspent-net ks type (n ∷ net) e (suc i) l = unspent-net ks type net (both-right (unspentAt n) (allOf unspentAt net) e) i (omega arith)
 
-unspentThrough : Network → List Event → Bool
+unfoldable pub unspentThrough : Network → List Event → Bool
 unspentThrough net [] = allOf unspentAt net
 unspentThrough net (e ∷ es) = (allOf unspentAt net && unspentThrough (step net e) es)
 
-unspent-through :
+pub unspent-through :
     (ks : List Key) (type : ℕ) (net : Network) (es : List Event) → unspentThrough net es ≡ true → Throughout (NoneUsedUp ks type) net es
 unfolding unspentThrough Throughout
 unspent-through ks type net [] e = unspent-net ks type net e

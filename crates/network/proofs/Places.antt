@@ -2,13 +2,14 @@
 use Prim.Native.Nat.{ℕ, _<_}
 use native.Mathlib.Decide.{ℕ-discrete}
 use mathlib.Core.Path.{_≡_, refl, _∙_}
-use mathlib.Core.List.{List, [], _∷_, List·Memᴰ·head, List·Memᴰ·tail}
+use mathlib.Core.Logic.{⊎-elim}
+use mathlib.Core.List.{List, [], _∷_, List·Memᴰ·head, List·Memᴰ·tail, List·Memᴰ·not-nil}
 use borrow.Author.Tests.{eq-eqb, ne-eqb}
 use lib.ListN.{length, length-set}
 use lib.Seq.{getD-set-same, getD-set-other}
 use Rattle.link_key_set.specs.KeySet.{Covers}
 use Rattle.link_key.specs.declared.Key.{Key}
-use Rattle.node.specs.Node.{emptyNode}
+use Rattle.node.specs.Node.{emptyNode, activeOf, pendingOf}
 use Rattle.node_laws.specs.Calls.{NodeCall, starting, polling, delivering, asking, sending, receiving, reporting, perform}
 use Rattle.node_laws.specs.Laws.{KeysStay, CanSend, NodeLaws}
 use Rattle.node.specs.declared.node.Node.{Node}
@@ -17,7 +18,7 @@ use Rattle.network.specs.Events.{Event, turning, calling, step, run, Per
 use Rattle.network.specs.Rounds.{Links, Linked, AllLinked}
 use Rattle.network.specs.Demand3.{NoneUsedUp}
 use Rattle.network.specs.Turn.{turn}
-use Rattle.network.proofs.Turns.{stay-self, sender-stays, receiver-role}
+use Rattle.network.proofs.Turns.{stay-self, sender-stays, receiver-either, receiver-role}
 use Rattle.network.proofs.Receiving.{Kind, new, Quiet, Is, becomes, stays-is, turn-becomes, new-can}
 use Rattle.network.proofs.Flood.{Kinds, with, moves, flows, still}
 
@@ -31,12 +32,12 @@ module _ (net : Network) (i : ℕ) (n : Node) where
   unfolding nodeAt withNode
   at-same l = getD-set-same net i n emptyNode l
 
-  at-other : (k : ℕ) → (k ≡ i → ⊥) → nodeAt (withNode net i n) k ≡ nodeAt net k
+  pub at-other : (k : ℕ) → (k ≡ i → ⊥) → nodeAt (withNode net i n) k ≡ nodeAt net k
   unfolding nodeAt withNode
   at-other k f = getD-set-other net i k n emptyNode f
 
 -- what holds of each node by its place, P, still holds, as Q, where one of them is replaced
-abbrev All : (ℕ → Node → Type 0) → Network → Type 0
+abbrev pub All : (ℕ → Node → Type 0) → Network → Type 0
 All P net = (k : ℕ) → k < length net → P k (nodeAt net k)
 
 all-with :
@@ -68,7 +69,7 @@ module _ (ks : List Key) (kinds : Kinds) (net : Network) (i : ℕ) (n : Node) (a
   are-still p = all-still (λ k m. Is ks (kinds k) m) net i n a p
 
 -- ---- one event
-module _ (L : NodeLaws) (ks : List Key) where
+module _ (L : NodeLaws) where
   -- starts and polls leave the keys, and a call that is refused leaves the node
   call-stays : (n : Node) (c : NodeCall) → Permitted n c → KeysStay n (perform c n .node)
   call-stays n (starting time timeout d) h = unfold perform in L .start-stays n time timeout d
@@ -80,6 +81,7 @@ module _ (L : NodeLaws) (ks : List Key) where
   call-stays n (receiving type identifier) h = absurd h
   call-stays n (reporting type identifier) h = absurd h
 
+module _ (L : NodeLaws) (ks : List Key) where
   -- a node that has switched can send the type that it is asked for
   abbrev Ready : Kinds → Network → Event → Type 0
   Ready kinds net (turning i j type) = kinds i ≡ new → CanSend (nodeAt net i) type
@@ -96,7 +98,7 @@ module _ (L : NodeLaws) (ks : List Key) where
       (turn-becomes L ks (nodeAt net i) (nodeAt net j) type (kinds i) (kinds j) f (a i (h .0)) (a j (h .1)))
   step-are kinds net (calling i c) h f a =
       are-still ks kinds net i (perform c (nodeAt net i) .node) a
-      (stays-is ks (kinds i) (call-stays (nodeAt net i) c (h .1)) (a i (h .0)))
+      (stays-is ks (kinds i) (call-stays L (nodeAt net i) c (h .1)) (a i (h .0)))
 
   -- ---- a list of events
   -- where no node has switched, each node's kind stays, whatever the frame types
@@ -168,3 +170,38 @@ module _ (L : NodeLaws) where
   run-role net (e ∷ es) k l =
       let inside : k < length (step net e) = rw (size-step net e) l in
       run-role (step net e) es k inside ∙ step-role net e k inside
+
+-- ---- a node with nothing pending keeps its active set
+-- the node m has the active set of n and none pending
+pub record Unmoved (n m : Node) : Type 0 where
+  pub active : activeOf m ≡ activeOf n
+  pub pending : pendingOf m ≡ []
+
+-- so is each node that had none pending in the network that was
+abbrev pub UnmovedFrom : Network → ℕ → Node → Type 0
+UnmovedFrom start k n = pendingOf (nodeAt start k) ≡ [] → Unmoved (nodeAt start k) n
+
+unmoved-stays : {n a b : Node} → KeysStay a b → Unmoved n a → Unmoved n b
+unmoved-stays q u = record { active = q .active ∙ u .active; pending = q .pending ∙ u .pending }
+
+module _ (L : NodeLaws) where
+  unmoved-receives : {n : Node} (a b : Node) (type : ℕ) → Unmoved n b → Unmoved n (turn a b type .receiver)
+  unmoved-receives a b type u =
+      ⊎-elim (λ q. unmoved-stays q u) (λ d. absurd (List·Memᴰ·not-nil (rw (u .pending) at (d .by .member)))) (receiver-either L a b type)
+
+  module _ (start : Network) where
+    step-unmoved : (net : Network) (e : Event) → Comes net e → All (UnmovedFrom start) net → All (UnmovedFrom start) (step net e)
+    unfolding step Comes
+    step-unmoved net (turning i j type) h a =
+        let t = turn (nodeAt net i) (nodeAt net j) type in
+        all-still (UnmovedFrom start) (withNode net i (t .sender)) j (t .receiver)
+        (all-still (UnmovedFrom start) net i (t .sender) a (λ e. unmoved-stays (sender-stays L (nodeAt net i) (nodeAt net j) type) (a i (h .0) e)))
+        (λ e. unmoved-receives (nodeAt net i) (nodeAt net j) type (a j (h .1) e))
+    step-unmoved net (calling i c) h a =
+        all-still (UnmovedFrom start) net i (perform c (nodeAt net i) .node) a
+        (λ e. unmoved-stays (call-stays L (nodeAt net i) c (h .1)) (a i (h .0) e))
+
+    pub run-unmoved : (net : Network) (es : List Event) → Come net es → All (UnmovedFrom start) net → All (UnmovedFrom start) (run net es)
+    unfolding run Come
+    run-unmoved net [] h a = a
+    run-unmoved net (e ∷ es) h a = run-unmoved (step net e) es (h .1) (step-unmoved net e (h .0) a)

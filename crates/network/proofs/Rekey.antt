@@ -1,8 +1,10 @@
--- Demand 3. Before the border router accepts the new set, it is apart from the set and all others wait with it pending: nothing moves, and
--- nobody sends under it. Then the border router has switched, and each round carries the set one hop further.
+-- Demand 3, where some nodes may lack the new set. Before the border router accepts it, the border router and the nodes that lack it are apart
+-- from it and all others wait with it pending: nothing moves, and nobody sends under it. Then the border router has switched, and each round
+-- carries the set one hop further along nodes that wait for it. Where every node had it, that is demand 3.
 use Prim.Native.Nat.{ℕ, _<_}
 use native.Mathlib.Decide.{ℕ-discrete}
-use mathlib.Core.Path.{_≡_, refl, _∙_}
+use native.Mathlib.Omega.{arith}
+use mathlib.Core.Path.{_≡_, refl, _∙_, ap}
 use mathlib.Core.Bool.{Bool, true, false, cond}
 use mathlib.Core.Logic.{⊎-elim}
 use mathlib.Core.List.{List, [], _∷_, List·Memᴰ, List·Memᴰ·head, List·Memᴰ·tail, List·Memᴰ·not-nil}
@@ -10,9 +12,10 @@ use mathlib.Core.List.{List·Memᴰ·append-cases}
 use lib.Dec.{eqb}
 use borrow.Author.Tests.{eq-eqb, ne-eqb}
 use lib.ListN.{length}
+use Rattle.logic_facts.specs.Tests.{never}
 use Rattle.link_key_set.specs.KeySet.{Covers}
 use Rattle.link_key.specs.declared.Key.{Key}
-use Rattle.node.specs.Node.{activeOf}
+use Rattle.node.specs.Node.{activeOf, pendingOf}
 use Rattle.node.specs.Range.{Valid}
 use Rattle.node.specs.Delivery.{deliver}
 use Rattle.node_laws.specs.Laws.{Takes, Unspent, NodeLaws}
@@ -21,28 +24,31 @@ use Rattle.node_key_sets.specs.declared.frames.KeyAnswer.{KeyAnswer}
 use Rattle.node.specs.declared.node.Node.{Node}
 use Rattle.network.specs.Network.{Network, nodeAt}
 use Rattle.network.specs.Events.{Event, turning, calling, step, run, Comes, Come, Throughout, answers, Under}
-use Rattle.network.specs.Rounds.{Links, Neighbours, Hops, AllLinked, Rounds}
+use Rattle.network.specs.Rounds.{Links, Neighbours, Towards, Hops, here, hop, AllLinked, Rounds}
 use Rattle.network.specs.Demand3.{Supposed, NoneUsedUp, NoneSendsUnder, Rekeyed, handed, Demand3}
+use Rattle.network.specs.Sleepers.{SupposedSome, Followed, SomeLack}
 use Rattle.network.proofs.Receiving.{apart, old, new, Quiet, Carries, IsNew, Is, none-apart, kind-valid, new-can, quiet-sends}
 use Rattle.network.proofs.Flood.{Kinds, with, flows, far}
-use Rattle.network.proofs.Places.{Are, are-with, size-with, size-run, at-end, run-role, step-quiet, run-quiet, run-flows}
+use Rattle.network.proofs.Places.{All, at-other, Are, are-with, size-with, size-run, at-end, run-role, step-quiet, run-quiet, run-flows}
+use Rattle.network.proofs.Places.{UnmovedFrom, run-unmoved}
 
 -- the kinds at the start, and after the step
-abbrev atStart : ℕ → Kinds
-atStart border = with (λ (k : ℕ). old) border apart
+abbrev atStart : (ℕ → Bool) → ℕ → Kinds
+atStart had border = with (λ (k : ℕ). cond (had k) old apart) border apart
 
-abbrev atStep : ℕ → Kinds
-atStep border = with (atStart border) border new
+abbrev atStep : (ℕ → Bool) → ℕ → Kinds
+atStep had border = with (atStart had border) border new
 
-start-quiet : (border k : ℕ) → Quiet (atStart border k)
-start-quiet border k = go (eqb k border)
+start-quiet : (had : ℕ → Bool) (border k : ℕ) → Quiet (atStart had border k)
+start-quiet had border k = go (eqb k border) (had k)
   where
-    go : (x : Bool) → Quiet (cond x apart old)
-    go true = tt
-    go false = tt
+    go : (x y : Bool) → Quiet (cond x apart (cond y old apart))
+    go true y = tt
+    go false true = tt
+    go false false = tt
 
-step-carries : (border k : ℕ) → Carries (atStep border k)
-step-carries border k = go (eqb k border)
+step-carries : (had : ℕ → Bool) (border k : ℕ) → had k ≡ true → Carries (atStep had border k)
+step-carries had border k e = rw e (go (eqb k border))
   where
     go : (x : Bool) → Carries (cond x new (cond x apart old))
     go true = tt
@@ -84,11 +90,17 @@ module _ (L : NodeLaws) where
         sends = record { accepted = s .accepted; member = rw (w .active) at (s .member) };
       }
 
-  module _ (net : Network) (border : ℕ) (ks : List Key) (type : ℕ) (g : Supposed net border ks type) where
-    start-are : Are ks (atStart border) net
+  module _ (had : ℕ → Bool) (net : Network) (border : ℕ) (ks : List Key) (type : ℕ) (g : SupposedSome had net border ks type) where
+    start-are : Are ks (atStart had border) net
     start-are k l = go (ℕ-discrete k border)
       where
-        go : Dec (k ≡ border) → Is ks (atStart border k) (nodeAt net k)
+        other : (x : Bool) → had k ≡ x → nodeAt net k .role ≡ 0 → Is ks (cond x old apart) (nodeAt net k)
+        other true e o =
+            let p = g .pending k l o e in
+            record { valid = g .valid k l; active = rw p at (L .valid-apart (nodeAt net k) (g .valid k l)); pending = p }
+        other false e o = let a = g .lacking k l o e in record { valid = g .valid k l; active = a .active; pending = a .pending }
+
+        go : Dec (k ≡ border) → Is ks (atStart had border k) (nodeAt net k)
         go (yes e) =
             let v = g .valid border (g .inside) in
             rw (eq-eqb k border e, e)
@@ -97,51 +109,98 @@ module _ (L : NodeLaws) where
               active = g .former-apart;
               pending = rw (L .border-none (nodeAt net border) v (g .is-border)) (none-apart ks);
             })
-        go (no f) =
-            let p = g .pending k l (g .ordinary k l f) in
-            rw (ne-eqb k border f)
-            (record { valid = g .valid k l; active = rw p at (L .valid-apart (nodeAt net k) (g .valid k l)); pending = p })
+        go (no f) = rw (ne-eqb k border f) (other (had k) refl (g .ordinary k l f))
 
     -- the border router is handed the set in a network where all kinds are as at the start
-    module _ (out : Network) (same : length out ≡ length net) (are : Are ks (atStart border) out) (role : nodeAt out border .role ≡ 1)
-        (delivery : Delivery) (time : ℕ) (payload : List ℕ) (takes : Takes delivery (nodeAt out border) time payload ks) where
-      border-valid : Valid (nodeAt out border)
-      border-valid = kind-valid ks (nodeAt out border) (atStart border border) (are border (rw same (g .inside)))
+    module _ (out : Network) (same : length out ≡ length net) (are : Are ks (atStart had border) out) (role : nodeAt out border .role ≡ 1)
+        (unmoved : All (UnmovedFrom net) out) (delivery : Delivery) (time : ℕ) (payload : List ℕ)
+        (takes : Takes delivery (nodeAt out border) time payload ks) where
+      abbrev next : Network
+      next = handed out border delivery time payload
 
-      step-are : Are ks (atStep border) (handed out border delivery time payload)
+      border-valid : Valid (nodeAt out border)
+      border-valid = kind-valid ks (nodeAt out border) (atStart had border border) (are border (rw same (g .inside)))
+
+      step-are : Are ks (atStep had border) next
       step-are =
           let d = L .border-takes delivery (nodeAt out border) time payload ks border-valid role takes in
-          are-with ks (atStart border) out border (deliver delivery (nodeAt out border) time payload .node) are new
+          are-with ks (atStart had border) out border (deliver delivery (nodeAt out border) time payload .node) are new
           (record { valid = d .valid; active = d .active; pending = d .pending })
 
-      followed :
-          (links : Links) (h : ℕ) (es : List Event) → Come (handed out border delivery time payload) es → AllLinked links type es →
-          Rounds links type h es → Throughout (NoneUsedUp ks type) (handed out border delivery time payload) es →
-          (i : ℕ) → i < length net → Hops (Neighbours links) h border i →
-          Rekeyed ks type (nodeAt (run (handed out border delivery time payload) es) i)
-      followed links h es come linked rounds unspent i l hops =
-          let inside : i < length (run next es) = rw size l in
-          rekeyed ks type (nodeAt (run next es) i) (g .covering) (at-end (NoneUsedUp ks type) next es unspent i inside)
-          (rw reached at (run-flows L ks links type (g .covering) (atStep border) next es come linked unspent step-are i inside))
-        where
-          next : Network
-          next = handed out border delivery time payload
+      size : length next ≡ length net
+      size = size-with out border (deliver delivery (nodeAt out border) time payload .node) ∙ same
 
-          reached : flows (atStep border) es i ≡ new
-          reached =
-              far links type (Neighbours links) (λ x y n. n) (atStep border) rounds hops (λ x y n. step-carries border y)
-              (rw (eq-eqb border border refl))
+      module _ (links : Links) (h : ℕ) (es : List Event) (come : Come next es) (linked : AllLinked links type es)
+          (rounds : Rounds links type h es) (unspent : Throughout (NoneUsedUp ks type) next es) where
+        reached : (i : ℕ) → i < length net → Hops (Towards links had) h border i → Rekeyed ks type (nodeAt (run next es) i)
+        reached i l hops =
+            let inside : i < length (run next es) = rw (size-run next es ∙ size) l in
+            rekeyed ks type (nodeAt (run next es) i) (g .covering) (at-end (NoneUsedUp ks type) next es unspent i inside)
+            (rw switched at (run-flows L ks links type (g .covering) (atStep had border) next es come linked unspent step-are i inside))
+          where
+            switched : flows (atStep had border) es i ≡ new
+            switched =
+                far links type (Towards links had) (λ x y n. n .0) (atStep had border) rounds hops (λ x y n. step-carries had border y (n .1))
+                (rw (eq-eqb border border refl))
 
-          size : length (run next es) ≡ length net
-          size = size-run next es ∙ size-with out border (deliver delivery (nodeAt out border) time payload .node) ∙ same
+        -- a node that lacked the set is not the border router: the step leaves it, and the lists leave its active set
+        lacked :
+            (i : ℕ) → i < length net → nodeAt net i .role ≡ 0 → had i ≡ false → pendingOf (nodeAt net i) ≡ [] →
+            activeOf (nodeAt (run next es) i) ≡ activeOf (nodeAt net i)
+        lacked i l o f e =
+            let first = unmoved i (rw same l) e in
+            let inside : i < length (run next es) = rw (size-run next es ∙ size) l in
+            let second = run-unmoved L next next es come (λ k _ p. record { active = refl; pending = p }) i inside (ap pendingOf stayed ∙ first .pending) in
+            second .active ∙ ap activeOf stayed ∙ first .active
+          where
+            other : i ≡ border → ⊥
+            other q = let r = g .is-border in let p = rw q at o in omega (arith, r, p)
 
-  pub demand3 : Demand3
-  unfolding Demand3
-  demand3 net border ks type g before come =
-      let quiet = start-quiet border in
-      let start = start-are net border ks type g in (
-        none-sends ks (atStart border) quiet net before come start,
+            stayed : nodeAt next i ≡ nodeAt out i
+            stayed = at-other out border (deliver delivery (nodeAt out border) time payload .node) i other
+
+        followed : Followed had net border ks type links h (run next es)
+        followed = record { reached = reached; lacked = lacked }
+
+  pub some-lack : SomeLack
+  unfolding SomeLack
+  some-lack had net border ks type g before come =
+      let quiet = start-quiet had border in
+      let start = start-are had net border ks type g in (
+        none-sends ks (atStart had border) quiet net before come start,
         λ unspent.
-            followed net border ks type g (run net before) (size-run net before) (run-quiet L ks (atStart border) quiet net before come start)
-            (run-role L net before border (g .inside) ∙ g .is-border),
+            followed had net border ks type g (run net before) (size-run net before)
+            (run-quiet L ks (atStart had border) quiet net before come start)
+            (run-role L net before border (g .inside) ∙ g .is-border)
+            (run-unmoved L net net before come (λ k l e. record { active = refl; pending = e })),
       )
+
+-- ---- where every ordinary node had the set
+abbrev all : ℕ → Bool
+all i = true
+
+hops-all : (links : Links) {h i k : ℕ} → Hops (Neighbours links) h i k → Hops (Towards links all) h i k
+hops-all links here = here
+hops-all links (hop n rest) = hop (n, refl) (hops-all links rest)
+
+supposed-all : {net : Network} {border : ℕ} {ks : List Key} {type : ℕ} → Supposed net border ks type → SupposedSome all net border ks type
+supposed-all g = record {
+  valid = g .valid;
+  inside = g .inside;
+  is-border = g .is-border;
+  ordinary = g .ordinary;
+  covering = g .covering;
+  pending = λ i l o e. g .pending i l o;
+  lacking = λ i l o e. never true refl e;
+  active-at-none = g .active-at-none;
+  former-apart = g .former-apart;
+}
+
+pub demand3 : SomeLack → Demand3
+unfolding Demand3 SomeLack
+demand3 claim net border ks type g before come =
+    let said = claim all net border ks type (supposed-all g) before come in (
+      said .0,
+      λ unspent delivery time payload takes links h after comes linked rounds unspent-after i l hops.
+          said .1 unspent delivery time payload takes links h after comes linked rounds unspent-after .reached i l (hops-all links hops),
+    )

@@ -6,3 +6,5 @@ pub mod Demand3
 pub mod Witness
 pub mod Answers
 pub mod Demand1
+pub mod Sleepers
+pub mod Building

@@ -6,6 +6,8 @@ pub use turn::Turned;
 ghost use Rattle.network.specs.Answers.{EveryTurnSays};
 ghost use Rattle.network.specs.Demand1.{TurnDemand1};
 ghost use Rattle.network.specs.Demand3.{Demand3};
+ghost use Rattle.network.specs.Sleepers.{SomeLack};
+ghost use Rattle.network.specs.Building.{BuildingWitness};
 ghost use Rattle.network.specs.Witness.{Witness};
 
 // Demand 1 for a turn: refused by the sender it leaves both nodes, refused by the receiver or failed it leaves the receiver.
@@ -15,12 +17,20 @@ pub fn demand1()
     node_laws::laws();
 }
 
+// Buildings where some unit missed the keys: the rekey reaches the nodes that had the new set along nodes that had it, and a node that lacked it,
+// with none pending, keeps its active set.
+pub fn rekey_passes_sleepers()
+    ensures { λ r. ⌜ SomeLack ⌝ }
+{
+    node_laws::laws();
+}
+
 // Demand 3: before the border router accepts a new key set that waits at all other nodes, nobody sends under it;
 // h rounds after it, every node at most h hops away has followed.
 pub fn rekey_reaches_all()
     ensures { λ r. ⌜ Demand3 ⌝ }
 {
-    node_laws::laws();
+    rekey_passes_sleepers();
 }
 
 // Demand 3 is not empty: a line of three nodes is rekeyed, and its far node follows after two rounds and not after one.
@@ -28,6 +38,13 @@ pub fn rekey_of_a_line()
     ensures { λ r. ⌜ Witness ⌝ }
 {
     rekey_reaches_all();
+}
+
+// The claim with sleepers is not empty: in a building of six nodes one sleeps before another that waits, and one has another set pending.
+pub fn rekey_of_a_building()
+    ensures { λ r. ⌜ BuildingWitness ⌝ }
+{
+    rekey_passes_sleepers();
 }
 
 // A turn's answer in document 01's numbers and values.

@@ -1,0 +1,195 @@
+-- The rekey of a building with sleepers is computed, and the claim is applied to it.
+use Prim.Native.Nat.{ℕ, zero, suc, _<_}
+use native.Mathlib.Omega.{arith}
+use mathlib.Core.Path.{_≡_, refl, ap, subst}
+use mathlib.Core.Bool.{true, false}
+use mathlib.Core.List.{List, [], _∷_, List·Memᴰ, List·Memᴰ·head as at, List·Memᴰ·tail as past, List·Memᴰ·eq-of-singleton}
+use mathlib.Core.Logic.{_⊎_, inl, inr, ⊎-elim}
+use lib.Dec.{lit<}
+use Rattle.logic_facts.specs.Tests.{never}
+use Rattle.link_key_set.specs.KeySet.{Apart}
+use Rattle.link_key.specs.declared.Key.{Key}
+use Rattle.node.specs.Node.{activeOf, pendingOf}
+use Rattle.node.specs.Range.{Valid}
+use Rattle.node_laws.specs.Laws.{Takes}
+use Rattle.node_delivery.specs.declared.Delivery.the-variants.{Update}
+use Rattle.network.specs.Network.{nodeAt}
+use Rattle.network.specs.Events.{turning, run, Come, Throughout}
+use Rattle.network.specs.Rounds.{Neighbours, Towards, Hops, here, hop, AllLinked, Round, Rounds, none, more}
+use Rattle.network.specs.Demand3.{NoneUsedUp}
+use Rattle.network.specs.Sleepers.{Lacks, SupposedSome, SomeLack}
+use Rattle.network.specs.Witness
+use Rattle.network.specs.Witness.{newKeys}
+use Rattle.network.specs.Building.{thirdKeys, awake, building, buildingLinks, beforehand, takenIn, around, BuildingWitness}
+use Rattle.network.proofs.Receiving.{none-apart}
+use Rattle.network.proofs.Line.{computing, apart, differ, of-link, unspentAt, unspentThrough, unspent-through}
+
+six : (P : ℕ → Type 0) → P 0 → P 1 → P 2 → P 3 → P 4 → P 5 → (i : ℕ) → i < 6 → P i
+six P a b c d e f zero l = a
+six P a b c d e f (suc zero) l = b
+six P a b c d e f (suc (suc zero)) l = c
+six P a b c d e f (suc (suc (suc zero))) l = d
+six P a b c d e f (suc (suc (suc (suc zero)))) l = e
+six P a b c d e f (suc (suc (suc (suc (suc zero))))) l = f
+six P a b c d e f (suc (suc (suc (suc (suc (suc i)))))) l = absurd (omega arith)
+
+third-apart : Apart thirdKeys newKeys
+third-apart k l m m′ e =
+    let a = ap (λ (x : Key). x .identifier) (List·Memᴰ·eq-of-singleton m) in
+    let b = ap (λ (x : Key). x .identifier) (List·Memᴰ·eq-of-singleton m′) in
+    omega (arith, a, b, e)
+
+third-differs : thirdKeys ≡ newKeys → ⊥
+third-differs e = let z : _≡_ {A = ℕ} 9 5 = ap first-id e in omega arith
+  where
+    first-id : List Key → ℕ
+    first-id [] = 0
+    first-id (k ∷ ks) = k .identifier
+
+-- ---- the nodes
+supposed : SupposedSome awake building 0 newKeys 1
+unfolding computing
+supposed =
+    record {
+      valid = six (λ i. Valid (nodeAt building i)) refl refl refl refl refl refl;
+      inside = lit< tt;
+      is-border = refl;
+      ordinary =
+          six (λ i. (i ≡ 0 → ⊥) → nodeAt building i .role ≡ 0) (λ f. absurd (f refl)) (λ _. refl) (λ _. refl) (λ _. refl) (λ _. refl) (λ _. refl);
+      covering = record { key = _; member = at refl; covering = refl };
+      pending =
+          six (λ i. nodeAt building i .role ≡ 0 → awake i ≡ true → pendingOf (nodeAt building i) ≡ newKeys) (λ e. absurd (omega arith)) (λ _ _. refl)
+          (λ _ e. never false e refl) (λ _ _. refl) (λ _ e. never false e refl) (λ _ e. never false e refl);
+      lacking =
+          six (λ i. nodeAt building i .role ≡ 0 → awake i ≡ false → Lacks newKeys (nodeAt building i)) (λ e. absurd (omega arith))
+          (λ _ e. never true refl e) (λ _ _. record { active = apart; pending = none-apart newKeys }) (λ _ e. never true refl e)
+          (λ _ _. record { active = apart; pending = third-apart }) (λ _ _. record { active = third-apart; pending = none-apart newKeys });
+      active-at-none = six (λ i. activeOf (nodeAt building i) ≡ newKeys → ⊥) differ differ differ differ differ third-differs;
+      former-apart = apart;
+    }
+
+-- ---- links, rounds and hops
+linked : AllLinked buildingLinks 1 around
+linked e (at q) = rw q (inr (past (past (at refl))), refl)
+linked e (past (at q)) = rw q (inl (past (past (at refl))), refl)
+linked e (past (past (at q))) = rw q (inr (past (at refl)), refl)
+linked e (past (past (past (at q)))) = rw q (inl (past (at refl)), refl)
+linked e (past (past (past (past (at q))))) = rw q (inr (at refl), refl)
+linked e (past (past (past (past (past (at q)))))) = rw q (inl (at refl), refl)
+linked e (past (past (past (past (past (past (at q))))))) = rw q (inr (past (past (past (at refl)))), refl)
+linked e (past (past (past (past (past (past (past (at q)))))))) = rw q (inl (past (past (past (at refl)))), refl)
+
+abbrev There : ℕ → ℕ → Type 0
+There i j = List·Memᴰ (turning i j 1) around
+
+abbrev Back : ℕ → ℕ → Type 0
+Back i j = There j i
+
+round : Round buildingLinks 1 around
+round i j (inl (at q)) = of-link There i j 0 1 q (past (past (past (past (past (at refl))))))
+round i j (inl (past (at q))) = of-link There i j 0 2 q (past (past (past (at refl))))
+round i j (inl (past (past (at q)))) = of-link There i j 2 3 q (past (at refl))
+round i j (inl (past (past (past (at q))))) = of-link There i j 4 5 q (past (past (past (past (past (past (past (at refl))))))))
+round i j (inr (at q)) = of-link Back j i 0 1 q (past (past (past (past (at refl)))))
+round i j (inr (past (at q))) = of-link Back j i 0 2 q (past (past (at refl)))
+round i j (inr (past (past (at q)))) = of-link Back j i 2 3 q (at refl)
+round i j (inr (past (past (past (at q))))) = of-link Back j i 4 5 q (past (past (past (past (past (past (at refl)))))))
+
+near : Hops (Towards buildingLinks awake) 1 0 1
+near = hop (inl (at refl), refl) here
+
+-- only node 2 is a neighbour of node 3, and it is asleep
+from-two : (i j : ℕ) → j ≡ 3 → Neighbours buildingLinks i j → i ≡ 2
+from-two i j e (inl (at q)) = let b : j ≡ 1 = ap (λ (l : ℕ × ℕ). l .1) q in absurd (omega (arith, b, e))
+from-two i j e (inl (past (at q))) = let b : j ≡ 2 = ap (λ (l : ℕ × ℕ). l .1) q in absurd (omega (arith, b, e))
+from-two i j e (inl (past (past (at q)))) = ap (λ (l : ℕ × ℕ). l .0) q
+from-two i j e (inl (past (past (past (at q))))) = let b : j ≡ 5 = ap (λ (l : ℕ × ℕ). l .1) q in absurd (omega (arith, b, e))
+from-two i j e (inr (at q)) = let b : j ≡ 0 = ap (λ (l : ℕ × ℕ). l .0) q in absurd (omega (arith, b, e))
+from-two i j e (inr (past (at q))) = let b : j ≡ 0 = ap (λ (l : ℕ × ℕ). l .0) q in absurd (omega (arith, b, e))
+from-two i j e (inr (past (past (at q)))) = let b : j ≡ 2 = ap (λ (l : ℕ × ℕ). l .0) q in absurd (omega (arith, b, e))
+from-two i j e (inr (past (past (past (at q))))) = let b : j ≡ 4 = ap (λ (l : ℕ × ℕ). l .0) q in absurd (omega (arith, b, e))
+
+asleep : (j : ℕ) → awake j ≡ true → j ≡ 2 → ⊥
+asleep j t p = let z : awake 2 ≡ true = subst (λ (k : ℕ). awake k ≡ true) p t in never false z refl
+
+only-behind : {h i k : ℕ} → k ≡ 3 → Hops (Towards buildingLinks awake) h i k → (i ≡ 3) ⊎ (i ≡ 2)
+only-behind e here = inl e
+only-behind e (hop {i = i} {j = j} n rest) =
+    ⊎-elim (λ p. inr (from-two i j p (n .0))) (λ p. absurd (asleep j (n .1) p)) (only-behind e rest)
+
+behind : (h : ℕ) → Hops (Towards buildingLinks awake) h 0 3 → ⊥
+behind h w = ⊎-elim (λ p. absurd (omega (arith, p))) (λ p. absurd (omega (arith, p))) (only-behind refl w)
+
+-- ---- what happens, computed
+before : Come building beforehand
+unfolding computing
+before = ((lit< tt, lit< tt, λ e. omega arith), ((lit< tt, lit< tt, λ e. omega arith), ((lit< tt, lit< tt, λ e. omega arith), tt)))
+
+takes : Takes Update (nodeAt (run building beforehand) 0) 20000 Witness.payload newKeys
+unfolding computing
+takes = record { accepted = refl; taken = refl; set = refl }
+
+after : Come takenIn around
+unfolding computing
+after = (
+  (lit< tt, lit< tt, λ e. omega arith),
+  (
+    (lit< tt, lit< tt, λ e. omega arith),
+    (
+      (lit< tt, lit< tt, λ e. omega arith),
+      (
+        (lit< tt, lit< tt, λ e. omega arith),
+        (
+          (lit< tt, lit< tt, λ e. omega arith),
+          (
+            (lit< tt, lit< tt, λ e. omega arith),
+            ((lit< tt, lit< tt, λ e. omega arith), ((lit< tt, lit< tt, λ e. omega arith), tt)),
+          ),
+        ),
+      ),
+    ),
+  ),
+)
+
+unspent-before : Throughout (NoneUsedUp newKeys 1) building beforehand
+unfolding computing unspentAt unspentThrough
+unspent-before = unspent-through newKeys 1 building beforehand refl
+
+unspent-after : Throughout (NoneUsedUp newKeys 1) takenIn around
+unfolding computing unspentAt unspentThrough
+unspent-after = unspent-through newKeys 1 takenIn around refl
+
+rounds : Rounds buildingLinks 1 1 around
+rounds = more around round none
+
+waits : pendingOf (nodeAt (run takenIn around) 3) ≡ newKeys
+unfolding computing
+waits = refl
+
+switched : activeOf (nodeAt (run takenIn around) 4) ≡ thirdKeys
+unfolding computing
+switched = refl
+
+pub building-witness : SomeLack → BuildingWitness
+unfolding SomeLack computing
+building-witness claim =
+    let said = claim awake building 0 newKeys 1 supposed beforehand before in
+    let followed = said .1 unspent-before Update 20000 Witness.payload takes buildingLinks 1 around after linked rounds unspent-after in
+    record {
+      supposed = supposed;
+      before = before;
+      unspent-before = unspent-before;
+      takes = takes;
+      after = after;
+      unspent-after = unspent-after;
+      linked = linked;
+      rounds = rounds;
+      near = near;
+      behind = behind;
+      waits = waits;
+      switched = switched;
+      none-sends = said .0;
+      rekeyed = followed .reached 1 (lit< tt) near;
+      lacked = followed .lacked 2 (lit< tt) refl refl refl;
+      lacked-too = followed .lacked 5 (lit< tt) refl refl refl;
+    }

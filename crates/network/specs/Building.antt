@@ -1,0 +1,90 @@
+-- The claim with sleepers speaks of something. Node 0 is the border router, 1 hears it and had the new set. 2 hears it too and missed the keys;
+-- 3, which had them, hears 2 alone. 4 and 5 lack the set and hear each other: 5 has a third set active, which 4 has pending.
+use Prim.Native.Nat.{ℕ}
+use mathlib.Core.Path.{_≡_}
+use mathlib.Core.Bool.{Bool, not, _||_}
+use mathlib.Core.List.{List, [], _∷_}
+use lib.Dec.{eqb}
+use lib.ListN.{replicate}
+use Rattle.link_key_set.specs.KeySet.{noKeys}
+use Rattle.link_key_set.specs.declared.key_set.KeySet.{KeySet}
+use Rattle.link_key.specs.Key.{keyOf}
+use Rattle.link_key.specs.declared.Key.{Key}
+use Rattle.link_key_counters.specs.Counters.{arrived}
+use Rattle.cojp.specs.KeySet.{keySetOf}
+use Rattle.node_key_sets.specs.Sets.{twoSets}
+use Rattle.node.specs.Node.{activeOf, pendingOf, keyed}
+use Rattle.node.specs.declared.node.Node.{Node}
+use Rattle.node_laws.specs.Laws.{Takes}
+use Rattle.node_delivery.specs.declared.Delivery.the-variants.{Update}
+use Rattle.network.specs.Network.{Network, nodeAt}
+use Rattle.network.specs.Events.{Event, turning, run, Come, Throughout}
+use Rattle.network.specs.Rounds.{Links, Towards, Hops, AllLinked, Rounds}
+use Rattle.network.specs.Demand3.{NoneUsedUp, NoneSendsUnder, Rekeyed, handed}
+use Rattle.network.specs.Sleepers.{SupposedSome}
+use Rattle.network.specs.Witness.{oldKeys, newKeys, joined, payload}
+
+abbrev pub thirdKeys : List Key
+thirdKeys = keyOf 9 0 (replicate 16 0x33) ∷ []
+
+-- which nodes had the set
+abbrev pub awake : ℕ → Bool
+awake i = not (eqb i 2 || eqb i 4 || eqb i 5)
+
+-- a node with the third set active
+abbrev pub third : Node
+third = keyed (joined 0 noKeys) (twoSets (arrived (keySetOf thirdKeys)) (arrived noKeys))
+
+abbrev pub building : Network
+building =
+    joined 1 noKeys
+    ∷ joined 0 (keySetOf newKeys)
+    ∷ joined 0 noKeys
+    ∷ joined 0 (keySetOf newKeys)
+    ∷ joined 0 (keySetOf thirdKeys)
+    ∷ third
+    ∷ []
+
+abbrev pub buildingLinks : Links
+buildingLinks = (0, 1) ∷ (0, 2) ∷ (2, 3) ∷ (4, 5) ∷ []
+
+-- before: frames under the old set, and one under the third
+abbrev pub beforehand : List Event
+beforehand = turning 0 1 1 ∷ turning 2 3 0 ∷ turning 4 0 1 ∷ []
+
+abbrev pub takenIn : Network
+takenIn = handed (run building beforehand) 0 Update 20000 payload
+
+-- a round: each ordered pair of neighbours
+abbrev pub around : List Event
+around =
+    turning 3 2 1
+    ∷ turning 2 3 1
+    ∷ turning 2 0 1
+    ∷ turning 0 2 1
+    ∷ turning 1 0 1
+    ∷ turning 0 1 1
+    ∷ turning 5 4 1
+    ∷ turning 4 5 1
+    ∷ []
+
+-- ---- no premise is empty, and what the claim says of each node is what comes out
+pub record BuildingWitness : Type 0 where
+  pub supposed : SupposedSome awake building 0 newKeys 1
+  pub before : Come building beforehand
+  pub unspent-before : Throughout (NoneUsedUp newKeys 1) building beforehand
+  pub takes : Takes Update (nodeAt (run building beforehand) 0) 20000 payload newKeys
+  pub after : Come takenIn around
+  pub unspent-after : Throughout (NoneUsedUp newKeys 1) takenIn around
+  pub linked : AllLinked buildingLinks 1 around
+  pub rounds : Rounds buildingLinks 1 1 around
+  pub near : Hops (Towards buildingLinks awake) 1 0 1
+  -- 3 is at no number of hops, and waits still; 4 has switched to the third set, of which the claim says nothing
+  pub behind : (h : ℕ) → Hops (Towards buildingLinks awake) h 0 3 → ⊥
+  pub waits : pendingOf (nodeAt (run takenIn around) 3) ≡ newKeys
+  pub switched : activeOf (nodeAt (run takenIn around) 4) ≡ thirdKeys
+  -- by the claim: nobody sends under the set beforehand, 1 has followed, and the sleepers 2 and 5 have their sets
+  pub none-sends : NoneSendsUnder newKeys building beforehand
+  pub rekeyed : Rekeyed newKeys 1 (nodeAt (run takenIn around) 1)
+  pub lacked : activeOf (nodeAt (run takenIn around) 2) ≡ oldKeys
+  pub lacked-too : activeOf (nodeAt (run takenIn around) 5) ≡ thirdKeys
