@@ -4,3 +4,4 @@ pub mod Judgements
 pub mod Histories
 pub mod Forwarding
 pub mod AllLaws
+pub mod Played
