@@ -10,7 +10,7 @@ use Rattle.join_proxy.specs.Keys.{fresh}
 use Rattle.join_proxy.specs.Laws.{ReadsBack, ProxyLaws}
 use Rattle.join_proxy.proofs.Bodies.{number-back, length-text, length-body, reads-back}
 use Rattle.join_proxy.proofs.Judgements.{opens, refused-body}
-use Rattle.join_proxy.proofs.Histories.{no-number-twice, refused-leaves}
+use Rattle.join_proxy.proofs.Histories.{sets-in-order, no-number-twice, refused-leaves}
 use Rattle.join_proxy.proofs.Forwarding.{issues-in-order, issued-returns, issued-ages, forwarded-only, forwarded-all, judges-in-order}
 use Rattle.join_proxy.proofs.Plans.{refused-issue}
 
@@ -31,6 +31,7 @@ pub proxy-laws : CcmLaws → ProxyLaws
 proxy-laws laws =
     record {
       reads-back = body-reads-back laws;
+      sets-in-order = sets-in-order;
       issues-in-order = issues-in-order;
       issued-returns = issued-returns laws;
       issued-ages = issued-ages laws;

@@ -5,26 +5,24 @@ use mathlib.Core.Path.{_≡_, refl, sym, _∙_, ap, ap₂, subst}
 use mathlib.Core.Bool.{Bool, true, false, cond}
 use mathlib.Core.List.{List, [], _∷_, _++_}
 use mathlib.Core.Logic.{⊎-elim}
-use Prim.Native.Nat.{ℕ, suc, _+_, _<_, _≤_}
+use Prim.Native.Nat.{ℕ, _+_, _<_, _≤_}
 use native.Mathlib.Nat.{eq-or-lt-of-le}
 use native.Mathlib.Omega.{arith}
 use borrow.Author.Tests.{eqb-true, eqb-false}
 use lib.Dec.{eqb}
 use lib.ListN.{length, take, length-append, List·getD-append}
 use lib.Seq.{getD-at}
-use Rattle.byte_lists.specs.Same.{same}
-use Rattle.refusal.specs.Verdict.{verdictNumber}
-use Rattle.refusal.specs.declared.Refusal.the-variants.{Range}
-use Rattle.refusal.specs.declared.Verdict.the-variants as verdict
+use Rattle.byte_lists.specs.Same.{same, same-equal, same-refl}
 use Rattle.aes_ccm.specs.Plan.{Plan, refuse, emit, answer, numberIn}
 use Rattle.join_proxy.specs.declared.proxy.Issued.{Issued}
 use Rattle.join_proxy.specs.declared.proxy.Issued.the-variants.{Count, All}
-use Rattle.join_proxy.specs.declared.proxy.Keyed.{Keyed}
 use Rattle.join_proxy.specs.declared.proxy.Proxy.{Proxy}
 use Rattle.join_proxy.specs.Body.{four, numberOf, pledgeText, bodyOf}
-use Rattle.join_proxy.specs.History.{ProxyCall, setting, issuing, judging, Sent, History, sentAt, withSent, settled, called, answered, run, after}
+use Rattle.join_proxy.specs.History.{ProxyCall, setting, issuing, judging, Sent, History, sentAt, withSent}
+use Rattle.join_proxy.specs.History.{called, answered, run, after}
 use Rattle.join_proxy.specs.Issuing.{issuePlan, afterIssue, raised, raisedFrom}
 use Rattle.join_proxy.specs.Keys.{countOf, fresh}
+use Rattle.join_proxy.specs.Laws.{SetsInOrder}
 use Rattle.join_proxy.proofs.Bodies.{number-back}
 use Rattle.join_proxy.proofs.Plans.{emitted}
 
@@ -56,14 +54,21 @@ pub record Told (h : History) : Type 0 where
   pub each : (i : ℕ) → i < length (h .sent) → Right (h .key) (sentAt (h .sent) i) i
 
 -- ---- setting a key
-abbrev keyedBy : Bool → Proxy → List ℕ → Keyed
-keyedBy b p key =
-    cond b (record { verdict = verdict.Refused Range; proxy = p }) (record { verdict = verdict.Accepted; proxy = fresh key })
+-- the key in use leaves all as it was, another one begins anew
+set-told : (h : History) (key : List ℕ) (b : Bool) → same (h .proxy .key) key ≡ b → Told h → Told (called (setting key) h)
+set-told h key true e t = rw e (record { key-is = t .key-is; stands = t .stands; each = t .each })
+set-told h key false e t = rw e (record { key-is = refl; stands = going refl (omega arith); each = λ i l. absurd (omega arith) })
 
-set-told : (b : Bool) (h : History) (key : List ℕ) → Told h
-    → Told (settled (keyedBy b (h .proxy) key .verdict) (keyedBy b (h .proxy) key .proxy) key h)
-set-told true h key t = record { key-is = t .key-is; stands = t .stands; each = t .each }
-set-told false h key t = record { key-is = refl; stands = going refl (omega arith); each = λ i l. absurd (omega arith) }
+module _ (h : History) (key : List ℕ) where
+  in-use : same (h .proxy .key) key ≡ true → answered (setting key) h ≡ 13
+  in-use e = rw e
+
+  another : same (h .proxy .key) key ≡ false → called (setting key) h ≡ record { proxy = fresh key; key = key; sent = [] }
+  another e = rw e
+
+  differing : (b : Bool) → (h .proxy .key ≡ key → ⊥) → same (h .proxy .key) key ≡ b → same (h .proxy .key) key ≡ false
+  differing true n e = absurd (n (same-equal (h .proxy .key) key e))
+  differing false n e = e
 
 -- ---- issuing
 -- one more at the end
@@ -72,7 +77,8 @@ grown : (key : List ℕ) (sent : List Sent) (s : Sent) → ((i : ℕ) → i < le
 grown key sent s each right i l =
     let m : i ≤ length sent = omega (arith, length-append sent (s ∷ [])) in
     ⊎-elim
-    (λ (e : i ≡ length sent). subst (λ (x : Sent). Right key x i) (sym (getD-at sent s [] _ i (sym e))) (subst (λ (n : ℕ). Right key s n) (sym e) right))
+    (λ (e : i ≡ length sent). subst (λ (x : Sent). Right key x i) (sym (getD-at sent s [] _ i (sym e)))
+    (subst (λ (n : ℕ). Right key s n) (sym e) right))
     (λ (k : i < length sent). subst (λ (x : Sent). Right key x i) (sym (List·getD-append sent (s ∷ []) _ i k)) (each i k))
     (eq-or-lt-of-le m)
 
@@ -105,7 +111,7 @@ issue-told h interface port token room (emit body) q t =
     }
 
 call-told : (c : ProxyCall) (h : History) → Told h → Told (called c h)
-call-told (setting key) h t = set-told (same (h .proxy .key) key) h key t
+call-told (setting key) h t = set-told h key (same (h .proxy .key) key) refl t
 call-told (issuing interface port token room) h t =
     issue-told h interface port token room (issuePlan (h .proxy) interface port token room) refl t
 call-told (judging body) h t = t
@@ -131,17 +137,27 @@ no-number-twice key calls i j hi hj e =
     let t = told key calls in
     sym (number-at h t i hi) ∙ e ∙ number-at h t j hj
 
+-- ---- what setting a key answers
+pub sets-in-order : (key : List ℕ) (calls : List ProxyCall) (new : List ℕ) → SetsInOrder (after key calls) new
+sets-in-order key calls new =
+    let h = after key calls in
+    let own = told key calls .key-is in
+    record {
+      in-use = λ e. in-use h new (ap (λ (x : List ℕ). same x new) (own ∙ e) ∙ same-refl new);
+      another = λ n. another h new (differing h new (same (h .proxy .key) new) (λ e. n (sym own ∙ e)) refl);
+    }
+
 -- ---- a refused call
-set-left : (b : Bool) (h : History) (key : List ℕ) → (verdictNumber (keyedBy b (h .proxy) key .verdict) ≡ 0 → ⊥)
-    → settled (keyedBy b (h .proxy) key .verdict) (keyedBy b (h .proxy) key .proxy) key h .proxy ≡ h .proxy
-set-left true h key r = refl
-set-left false h key r = absurd (r refl)
+set-left : (h : History) (key : List ℕ) (b : Bool) → same (h .proxy .key) key ≡ b → (answered (setting key) h ≡ 0 → ⊥)
+    → called (setting key) h .proxy ≡ h .proxy
+set-left h key true e r = rw e
+set-left h key false e r = absurd (r (rw e))
 
 issue-left : (plan : Plan) (p : Proxy) → (numberIn (answer plan) ≡ 0 → ⊥) → afterIssue plan p ≡ p
 issue-left (refuse k) p r = refl
 issue-left (emit body) p r = absurd (r refl)
 
 pub refused-leaves : (c : ProxyCall) (h : History) → (answered c h ≡ 0 → ⊥) → called c h .proxy ≡ h .proxy
-refused-leaves (setting key) h r = set-left (same (h .proxy .key) key) h key r
+refused-leaves (setting key) h r = set-left h key (same (h .proxy .key) key) refl r
 refused-leaves (issuing interface port token room) h r = issue-left (issuePlan (h .proxy) interface port token room) (h .proxy) r
 refused-leaves (judging body) h r = refl

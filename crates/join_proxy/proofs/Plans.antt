@@ -3,10 +3,10 @@
 use mathlib.Core.Path.{_≡_, refl, sym, _∙_, ap, subst⁻¹}
 use mathlib.Core.Bool.{Bool, true, false, cond}
 use mathlib.Core.List.{List, _++_}
-use Prim.Native.Nat.{ℕ, suc, _+_, _<_, _≤_}
+use Prim.Native.Nat.{ℕ, _<_, _≤_}
 use native.Mathlib.Omega.{arith}
-use borrow.Author.Tests.{lt-ltb, le-ltb, ltb-false, eqb-true}
-use lib.Dec.{ltb, eqb}
+use borrow.Author.Tests.{lt-ltb, le-ltb, ltb-false}
+use lib.Dec.{ltb}
 use lib.ListN.{length, drop}
 use Rattle.refusal.specs.Refusal.{numberOf as refusalNumber}
 use Rattle.refusal.specs.declared.Refusal.{Refusal}
@@ -19,7 +19,6 @@ use Rattle.join_proxy.specs.declared.proxy.Issued.the-variants.{Count, A
 use Rattle.join_proxy.specs.declared.proxy.Proxy.{Proxy}
 use Rattle.join_proxy.specs.Body.{four, pledgeText, bodyOf}
 use Rattle.join_proxy.specs.Issuing.{raised, raisedFrom, numbered, issuePlan, afterIssue, Issues}
-use Rattle.join_proxy.specs.Keys.{countOf}
 
 abbrev proxyWith : List ℕ → Issued → Proxy
 proxyWith key issued = record { key = key; issued = issued }

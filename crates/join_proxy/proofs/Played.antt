@@ -4,7 +4,6 @@ use mathlib.Core.Path.{refl}
 use native.Mathlib.Omega.{arith}
 use lib.ListN.{replicate}
 use Rattle.byte_lists.specs.Same.{same}
-use Rattle.aes_ccm.specs.Laws.{CcmLaws}
 use Rattle.join_proxy.specs.Body.{bodyOf}
 use Rattle.join_proxy.specs.Issuing.{issuePlan}
 use Rattle.join_proxy.specs.Judging.{judgeBody}

@@ -1,6 +1,6 @@
 -- What holds of a proxy after any list of calls: what it issues, for which bodies it forwards a response, and that no number is sealed twice.
 -- Numbers, ages and the key are told from the calls and their answers (History), not from what the proxy keeps.
-use mathlib.Core.List.{List}
+use mathlib.Core.List.{List, []}
 use mathlib.Core.Path.{_≡_}
 use Prim.Native.Nat.{ℕ, _-_, _<_, _≤_}
 use lib.ListN.{length, getD, take}
@@ -16,7 +16,7 @@ use Rattle.join_proxy.specs.Body.{four, numberOf, eight, pledgeText, bod
 use Rattle.join_proxy.specs.Issuing.{issuePlan, Issues}
 use Rattle.join_proxy.specs.Judging.{judgeBody, forwardTo, refusedWith, pledgeIn, nobody, opening}
 use Rattle.join_proxy.specs.Keys.{fresh}
-use Rattle.join_proxy.specs.History.{ProxyCall, issuing, judging, History, sentAt, called, answered, after}
+use Rattle.join_proxy.specs.History.{ProxyCall, setting, issuing, judging, History, sentAt, called, answered, after}
 
 -- the pledge and token that a body was issued for
 abbrev pub pledgeFor : List ℕ → ℕ → List ℕ → Pledge
@@ -28,6 +28,11 @@ pub record ReadsBack (key : List ℕ) (n : ℕ) (interface : List ℕ) (port : �
   pub number : numberOf (take 4 (bodyOf key (four n) (pledgeText interface port token))) ≡ n
   pub opens : opening (fresh key) (bodyOf key (four n) (pledgeText interface port token)) ≡ emit (pledgeText interface port token)
   pub names : pledgeIn (pledgeText interface port token) ≡ pledgeFor interface port token
+
+-- setting a key: RANGE for the one that was set last; any other begins anew
+pub record SetsInOrder (h : History) (new : List ℕ) : Type 0 where
+  pub in-use : h .key ≡ new → answered (setting new) h ≡ 13
+  pub another : (h .key ≡ new → ⊥) → called (setting new) h ≡ record { proxy = fresh new; key = new; sent = [] }
 
 -- issuing: RANGE, SPENT, ROOM, or the body whose number is how many were issued since the key was set
 pub record IssuesInOrder (h : History) (interface : List ℕ) (port : ℕ) (token : List ℕ) (room : ℕ) : Type 0 where
@@ -65,7 +70,9 @@ pub record JudgesInOrder (h : History) (body : List ℕ) : Type 0 where
 
 pub record ProxyLaws : Type 0 where
   -- a body's fields read back from its bytes
-  pub reads-back : (key : List ℕ) (n : ℕ) (interface : List ℕ) (port : ℕ) (token : List ℕ) → length interface ≡ 8 → ReadsBack key n interface port token
+  pub reads-back : (key : List ℕ) (n : ℕ) (interface : List ℕ) (port : ℕ) (token : List ℕ) → length interface ≡ 8
+      → ReadsBack key n interface port token
+  pub sets-in-order : (key : List ℕ) (calls : List ProxyCall) (new : List ℕ) → SetsInOrder (after key calls) new
   pub issues-in-order : (key : List ℕ) (calls : List ProxyCall) (interface : List ℕ) (port : ℕ) (token : List ℕ) (room : ℕ)
       → IssuesInOrder (after key calls) interface port token room
   -- what was issued under the present key is forwarded to exactly its pledge and token while fewer than 64 were issued after it
