@@ -1,10 +1,12 @@
 // The answers to commands, by the library's calls.
-ghost use Prim.Native.Nat.{_≤_};
 use crate::verb::Verb;
 use aes_ccm::Written;
 use tool_text::output::Buffer;
 use tool_text::output::Output;
+use tool_words::copies::sixteen;
+use tool_words::copies::thirteen;
 use tool_words::words::Words;
+use tool_words::words::least;
 use tool_words::words::place;
 
 pub fn answer(
@@ -113,41 +115,4 @@ fn put_written(
             .octets(tool_text::first(dst, len), buffer),
         Written::Refused(refusal) => tool_notation::put_refusal(out, refusal, buffer),
     }
-}
-
-fn least(a: usize, b: usize) -> usize
-    ensures { λ r. ⌜ r ≤ b ⌝ }
-{
-    if a < b {
-        return a;
-    }
-    b
-}
-
-// Sixteen bytes of the store from a place on; zeros where there are fewer.
-fn sixteen(store: &[u8], at: usize) -> [u8; 16] {
-    let bytes = place(store, at, 16);
-    let mut copy = [0u8; 16];
-    let mut i = 0;
-    while i < 16 {
-        if i < bytes.len() {
-            copy[i] = bytes[i];
-        }
-        i += 1;
-    }
-    copy
-}
-
-// Thirteen bytes of the store from a place on, as `sixteen`.
-fn thirteen(store: &[u8], at: usize) -> [u8; 13] {
-    let bytes = place(store, at, 13);
-    let mut copy = [0u8; 13];
-    let mut i = 0;
-    while i < 13 {
-        if i < bytes.len() {
-            copy[i] = bytes[i];
-        }
-        i += 1;
-    }
-    copy
 }

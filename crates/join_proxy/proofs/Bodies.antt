@@ -3,7 +3,7 @@
 use mathlib.Core.Path.{_≡_, refl, sym, _∙_, ap, subst}
 use mathlib.Core.Bool.{cond}
 use mathlib.Core.List.{List, [], _∷_, _++_, append-nil, append-assoc}
-use Prim.Native.Nat.{ℕ, _+_, _-_, _/_, _%_, _<_, _≤_}
+use Prim.Native.Nat.{ℕ, _+_, _-_, _*_, _/_, _%_, _<_, _≤_}
 use native.Mathlib.Decide.{decLt}
 use native.Mathlib.Nat.{div-add-mod', le-refl}
 use native.Mathlib.Omega.{arith}
@@ -13,7 +13,7 @@ use lib.Dec.{ltb}
 use lib.ListN.{length, getD, take, drop, length-append, length-drop, drop-of-length-le, List·getD-eq-default}
 use lib.Seq.{take-all, take-at, drop-at, drop-drop}
 use Rattle.byte_lists.specs.Digits.{digits}
-use Rattle.byte_lists.specs.Table.{table, table-self, length-table}
+use Rattle.byte_lists.specs.Table.{table, table-self}
 use Rattle.aes_ccm.specs.declared.Written.{Written}
 use Rattle.aes_ccm.specs.Ccm.{sealed, two}
 use Rattle.aes_ccm.specs.Laws.{CcmLaws}
@@ -22,9 +22,12 @@ use Rattle.join_proxy.specs.Body.{four, numberOf, nonceWith, eight, pled
 use Rattle.join_proxy.specs.Judging.{pledgeIn}
 use Rattle.join_proxy.specs.Laws.{pledgeFor}
 
+turned : (a b c d : ℕ) → a * 16777216 + b * 65536 + c * 256 + d ≡ d + c * 256 + b * 65536 + a * 16777216
+turned a b c d = omega arith
+
 -- a number is the number of its four bytes
 pub number-back : (n : ℕ) → numberOf (four n) ≡ n
-number-back n = omega (arith, digits n)
+number-back n = turned (n / 16777216) (n / 65536 % 256) (n / 256 % 256) (n % 256) ∙ sym (digits n)
 
 length-fields : (a b c d e f g h port : ℕ) (token : List ℕ) → length (pledgeText (a ∷ b ∷ c ∷ d ∷ e ∷ f ∷ g ∷ h ∷ []) port token) ≡ 19
 unfolding pledgeText table

@@ -10,6 +10,7 @@ use lib.Dec.{ltb, eqb}
 use lib.ListN.{length, getD, take, drop, length-drop, drop-of-length-le, take-append-drop}
 use lib.Seq.{take-all, drop-at, length-take-le}
 use Rattle.byte_lists.specs.Table.{table}
+use Rattle.refusal.specs.Verdict.{accepted-not}
 use Rattle.refusal.specs.declared.Refusal.{Refusal}
 use Rattle.refusal.specs.declared.Refusal.the-variants.{«Type», Range, Seal, Stale}
 use Rattle.refusal.specs.declared.Verdict.the-variants as verdict
@@ -23,12 +24,9 @@ use Rattle.join_proxy.specs.declared.judging.Pledge.{Pledge}
 use Rattle.join_proxy.specs.declared.proxy.Issued.{Issued}
 use Rattle.join_proxy.specs.declared.proxy.Proxy.{Proxy}
 use Rattle.join_proxy.specs.Body.{four, numberOf, nonceWith, pledgeText, bodyOf}
-use Rattle.join_proxy.specs.Issuing.{issuePlan}
-use Rattle.join_proxy.specs.Judging.{refusedWith, forwardTo, isFresh, pledgeIn, judgeText, judgePlan, opening, judgeBody}
+use Rattle.join_proxy.specs.Judging.{nobody, refusedWith, forwardTo, isFresh, pledgeIn, judgeText, judgePlan, opening, judgeBody}
 use Rattle.join_proxy.specs.Keys.{countOf}
-use Rattle.join_proxy.specs.Laws.{Forwardable, pledgeFor}
-use Rattle.join_proxy.proofs.Bodies.{eight-eq, number-back, length-text, length-body, reads-back, token-length}
-use Rattle.join_proxy.proofs.Plans.{emitted}
+use Rattle.join_proxy.proofs.Bodies.{eight-eq, number-back, length-text, length-body}
 
 -- ---- the text
 module _ (issued : Issued) (n : ℕ) (t : List ℕ) where
@@ -135,6 +133,12 @@ both : (a b : Bool) → (a && b) ≡ true → (a ≡ true) × (b ≡ true)
 both true b e = (refl, e)
 both false b e = absurd (let z : _≡_ {A = ℕ} 0 1 = cc in omega arith)
 
+-- what a fresh number is
+pub fresh-both : (issued : Issued) (n : ℕ) → isFresh issued n ≡ true → (n < countOf issued) × (countOf issued - 1 - n < 64)
+fresh-both issued n e =
+    let two = both (ltb n (countOf issued)) (ltb (countOf issued - 1 - n) 64) e in
+    (ltb-true n (countOf issued) (two .0), ltb-true (countOf issued - 1 - n) 64 (two .1))
+
 -- a text that is forwarded
 pub record Passed (issued : Issued) (n : ℕ) (t : List ℕ) (w : Pledge) : Type 0 where
   pub token-fits : getD t 10 0 ≤ 8
@@ -151,84 +155,104 @@ text-passed issued n t w e = by-length (ltb 8 (getD t 10 0)) (isFresh issued n) 
     by-length true fresh p q e = absurd (accepted Range w e)
     by-length false false p q e = absurd (accepted Stale w e)
     by-length false true p q e =
-        let two = both (ltb n (countOf issued)) (ltb (countOf issued - 1 - n) 64) q in
+        let two = fresh-both issued n q in
         record {
           token-fits = ltb-false 8 (getD t 10 0) p;
-          was-issued = ltb-true n (countOf issued) (two .0);
-          is-recent = ltb-true (countOf issued - 1 - n) 64 (two .1);
+          was-issued = two .0;
+          is-recent = two .1;
           names = ap (λ (j : Judgement). j .pledge) e;
         }
 
-fresh-true : (issued : Issued) (n : ℕ) → n < countOf issued → countOf issued - 1 - n < 64 → isFresh issued n ≡ true
+pub fresh-true : (issued : Issued) (n : ℕ) → n < countOf issued → countOf issued - 1 - n < 64 → isFresh issued n ≡ true
 fresh-true issued n h k = rw (lt-ltb n (countOf issued) h, lt-ltb (countOf issued - 1 - n) 64 k)
 
 cut : (body : List ℕ) → 4 ≤ length body → length (take 4 body) ≡ 4
 cut body h = length-take-le 4 body h
 
-module _ (laws : CcmLaws) (p : Proxy) (body : List ℕ) (w : Pledge) where
-  pub forwarded-only : judgeBody p body ≡ forwardTo w → Forwardable p body w
-  unfolding judgeBody bodyOf
-  forwarded-only e = by-long (eqb (length body) 31) refl e
+-- what stands under a body's seal and in front of it
+pub record Passing (p : Proxy) (body : List ℕ) (w : Pledge) : Type 0 where
+  pub long : length body ≡ 31
+  pub text : List ℕ
+  pub seal-opens : body ≡ bodyOf (p .key) (take 4 body) text
+  pub passed : Passed (p .issued) (numberOf (take 4 body)) text w
+
+module _ (laws : CcmLaws) (p : Proxy) (body : List ℕ) where
+  -- what opens was sealed
+  sealed-as : (t : List ℕ) → opening p body ≡ emit t → body ≡ bodyOf (p .key) (take 4 body) t
+  unfolding bodyOf
+  sealed-as t o =
+      sym (take-append-drop 4 body)
+      ∙ ap (λ (x : List ℕ). take 4 body ++ x) (laws .opened-was-sealed (p .key) (nonceWith (take 4 body)) [] (drop 4 body) t 19 o)
+
+  -- what was sealed opens
+  pub opens : (t : List ℕ) → length body ≡ 31 → body ≡ bodyOf (p .key) (take 4 body) t → opening p body ≡ emit t
+  unfolding bodyOf
+  opens t l e =
+      let nonce = nonceWith (take 4 body) in
+      let rest : drop 4 body ≡ sealed (p .key) nonce [] t
+      = ap (drop 4) e ∙ drop-at (take 4 body) (sealed (p .key) nonce [] t) 4 (cut body (omega arith)) in
+      let long : length (drop 4 body) ≡ length t + 8 = ap length rest ∙ laws .length-sealed (p .key) nonce [] t in
+      ap (λ (x : List ℕ). unsealPlan (p .key) nonce [] x 19) rest
+      ∙ laws .sealed-opens (p .key) nonce [] t 19 (omega arith) (omega (arith, length-drop 4 body)) (omega (arith, length-drop 4 body))
+
+  -- so a body whose seal opens is judged by its text, and any other of 31 bytes is SEAL
+  pub by-text : (t : List ℕ) → length body ≡ 31 → body ≡ bodyOf (p .key) (take 4 body) t
+      → judgeBody p body ≡ judgeText (p .issued) (numberOf (take 4 body)) t
+  by-text t l e = by-plan p body (emit t) l (opens t l e)
+
+  pub never-opens : length body ≡ 31 → ((t : List ℕ) → body ≡ bodyOf (p .key) (take 4 body) t → ⊥) → judgeBody p body ≡ refusedWith Seal
+  never-opens l h = by-opening (opening p body) refl
+    where
+      by-opening : (plan : Plan) → opening p body ≡ plan → judgeBody p body ≡ refusedWith Seal
+      by-opening (refuse k) o = by-plan p body (refuse k) l o
+      by-opening (emit t) o = absurd (h t (sealed-as t o))
+
+  pub passing : (w : Pledge) → judgeBody p body ≡ forwardTo w → Passing p body w
+  unfolding judgeBody
+  passing w e = by-long (eqb (length body) 31) refl e
     where
       by-opening : (plan : Plan) → length body ≡ 31 → opening p body ≡ plan
-          → judgePlan (p .issued) (numberOf (take 4 body)) plan ≡ forwardTo w → Forwardable p body w
+          → judgePlan (p .issued) (numberOf (take 4 body)) plan ≡ forwardTo w → Passing p body w
       by-opening (refuse k) l o e = absurd (accepted Seal w e)
       by-opening (emit t) l o e =
-          let on = text-passed (p .issued) (numberOf (take 4 body)) t w e in
-          let sent : drop 4 body ≡ sealed (p .key) (nonceWith (take 4 body)) [] t
-          = laws .opened-was-sealed (p .key) (nonceWith (take 4 body)) [] (drop 4 body) t 19 o in
-          record {
-            long = l;
-            text = t;
-            seal-opens = sym (take-append-drop 4 body) ∙ ap (λ (x : List ℕ). take 4 body ++ x) sent;
-            token-fits = on .token-fits;
-            was-issued = on .was-issued;
-            is-recent = on .is-recent;
-            names = on .names;
-          }
+          record { long = l; text = t; seal-opens = sealed-as t o; passed = text-passed (p .issued) (numberOf (take 4 body)) t w e }
 
       by-long : (b : Bool) → eqb (length body) 31 ≡ b
-          → cond b (judgePlan (p .issued) (numberOf (take 4 body)) (opening p body)) (refusedWith «Type») ≡ forwardTo w → Forwardable p body w
+          → cond b (judgePlan (p .issued) (numberOf (take 4 body)) (opening p body)) (refusedWith «Type») ≡ forwardTo w → Passing p body w
       by-long true t e = by-opening (opening p body) (eqb-true (length body) 31 t) refl e
       by-long false t e = absurd (accepted «Type» w e)
 
-  pub forwarded-all : Forwardable p body w → judgeBody p body ≡ forwardTo w
-  unfolding bodyOf
-  forwarded-all f =
-      let l = f .long in
-      let t = f .text in
-      let nonce = nonceWith (take 4 body) in
-      let rest : drop 4 body ≡ sealed (p .key) nonce [] t
-      = ap (drop 4) (f .seal-opens) ∙ drop-at (take 4 body) (sealed (p .key) nonce [] t) 4 (cut body (omega arith)) in
-      let long : length (drop 4 body) ≡ length t + 8 = ap length rest ∙ laws .length-sealed (p .key) nonce [] t in
-      let opens : opening p body ≡ emit t
-      = ap (λ (x : List ℕ). unsealPlan (p .key) nonce [] x 19) rest
-      ∙ laws .sealed-opens (p .key) nonce [] t 19 (omega arith) (omega (arith, length-drop 4 body)) (omega (arith, length-drop 4 body)) in
-      by-plan p body (emit t) l opens
-      ∙ text-forwarded (p .issued) (numberOf (take 4 body)) t (f .token-fits)
-      (fresh-true (p .issued) (numberOf (take 4 body)) (f .was-issued) (f .is-recent))
-      ∙ ap forwardTo (f .names)
+  -- a refused body names nobody
+  pub refused-body : (k : Refusal) → judgeBody p body .verdict ≡ verdict.Refused k → judgeBody p body .pledge ≡ nobody
+  unfolding judgeBody judgeText
+  refused-body k e = by-long (eqb (length body) 31) e
+    where
+      by-text-tests : (long fresh : Bool) (t : List ℕ)
+          → cond long (refusedWith Range) (cond fresh (forwardTo (pledgeIn t)) (refusedWith Stale)) .verdict ≡ verdict.Refused k
+          → cond long (refusedWith Range) (cond fresh (forwardTo (pledgeIn t)) (refusedWith Stale)) .pledge ≡ nobody
+      by-text-tests true fresh t e = refl
+      by-text-tests false false t e = refl
+      by-text-tests false true t e = accepted-not k e
 
--- ---- what was issued returns
-pub issued-returns : CcmLaws → (p q : Proxy) (interface : List ℕ) (port : ℕ) (token : List ℕ) (room : ℕ) (body : List ℕ) → length interface ≡ 8
-    → issuePlan p interface port token room ≡ emit body → q .key ≡ p .key
-    → countOf (p .issued) < countOf (q .issued) → countOf (q .issued) - 1 - countOf (p .issued) < 64
-    → judgeBody q body ≡ forwardTo (pledgeFor interface port token)
+      by-opening : (plan : Plan) → judgePlan (p .issued) (numberOf (take 4 body)) plan .verdict ≡ verdict.Refused k
+          → judgePlan (p .issued) (numberOf (take 4 body)) plan .pledge ≡ nobody
+      by-opening (refuse j) e = refl
+      by-opening (emit t) e = by-text-tests (ltb 8 (getD t 10 0)) (isFresh (p .issued) (numberOf (take 4 body))) t e
+
+      by-long : (b : Bool)
+          → cond b (judgePlan (p .issued) (numberOf (take 4 body)) (opening p body)) (refusedWith «Type») .verdict ≡ verdict.Refused k
+          → cond b (judgePlan (p .issued) (numberOf (take 4 body)) (opening p body)) (refusedWith «Type») .pledge ≡ nobody
+      by-long true e = by-opening (opening p body) e
+      by-long false e = refl
+
+-- ---- a body that the proxy issued is judged by its number alone
+pub own-body : CcmLaws → (p : Proxy) (n : ℕ) (interface : List ℕ) (port : ℕ) (token body : List ℕ) → length interface ≡ 8
+    → body ≡ bodyOf (p .key) (four n) (pledgeText interface port token)
+    → judgeBody p body ≡ judgeText (p .issued) n (pledgeText interface port token)
 unfolding bodyOf
-issued-returns laws p q interface port token room body l e key earlier recent =
-    let was = emitted p interface port token room body e in
-    let n = was .number in
+own-body laws p n interface port token body l e =
     let text = pledgeText interface port token in
-    let count : countOf (p .issued) ≡ n = ap countOf (was .was) in
-    let number : numberOf (take 4 body) ≡ n = ap (λ (x : List ℕ). numberOf (take 4 x)) (was .so) ∙ number-back n in
-    let head : take 4 body ≡ four n = ap (take 4) (was .so) in
-    forwarded-all laws q body (pledgeFor interface port token)
-    (record {
-      long = ap length (was .so) ∙ length-body laws (p .key) n text (length-text interface port token l);
-      text = text;
-      seal-opens = was .so ∙ ap₂ (λ (k x : List ℕ). bodyOf k x text) (sym key) (sym head);
-      token-fits = rw (token-length interface port token l) (was .token-fits);
-      was-issued = omega arith;
-      is-recent = omega arith;
-      names = reads-back interface port token l;
-    })
+    let head : take 4 body ≡ four n = ap (take 4) e in
+    let long : length body ≡ 31 = ap length e ∙ length-body laws (p .key) n text (length-text interface port token l) in
+    by-text laws p body text long (e ∙ ap (λ (x : List ℕ). bodyOf (p .key) x text) (sym head))
+    ∙ ap (λ (m : ℕ). judgeText (p .issued) m text) (ap numberOf head ∙ number-back n)

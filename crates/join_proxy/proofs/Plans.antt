@@ -3,10 +3,10 @@
 use mathlib.Core.Path.{_≡_, refl, sym, _∙_, ap, subst⁻¹}
 use mathlib.Core.Bool.{Bool, true, false, cond}
 use mathlib.Core.List.{List, _++_}
-use Prim.Native.Nat.{ℕ, suc, _+_, _<_, _≤_}
+use Prim.Native.Nat.{ℕ, _<_, _≤_}
 use native.Mathlib.Omega.{arith}
-use borrow.Author.Tests.{lt-ltb, le-ltb, ltb-false, eqb-true}
-use lib.Dec.{ltb, eqb}
+use borrow.Author.Tests.{lt-ltb, le-ltb, ltb-false}
+use lib.Dec.{ltb}
 use lib.ListN.{length, drop}
 use Rattle.refusal.specs.Refusal.{numberOf as refusalNumber}
 use Rattle.refusal.specs.declared.Refusal.{Refusal}
@@ -19,7 +19,6 @@ use Rattle.join_proxy.specs.declared.proxy.Issued.the-variants.{Count, A
 use Rattle.join_proxy.specs.declared.proxy.Proxy.{Proxy}
 use Rattle.join_proxy.specs.Body.{four, pledgeText, bodyOf}
 use Rattle.join_proxy.specs.Issuing.{raised, raisedFrom, numbered, issuePlan, afterIssue, Issues}
-use Rattle.join_proxy.specs.Keys.{countOf}
 
 abbrev proxyWith : List ℕ → Issued → Proxy
 proxyWith key issued = record { key = key; issued = issued }
@@ -90,17 +89,10 @@ emitted p interface port token room body e =
     let got = with-number (p .key) (p .issued) (pledgeText interface port token) room body (on .1) in
     record { token-fits = ltb-false 8 (length token) (on .0); number = got .0; was = got .1 .0; so = got .1 .1 }
 
-pub raised-count : (n : ℕ) → countOf (raised n) ≡ suc n
-raised-count n = by-test (eqb n 4294967295) refl
-  where
-    by-test : (b : Bool) → eqb n 4294967295 ≡ b → countOf (cond b All (Count (n + 1))) ≡ suc n
-    by-test true e = let q : n ≡ 4294967295 = eqb-true n 4294967295 e in omega arith
-    by-test false e = omega arith
-
-pub refused : (p : Proxy) (interface : List ℕ) (port : ℕ) (token d : List ℕ) (r : Issue) (d′ : List ℕ) (k : Refusal)
+pub refused-issue : (p : Proxy) (interface : List ℕ) (port : ℕ) (token d : List ℕ) (r : Issue) (d′ : List ℕ) (k : Refusal)
     → Issues p interface port token d r d′ → issuePlan p interface port token (length d) ≡ refuse k
     → (numberIn (r .written) ≡ refusalNumber k) × (lengthIn (r .written) ≡ 0) × (r .proxy ≡ p) × (d′ ≡ d)
-refused p interface port token d r d′ k did e =
+refused-issue p interface port token d r d′ k did e =
     let says : r .written ≡ Refused k = did .did .says ∙ rw e in (
       ap numberIn says,
       ap lengthIn says,

@@ -11,11 +11,19 @@ pub use judging::Pledge;
 pub use proxy::Issued;
 pub use proxy::Keyed;
 pub use proxy::Proxy;
+ghost use Rattle.join_proxy.specs.Day.{Day};
 ghost use Rattle.join_proxy.specs.Laws.{ProxyLaws};
 
-// What holds of proxies over any list of calls, and for which bodies a response is forwarded.
+// What holds of a proxy after any list of calls, and for which bodies a response is forwarded.
 pub fn laws()
     ensures { λ _. ⌜ ProxyLaws ⌝ }
 {
     aes_ccm::laws();
+}
+
+// A day of a proxy, with each refusal but SEAL, two keys, and what the laws say of bodies 63 and 64 issues old.
+pub fn day_of_two_keys()
+    ensures { λ _. ⌜ Day ⌝ }
+{
+    laws();
 }

@@ -1,5 +1,7 @@
 // Whether the cipher gives what a line says.
 use aes_ccm::Written;
+use tool_words::copies::sixteen;
+use tool_words::copies::thirteen;
 use tool_words::words::Words;
 use tool_words::words::place;
 
@@ -117,30 +119,4 @@ fn same(a: &[u8], b: &[u8]) -> bool {
         i += 1;
     }
     true
-}
-
-fn sixteen(store: &[u8], at: usize) -> [u8; 16] {
-    let bytes = place(store, at, 16);
-    let mut copy = [0u8; 16];
-    let mut i = 0;
-    while i < 16 {
-        if i < bytes.len() {
-            copy[i] = bytes[i];
-        }
-        i += 1;
-    }
-    copy
-}
-
-fn thirteen(store: &[u8], at: usize) -> [u8; 13] {
-    let bytes = place(store, at, 13);
-    let mut copy = [0u8; 13];
-    let mut i = 0;
-    while i < 13 {
-        if i < bytes.len() {
-            copy[i] = bytes[i];
-        }
-        i += 1;
-    }
-    copy
 }

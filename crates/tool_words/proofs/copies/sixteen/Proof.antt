@@ -1,8 +1,8 @@
 -- The measure is how many bytes are left to copy.
 use Prim.Native.Nat.{_≤_, _-_}
 use borrow.Author.Needs.{needs}
-use Rattle.cipher.proofs.answers.sixteen.Statement.{statement}
-use Rattle.cipher.proofs.answers.sixteen.Tie as tie
+use Rattle.tool_words.proofs.copies.sixteen.Statement.{statement}
+use Rattle.tool_words.proofs.copies.sixteen.Tie as tie
 
 abbrev Inv-loop : tie.InvT-loop
 Inv-loop store at bytes copy₀ i₀ copy i = i ≤ 16
