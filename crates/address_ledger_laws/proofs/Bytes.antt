@@ -8,7 +8,7 @@ use native.Mathlib.Nat.{add-zero}
 use lib.Dec.{eqb}
 use lib.ListN.{length, getD, take, drop, set, length-set, length-append, length-take, length-drop}
 use lib.Seq.{paste, length-paste, drop-paste, take-take, take-add, take-at, drop-at, drop-drop, take-all, length-take-le, take-set-le, drop-set-lt, drop-set-add}
-use Rattle.address_ledger.specs.Place.{Place, placeAt, places, isFree, hold, freed}
+use Rattle.address_places.specs.Place.{Place, placeAt, places, isFree, hold, freed}
 
 -- a place is its nine bytes
 place-nine : (m : List ℕ) → placeAt (take 9 m) ≡ placeAt m

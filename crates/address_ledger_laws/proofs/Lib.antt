@@ -1,4 +1,7 @@
 pub mod Bytes
+pub mod Marking
+pub mod Leading
+pub mod Marks
 pub mod Holders
 pub mod Counting
 pub mod Standing

@@ -5,8 +5,8 @@ use mathlib.Core.Bool.{true, false}
 use mathlib.Core.List.{List, List·Memᴰ}
 use lib.ListN.{length, getD, take, drop}
 use Rattle.refusal.specs.declared.Refusal.{Refusal}
-use Rattle.address_ledger.specs.Place.{places, countFree}
-use Rattle.address_ledger.specs.Range.{counted}
+use Rattle.address_places.specs.Place.{places, countFree}
+use Rattle.address_range.specs.Range.{counted}
 use Rattle.address_ledger.specs.Ledger.{outcome, granted, givenBack, freeCount}
 use Rattle.address_ledger.specs.declared.answer.AddressAnswer.the-variants.{Address, Refused}
 use Rattle.address_ledger.specs.declared.answer.FreeAnswer.the-variants.{Count}

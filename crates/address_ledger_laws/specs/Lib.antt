@@ -1,5 +1,6 @@
 pub mod History
 pub mod Laws
+pub mod Marked
 pub mod AnyMemory
 pub mod Addresses
 pub mod Counts

@@ -3,6 +3,7 @@ ghost use Rattle.address_ledger_laws.specs.Laws.{HeldAndFree, OneHolder,
 ghost use Rattle.address_ledger_laws.specs.AnyMemory.{AnyMemory};
 ghost use Rattle.address_ledger_laws.specs.Addresses.{AddressesAlone, TwoAlone};
 ghost use Rattle.address_ledger_laws.specs.Counts.{RightStays, AnyCount, Moves};
+ghost use Rattle.address_ledger_laws.specs.Marked.{MarksStay, AsWalked, AnyMarks};
 ghost use Rattle.address_ledger_laws.specs.Demand1.{Demand1};
 ghost use Rattle.address_ledger_laws.specs.Shift.{Shift};
 
@@ -56,6 +57,21 @@ pub fn any_count_answers_alike()
 // The count moves by one where an address changes hands, and is then cut.
 pub fn count_moves_by_one()
     ensures { λ _. ⌜ Moves ⌝ }
+{}
+
+// Every call leaves right marks right.
+pub fn right_marks_stay()
+    ensures { λ _. ⌜ MarksStay ⌝ }
+{}
+
+// With right marks a grant is that of a walk of all addresses.
+pub fn marks_find_what_a_walk_finds()
+    ensures { λ _. ⌜ AsWalked ⌝ }
+{}
+
+// With any marks the first marked group that has a free address counts, and only a group written to is marked anew.
+pub fn any_marks()
+    ensures { λ _. ⌜ AnyMarks ⌝ }
 {}
 
 // A refusal has its number and changes nothing (demand 1).

@@ -1,0 +1,38 @@
+-- The board's own place comes first; else the marks lead.
+use borrow.Author.Needs.{needs}
+use lib.ListN.{length}
+use Rattle.address_places.proofs.Fit.{fit-room}
+use Rattle.address_places.proofs.Passing.{sought-held, sought-free}
+use Rattle.address_places.proofs.finding.seek.Statement.{statement}
+use Rattle.address_places.proofs.finding.seek.Tie as tie
+
+fit-requires : tie.Need-fit-requires
+fit-requires c κs = search needs
+
+find-holder-requires : tie.Need-find-holder-requires
+find-holder-requires c κs =
+    let a = c .before .before .args in
+    fit-room (a .count) (length (a .memory .now)) (c .fit .result) (c .fit .ensures)
+
+returns : tie.Need-returns
+returns c =
+    let a = c .before .before .before .before .args in
+    let holder = c .before .find-holder in
+    rw (← c .before .before .fit .ensures)
+    (sought-held (a .marks) (a .board .now) (c .before .before .fit .result) (a .memory .now) (holder .result) (holder .ensures) (c .if1 .taken))
+
+find-marked-requires : tie.Need-find-marked-requires
+find-marked-requires c κs =
+    let a = c .before .before .before .before .args in
+    fit-room (a .count) (length (a .memory .now)) (c .before .before .fit .result) (c .before .before .fit .ensures)
+
+returns-2 : tie.Need-returns-2
+returns-2 c =
+    let a = c .before .before .before .before .before .args in
+    let holder = c .before .before .find-holder in
+    rw (← c .before .before .before .fit .ensures)
+    (sought-free (a .marks) (a .board .now) (c .before .before .before .fit .result) (a .memory .now) (holder .result) (holder .ensures) (c .before .if1 .left)
+    (c .find-marked .result) (c .find-marked .ensures))
+
+pub seek-spec : {M : Type 1} → statement M
+seek-spec = tie.close (tie.spec fit-requires find-holder-requires returns find-marked-requires returns-2)
