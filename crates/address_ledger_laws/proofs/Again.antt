@@ -1,15 +1,14 @@
 -- A freed address is granted again: its place is free, so the lowest free one is no higher; and where every lower address is held it is that one.
 use Prim.Native.Nat.{ℕ, _+_, _-_, _*_, _≤_, _<_}
 use mathlib.Core.Path.{_≡_, refl, sym, ap, _∙_}
-use mathlib.Core.Bool.{Bool, true, false, not}
+use mathlib.Core.Bool.{Bool, true, false}
 use mathlib.Core.List.{List}
 use native.Mathlib.Omega.{arith}
 use borrow.Author.Tests.{ltb-true, ltb-false}
-use lib.Dec.{eqb, ltb}
+use lib.Dec.{ltb}
 use lib.ListN.{length, drop, set}
 use Rattle.refusal.specs.declared.Refusal.{Refusal}
-use Rattle.refusal.specs.declared.Refusal.the-variants.{Unknown}
-use Rattle.address_places.specs.Place.{Place, places, lowest, heldBy, isFree, sought, freed}
+use Rattle.address_places.specs.Place.{places, lowest, heldBy, isFree, sought, freed}
 use Rattle.address_range.specs.Range.{counted}
 use Rattle.address_ledger.specs.Ledger.{granting, granted, givingBack, givenBack}
 use Rattle.address_ledger.specs.declared.answer.AddressAnswer.the-variants.{Address, Refused}
@@ -19,7 +18,7 @@ use Rattle.address_range.proofs.Judged.{usable}
 use Rattle.address_places.proofs.Scan.{length-places}
 use Rattle.address_places.proofs.Found.{held-is, free-is, nothing-is}
 use Rattle.address_ledger.proofs.Calls.{back-accepted}
-use Rattle.address_ledger_laws.specs.History.{gives, Holding, listed, taken, Moment, step, after}
+use Rattle.address_ledger_laws.specs.History.{gives, listed, taken, Moment, step, after}
 use Rattle.address_ledger_laws.specs.Laws.{FreedAgain}
 use Rattle.address_ledger_laws.proofs.Bytes.{places-freed, cleared, cleared-is}
 use Rattle.address_ledger_laws.proofs.Holders.{free-nobody, lowest-set}

@@ -1,7 +1,7 @@
 -- The bytes of any memory, read as places: what stands at place k in bytes is what the list of places has there.
 use Prim.Native.Nat.{ℕ, zero, suc, _+_, _*_, _≤_, _<_}
 use mathlib.Core.Path.{_≡_, refl, sym, ap, _∙_}
-use mathlib.Core.Bool.{Bool, true, false, not, _&&_}
+use mathlib.Core.Bool.{Bool, true, false, _&&_}
 use mathlib.Core.List.{List, [], _∷_}
 use native.Mathlib.Omega.{arith}
 use borrow.Author.Tests.{eq-eqb, ne-eqb, eqb-true, eqb-false, lt-ltb, le-ltb}
@@ -12,7 +12,7 @@ use Rattle.refusal.specs.declared.Refusal.the-variants.{Unknown}
 use Rattle.refusal.specs.declared.Verdict.the-variants.{Accepted}
 use Rattle.address_places.specs.Place.{Place, placeAt, places, same, lowest, has, heldBy, isFree, sought}
 use Rattle.address_range.specs.Range.{judged, counted}
-use Rattle.address_ledger.specs.Ledger.{outcome, granting, granted, givingBack, givenBack}
+use Rattle.address_ledger.specs.Ledger.{outcome, granting, givingBack, givenBack}
 use Rattle.address_ledger.specs.declared.answer.AddressAnswer.the-variants.{Refused}
 use Rattle.address_ledger.specs.declared.ledger.Ledger.{Ledger}
 use Rattle.address_places.specs.declared.place.Sought.{Sought}

@@ -1,11 +1,11 @@
 -- Holding a free place makes one free place fewer, and freeing a board's place one more; so a right count is cut nowhere.
 use Prim.Native.Nat.{ℕ, zero, suc, _+_, _-_, _≤_, _<_}
 use mathlib.Core.Path.{_≡_, refl, ap}
-use mathlib.Core.Bool.{Bool, true, false, cond, not, _&&_}
+use mathlib.Core.Bool.{Bool, true, false}
 use mathlib.Core.List.{List, [], _∷_}
 use native.Mathlib.Omega.{arith}
 use borrow.Author.Tests.{le-leb}
-use lib.Dec.{eqb, leb}
+use lib.Dec.{eqb}
 use lib.ListN.{length, set, length-set}
 use Rattle.address_places.specs.Place.{Place, same, isFree, heldBy, lowest, countFree}
 use Rattle.address_places.proofs.Runs.{count-most}

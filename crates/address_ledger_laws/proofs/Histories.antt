@@ -1,17 +1,16 @@
 -- The laws over histories: at every moment the holdings by the history are those that the places show.
 use Prim.Native.Nat.{ℕ, zero, suc, _+_, _*_, _≤_, _<_}
-use mathlib.Core.Path.{_≡_, refl, sym, ap, _∙_}
+use mathlib.Core.Path.{_≡_, refl, sym, _∙_}
 use mathlib.Core.Bool.{Bool, true, false, _&&_}
-use mathlib.Core.List.{List, [], _∷_, List·Memᴰ}
+use mathlib.Core.List.{List, [], _∷_}
 use native.Mathlib.Omega.{arith}
 use borrow.Author.Tests.{ltb-true, ltb-false, lt-ltb, le-ltb, eqb-true, ne-eqb}
 use lib.Dec.{eqb, ltb}
 use lib.ListN.{length, getD, drop, set}
 use lib.Seq.{getD-drop}
-use Rattle.refusal.specs.declared.Refusal.{Refusal}
 use Rattle.refusal.specs.declared.Refusal.the-variants.{Full, Unknown}
 use Rattle.refusal.specs.declared.Verdict.the-variants.{Accepted}
-use Rattle.address_places.specs.Place.{Place, placeAt, places, lowest, heldBy, isFree, countFree, sought, hold, freed}
+use Rattle.address_places.specs.Place.{Place, placeAt, places, lowest, heldBy, countFree, sought, hold, freed}
 use Rattle.address_range.specs.Range.{judged, counted}
 use Rattle.address_ledger.specs.Ledger.{Outcome, outcome, withSummary, cut, fewer, more, opened, granting, granted, givingBack, givenBack, freeCount}
 use Rattle.address_ledger.specs.declared.answer.AddressAnswer.{AddressAnswer}
@@ -26,11 +25,11 @@ use Rattle.address_places.specs.Marks.{summaryOf}
 use Rattle.address_places.proofs.Found.{held-is, free-is, nothing-is}
 use Rattle.address_places.proofs.Offers.{freeAt, lowest-free}
 use Rattle.address_ledger.proofs.Calls.{open-accepted, back-accepted, free-within}
-use Rattle.address_ledger_laws.specs.History.{Call, opens, asks, gives, counts, Holding, listed, addressOf, enter, strike, taken, afterAsk, afterGive, Moment, step, run, after, wholeBoards, Begins}
-use Rattle.address_ledger_laws.specs.Laws.{HeldAndFree, OneHolder, SameAgain, FreedAgain}
+use Rattle.address_ledger_laws.specs.History.{Call, opens, asks, gives, counts, Holding, listed, addressOf, afterAsk, afterGive, Moment, step, run, after, wholeBoards, Begins}
+use Rattle.address_ledger_laws.specs.Laws.{HeldAndFree, OneHolder, SameAgain, GivesBack}
 use Rattle.address_ledger_laws.proofs.Bytes.{length-hold, places-hold, length-freed, places-freed, cleared, cleared-free, cleared-is}
 use Rattle.address_ledger_laws.proofs.Counting.{count-less, count-more}
-use Rattle.address_ledger_laws.proofs.Holders.{heldFrom, listed-held, strike-held, enter-held, held-and-free, one-holder, address-held, free-nobody, lowest-set}
+use Rattle.address_ledger_laws.proofs.Holders.{heldFrom, listed-held, strike-held, enter-held, held-and-free, one-holder, address-held}
 use Rattle.address_ledger_laws.proofs.Marking.{anew-right}
 use Rattle.address_ledger_laws.proofs.Marks.{walk-accepted}
 use Rattle.address_ledger_laws.proofs.Standing.{stands}
@@ -266,3 +265,53 @@ module _ (first size : ℕ) (s : Moment) (a : Agrees first size s) (b : List ℕ
 pub same-again : SameAgain
 unfolding SameAgain
 same-again first size m cs w b y = same first size (after first size m cs) (after-agrees first size m cs w) b y
+
+-- ---- giving back
+module _ (first size : ℕ) (s : Moment) (a : Agrees first size s) (b : List ℕ) where
+  told : listed b (s .holding) ≡ ltb (lowest (heldBy b) (places (counted first size) (s .memory))) (counted first size)
+  told = lists first (counted first size) b (s .memory) (s .holding) (a .tells)
+
+  own-by : listed b (s .holding) ≡ true → (x : Sought) → x ≡ sought b (places (counted first size) (s .memory))
+      → givingBack (counted first size) (rightLedger first size (s .memory)) (s .memory) x .answer ≡ Address (addressOf b (s .holding))
+  unfolding givingBack
+  own-by y (Held k) x =
+      let i = held-is b (places (counted first size) (s .memory)) k x in
+      let e : addressOf b (s .holding) ≡ first + k =
+      rw (a .tells, i .0) (address-held first b (places (counted first size) (s .memory)) (omega (arith, i .0, i .1))) in
+      rw e
+  own-by y (Free k) x =
+      let i = free-is b (places (counted first size) (s .memory)) k x in
+      let l = ltb-true (lowest (heldBy b) (places (counted first size) (s .memory))) (counted first size) (sym told ∙ y) in
+      absurd (omega (arith, i .1 .1, l, length-places (counted first size) (s .memory)))
+  own-by y Nothing x =
+      let i = nothing-is b (places (counted first size) (s .memory)) x in
+      let l = ltb-true (lowest (heldBy b) (places (counted first size) (s .memory))) (counted first size) (sym told ∙ y) in
+      absurd (omega (arith, i .0, l, length-places (counted first size) (s .memory)))
+
+  none-by : listed b (s .holding) ≡ false → (x : Sought) → x ≡ sought b (places (counted first size) (s .memory))
+      → givingBack (counted first size) (rightLedger first size (s .memory)) (s .memory) x
+      ≡ outcome (Refused Unknown) (rightLedger first size (s .memory)) (s .memory)
+  unfolding givingBack
+  none-by y (Held k) x =
+      let i = held-is b (places (counted first size) (s .memory)) k x in
+      let l = ltb-false (lowest (heldBy b) (places (counted first size) (s .memory))) (counted first size) (sym told ∙ y) in
+      absurd (omega (arith, i .0, i .1, l, length-places (counted first size) (s .memory)))
+  none-by y (Free k) x = refl
+  none-by y Nothing x = refl
+
+  own : listed b (s .holding) ≡ true → givenBack (s .ledger) (s .memory) b .answer ≡ Address (addressOf b (s .holding))
+  own y =
+      rw (plain first size s a, ← back-accepted (rightLedger first size (s .memory)) (s .memory) b (a .accepted) (counted first size) refl _ refl)
+      (own-by y _ refl)
+
+  none : listed b (s .holding) ≡ false → givenBack (s .ledger) (s .memory) b ≡ outcome (Refused Unknown) (s .ledger) (s .memory)
+  none y =
+      rw (plain first size s a, ← back-accepted (rightLedger first size (s .memory)) (s .memory) b (a .accepted) (counted first size) refl _ refl)
+      (none-by y _ refl)
+
+pub gives-own : GivesBack
+gives-own =
+    record {
+      own = λ first size m cs w b y. own first size (after first size m cs) (after-agrees first size m cs w) b y;
+      unknown = λ first size m cs w b y. none first size (after first size m cs) (after-agrees first size m cs w) b y;
+    }

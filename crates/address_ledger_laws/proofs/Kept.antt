@@ -1,16 +1,16 @@
 -- The count moves with each place that is written, and only then; what is answered never looks at it.
-use Prim.Native.Nat.{ℕ, _+_, _-_, _*_, _≤_, _<_}
-use mathlib.Core.Path.{_≡_, refl, sym, ap, _∙_}
-use mathlib.Core.Bool.{Bool, true, false}
-use mathlib.Core.List.{List, []}
+use Prim.Native.Nat.{ℕ, _-_, _*_, _≤_, _<_}
+use mathlib.Core.Path.{_≡_, refl}
+use mathlib.Core.Bool.{true, false}
+use mathlib.Core.List.{List}
 use native.Mathlib.Omega.{arith}
 use borrow.Author.Tests.{ltb-false}
 use lib.ListN.{length, drop}
 use Rattle.refusal.specs.declared.Verdict.{Verdict}
 use Rattle.refusal.specs.declared.Verdict.the-variants as verdict
-use Rattle.address_places.specs.Place.{Place, places, heldBy, isFree, lowest, has, countFree, sought, hold, freed}
+use Rattle.address_places.specs.Place.{places, heldBy, lowest, has, countFree, sought}
 use Rattle.address_range.specs.Range.{judged, counted}
-use Rattle.address_ledger.specs.Ledger.{Outcome, countedOf, placesOf, judgedOf, cut, fewer, more, openedBy, opened, granting, grantedBy, granted, givingBack, givenBackBy, givenBack}
+use Rattle.address_ledger.specs.Ledger.{countedOf, placesOf, judgedOf, cut, openedBy, opened, granting, grantedBy, granted, givingBack, givenBackBy, givenBack}
 use Rattle.address_ledger.specs.declared.answer.AddressAnswer.the-variants.{Address}
 use Rattle.address_ledger.specs.declared.ledger.Ledger.{Ledger}
 use Rattle.address_places.specs.declared.place.Sought.{Sought}

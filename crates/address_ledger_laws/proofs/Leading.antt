@@ -1,18 +1,16 @@
 -- Where the marks lead: right ones to the lowest free place of all, since every lower group has none; any marks to the first marked group with one.
 use Prim.Native.Nat.{ℕ, zero, suc, _+_, _*_, _/_, _≤_, _<_}
 use mathlib.Core.Path.{_≡_, refl, sym, ap, _∙_}
-use mathlib.Core.Bool.{Bool, true, false, cond, _&&_}
+use mathlib.Core.Bool.{Bool, true, false, cond}
 use mathlib.Core.List.{List, [], _∷_}
 use native.Mathlib.Omega.{arith}
 use native.Mathlib.Nat.{zero-add}
 use borrow.Author.Tests.{lt-ltb, le-ltb, ltb-true, ltb-false}
-use lib.Dec.{ltb}
 use lib.ListN.{length, take, drop, length-take, length-drop}
-use Rattle.address_places.specs.Place.{Place, places, isFree, heldBy, lowest, has, sought}
+use Rattle.address_places.specs.Place.{Place, places, isFree, lowest, has, sought}
 use Rattle.address_places.specs.Marks.{marked, groupAt, marksOf, freeBy, soughtBy}
 use Rattle.address_places.specs.declared.place.Sought.{Sought}
-use Rattle.address_places.specs.declared.place.Sought.the-variants.{Held, Free, Nothing}
-use Rattle.address_places.proofs.Runs.{bounded}
+use Rattle.address_places.specs.declared.place.Sought.the-variants.{Free, Nothing}
 use Rattle.address_ledger_laws.specs.Marked.{NoneBelow}
 use Rattle.address_ledger_laws.proofs.Marking.{lowest-bit, rest-of, next-group}
 

@@ -1,16 +1,16 @@
 -- The marks of a ledger from call to call: by the bits for its own group and the others, and by where the marks lead.
-use Prim.Native.Nat.{ℕ, _+_, _-_, _*_, _/_, _≤_, _<_}
-use mathlib.Core.Path.{_≡_, refl, sym, ap, _∙_}
-use mathlib.Core.Bool.{Bool, true, false}
+use Prim.Native.Nat.{ℕ, _+_, _*_, _/_, _<_}
+use mathlib.Core.Path.{_≡_, refl, sym, ap}
+use mathlib.Core.Bool.{false}
 use mathlib.Core.List.{List}
 use native.Mathlib.Omega.{arith}
 use native.Mathlib.Nat.{zero-add}
 use borrow.Author.Tests.{lt-ltb, ltb-false}
-use lib.ListN.{length, drop, set}
+use lib.ListN.{length, drop}
 use Rattle.refusal.specs.declared.Verdict.{Verdict}
 use Rattle.refusal.specs.declared.Verdict.the-variants as verdict
 use Rattle.address_places.specs.Place.{Place, places, heldBy, isFree, lowest, has, sought, hold, freed}
-use Rattle.address_places.specs.Marks.{marked, groupAt, marksOf, anew, freeBy, soughtBy}
+use Rattle.address_places.specs.Marks.{groupAt, marksOf, anew, soughtBy}
 use Rattle.address_places.specs.declared.place.Sought.{Sought}
 use Rattle.address_places.specs.declared.place.Sought.the-variants.{Held, Free, Nothing}
 use Rattle.address_places.proofs.Scan.{length-places}
@@ -18,17 +18,17 @@ use Rattle.address_places.proofs.Found.{held-within}
 use Rattle.address_places.proofs.Offers.{held-told, free-inside-of}
 use Rattle.address_range.specs.Range.{judged, counted, Usable}
 use Rattle.address_range.proofs.Judged.{usable}
-use Rattle.address_ledger.specs.Ledger.{Outcome, outcome, countedOf, placesOf, judgedOf, openedBy, opened, granting, grantedBy, granted, givingBack, givenBackBy, givenBack}
+use Rattle.address_ledger.specs.Ledger.{Outcome, countedOf, placesOf, judgedOf, openedBy, opened, granting, grantedBy, granted, givingBack, givenBackBy, givenBack}
 use Rattle.address_ledger.specs.declared.answer.AddressAnswer.the-variants.{Address, Refused}
 use Rattle.address_ledger.specs.declared.ledger.Ledger.{Ledger}
 use Rattle.address_ledger.proofs.Calls.{grant-accepted}
-use Rattle.address_ledger_laws.specs.Marked.{RightMarks, MarksStay, walkedBy, AsWalked, NoneBelow, MarkedAnew, AnyMarks}
+use Rattle.address_ledger_laws.specs.Marked.{RightMarks, MarksStay, walkedBy, AsWalked, MarkedAnew, AnyMarks}
 use Rattle.address_ledger_laws.proofs.Bytes.{places-hold, places-freed, cleared}
 use Rattle.address_ledger_laws.proofs.Marking.{own-mark, other-mark, marks-say, anew-right}
 use Rattle.address_ledger_laws.proofs.Leading.{as-walked, first-marked, none-marked}
 
 module _ (l : Ledger) (m : List ℕ) (f : verdict.Accepted ≡ judgedOf l m) where
-  in-use : Usable (l .first) (length m) (countedOf l)
+  pub in-use : Usable (l .first) (length m) (countedOf l)
   in-use = usable (l .first) (l .size) (length m) f (countedOf l) refl
 
   -- ---- right marks find what a walk finds
@@ -105,10 +105,11 @@ written l k m′ h o e q =
       others = λ g n. rw (q, lt-ltb k 4096 h) (other-mark (k / 64) g (has isFree (groupAt (k / 64) (placesOf l m′))) (l .marks) n);
     }
 
-module _ (l : Ledger) (m b : List ℕ) (k : ℕ) (f : verdict.Accepted ≡ judgedOf l m) where
-  same-place : (j : ℕ) → Address (l .first + j) ≡ Address (l .first + k) → j ≡ k
-  same-place j e = let z : l .first + j ≡ l .first + k = cc in omega arith
+-- an answered address tells its place
+pub same-place : (l : Ledger) (k j : ℕ) → Address (l .first + j) ≡ Address (l .first + k) → j ≡ k
+same-place l k j e = let z : l .first + j ≡ l .first + k = cc in omega arith
 
+module _ (l : Ledger) (m b : List ℕ) (k : ℕ) (f : verdict.Accepted ≡ judgedOf l m) where
   grant-new : (s : Sought) → s ≡ soughtBy (l .marks) b (placesOf l m) → has (heldBy b) (placesOf l m) ≡ false
       → granting (countedOf l) l m b s .answer ≡ Address (l .first + k) → MarkedAnew l k (granting (countedOf l) l m b s)
   unfolding granting has
@@ -117,7 +118,7 @@ module _ (l : Ledger) (m b : List ℕ) (k : ℕ) (f : verdict.Accepted ≡ judge
       absurd (omega (arith, i .0, i .1, ltb-false (lowest (heldBy b) (placesOf l m)) (length (placesOf l m)) h))
   grant-new (Free j) s h e =
       let i = free-inside-of (l .marks) b (countedOf l) m j s in
-      let q = same-place j e in
+      let q = same-place l k j e in
       rw (← q) (written l j (hold m j b) (omega (arith, i, in-use l m f .size)) _ refl refl)
   grant-new Nothing s h e = let z : _≡_ {A = ℕ} 0 1 = cc in absurd (omega arith)
 
@@ -126,7 +127,7 @@ module _ (l : Ledger) (m b : List ℕ) (k : ℕ) (f : verdict.Accepted ≡ judge
   unfolding givingBack
   back-new (Held j) s e =
       let i = held-within b (countedOf l) m j s in
-      let q = same-place j e in
+      let q = same-place l k j e in
       rw (← q) (written l j (freed m j) (omega (arith, i, in-use l m f .size)) _ refl refl)
   back-new (Free j) s e = let z : _≡_ {A = ℕ} 0 1 = cc in absurd (omega arith)
   back-new Nothing s e = let z : _≡_ {A = ℕ} 0 1 = cc in absurd (omega arith)

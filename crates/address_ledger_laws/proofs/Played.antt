@@ -1,10 +1,9 @@
 -- The shift of the witness, computed.
-use Prim.Native.Nat.{ℕ, zero, suc, _+_, _*_, _<_}
+use Prim.Native.Nat.{ℕ, zero, suc, _*_, _<_}
 use mathlib.Core.Path.{_≡_, refl}
 use native.Mathlib.Omega.{arith}
 use borrow.Author.Tests.{eqb-false}
 use lib.ListN.{getD}
-use Rattle.refusal.specs.declared.Verdict.the-variants.{Accepted}
 use Rattle.address_places.specs.Place.{placeAt, places, same, isFree, heldBy, lowest, has, countFree, sought, hold, freed}
 use Rattle.address_places.specs.Marks.{marked, withMark, marksOf, anew, freeBy, soughtBy}
 use Rattle.short_address.specs.Address.{isAddress, bytesOf}

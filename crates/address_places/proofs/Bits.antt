@@ -1,10 +1,10 @@
 -- The marks as bits: a machine's `or` and shifts do what the definitions do bit by bit.
-use Prim.Native.Nat.{ℕ, zero, suc, _+_, _-_, _*_, _/_, _%_, _^_, _≤_, _<_, max}
-use mathlib.Core.Path.{_≡_, refl, sym, ap, _∙_}
-use mathlib.Core.Bool.{Bool, true, false, cond}
+use Prim.Native.Nat.{ℕ, zero, suc, _+_, _-_, _*_, _/_, _%_, _^_, _≤_, _<_}
+use mathlib.Core.Path.{_≡_, _∙_}
+use mathlib.Core.Bool.{true, false}
 use native.Mathlib.Omega.{arith}
 use lib.Bits.{bitOr, or-step, or-zero-r}
-use lib.Pow.{pow-mono, shl-exact}
+use lib.Pow.{shl-exact}
 use Rattle.address_places.specs.Marks.{bit, withMark}
 
 -- 1 shifted to a group's bit

@@ -57,6 +57,3 @@ module _ (b : List ℕ) (ps : List Place) where
 module _ (b : List ℕ) (n : ℕ) (m : List ℕ) (k : ℕ) where
   pub held-within : Held k ≡ sought b (places n m) → k < n
   held-within e = rw (length-places n m) at (held-is b (places n m) k e .1)
-
-  pub free-within : Free k ≡ sought b (places n m) → k < n
-  free-within e = rw (length-places n m) at (free-is b (places n m) k e .1 .0)

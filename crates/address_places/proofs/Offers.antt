@@ -1,16 +1,15 @@
 -- What was found by the marks says where it stands: a free place that the marks lead to is free, and no board's place comes from them.
 use Prim.Native.Nat.{ℕ, zero, suc, _+_, _-_, _/_, _≤_, _<_}
-use mathlib.Core.Path.{_≡_, refl, sym, _∙_}
+use mathlib.Core.Path.{_≡_, refl}
 use mathlib.Core.Bool.{Bool, true, false, _&&_}
 use mathlib.Core.List.{List, [], _∷_}
 use native.Mathlib.Omega.{arith}
 use native.Mathlib.Nat.{zero-add}
-use borrow.Author.Tests.{ltb-true, ltb-false}
+use borrow.Author.Tests.{ltb-true}
 use lib.ListN.{length, take, drop}
 use Rattle.address_places.specs.Place.{Place, places, heldBy, isFree, lowest, has}
 use Rattle.address_places.specs.Marks.{marked, freeBy, soughtBy}
-use Rattle.address_places.specs.declared.place.Sought.{Sought}
-use Rattle.address_places.specs.declared.place.Sought.the-variants.{Held, Free, Nothing}
+use Rattle.address_places.specs.declared.place.Sought.the-variants.{Held, Free}
 use Rattle.address_places.proofs.Scan.{length-places}
 
 -- whether there is a place k and it is free

@@ -1,14 +1,14 @@
 -- The walk over the groups: where none so far was marked and had a free place, the search goes on as from the start.
-use Prim.Native.Nat.{ℕ, zero, suc, _+_, _-_, _*_, _/_, _%_, _≤_, _<_}
+use Prim.Native.Nat.{ℕ, suc, _+_, _-_, _*_, _/_, _%_, _≤_, _<_}
 use mathlib.Core.Path.{_≡_, refl, sym, ap, _∙_}
 use mathlib.Core.Bool.{Bool, true, false, cond, _&&_}
 use mathlib.Core.List.{List}
 use native.Mathlib.Omega.{arith}
 use borrow.Author.Tests.{lt-ltb, le-ltb, ltb-true}
-use lib.Dec.{eqb, ltb}
-use lib.ListN.{length, take, drop, length-take, length-drop}
+use lib.Dec.{eqb}
+use lib.ListN.{length, drop, length-take, length-drop}
 use lib.Seq.{drop-drop}
-use Rattle.address_places.specs.Place.{Place, places, isFree, heldBy, lowest, has}
+use Rattle.address_places.specs.Place.{places, isFree, heldBy, lowest, has}
 use Rattle.address_places.specs.Marks.{groupAt, marked, freeBy, soughtBy}
 use Rattle.address_places.specs.declared.place.Sought.{Sought}
 use Rattle.address_places.specs.declared.place.Sought.the-variants.{Held, Free, Nothing}

@@ -1,11 +1,11 @@
 -- The walk of opening: after the groups above are surveyed, what was counted and marked is theirs.
 use Prim.Native.Nat.{ℕ, zero, suc, _+_, _-_, _*_, _^_, _≤_, _<_, min}
 use mathlib.Core.Path.{_≡_, refl, sym, ap, _∙_}
-use mathlib.Core.Bool.{Bool, true, false, cond, not}
-use mathlib.Core.List.{List, [], _∷_, _++_}
+use mathlib.Core.Bool.{Bool, true, false, not}
+use mathlib.Core.List.{List, []}
 use native.Mathlib.Omega.{arith}
 use lib.Dec.{eqb}
-use lib.ListN.{length, take, drop, take-append-drop, length-drop, length-take, drop-of-length-le}
+use lib.ListN.{take, drop, take-append-drop, length-drop, drop-of-length-le}
 use lib.Pow.{pow-mono}
 use lib.Seq.{drop-drop}
 use Rattle.address_places.specs.Place.{Place, places, isFree, has, countFree}
@@ -35,15 +35,18 @@ survey-none n m h =
     record { within = omega arith; counted = rw e; marked = refl }
 
 module _ (n : ℕ) (m : List ℕ) (free marks above : ℕ) (w : Surveyed n m free marks above) (h : n ≤ 4096) (p : 0 < above) where
-  rest : ℕ → List Place
-  rest g = drop (64 * g) (places n m)
-
   next : drop 64 (drop (64 * (above - 1)) (places n m)) ≡ drop (64 * above) (places n m)
   next =
       let e : 64 * (above - 1) + 64 ≡ 64 * above = omega arith in
       drop-drop 64 (64 * (above - 1)) (places n m) ∙ ap (λ (x : ℕ). drop x (places n m)) e
 
-  module _ (end found mark : ℕ) (e : end ≡ min (64 * (above - 1) + 64) n)
+  pub marks-most : 2 * marks + 1 < 2 ^ 64
+  marks-most =
+      let b : marks < 2 ^ (64 - above) = rw (w .marked) (marks-bound (64 - above) (drop (64 * above) (places n m))) in
+      let c : 2 ^ (64 - above) ≤ 2 ^ 63 = pow-mono {i = 64 - above} {j = 63} (omega arith) in
+      omega (arith, b, c)
+
+  module _ (end found : ℕ) (e : end ≡ min (64 * (above - 1) + 64) n)
       (f : found ≡ countFree (places (end - 64 * (above - 1)) (drop (9 * (64 * (above - 1))) m))) where
     found-is : found ≡ countFree (groupAt (above - 1) (places n m))
     found-is = rw (group-places (above - 1) n end m e) f
@@ -57,15 +60,9 @@ module _ (n : ℕ) (m : List ℕ) (free marks above : ℕ) (w : Surveyed n m fre
     pub sum-most : free + found ≤ 4096
     sum-most = omega (arith, whole, count-most (drop (64 * (above - 1)) (places n m)), length-drop (64 * (above - 1)) (places n m), length-places n m)
 
-    pub marks-most : 2 * marks + 1 < 2 ^ 64
-    marks-most =
-        let b : marks < 2 ^ (64 - above) = rw (w .marked) (marks-bound (64 - above) (drop (64 * above) (places n m))) in
-        let c : 2 ^ (64 - above) ≤ 2 ^ 63 = pow-mono {i = 64 - above} {j = 63} (omega arith) in
-        omega (arith, b, c)
-
-    pub survey-more : mark ≡ bit (not (eqb found 0)) → Surveyed n m (free + found) (mark + 2 * marks) (above - 1)
+    pub survey-more : (mark : ℕ) → mark ≡ bit (not (eqb found 0)) → Surveyed n m (free + found) (mark + 2 * marks) (above - 1)
     unfolding marksOf
-    survey-more o =
+    survey-more mark o =
         let v = w .within in
         let s : 64 - (above - 1) ≡ suc (64 - above) = omega arith in
         let q : mark ≡ bit (has isFree (groupAt (above - 1) (places n m))) = o ∙ rw (has-count (groupAt (above - 1) (places n m)), found-is) in

@@ -1,7 +1,7 @@
 -- The summary of the places: a mark for each group of 64 places from the lowest, saying whether any is free. The marks are the bits of one number,
 -- that of the lowest group first; 64 groups are the 4,096 places that a ledger may have.
 use Prim.Native.Nat.{ℕ, zero, suc, _+_, _*_, _/_, _%_}
-use mathlib.Core.Bool.{Bool, true, false, cond, _&&_}
+use mathlib.Core.Bool.{Bool, cond, _&&_}
 use mathlib.Core.List.{List}
 use lib.Dec.{eqb, ltb}
 use lib.ListN.{take, drop}

@@ -11,7 +11,8 @@ fit-requires c κs = search needs
 find-holder-requires : tie.Need-find-holder-requires
 find-holder-requires c κs =
     let a = c .before .before .args in
-    fit-room (a .count) (length (a .memory .now)) (c .fit .result) (c .fit .ensures)
+    let fit = c .fit in
+    fit-room (a .count) (length (a .memory .now)) (fit .result) (fit .ensures)
 
 returns : tie.Need-returns
 returns c = rw (← c .before .fit .ensures) (c .find-holder .ensures)

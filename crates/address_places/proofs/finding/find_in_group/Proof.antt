@@ -21,12 +21,18 @@ find-free-requires c κs = search needs
 returns-2 : tie.Need-returns-2
 returns-2 c =
     let a = c .before .before .before .before .before .args in
-    in-group (a .group) (a .count) (c .before .before .group-end .result) (c .before .find-free .result) (a .memory .now) (c .before .before .group-end .ensures) (c .before .find-free .ensures) (a .mark) (c .before .before .before .if1 .left) (c .if2 .taken)
+    let group-end = c .before .before .group-end in
+    let find-free = c .before .find-free in
+    let if1 = c .before .before .before .if1 in
+    in-group (a .group) (a .count) (group-end .result) (find-free .result) (a .memory .now) (group-end .ensures) (find-free .ensures) (a .mark) (if1 .left) (c .if2 .taken)
 
 returns-3 : tie.Need-returns-3
 returns-3 c =
     let a = c .before .before .before .before .before .args in
-    none-in-group (a .group) (a .count) (c .before .before .group-end .result) (c .before .find-free .result) (a .memory .now) (c .before .before .group-end .ensures) (c .before .find-free .ensures) (a .mark) (c .before .before .before .if1 .left) (c .if2 .left)
+    let group-end = c .before .before .group-end in
+    let find-free = c .before .find-free in
+    let if1 = c .before .before .before .if1 in
+    none-in-group (a .group) (a .count) (group-end .result) (find-free .result) (a .memory .now) (group-end .ensures) (find-free .ensures) (a .mark) (if1 .left) (c .if2 .left)
 
 pub find-in-group-spec : {M : Type 1} → statement M
 find-in-group-spec =

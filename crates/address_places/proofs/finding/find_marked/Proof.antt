@@ -1,6 +1,5 @@
 -- Where no group so far was marked and had a free place, the search goes on as from the start.
 use Prim.Native.Nat.{_-_}
-use native.Mathlib.Omega.{arith}
 use borrow.Author.Needs.{needs}
 use Rattle.address_places.proofs.Passing.{Passed, pass-none, pass-more, pass-found, pass-end}
 use Rattle.address_places.proofs.finding.find_marked.Statement.{statement}
@@ -18,13 +17,17 @@ loop-holds c =
     pass-none (a .count) (a .memory .now) (a .marks)
 
 find-in-group-requires : tie.Need-find-in-group-requires Inv-loop μ-loop
-find-in-group-requires c κs = (c .loop-test .taken, c .before .before .before .pre)
+find-in-group-requires c κs =
+    let pre = c .before .before .before .pre in
+    (c .loop-test .taken, pre)
 
 returns : tie.Need-returns Inv-loop μ-loop
 returns c =
     let a = c .before .before .before .before .before .args in
+    let loop-test = c .before .before .loop-test in
+    let find-in-group = c .before .find-in-group in
     let turn = c .before .before .before .loop in
-    pass-found (a .count) (a .memory .now) (a .marks) (turn .left) (turn .group) (turn .inv) (c .before .before .loop-test .taken) (c .before .find-in-group .result) (c .before .find-in-group .ensures) (c .if1 .taken)
+    pass-found (a .count) (a .memory .now) (a .marks) (turn .left) (turn .group) (turn .inv) (loop-test .taken) (find-in-group .result) (find-in-group .ensures) (c .if1 .taken)
 
 add-group : tie.Need-add-group Inv-loop μ-loop
 add-group c = search needs
@@ -35,8 +38,10 @@ loop-less c = search needs
 loop-again : tie.Need-loop-again Inv-loop μ-loop
 loop-again c =
     let a = c .before .before .before .before .before .args in
+    let loop-test = c .before .before .loop-test in
+    let find-in-group = c .before .find-in-group in
     let turn = c .before .before .before .loop in
-    pass-more (a .count) (a .memory .now) (a .marks) (turn .left) (turn .group) (turn .inv) (c .before .before .loop-test .taken) (c .before .find-in-group .result) (c .before .find-in-group .ensures) (c .if1 .left)
+    pass-more (a .count) (a .memory .now) (a .marks) (turn .left) (turn .group) (turn .inv) (loop-test .taken) (find-in-group .result) (find-in-group .ensures) (c .if1 .left)
 
 returns-2 : tie.Need-returns-2 Inv-loop μ-loop
 returns-2 c =

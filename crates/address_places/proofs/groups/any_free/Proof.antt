@@ -17,7 +17,9 @@ find-free-requires c κs = search needs
 returns : tie.Need-returns
 returns c =
     let a = c .before .before .before .args in
-    any-by (a .group) (a .count) (c .before .group-end .result) (c .find-free .result) (a .memory .now) (c .before .group-end .ensures) (c .find-free .ensures) _ refl
+    let group-end = c .before .group-end in
+    let find-free = c .find-free in
+    any-by (a .group) (a .count) (group-end .result) (find-free .result) (a .memory .now) (group-end .ensures) (find-free .ensures) _ refl
 
 pub any-free-spec : {M : Type 1} → statement M
 any-free-spec = tie.close (tie.spec group-end-requires mul-find-free find-free-requires returns)

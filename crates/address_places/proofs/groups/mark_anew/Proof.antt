@@ -19,7 +19,8 @@ fit-requires c κs = search needs
 any-free-requires : tie.Need-any-free-requires
 any-free-requires c κs =
     let a = c .before .before .before .args in
-    (omega arith, fit-room (a .count) (length (a .memory .now)) (c .fit .result) (c .fit .ensures))
+    let fit = c .fit in
+    (omega arith, fit-room (a .count) (length (a .memory .now)) (fit .result) (fit .ensures))
 
 with-mark-requires : tie.Need-with-mark-requires
 with-mark-requires c κs = search needs
@@ -27,8 +28,12 @@ with-mark-requires c κs = search needs
 returns-2 : tie.Need-returns-2
 returns-2 c =
     let a = c .before .before .before .before .before .args in
-    rw (← c .before .before .fit .ensures)
-    (anew-there (a .marks) (a .place) (places (c .before .before .fit .result) (a .memory .now)) (c .before .before .before .if1 .left) (c .before .any-free .result) (c .before .any-free .ensures) (c .with-mark .result) (c .with-mark .ensures))
+    let fit = c .before .before .fit in
+    let if1 = c .before .before .before .if1 in
+    let any-free = c .before .any-free in
+    let with-mark = c .with-mark in
+    rw (← fit .ensures)
+    (anew-there (a .marks) (a .place) (places (fit .result) (a .memory .now)) (if1 .left) (any-free .result) (any-free .ensures) (with-mark .result) (with-mark .ensures))
 
 pub mark-anew-spec : {M : Type 1} → statement M
 mark-anew-spec =

@@ -25,10 +25,14 @@ group-end-requires : tie.Need-group-end-requires Inv-loop μ-loop
 group-end-requires c κs = omega (arith, c .before .loop .inv .within)
 
 mul-count-free : tie.Need-mul-count-free Inv-loop μ-loop
-mul-count-free c = record { fits = omega (arith, c .before .before .loop .inv .within) }
+mul-count-free c =
+    let loop = c .before .before .loop in
+    record { fits = omega (arith, loop .inv .within) }
 
 count-free-requires : tie.Need-count-free-requires Inv-loop μ-loop
-count-free-requires c κs = omega (arith, c .group-end .ensures, c .before .before .before .before .pre .1)
+count-free-requires c κs =
+    let pre = c .before .before .before .before .pre in
+    omega (arith, c .group-end .ensures, pre .1)
 
 mark-of-requires : tie.Need-mark-of-requires Inv-loop μ-loop
 mark-of-requires c κs = search needs
@@ -36,23 +40,34 @@ mark-of-requires c κs = search needs
 add-free : tie.Need-add-free Inv-loop μ-loop
 add-free c =
     let a = c .before .before .before .before .before .before .args in
+    let pre = c .before .before .before .before .before .before .pre in
+    let loop-test = c .before .before .before .loop-test in
+    let group-end = c .before .before .group-end in
+    let count-free = c .before .count-free in
     let turn = c .before .before .before .before .loop in
-    let most = sum-most (a .count) (a .memory .now) (turn .free) (turn .marks) (turn .above) (turn .inv) (c .before .before .before .before .before .before .pre .0) (c .before .before .before .loop-test .taken) (c .before .before .group-end .result) (c .before .count-free .result) (c .mark-of .result) (c .before .before .group-end .ensures) (c .before .count-free .ensures) in
+    let most = sum-most (a .count) (a .memory .now) (turn .free) (turn .marks) (turn .above) (turn .inv) (pre .0) (loop-test .taken)
+    (group-end .result) (count-free .result) (group-end .ensures) (count-free .ensures) in
     record { fits = omega (arith, most) }
 
 mul-marks : tie.Need-mul-marks Inv-loop μ-loop
 mul-marks c =
     let a = c .before .before .before .before .before .before .args in
+    let pre = c .before .before .before .before .before .before .pre in
+    let loop-test = c .before .before .before .loop-test in
     let turn = c .before .before .before .before .loop in
-    let most = marks-most (a .count) (a .memory .now) (turn .free) (turn .marks) (turn .above) (turn .inv) (c .before .before .before .before .before .before .pre .0) (c .before .before .before .loop-test .taken) (c .before .before .group-end .result) (c .before .count-free .result) (c .mark-of .result) (c .before .before .group-end .ensures) (c .before .count-free .ensures) in
+    let most = marks-most (a .count) (a .memory .now) (turn .free) (turn .marks) (turn .above) (turn .inv) (pre .0) (loop-test .taken) in
     record { fits = omega (arith, most) }
 
 add-marks : tie.Need-add-marks Inv-loop μ-loop
 add-marks c =
     let a = c .before .before .before .before .before .before .args in
+    let pre = c .before .before .before .before .before .before .pre in
+    let loop-test = c .before .before .before .loop-test in
+    let count-free = c .before .count-free in
+    let mark-of = c .mark-of in
     let turn = c .before .before .before .before .loop in
-    let most = marks-most (a .count) (a .memory .now) (turn .free) (turn .marks) (turn .above) (turn .inv) (c .before .before .before .before .before .before .pre .0) (c .before .before .before .loop-test .taken) (c .before .before .group-end .result) (c .before .count-free .result) (c .mark-of .result) (c .before .before .group-end .ensures) (c .before .count-free .ensures) in
-    record { fits = omega (arith, most, c .mark-of .ensures, bit-most (not (eqb (c .before .count-free .result) 0))) }
+    let most = marks-most (a .count) (a .memory .now) (turn .free) (turn .marks) (turn .above) (turn .inv) (pre .0) (loop-test .taken) in
+    record { fits = omega (arith, most, mark-of .ensures, bit-most (not (eqb (count-free .result) 0))) }
 
 loop-less : tie.Need-loop-less Inv-loop μ-loop
 loop-less c = search needs
@@ -60,8 +75,14 @@ loop-less c = search needs
 loop-again : tie.Need-loop-again Inv-loop μ-loop
 loop-again c =
     let a = c .before .before .before .before .before .before .args in
+    let pre = c .before .before .before .before .before .before .pre in
+    let loop-test = c .before .before .before .loop-test in
+    let group-end = c .before .before .group-end in
+    let count-free = c .before .count-free in
+    let mark-of = c .mark-of in
     let turn = c .before .before .before .before .loop in
-    survey-more (a .count) (a .memory .now) (turn .free) (turn .marks) (turn .above) (turn .inv) (c .before .before .before .before .before .before .pre .0) (c .before .before .before .loop-test .taken) (c .before .before .group-end .result) (c .before .count-free .result) (c .mark-of .result) (c .before .before .group-end .ensures) (c .before .count-free .ensures) (c .mark-of .ensures)
+    survey-more (a .count) (a .memory .now) (turn .free) (turn .marks) (turn .above) (turn .inv) (pre .0) (loop-test .taken)
+    (group-end .result) (count-free .result) (group-end .ensures) (count-free .ensures) (mark-of .result) (mark-of .ensures)
 
 returns : tie.Need-returns Inv-loop μ-loop
 returns c =

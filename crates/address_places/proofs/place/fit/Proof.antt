@@ -1,5 +1,4 @@
 -- The two tests are those of the definition.
-use native.Mathlib.Omega.{arith}
 use borrow.Author.Needs.{needs}
 use Rattle.address_places.proofs.Fit.{fit-over, fit-short, fit-all}
 use Rattle.address_places.proofs.place.fit.Statement.{statement}

@@ -29,7 +29,10 @@ same-length c = search needs
 returns-3 : tie.Need-returns-3
 returns-3 c =
     let a = c .before .before .before .before .before .before .before .args in
-    hold-there (a .memory .now) (a .board) (a .place) (c .before .before .before .before .before .if1 .left) (c .before .before .before .before .if2 .left) _ (c .before .before .write-place .ensures)
+    let if1 = c .before .before .before .before .before .if1 in
+    let if2 = c .before .before .before .before .if2 in
+    let write-place = c .before .before .write-place in
+    hold-there (a .memory .now) (a .board) (a .place) (if1 .left) (if2 .left) _ (write-place .ensures)
 
 pub hold-place-spec : {M : Type 1} → statement M
 hold-place-spec =

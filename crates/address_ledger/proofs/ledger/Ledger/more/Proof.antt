@@ -1,6 +1,4 @@
 -- The count is moved, the group of the place is marked anew, and the range stays.
-use Prim.Native.Nat.{ℕ}
-use mathlib.Core.Path.{ap, ap₂, sym, _∙_}
 use borrow.Author.Needs.{needs}
 use lib.ListN.{length}
 use Rattle.address_places.proofs.Fit.{fit-all}
@@ -17,7 +15,8 @@ mark-anew-requires c κs = search needs
 returns : tie.Need-returns
 returns c =
     let a = c .before .before .before .args in
-    let room = fit-all (a .count) (length (a .memory .now)) (c .before .before .before .pre .size) (c .before .before .before .pre .room) in
+    let pre = c .before .before .before .pre in
+    let room = fit-all (a .count) (length (a .memory .now)) (pre .size) (pre .room) in
     written (a .self) (a .count) (a .place) (a .memory .now) room _ _ (c .before .one-more .ensures) _ (c .mark-anew .ensures)
 
 pub more-spec : {M : Type 1} → statement M

@@ -26,15 +26,18 @@ survey-requires c κs = search needs
 returns : tie.Need-returns
 returns c =
     let a = c .before .before .before .before .before .args in
+    let judge = c .before .before .before .judge in
     let told = c .before .verdict .given in
-    open-refused (a .first) (a .size) (a .memory .now) (told .0 .0) (sym (told .1) ∙ c .before .before .before .judge .ensures)
+    open-refused (a .first) (a .size) (a .memory .now) (told .0 .0) (sym (told .1) ∙ judge .ensures)
 
 returns-2 : tie.Need-returns-2
 returns-2 c =
     let a = c .before .before .before .before .before .before .args in
+    let enum-told = c .before .before .enum-told in
+    let judge = c .before .before .before .before .judge in
     let count = c .before .count in
     let found = c .survey in
-    let accepted = sym (c .before .before .enum-told .given .1) ∙ c .before .before .before .before .judge .ensures in
+    let accepted = sym (enum-told .given .1) ∙ judge .ensures in
     let n = counted-is (a .first) (a .size) (length (a .memory .now)) accepted (count .result) (count .ensures) in
     let places = usable (a .first) (a .size) (length (a .memory .now)) accepted (count .result) n in
     open-accepted (a .first) (a .size) (a .memory .now) accepted (count .result) n (found .result)
