@@ -1,21 +1,29 @@
 -- The ways out of the calls, one law each.
-use Prim.Native.Nat.{ℕ, _+_, _*_}
+use Prim.Native.Nat.{ℕ, _+_, _*_, _≤_, _<_}
 use mathlib.Core.Bool.{true, false}
-use mathlib.Core.Path.{_≡_}
-use mathlib.Core.List.{List}
-use lib.ListN.{length, set}
+use mathlib.Core.Path.{_≡_, refl}
+use mathlib.Core.List.{List, _∷_}
+use native.Mathlib.Omega.{arith}
+use borrow.Author.Tests.{lt-ltb}
+use lib.ListN.{length, set, length-set}
+use lib.Seq.{length-paste}
 use Rattle.refusal.specs.declared.Refusal.{Refusal}
 use Rattle.refusal.specs.declared.Refusal.the-variants.{Range, Full, Unknown}
 use Rattle.refusal.specs.declared.Verdict.the-variants as verdict
-use Rattle.address_ledger.specs.Place.{places, sought, hold, freed, countFree}
-use Rattle.address_ledger.specs.Range.{inLimits, judged, counted}
-use Rattle.address_ledger.specs.Ledger.{Outcome, outcome, answered, emptyLedger, ledgerOf, fewer, more, openedBy, opened, granting, grantedBy, granted, givingBack, givenBackBy, givenBack, freeCount}
+use Rattle.address_places.specs.Place.{places, fit, heldBy, lowest, has, sought, hold, holdWithin, freed}
+use Rattle.address_places.specs.Marks.{summaryOf, anew, soughtBy}
+use Rattle.address_places.specs.declared.groups.Summary.{Summary}
+use Rattle.address_places.specs.declared.place.Sought.{Sought}
+use Rattle.address_places.specs.declared.place.Sought.the-variants.{Held, Free, Nothing}
+use Rattle.address_places.proofs.Scan.{length-places}
+use Rattle.address_places.proofs.Found.{held-is}
+use Rattle.address_places.proofs.Fit.{fit-all, hold-all}
+use Rattle.address_range.specs.Range.{inLimits, judged, counted, Usable}
+use Rattle.address_ledger.specs.Ledger.{Outcome, outcome, answered, emptyLedger, ledgerOf, withSummary, fewer, more, openedBy, opened, granting, grantedBy, granted, givingBack, givenBackBy, givenBack, freeCount}
 use Rattle.address_ledger.specs.declared.answer.AddressAnswer.the-variants.{Address, Refused}
 use Rattle.address_ledger.specs.declared.answer.Answered.{Answered}
 use Rattle.address_ledger.specs.declared.answer.FreeAnswer.the-variants as free
 use Rattle.address_ledger.specs.declared.ledger.Ledger.{Ledger}
-use Rattle.address_ledger.specs.declared.place.Sought.{Sought}
-use Rattle.address_ledger.specs.declared.place.Sought.the-variants.{Held, Free, Nothing}
 
 -- ---- opening
 module _ (first size : ℕ) (m : List ℕ) where
@@ -25,10 +33,10 @@ module _ (first size : ℕ) (m : List ℕ) where
   open-refused x e = rw (← e)
 
   pub open-accepted : verdict.Accepted ≡ judged first size (length m)
-      → (n : ℕ) → n ≡ counted first size → (k : ℕ) → k ≡ countFree (places n m)
-      → record { verdict = verdict.Accepted; ledger = ledgerOf first size k } ≡ opened first size m
+      → (n : ℕ) → n ≡ counted first size → (s : Summary) → s ≡ summaryOf (places n m)
+      → record { verdict = verdict.Accepted; ledger = withSummary first size s } ≡ opened first size m
   unfolding opened openedBy
-  open-accepted e n ne k ke = rw (ke, ne, ← e)
+  open-accepted e n ne s se = rw (se, ne, ← e)
 
 -- ---- what was found decides
 module _ (n : ℕ) (l : Ledger) (m b : List ℕ) (s : Sought) (r : Answered) where
@@ -36,27 +44,29 @@ module _ (n : ℕ) (l : Ledger) (m b : List ℕ) (s : Sought) (r : Answered) whe
   unfolding granting
   grant-held k e h = rw (← e, h)
 
-  pub grant-free : (k : ℕ) → Free k ≡ s → (l′ : Ledger) → l′ ≡ fewer n l → r ≡ answered (Address (l′ .first + k)) l′ → (m′ : List ℕ) → m′ ≡ hold m k b
+  pub grant-free : (k : ℕ) → Free k ≡ s → (m′ : List ℕ) → m′ ≡ hold m k b → (l′ : Ledger) → l′ ≡ fewer n k m′ l → r ≡ answered (Address (l′ .first + k)) l′
       → outcome (r .answer) (r .ledger) m′ ≡ granting n l m b s
   unfolding granting
-  grant-free k e l′ q h m′ w = rw (← e, h, q, w)
+  grant-free k e m′ w l′ q h = rw (← e, h, q, w)
 
   pub grant-nothing : Nothing ≡ s → r ≡ answered (Refused Full) l → outcome (r .answer) (r .ledger) m ≡ granting n l m b s
   unfolding granting
   grant-nothing e h = rw (← e, h)
 
-  pub back-held : (k : ℕ) → Held k ≡ s → (l′ : Ledger) → l′ ≡ more n l → r ≡ answered (Address (l′ .first + k)) l′
-      → outcome (r .answer) (r .ledger) (set m (9 * k) 0) ≡ givingBack n l m s
-  unfolding givingBack freed
-  back-held k e l′ q h = rw (← e, h, q)
+module _ (n : ℕ) (l : Ledger) (m b : List ℕ) (r : Answered) (k : ℕ) (e : k ≡ lowest (heldBy b) (places n m)) where
+  pub back-held : k < n → (l′ : Ledger) → l′ ≡ more n k (set m (9 * k) 0) l → r ≡ answered (Address (l′ .first + k)) l′
+      → outcome (r .answer) (r .ledger) (set m (9 * k) 0) ≡ givingBack n l m (sought b (places n m))
+  unfolding givingBack freed sought has
+  back-held h l′ q a = rw (← e, length-places n m, lt-ltb k n h, a, q)
 
-  pub back-free : (k : ℕ) → Free k ≡ s → r ≡ answered (Refused Unknown) l → outcome (r .answer) (r .ledger) m ≡ givingBack n l m s
+  unknown-by : (s : Sought) → s ≡ sought b (places n m) → n ≤ k → outcome (Refused Unknown) l m ≡ givingBack n l m s
   unfolding givingBack
-  back-free k e h = rw (← e, h)
+  unknown-by (Held j) s h = let i = held-is b (places n m) j s in absurd (omega (arith, i .0, i .1, length-places n m))
+  unknown-by (Free j) s h = refl
+  unknown-by Nothing s h = refl
 
-  pub back-nothing : Nothing ≡ s → r ≡ answered (Refused Unknown) l → outcome (r .answer) (r .ledger) m ≡ givingBack n l m s
-  unfolding givingBack
-  back-nothing e h = rw (← e, h)
+  pub back-unknown : n ≤ k → r ≡ answered (Refused Unknown) l → outcome (r .answer) (r .ledger) m ≡ givingBack n l m (sought b (places n m))
+  back-unknown h a = rw a (unknown-by _ refl h)
 
 -- ---- RANGE and ROOM come first
 module _ (l : Ledger) (m b : List ℕ) where
@@ -70,7 +80,7 @@ module _ (l : Ledger) (m b : List ℕ) where
     back-refused r h = rw (← e, h)
 
   module _ (e : verdict.Accepted ≡ judged (l .first) (l .size) (length m)) (n : ℕ) (ne : n ≡ counted (l .first) (l .size)) where
-    pub grant-accepted : (o : Outcome) → o ≡ granting n l m b (sought b (places n m)) → o ≡ granted l m b
+    pub grant-accepted : (o : Outcome) → o ≡ granting n l m b (soughtBy (l .marks) b (places n m)) → o ≡ granted l m b
     unfolding granted grantedBy
     grant-accepted o d = rw (← e, ← ne) d
 
@@ -87,3 +97,29 @@ module _ (l : Ledger) where
   pub free-outside : false ≡ inLimits (l .first) (l .size) → free.Refused Range ≡ freeCount l
   unfolding freeCount
   free-outside e = rw (← e)
+
+-- ---- a ledger in use: the places that count have room
+module _ (l : Ledger) (n : ℕ) where
+  pub sought-is : (m b : List ℕ) → Usable (l .first) (length m) n → (s : Sought) → s ≡ soughtBy (l .marks) b (places (fit n (length m)) m)
+      → s ≡ soughtBy (l .marks) b (places n m)
+  sought-is m b u s e = rw (fit-all n (length m) (u .size) (u .room)) e
+
+  pub board-is : (m b : List ℕ) → Usable (l .first) (length m) n → (k : ℕ) → k ≡ lowest (heldBy b) (places (fit n (length m)) m)
+      → k ≡ lowest (heldBy b) (places n m)
+  board-is m b u k e = rw (fit-all n (length m) (u .size) (u .room)) e
+
+  pub usable-freed : (m : List ℕ) (at : ℕ) → Usable (l .first) (length m) n → Usable (l .first) (length (set m at 0)) n
+  usable-freed m at u = rw (length-set m at 0) u
+
+  module _ (k : ℕ) (m : List ℕ) where
+    pub still-usable : (b : List ℕ) → Usable (l .first) (length m) n → k < n → length b ≡ 8 → (m′ : List ℕ) → m′ ≡ holdWithin m k b
+        → Usable (l .first) (length m′) n
+    unfolding hold
+    still-usable b u h e m′ w =
+        let w′ = hold-all m b k n h (u .size) (u .room) m′ w in
+        let g = length-paste m (9 * k) (1 ∷ b) 9 (omega (arith, u .room)) (omega arith) in
+        record { room = rw (w′, g) (u .room); size = u .size; end = u .end }
+
+    pub written : n ≡ fit n (length m) → (x free : ℕ) → x ≡ free → (y : ℕ) → y ≡ anew (l .marks) k (places (fit n (length m)) m)
+        → ledgerOf (l .first) (l .size) x y ≡ ledgerOf (l .first) (l .size) free (anew (l .marks) k (places n m))
+    written f x free e y d = let g : y ≡ anew (l .marks) k (places n m) = rw f d in rw (e, g)

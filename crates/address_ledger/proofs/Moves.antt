@@ -1,9 +1,8 @@
 -- The kept count moves by one and is cut: one law to a way out.
 use Prim.Native.Nat.{ℕ, _+_, _-_, _≤_, _<_}
-use mathlib.Core.Path.{_≡_, refl}
+use mathlib.Core.Path.{_≡_}
 use native.Mathlib.Omega.{arith}
 use borrow.Author.Tests.{le-leb, lt-leb}
-use lib.Dec.{leb}
 use Rattle.address_ledger.specs.Ledger.{cut}
 
 module _ (free n : ℕ) where

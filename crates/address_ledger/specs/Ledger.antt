@@ -4,12 +4,15 @@ use mathlib.Core.Bool.{cond}
 use mathlib.Core.List.{List}
 use lib.Dec.{leb}
 use lib.ListN.{length}
-use Rattle.refusal.specs.declared.Refusal.{Refusal}
 use Rattle.refusal.specs.declared.Refusal.the-variants.{Range, Full, Unknown}
 use Rattle.refusal.specs.declared.Verdict.{Verdict}
 use Rattle.refusal.specs.declared.Verdict.the-variants as verdict
-use Rattle.address_ledger.specs.Place.{Place, places, hold, freed, countFree, sought}
-use Rattle.address_ledger.specs.Range.{inLimits, judged, counted}
+use Rattle.address_places.specs.Place.{Place, places, hold, freed, sought}
+use Rattle.address_places.specs.Marks.{summaryOf, anew, soughtBy}
+use Rattle.address_places.specs.declared.groups.Summary.{Summary}
+use Rattle.address_places.specs.declared.place.Sought.{Sought}
+use Rattle.address_places.specs.declared.place.Sought.the-variants.{Held, Free, Nothing}
+use Rattle.address_range.specs.Range.{inLimits, judged, counted}
 use Rattle.address_ledger.specs.declared.answer.AddressAnswer.{AddressAnswer}
 use Rattle.address_ledger.specs.declared.answer.AddressAnswer.the-variants.{Address, Refused}
 use Rattle.address_ledger.specs.declared.answer.Answered.{Answered}
@@ -17,8 +20,6 @@ use Rattle.address_ledger.specs.declared.answer.FreeAnswer.{FreeAnswer}
 use Rattle.address_ledger.specs.declared.answer.FreeAnswer.the-variants as free
 use Rattle.address_ledger.specs.declared.answer.Opened.{Opened}
 use Rattle.address_ledger.specs.declared.ledger.Ledger.{Ledger}
-use Rattle.address_ledger.specs.declared.place.Sought.{Sought}
-use Rattle.address_ledger.specs.declared.place.Sought.the-variants.{Held, Free, Nothing}
 
 -- what a call answers, and the ledger and the memory as it leaves them
 pub record Outcome : Type 0 where
@@ -43,14 +44,18 @@ abbrev pub placesOf : Ledger → List ℕ → List Place
 placesOf l m = places (countedOf l) m
 
 -- ---- opening: the memory is only read
-abbrev pub ledgerOf : ℕ → ℕ → ℕ → Ledger
-ledgerOf first size free = record { first = first; size = size; free = free }
+abbrev pub ledgerOf : ℕ → ℕ → ℕ → ℕ → Ledger
+ledgerOf first size free marks = record { first = first; size = size; free = free; marks = marks }
 
 abbrev pub emptyLedger : Ledger
-emptyLedger = ledgerOf 0 0 0
+emptyLedger = ledgerOf 0 0 0 0
+
+-- count and marks as one walk of the places finds them
+abbrev pub withSummary : ℕ → ℕ → Summary → Ledger
+withSummary first size s = ledgerOf first size (s .free) (s .marks)
 
 unfoldable pub openedBy : Verdict → ℕ → ℕ → List ℕ → Opened
-openedBy verdict.Accepted first size m = record { verdict = verdict.Accepted; ledger = ledgerOf first size (countFree (places (counted first size) m)) }
+openedBy verdict.Accepted first size m = record { verdict = verdict.Accepted; ledger = withSummary first size (summaryOf (places (counted first size) m)) }
 openedBy (verdict.Refused r) first size m = record { verdict = verdict.Refused r; ledger = emptyLedger }
 
 unfoldable pub opened : ℕ → ℕ → List ℕ → Opened
@@ -60,23 +65,22 @@ opened first size m = openedBy (judged first size (length m)) first size m
 abbrev pub cut : ℕ → ℕ → ℕ
 cut n x = cond (leb x n) x n
 
-abbrev pub withFree : Ledger → ℕ → Ledger
-withFree l free = ledgerOf (l .first) (l .size) free
+-- ---- the ledger after place k, one of n, was written and the memory is m: the count has moved, and the group of the place is marked anew
+abbrev pub fewer : ℕ → ℕ → List ℕ → Ledger → Ledger
+fewer n k m l = ledgerOf (l .first) (l .size) (cut n (l .free - 1)) (anew (l .marks) k (places n m))
 
-abbrev pub fewer : ℕ → Ledger → Ledger
-fewer n l = withFree l (cut n (l .free - 1))
+abbrev pub more : ℕ → ℕ → List ℕ → Ledger → Ledger
+more n k m l = ledgerOf (l .first) (l .size) (cut n (l .free + 1)) (anew (l .marks) k (places n m))
 
-abbrev pub more : ℕ → Ledger → Ledger
-more n l = withFree l (cut n (l .free + 1))
-
--- ---- granting, where n addresses count: the address that the board holds, again; else the lowest free one, and its place is written; else FULL
+-- ---- granting, where n addresses count: the address that the board holds, again; else the free one that was found, and its place is written; else FULL
 unfoldable pub granting : ℕ → Ledger → List ℕ → List ℕ → Sought → Outcome
 granting n l m b (Held k) = outcome (Address (l .first + k)) l m
-granting n l m b (Free k) = outcome (Address (l .first + k)) (fewer n l) (hold m k b)
+granting n l m b (Free k) = outcome (Address (l .first + k)) (fewer n k (hold m k b) l) (hold m k b)
 granting n l m b Nothing = outcome (Refused Full) l m
 
+-- a free address is found by the marks
 unfoldable pub grantedBy : Verdict → Ledger → List ℕ → List ℕ → Outcome
-grantedBy verdict.Accepted l m b = granting (countedOf l) l m b (sought b (placesOf l m))
+grantedBy verdict.Accepted l m b = granting (countedOf l) l m b (soughtBy (l .marks) b (placesOf l m))
 grantedBy (verdict.Refused r) l m b = outcome (Refused r) l m
 
 unfoldable pub granted : Ledger → List ℕ → List ℕ → Outcome
@@ -84,7 +88,7 @@ granted l m b = grantedBy (judgedOf l m) l m b
 
 -- ---- giving back, where n addresses count: the address that the board holds, and its mark is written; else UNKNOWN
 unfoldable pub givingBack : ℕ → Ledger → List ℕ → Sought → Outcome
-givingBack n l m (Held k) = outcome (Address (l .first + k)) (more n l) (freed m k)
+givingBack n l m (Held k) = outcome (Address (l .first + k)) (more n k (freed m k) l) (freed m k)
 givingBack n l m (Free k) = outcome (Refused Unknown) l m
 givingBack n l m Nothing = outcome (Refused Unknown) l m
 

@@ -1,3 +1,2 @@
-pub mod Place
-pub mod Range
 pub mod Ledger
+pub mod Answers

@@ -5,29 +5,34 @@ use crate::answer::FreeAnswer;
 use crate::answer::Opened;
 use crate::free::one_less;
 use crate::free::one_more;
-use crate::place::PLACE;
-use crate::place::Sought;
-use crate::place::count_free;
-use crate::place::hold_place;
-use crate::place::seek;
-use crate::range::count;
-use crate::range::in_limits;
-use crate::range::judge;
+use address_places::PLACE;
+use address_places::Sought;
+use address_places::find_board;
+use address_places::hold_place;
+use address_places::mark_anew;
+use address_places::seek;
+use address_places::survey;
+use address_range::count;
+use address_range::in_limits;
+use address_range::judge;
 use refusal::Refusal;
 use refusal::Verdict;
 ghost use mathlib.Core.Path.{_≡_};
 ghost use Prim.Native.Nat.{_+_, _<_};
 ghost use lib.ListN.{length};
-ghost use Rattle.address_ledger.specs.Range.{Usable};
-ghost use Rattle.address_ledger.specs.Place.{places, sought};
+ghost use Rattle.address_places.specs.Place.{places, sought};
+ghost use Rattle.address_places.specs.Marks.{soughtBy};
+ghost use Rattle.address_range.specs.Range.{Usable};
 ghost use Rattle.address_ledger.specs.Ledger.{opened, outcome, answered, fewer, more, granted, granting, givenBack, givingBack, freeCount};
 
-// A range of short addresses, the first one and how many there are, and how many of them are free. Its memory is lent at each call.
+// A range of short addresses, the first one and how many there are, how many of them are free, and where. Its memory is lent at each call.
 pub struct Ledger {
     pub first: usize,
     pub size: usize,
     // any number may be handed in: a wrong one changes no other answer
     pub free: usize,
+    // a bit for each 64 addresses, the lowest first: whether any is free. Any may be handed in; wrong ones can hide a free address
+    pub marks: u64,
 }
 
 impl Ledger {
@@ -43,16 +48,21 @@ impl Ledger {
                     first: 0,
                     size: 0,
                     free: 0,
+                    marks: 0,
                 },
             },
-            Verdict::Accepted => Opened {
-                verdict: Verdict::Accepted,
-                ledger: Ledger {
-                    first,
-                    size,
-                    free: count_free(memory, count(first, size)),
-                },
-            },
+            Verdict::Accepted => {
+                let found = survey(memory, count(first, size));
+                Opened {
+                    verdict: Verdict::Accepted,
+                    ledger: Ledger {
+                        first,
+                        size,
+                        free: found.free,
+                        marks: found.marks,
+                    },
+                }
+            }
         }
     }
 
@@ -89,14 +99,14 @@ impl Ledger {
     // Grants among the first `count` places.
     fn grant_in(self, count: usize, memory: &mut [u8], board: [u8; 8]) -> Answered
         requires { ⌜ Usable (self .first) (length (now memory)) count ⌝ }
-        ensures { λ r. ⌜ outcome (r .answer) (r .ledger) (now (memory .exit)) ≡ granting count self (now (memory .entry)) board (sought board (places count (now (memory .entry)))) ⌝ }
+        ensures { λ r. ⌜ outcome (r .answer) (r .ledger) (now (memory .exit)) ≡ granting count self (now (memory .entry)) board (soughtBy (self .marks) board (places count (now (memory .entry)))) ⌝ }
     {
-        let sought = seek(memory, count, &board);
+        let sought = seek(memory, count, self.marks, &board);
         match sought {
             Sought::Held(place) => self.address(place),
             Sought::Free(place) => {
                 hold_place(memory, place, board);
-                self.fewer(count).address(place)
+                self.fewer(count, memory, place).address(place)
             }
             Sought::Nothing => self.refused(Refusal::Full),
         }
@@ -107,36 +117,37 @@ impl Ledger {
         requires { ⌜ Usable (self .first) (length (now memory)) count ⌝ }
         ensures { λ r. ⌜ outcome (r .answer) (r .ledger) (now (memory .exit)) ≡ givingBack count self (now (memory .entry)) (sought board (places count (now (memory .entry)))) ⌝ }
     {
-        let sought = seek(memory, count, &board);
-        match sought {
-            Sought::Held(place) => {
-                memory[PLACE * place] = 0;
-                self.more(count).address(place)
-            }
-            Sought::Free(_) => self.refused(Refusal::Unknown),
-            Sought::Nothing => self.refused(Refusal::Unknown),
+        let place = find_board(memory, count, &board);
+        if place < count {
+            memory[PLACE * place] = 0;
+            return self.more(count, memory, place).address(place);
         }
+        self.refused(Refusal::Unknown)
     }
 
-    // The ledger with one free address less.
-    fn fewer(self, count: usize) -> Ledger
-        ensures { λ r. ⌜ r ≡ fewer count self ⌝ }
+    // The ledger with one free address less, after the place was written.
+    fn fewer(self, count: usize, memory: &[u8], place: usize) -> Ledger
+        requires { ⌜ Usable (self .first) (length (now memory)) count ⌝ }
+        ensures { λ r. ⌜ r ≡ fewer count place (now (memory .entry)) self ⌝ }
     {
         Ledger {
             first: self.first,
             size: self.size,
             free: one_less(self.free, count),
+            marks: mark_anew(memory, count, self.marks, place),
         }
     }
 
-    // The ledger with one free address more.
-    fn more(self, count: usize) -> Ledger
-        ensures { λ r. ⌜ r ≡ more count self ⌝ }
+    // The ledger with one free address more, after the place was written.
+    fn more(self, count: usize, memory: &[u8], place: usize) -> Ledger
+        requires { ⌜ Usable (self .first) (length (now memory)) count ⌝ }
+        ensures { λ r. ⌜ r ≡ more count place (now (memory .entry)) self ⌝ }
     {
         Ledger {
             first: self.first,
             size: self.size,
             free: one_more(self.free, count),
+            marks: mark_anew(memory, count, self.marks, place),
         }
     }
 

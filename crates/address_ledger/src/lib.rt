@@ -2,12 +2,9 @@
 mod answer;
 mod free;
 mod ledger;
-mod place;
-mod range;
 
 pub use answer::AddressAnswer;
 pub use answer::Answered;
 pub use answer::FreeAnswer;
 pub use answer::Opened;
 pub use ledger::Ledger;
-pub use place::Sought;

@@ -1,28 +1,28 @@
 -- A freed address is granted again: its place is free, so the lowest free one is no higher; and where every lower address is held it is that one.
 use Prim.Native.Nat.{ℕ, _+_, _-_, _*_, _≤_, _<_}
 use mathlib.Core.Path.{_≡_, refl, sym, ap, _∙_}
-use mathlib.Core.Bool.{Bool, true, false, not}
+use mathlib.Core.Bool.{Bool, true, false}
 use mathlib.Core.List.{List}
 use native.Mathlib.Omega.{arith}
 use borrow.Author.Tests.{ltb-true, ltb-false}
-use lib.Dec.{eqb, ltb}
+use lib.Dec.{ltb}
 use lib.ListN.{length, drop, set}
 use Rattle.refusal.specs.declared.Refusal.{Refusal}
-use Rattle.refusal.specs.declared.Refusal.the-variants.{Unknown}
-use Rattle.address_ledger.specs.Place.{Place, places, lowest, heldBy, isFree, sought, freed}
-use Rattle.address_ledger.specs.Range.{counted}
+use Rattle.address_places.specs.Place.{places, lowest, heldBy, isFree, sought, freed}
+use Rattle.address_range.specs.Range.{counted}
 use Rattle.address_ledger.specs.Ledger.{granting, granted, givingBack, givenBack}
 use Rattle.address_ledger.specs.declared.answer.AddressAnswer.the-variants.{Address, Refused}
-use Rattle.address_ledger.specs.declared.place.Sought.{Sought}
-use Rattle.address_ledger.specs.declared.place.Sought.the-variants.{Held, Free, Nothing}
-use Rattle.address_ledger.proofs.Judged.{usable}
-use Rattle.address_ledger.proofs.Scan.{length-places}
-use Rattle.address_ledger.proofs.Found.{held-is, free-is, nothing-is}
-use Rattle.address_ledger.proofs.Calls.{grant-accepted, back-accepted}
-use Rattle.address_ledger_laws.specs.History.{gives, Holding, listed, taken, Moment, step, after}
+use Rattle.address_places.specs.declared.place.Sought.{Sought}
+use Rattle.address_places.specs.declared.place.Sought.the-variants.{Held, Free, Nothing}
+use Rattle.address_range.proofs.Judged.{usable}
+use Rattle.address_places.proofs.Scan.{length-places}
+use Rattle.address_places.proofs.Found.{held-is, free-is, nothing-is}
+use Rattle.address_ledger.proofs.Calls.{back-accepted}
+use Rattle.address_ledger_laws.specs.History.{gives, listed, taken, Moment, step, after}
 use Rattle.address_ledger_laws.specs.Laws.{FreedAgain}
 use Rattle.address_ledger_laws.proofs.Bytes.{places-freed, cleared, cleared-is}
 use Rattle.address_ledger_laws.proofs.Holders.{free-nobody, lowest-set}
+use Rattle.address_ledger_laws.proofs.Marks.{walk-accepted}
 use Rattle.address_ledger_laws.proofs.Histories.{rightLedger, Agrees, plain, lists, gives-agrees, after-agrees}
 
 -- a board that holds none is granted the lowest free address
@@ -46,7 +46,7 @@ module _ (first size : ℕ) (s : Moment) (a : Agrees first size s) (c : List ℕ
 
   new : granted (s .ledger) (s .memory) c .answer ≡ Address (first + lowest isFree (places (counted first size) (s .memory)))
   new =
-      rw (plain first size s a, ← grant-accepted (rightLedger first size (s .memory)) (s .memory) c (a .accepted) (counted first size) refl _ refl)
+      rw (plain first size s a, ← walk-accepted (rightLedger first size (s .memory)) (s .memory) (a .accepted) c refl)
       (new-by _ refl)
 
 -- memory in which address a was freed

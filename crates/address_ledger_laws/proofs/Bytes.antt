@@ -1,14 +1,14 @@
 -- Writing one place of the bytes is setting one place of the list of places.
 use Prim.Native.Nat.{ℕ, zero, suc, _+_, _-_, _*_, _≤_, _<_}
 use mathlib.Core.Path.{_≡_, refl, sym, ap, _∙_}
-use mathlib.Core.Bool.{Bool, true, false, cond, not, _&&_}
+use mathlib.Core.Bool.{true, false}
 use mathlib.Core.List.{List, [], _∷_, _++_, append-assoc}
 use native.Mathlib.Omega.{arith}
-use native.Mathlib.Nat.{add-zero}
 use lib.Dec.{eqb}
-use lib.ListN.{length, getD, take, drop, set, length-set, length-append, length-take, length-drop}
-use lib.Seq.{paste, length-paste, drop-paste, take-take, take-add, take-at, drop-at, drop-drop, take-all, length-take-le, take-set-le, drop-set-lt, drop-set-add}
-use Rattle.address_ledger.specs.Place.{Place, placeAt, places, isFree, hold, freed}
+use lib.ListN.{length, take, drop, set, length-set, length-drop}
+use lib.Seq.{paste, length-paste, drop-paste, take-take, take-add, take-at, drop-at, drop-drop, take-all, length-take-le, take-set-le, drop-set-lt, drop-set-add, getD-set-same, getD-set-other}
+use Rattle.address_ledger_laws.specs.Written.{HoldsNow, FreeNow}
+use Rattle.address_places.specs.Place.{Place, placeAt, places, isFree, hold, freed}
 
 -- a place is its nine bytes
 place-nine : (m : List ℕ) → placeAt (take 9 m) ≡ placeAt m
@@ -59,6 +59,19 @@ places-hold n k m b h l e =
     (rw (s, drop-at (take (9 * k) m) (take 9 (1 ∷ b) ++ drop (9 * k + 9) m) (9 * k) f, b8, take-at b (drop (9 * k + 9) m) 8 e))
     (drop-paste m (9 * k) (1 ∷ b) 9 (omega arith) (omega arith))
 
+-- the bytes that holding a place leaves
+pub hold-bytes : (m b : List ℕ) (k : ℕ) → 9 * k + 9 ≤ length m → length b ≡ 8 → HoldsNow m k b (hold m k b)
+unfolding hold
+hold-bytes m b k room e =
+    let f : length (take (9 * k) m) ≡ 9 * k = length-take-le (9 * k) m (omega arith) in
+    let s : paste m (9 * k) (1 ∷ b) 9 ≡ take (9 * k) m ++ (take 9 (1 ∷ b) ++ drop (9 * k + 9) m) = append-assoc (take (9 * k) m) (take 9 (1 ∷ b)) (drop (9 * k + 9) m) in
+    let b8 : take 8 b ≡ b = take-all 8 b (omega arith) in
+    record {
+      place = rw (s, drop-at (take (9 * k) m) (take 9 (1 ∷ b) ++ drop (9 * k + 9) m) (9 * k) f, b8, take-at b (drop (9 * k + 9) m) 8 e);
+      before = rw s (take-at (take (9 * k) m) (take 9 (1 ∷ b) ++ drop (9 * k + 9) m) (9 * k) f);
+      behind = drop-paste m (9 * k) (1 ∷ b) 9 (omega arith) (omega arith);
+    }
+
 -- a place whose mark was set to 0
 abbrev pub cleared : List ℕ → Place
 cleared l = placeAt (set l 0 0)
@@ -85,3 +98,9 @@ places-freed n k m h l =
     (take-set-le (9 * k) m (9 * k) 0 (omega arith))
     (ap placeAt (rw z at (drop-set-add (9 * k) m 0 0)))
     (drop-set-lt (9 * k + 9) m (9 * k) 0 (omega arith))
+
+-- the bytes that freeing it leaves
+pub freed-bytes : (m : List ℕ) (k : ℕ) → 9 * k < length m → FreeNow m k (freed m k)
+unfolding freed
+freed-bytes m k h =
+    record { mark = getD-set-same m (9 * k) 0 0 h; others = λ i n. getD-set-other m (9 * k) i 0 0 n }

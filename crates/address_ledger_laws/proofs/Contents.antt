@@ -1,7 +1,7 @@
 -- The bytes of any memory, read as places: what stands at place k in bytes is what the list of places has there.
 use Prim.Native.Nat.{ℕ, zero, suc, _+_, _*_, _≤_, _<_}
 use mathlib.Core.Path.{_≡_, refl, sym, ap, _∙_}
-use mathlib.Core.Bool.{Bool, true, false, not, _&&_}
+use mathlib.Core.Bool.{Bool, true, false, _&&_}
 use mathlib.Core.List.{List, [], _∷_}
 use native.Mathlib.Omega.{arith}
 use borrow.Author.Tests.{eq-eqb, ne-eqb, eqb-true, eqb-false, lt-ltb, le-ltb}
@@ -10,17 +10,19 @@ use lib.ListN.{length, getD, take, drop, length-drop}
 use lib.Seq.{drop-drop}
 use Rattle.refusal.specs.declared.Refusal.the-variants.{Unknown}
 use Rattle.refusal.specs.declared.Verdict.the-variants.{Accepted}
-use Rattle.address_ledger.specs.Place.{Place, placeAt, places, same, lowest, has, heldBy, isFree, sought}
-use Rattle.address_ledger.specs.Range.{judged, counted}
-use Rattle.address_ledger.specs.Ledger.{outcome, granting, granted, givingBack, givenBack}
+use Rattle.address_places.specs.Place.{Place, placeAt, places, same, lowest, has, heldBy, isFree, sought}
+use Rattle.address_range.specs.Range.{judged, counted}
+use Rattle.address_ledger.specs.Ledger.{outcome, granting, givingBack, givenBack}
 use Rattle.address_ledger.specs.declared.answer.AddressAnswer.the-variants.{Refused}
 use Rattle.address_ledger.specs.declared.ledger.Ledger.{Ledger}
-use Rattle.address_ledger.specs.declared.place.Sought.{Sought}
-use Rattle.address_ledger.specs.declared.place.Sought.the-variants.{Held, Free, Nothing}
-use Rattle.address_ledger.proofs.Judged.{usable}
-use Rattle.address_ledger.proofs.Scan.{length-places, mark-here, held-not, held-same}
-use Rattle.address_ledger.proofs.Found.{held-is}
+use Rattle.address_places.specs.declared.place.Sought.{Sought}
+use Rattle.address_places.specs.declared.place.Sought.the-variants.{Held, Free, Nothing}
+use Rattle.address_range.proofs.Judged.{usable}
+use Rattle.address_places.proofs.Scan.{length-places, mark-here, held-not, held-same}
+use Rattle.address_places.proofs.Found.{held-is}
+use Rattle.address_places.proofs.Passing.{sought-held}
 use Rattle.address_ledger.proofs.Calls.{grant-accepted, back-accepted}
+use Rattle.address_ledger_laws.proofs.Marks.{walk-accepted}
 use Rattle.address_ledger_laws.specs.AnyMemory.{HeldAt, FreeAt, LowestAt, NoneAt, LowestMatches, AnyMemory}
 
 -- ---- bytes that agree are equal
@@ -146,9 +148,9 @@ any-memory l m b e f =
     let n = counted (l .first) (l .size) in
     let r = usable (l .first) (l .size) (length m) f (counted (l .first) (l .size)) refl .room in
     record {
-      same-again = λ k h. sym (grant-accepted l m b f n refl _ (ap (λ (s : Sought). granting n l m b s) (found-held m b n e r k h)));
-      lowest-free = λ o k h. sym (grant-accepted l m b f n refl _ (ap (λ (s : Sought). granting n l m b s) (found-free m b n e r o k h)));
-      full = λ o h. sym (grant-accepted l m b f n refl _ (ap (λ (s : Sought). granting n l m b s) (found-nothing m b n e r o h)));
+      same-again = λ k h. sym (grant-accepted l m b f n refl _ (ap (λ (s : Sought). granting n l m b s) (sought-held (l .marks) b n m k (sym (lowest-held m b n e r k h)) (h .within))));
+      lowest-free = λ w o k h. sym (walk-accepted l m f b w) ∙ ap (λ (s : Sought). granting n l m b s) (sym (found-free m b n e r o k h));
+      full = λ w o h. sym (walk-accepted l m f b w) ∙ ap (λ (s : Sought). granting n l m b s) (sym (found-nothing m b n e r o h));
       given-back = λ k h. sym (back-accepted l m b f n refl _ (ap (λ (s : Sought). givingBack n l m s) (found-held m b n e r k h)));
       unknown = λ o. unknown-by l m b f n refl e r o _ refl;
     }

@@ -1,39 +1,29 @@
--- Holding the lowest free place makes one free place fewer, and freeing a board's place one more; so a right count is cut nowhere.
+-- Holding a free place makes one free place fewer, and freeing a board's place one more; so a right count is cut nowhere.
 use Prim.Native.Nat.{ℕ, zero, suc, _+_, _-_, _≤_, _<_}
-use mathlib.Core.Path.{_≡_, refl, sym, _∙_}
-use mathlib.Core.Bool.{Bool, true, false, cond, not, _&&_}
+use mathlib.Core.Path.{_≡_, refl, ap}
+use mathlib.Core.Bool.{Bool, true, false}
 use mathlib.Core.List.{List, [], _∷_}
 use native.Mathlib.Omega.{arith}
 use borrow.Author.Tests.{le-leb}
-use lib.Dec.{eqb, leb}
+use lib.Dec.{eqb}
 use lib.ListN.{length, set, length-set}
-use Rattle.address_ledger.specs.Place.{Place, same, isFree, heldBy, lowest, countFree}
+use Rattle.address_places.specs.Place.{Place, same, isFree, heldBy, lowest, countFree}
+use Rattle.address_places.proofs.Runs.{count-most}
+use Rattle.address_places.proofs.Offers.{freeAt}
 use Rattle.address_ledger.specs.Ledger.{cut}
 
-most-cons : (p : Place) (ps : List Place) (x : Bool) → isFree p ≡ x → countFree ps ≤ length ps → countFree (p ∷ ps) ≤ suc (length ps)
+held-cons : (b : List ℕ) (p : Place) (ps : List Place) (k : ℕ) (x : Bool) → isFree p ≡ x
+    → suc (countFree (set ps k (record { mark = 1; board = b }))) ≡ countFree ps
+    → suc (countFree (p ∷ set ps k (record { mark = 1; board = b }))) ≡ countFree (p ∷ ps)
 unfolding countFree
-most-cons p ps true e h = rw e (omega arith)
-most-cons p ps false e h = rw e (omega arith)
+held-cons b p ps k true e ih = rw e (ap suc ih)
+held-cons b p ps k false e ih = rw e ih
 
-pub count-most : (ps : List Place) → countFree ps ≤ length ps
-unfolding countFree
-count-most [] = omega arith
-count-most (p ∷ ps) = most-cons p ps _ refl (count-most ps)
-
-held-cons : (b : List ℕ) (p : Place) (ps : List Place) (x : Bool) → eqb (p .mark) 1 ≡ x
-    → (lowest isFree ps < length ps → suc (countFree (set ps (lowest isFree ps) (record { mark = 1; board = b }))) ≡ countFree ps)
-    → lowest isFree (p ∷ ps) < suc (length ps)
-    → suc (countFree (set (p ∷ ps) (lowest isFree (p ∷ ps)) (record { mark = 1; board = b }))) ≡ countFree (p ∷ ps)
-unfolding lowest isFree countFree
-held-cons b p ps false e ih h = rw e
-held-cons b p ps true e ih h =
-    let g : suc (lowest isFree ps) < suc (length ps) = rw e at h in
-    rw (e, e) (ih (omega arith))
-
-pub one-less : (b : List ℕ) (ps : List Place) → lowest isFree ps < length ps
-    → suc (countFree (set ps (lowest isFree ps) (record { mark = 1; board = b }))) ≡ countFree ps
-one-less b [] h = absurd (omega arith)
-one-less b (p ∷ ps) h = held-cons b p ps _ refl (one-less b ps) h
+one-less : (b : List ℕ) (ps : List Place) (k : ℕ) → freeAt ps k ≡ true → suc (countFree (set ps k (record { mark = 1; board = b }))) ≡ countFree ps
+unfolding freeAt countFree isFree
+one-less b [] k h = let z : _≡_ {A = ℕ} 0 1 = cc in absurd (omega arith)
+one-less b (p ∷ ps) zero h = rw h
+one-less b (p ∷ ps) (suc k) h = held-cons b p ps k _ refl (one-less b ps k h)
 
 freed-cons : (b : List ℕ) (f p : Place) (ps : List Place) (x y : Bool) → isFree f ≡ true → eqb (p .mark) 1 ≡ x → same 8 (p .board) b ≡ y
     → (lowest (heldBy b) ps < length ps → countFree (set ps (lowest (heldBy b) ps) f) ≡ suc (countFree ps))
@@ -47,16 +37,16 @@ freed-cons b f p ps false y t e s ih h =
     let g : suc (lowest (heldBy b) ps) < suc (length ps) = rw e at h in
     rw (e, e) (omega (arith, ih (omega arith)))
 
-pub one-more : (b : List ℕ) (f : Place) (ps : List Place) → isFree f ≡ true → lowest (heldBy b) ps < length ps
+one-more : (b : List ℕ) (f : Place) (ps : List Place) → isFree f ≡ true → lowest (heldBy b) ps < length ps
     → countFree (set ps (lowest (heldBy b) ps) f) ≡ suc (countFree ps)
 one-more b f [] t h = absurd (omega arith)
 one-more b f (p ∷ ps) t h = freed-cons b f p ps _ _ t refl refl (one-more b f ps t) h
 
 module _ (n : ℕ) (b : List ℕ) where
-  pub count-less : (ps : List Place) → length ps ≡ n → lowest isFree ps < length ps
-      → cut n (countFree ps - 1) ≡ countFree (set ps (lowest isFree ps) (record { mark = 1; board = b }))
-  count-less ps e h =
-      let o = one-less b ps h in
+  pub count-less : (ps : List Place) (k : ℕ) → length ps ≡ n → freeAt ps k ≡ true
+      → cut n (countFree ps - 1) ≡ countFree (set ps k (record { mark = 1; board = b }))
+  count-less ps k e h =
+      let o = one-less b ps k h in
       let w : countFree ps - 1 ≤ n = omega (arith, count-most ps) in
       rw (le-leb (countFree ps - 1) n w) (omega arith)
 

@@ -1,42 +1,45 @@
 -- The laws over histories: at every moment the holdings by the history are those that the places show.
 use Prim.Native.Nat.{ℕ, zero, suc, _+_, _*_, _≤_, _<_}
-use mathlib.Core.Path.{_≡_, refl, sym, ap, _∙_}
+use mathlib.Core.Path.{_≡_, refl, sym, _∙_}
 use mathlib.Core.Bool.{Bool, true, false, _&&_}
-use mathlib.Core.List.{List, [], _∷_, List·Memᴰ}
+use mathlib.Core.List.{List, [], _∷_}
 use native.Mathlib.Omega.{arith}
 use borrow.Author.Tests.{ltb-true, ltb-false, lt-ltb, le-ltb, eqb-true, ne-eqb}
 use lib.Dec.{eqb, ltb}
 use lib.ListN.{length, getD, drop, set}
 use lib.Seq.{getD-drop}
-use Rattle.refusal.specs.declared.Refusal.{Refusal}
 use Rattle.refusal.specs.declared.Refusal.the-variants.{Full, Unknown}
 use Rattle.refusal.specs.declared.Verdict.the-variants.{Accepted}
-use Rattle.address_ledger.specs.Place.{Place, placeAt, places, lowest, heldBy, isFree, countFree, sought, hold, freed}
-use Rattle.address_ledger.specs.Range.{judged, counted}
-use Rattle.address_ledger.specs.Ledger.{Outcome, outcome, ledgerOf, fewer, more, opened, granting, granted, givingBack, givenBack, freeCount}
+use Rattle.address_places.specs.Place.{Place, placeAt, places, lowest, heldBy, countFree, sought, hold, freed}
+use Rattle.address_range.specs.Range.{judged, counted}
+use Rattle.address_ledger.specs.Ledger.{Outcome, outcome, withSummary, cut, fewer, more, opened, granting, granted, givingBack, givenBack, freeCount}
 use Rattle.address_ledger.specs.declared.answer.AddressAnswer.{AddressAnswer}
 use Rattle.address_ledger.specs.declared.answer.AddressAnswer.the-variants.{Address, Refused}
 use Rattle.address_ledger.specs.declared.ledger.Ledger.{Ledger}
 use Rattle.address_ledger.specs.declared.answer.FreeAnswer.the-variants as free
-use Rattle.address_ledger.specs.declared.place.Sought.{Sought}
-use Rattle.address_ledger.specs.declared.place.Sought.the-variants.{Held, Free, Nothing}
-use Rattle.address_ledger.proofs.Judged.{usable, within-limits}
-use Rattle.address_ledger.proofs.Scan.{length-places}
-use Rattle.address_ledger.proofs.Found.{held-is, free-is, nothing-is}
-use Rattle.address_ledger.proofs.Calls.{open-accepted, grant-accepted, back-accepted, free-within}
-use Rattle.address_ledger_laws.specs.History.{Call, opens, asks, gives, counts, Holding, listed, addressOf, enter, strike, taken, afterAsk, afterGive, Moment, step, run, after, wholeBoards, Begins}
-use Rattle.address_ledger_laws.specs.Laws.{HeldAndFree, OneHolder, SameAgain, FreedAgain}
+use Rattle.address_places.specs.declared.place.Sought.{Sought}
+use Rattle.address_places.specs.declared.place.Sought.the-variants.{Held, Free, Nothing}
+use Rattle.address_range.proofs.Judged.{usable, within-limits}
+use Rattle.address_places.proofs.Scan.{length-places}
+use Rattle.address_places.specs.Marks.{summaryOf}
+use Rattle.address_places.proofs.Found.{held-is, free-is, nothing-is}
+use Rattle.address_places.proofs.Offers.{freeAt, lowest-free}
+use Rattle.address_ledger.proofs.Calls.{open-accepted, back-accepted, free-within}
+use Rattle.address_ledger_laws.specs.History.{Call, opens, asks, gives, counts, Holding, listed, addressOf, afterAsk, afterGive, Moment, step, run, after, wholeBoards, Begins}
+use Rattle.address_ledger_laws.specs.Laws.{HeldAndFree, OneHolder, SameAgain, GivesBack}
 use Rattle.address_ledger_laws.proofs.Bytes.{length-hold, places-hold, length-freed, places-freed, cleared, cleared-free, cleared-is}
 use Rattle.address_ledger_laws.proofs.Counting.{count-less, count-more}
-use Rattle.address_ledger_laws.proofs.Holders.{heldFrom, listed-held, strike-held, enter-held, held-and-free, one-holder, address-held, free-nobody, lowest-set}
+use Rattle.address_ledger_laws.proofs.Holders.{heldFrom, listed-held, strike-held, enter-held, held-and-free, one-holder, address-held}
+use Rattle.address_ledger_laws.proofs.Marking.{anew-right}
+use Rattle.address_ledger_laws.proofs.Marks.{walk-accepted}
 use Rattle.address_ledger_laws.proofs.Standing.{stands}
 
 -- the ledger that opening gives
 abbrev pub rightLedger : ℕ → ℕ → List ℕ → Ledger
-rightLedger first size m = ledgerOf first size (countFree (places (counted first size) m))
+rightLedger first size m = withSummary first size (summaryOf (places (counted first size) m))
 
 pub opened-is : (first size : ℕ) (m : List ℕ) → Accepted ≡ judged first size (length m) → opened first size m .ledger ≡ rightLedger first size m
-opened-is first size m f = rw (← open-accepted first size m f (counted first size) refl (countFree (places (counted first size) m)) refl)
+opened-is first size m f = rw (← open-accepted first size m f (counted first size) refl (summaryOf (places (counted first size) m)) refl)
 
 -- the history lists a board exactly where a place is held by it
 pub lists : (first n : ℕ) (b m : List ℕ) (hs : List Holding) → hs ≡ heldFrom first (places n m) → listed b hs ≡ ltb (lowest (heldBy b) (places n m)) n
@@ -53,6 +56,9 @@ module _ (first size : ℕ) (b m : List ℕ) (hs : List Holding) (f : Accepted �
   room : 9 * counted first size ≤ length m
   room = usable first size (length m) f (counted first size) refl .room
 
+  few : counted first size ≤ 4096
+  few = usable first size (length m) f (counted first size) refl .size
+
   still : (m′ : List ℕ) → length m′ ≡ length m → rightLedger first size m′ ≡ opened first size m′ .ledger
   still m′ w = sym (opened-is first size m′ (rw w f))
 
@@ -65,7 +71,7 @@ module _ (first size : ℕ) (b m : List ℕ) (hs : List Holding) (f : Accepted �
       record { long = refl; right = still m refl; tells = rw (lists first (counted first size) b m hs t, lt-ltb _ _ w) t }
 
   ask-free : length b ≡ 8 → (k : ℕ) → Free k ≡ sought b (places (counted first size) m)
-      → Told first size m (λ (r : AddressAnswer). afterAsk b r hs) (outcome (Address (first + k)) (fewer (counted first size) (rightLedger first size m)) (hold m k b))
+      → Told first size m (λ (r : AddressAnswer). afterAsk b r hs) (outcome (Address (first + k)) (fewer (counted first size) k (hold m k b) (rightLedger first size m)) (hold m k b))
   unfolding afterAsk
   ask-free e k s =
       let n = counted first size in
@@ -74,11 +80,17 @@ module _ (first size : ℕ) (b m : List ℕ) (hs : List Holding) (f : Accepted �
       let w : k < counted first size = omega (arith, i .1 .0) in
       let o : counted first size ≤ lowest (heldBy b) (places (counted first size) m) = omega (arith, i .1 .1) in
       let g = length-hold m b k (omega (arith, room)) e in
+      let free : freeAt (places (counted first size) m) k ≡ true = rw (i .0) (lowest-free (places n m) (omega (arith, i .0, i .1 .0))) in
       record {
         long = g;
         right =
-            ap (λ (x : ℕ). ledgerOf first size x) (rw (places-hold n k m b w room e, i .0) (count-less n b (places n m) p (omega (arith, i .0, i .1 .0))))
-            ∙ still (hold m k b) g;
+            rw (
+              places-hold n k m b w room e,
+              anew-right k (places n m) (record { mark = 1; board = b }) (omega (arith, few)),
+              count-less n b (places n m) k p free,
+              ← places-hold n k m b w room e,
+            )
+            (still (hold m k b) g);
         tells =
             rw (lists first (counted first size) b m hs t, le-ltb _ _ o, t, places-hold n k m b w room e, i .0)
             (enter-held first b (places n m) (omega (arith, i .0)));
@@ -96,10 +108,10 @@ module _ (first size : ℕ) (b m : List ℕ) (hs : List Holding) (f : Accepted �
   ask-by e Nothing s = ask-nothing
 
   asked : length b ≡ 8 → Told first size m (λ (r : AddressAnswer). afterAsk b r hs) (granted (rightLedger first size m) m b)
-  asked e = rw (← grant-accepted (rightLedger first size m) m b f (counted first size) refl _ refl) (ask-by e _ refl)
+  asked e = rw (← walk-accepted (rightLedger first size m) m f b refl) (ask-by e _ refl)
 
   give-held : (k : ℕ) → Held k ≡ sought b (places (counted first size) m)
-      → Told first size m (λ (r : AddressAnswer). afterGive b r hs) (outcome (Address (first + k)) (more (counted first size) (rightLedger first size m)) (freed m k))
+      → Told first size m (λ (r : AddressAnswer). afterGive b r hs) (outcome (Address (first + k)) (more (counted first size) k (freed m k) (rightLedger first size m)) (freed m k))
   unfolding afterGive
   give-held k s =
       let n = counted first size in
@@ -107,12 +119,13 @@ module _ (first size : ℕ) (b m : List ℕ) (hs : List Holding) (f : Accepted �
       let p : length (places (counted first size) m) ≡ counted first size = length-places (counted first size) m in
       let w : k < counted first size = omega (arith, i .1) in
       let g = length-freed m k in
+      let more-right : cut (counted first size) (countFree (places (counted first size) m) + 1) ≡ countFree (set (places (counted first size) m) k (cleared (drop (9 * k) m))) =
+      rw (i .0) (count-more n b (cleared (drop (9 * lowest (heldBy b) (places n m)) m)) (places n m) p (cleared-is (drop (9 * lowest (heldBy b) (places n m)) m)) (omega (arith, i .0, i .1))) in
       record {
         long = g;
         right =
-            ap (λ (x : ℕ). ledgerOf first size x)
-            (rw (places-freed n k m w room, i .0) (count-more n b (cleared (drop (9 * lowest (heldBy b) (places n m)) m)) (places n m) p (cleared-is (drop (9 * lowest (heldBy b) (places n m)) m)) (omega (arith, i .0, i .1))))
-            ∙ still (freed m k) g;
+            rw (places-freed n k m w room, anew-right k (places n m) (cleared (drop (9 * k) m)) (omega (arith, few)), more-right, ← places-freed n k m w room)
+            (still (freed m k) g);
         tells =
             rw (t, places-freed n k m w room, i .0)
             (strike-held first b (cleared (drop (9 * lowest (heldBy b) (places n m)) m)) (places n m) (cleared-free (drop (9 * lowest (heldBy b) (places n m)) m)) (omega (arith, i .0, i .1)));
@@ -246,9 +259,59 @@ module _ (first size : ℕ) (s : Moment) (a : Agrees first size s) (b : List ℕ
   same : listed b (s .holding) ≡ true
       → granted (s .ledger) (s .memory) b ≡ outcome (Address (addressOf b (s .holding))) (s .ledger) (s .memory)
   same y =
-      rw (plain first size s a, ← grant-accepted (rightLedger first size (s .memory)) (s .memory) b (a .accepted) (counted first size) refl _ refl)
+      rw (plain first size s a, ← walk-accepted (rightLedger first size (s .memory)) (s .memory) (a .accepted) b refl)
       (same-by y _ refl)
 
 pub same-again : SameAgain
 unfolding SameAgain
 same-again first size m cs w b y = same first size (after first size m cs) (after-agrees first size m cs w) b y
+
+-- ---- giving back
+module _ (first size : ℕ) (s : Moment) (a : Agrees first size s) (b : List ℕ) where
+  told : listed b (s .holding) ≡ ltb (lowest (heldBy b) (places (counted first size) (s .memory))) (counted first size)
+  told = lists first (counted first size) b (s .memory) (s .holding) (a .tells)
+
+  own-by : listed b (s .holding) ≡ true → (x : Sought) → x ≡ sought b (places (counted first size) (s .memory))
+      → givingBack (counted first size) (rightLedger first size (s .memory)) (s .memory) x .answer ≡ Address (addressOf b (s .holding))
+  unfolding givingBack
+  own-by y (Held k) x =
+      let i = held-is b (places (counted first size) (s .memory)) k x in
+      let e : addressOf b (s .holding) ≡ first + k =
+      rw (a .tells, i .0) (address-held first b (places (counted first size) (s .memory)) (omega (arith, i .0, i .1))) in
+      rw e
+  own-by y (Free k) x =
+      let i = free-is b (places (counted first size) (s .memory)) k x in
+      let l = ltb-true (lowest (heldBy b) (places (counted first size) (s .memory))) (counted first size) (sym told ∙ y) in
+      absurd (omega (arith, i .1 .1, l, length-places (counted first size) (s .memory)))
+  own-by y Nothing x =
+      let i = nothing-is b (places (counted first size) (s .memory)) x in
+      let l = ltb-true (lowest (heldBy b) (places (counted first size) (s .memory))) (counted first size) (sym told ∙ y) in
+      absurd (omega (arith, i .0, l, length-places (counted first size) (s .memory)))
+
+  none-by : listed b (s .holding) ≡ false → (x : Sought) → x ≡ sought b (places (counted first size) (s .memory))
+      → givingBack (counted first size) (rightLedger first size (s .memory)) (s .memory) x
+      ≡ outcome (Refused Unknown) (rightLedger first size (s .memory)) (s .memory)
+  unfolding givingBack
+  none-by y (Held k) x =
+      let i = held-is b (places (counted first size) (s .memory)) k x in
+      let l = ltb-false (lowest (heldBy b) (places (counted first size) (s .memory))) (counted first size) (sym told ∙ y) in
+      absurd (omega (arith, i .0, i .1, l, length-places (counted first size) (s .memory)))
+  none-by y (Free k) x = refl
+  none-by y Nothing x = refl
+
+  own : listed b (s .holding) ≡ true → givenBack (s .ledger) (s .memory) b .answer ≡ Address (addressOf b (s .holding))
+  own y =
+      rw (plain first size s a, ← back-accepted (rightLedger first size (s .memory)) (s .memory) b (a .accepted) (counted first size) refl _ refl)
+      (own-by y _ refl)
+
+  none : listed b (s .holding) ≡ false → givenBack (s .ledger) (s .memory) b ≡ outcome (Refused Unknown) (s .ledger) (s .memory)
+  none y =
+      rw (plain first size s a, ← back-accepted (rightLedger first size (s .memory)) (s .memory) b (a .accepted) (counted first size) refl _ refl)
+      (none-by y _ refl)
+
+pub gives-own : GivesBack
+gives-own =
+    record {
+      own = λ first size m cs w b y. own first size (after first size m cs) (after-agrees first size m cs w) b y;
+      unknown = λ first size m cs w b y. none first size (after first size m cs) (after-agrees first size m cs w) b y;
+    }

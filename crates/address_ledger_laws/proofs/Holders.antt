@@ -1,14 +1,14 @@
 -- The holdings that a list of places shows, the lowest address first, and what writing one place does to them.
-use Prim.Native.Nat.{ℕ, zero, suc, _+_, _-_, _*_, _≤_, _<_}
+use Prim.Native.Nat.{ℕ, zero, suc, _+_, _≤_, _<_}
 use mathlib.Core.Path.{_≡_, refl, sym, ap, _∙_}
-use mathlib.Core.Bool.{Bool, true, false, cond, not, _&&_, _||_}
-use mathlib.Core.Logic.{_⊎_, inl, inr, ⊎-elim}
+use mathlib.Core.Bool.{Bool, true, false, cond}
+use mathlib.Core.Logic.{⊎-elim}
 use mathlib.Core.List.{List, [], _∷_, List·Memᴰ, List·Memᴰ·not-nil, List·Memᴰ·cases-cons}
 use native.Mathlib.Omega.{arith}
 use borrow.Author.Tests.{lt-ltb, le-ltb, ne-eqb}
 use lib.Dec.{eqb, ltb, leb·suc-suc}
 use lib.ListN.{length, set}
-use Rattle.address_ledger.specs.Place.{Place, same, isFree, heldBy, lowest, countFree}
+use Rattle.address_places.specs.Place.{Place, same, isFree, heldBy, lowest, countFree}
 use Rattle.address_ledger_laws.specs.History.{Holding, listed, taken, addressOf, enter, strike}
 
 abbrev pub holding : List ℕ → ℕ → Holding

@@ -1,22 +1,26 @@
 -- The count moves with each place that is written, and only then; what is answered never looks at it.
-use Prim.Native.Nat.{ℕ, _+_, _-_, _*_, _≤_, _<_}
-use mathlib.Core.Path.{_≡_, refl, sym, ap, _∙_}
-use mathlib.Core.Bool.{Bool, true, false}
-use mathlib.Core.List.{List, []}
+use Prim.Native.Nat.{ℕ, _-_, _*_, _≤_, _<_}
+use mathlib.Core.Path.{_≡_, refl}
+use mathlib.Core.Bool.{true, false}
+use mathlib.Core.List.{List}
 use native.Mathlib.Omega.{arith}
+use borrow.Author.Tests.{ltb-false}
 use lib.ListN.{length, drop}
 use Rattle.refusal.specs.declared.Verdict.{Verdict}
 use Rattle.refusal.specs.declared.Verdict.the-variants as verdict
-use Rattle.address_ledger.specs.Place.{Place, places, heldBy, isFree, lowest, has, countFree, sought, hold, freed}
-use Rattle.address_ledger.specs.Range.{judged, counted}
-use Rattle.address_ledger.specs.Ledger.{Outcome, countedOf, placesOf, judgedOf, cut, withFree, fewer, more, openedBy, opened, granting, grantedBy, granted, givingBack, givenBackBy, givenBack}
+use Rattle.address_places.specs.Place.{places, heldBy, lowest, has, countFree, sought}
+use Rattle.address_range.specs.Range.{judged, counted}
+use Rattle.address_ledger.specs.Ledger.{countedOf, placesOf, judgedOf, cut, openedBy, opened, granting, grantedBy, granted, givingBack, givenBackBy, givenBack}
+use Rattle.address_ledger.specs.declared.answer.AddressAnswer.the-variants.{Address}
 use Rattle.address_ledger.specs.declared.ledger.Ledger.{Ledger}
-use Rattle.address_ledger.specs.declared.place.Sought.{Sought}
-use Rattle.address_ledger.specs.declared.place.Sought.the-variants.{Held, Free, Nothing}
-use Rattle.address_ledger.proofs.Judged.{usable}
-use Rattle.address_ledger.proofs.Scan.{length-places}
-use Rattle.address_ledger.proofs.Found.{held-is, free-is}
-use Rattle.address_ledger_laws.specs.Counts.{RightCount, RightStays, SameBut, AnyCount, Moves}
+use Rattle.address_places.specs.declared.place.Sought.{Sought}
+use Rattle.address_places.specs.declared.place.Sought.the-variants.{Held, Free, Nothing}
+use Rattle.address_range.proofs.Judged.{usable}
+use Rattle.address_places.proofs.Scan.{length-places}
+use Rattle.address_places.specs.Marks.{soughtBy}
+use Rattle.address_places.proofs.Found.{held-is}
+use Rattle.address_places.proofs.Offers.{free-inside, held-told, free-told}
+use Rattle.address_ledger_laws.specs.Counts.{RightCount, RightStays, withFree, SameBut, AnyCount, Moves}
 use Rattle.address_ledger_laws.proofs.Bytes.{places-hold, places-freed, cleared, cleared-is}
 use Rattle.address_ledger_laws.proofs.Counting.{count-less, count-more}
 
@@ -25,16 +29,16 @@ module _ (l : Ledger) (m b : List ℕ) (f : verdict.Accepted ≡ judgedOf l m) (
   room : 9 * countedOf l ≤ length m
   room = usable (l .first) (l .size) (length m) f (countedOf l) refl .room
 
-  grant-right : length b ≡ 8 → (s : Sought) → s ≡ sought b (placesOf l m)
+  grant-right : length b ≡ 8 → (s : Sought) → s ≡ soughtBy (l .marks) b (placesOf l m)
       → RightCount (granting (countedOf l) l m b s .ledger) (granting (countedOf l) l m b s .memory)
   unfolding granting
   grant-right e (Held k) s = c
   grant-right e (Free k) s =
       let n = countedOf l in
-      let i = free-is b (placesOf l m) k s in
+      let i = free-told (l .marks) b (placesOf l m) k s in
       let p : length (placesOf l m) ≡ countedOf l = length-places n m in
-      let w : k < countedOf l = omega (arith, i .1 .0) in
-      rw (places-hold n k m b w room e, c, i .0) (count-less n b (placesOf l m) p (omega (arith, i .0, i .1 .0)))
+      let w : k < countedOf l = omega (arith, free-inside (placesOf l m) k (i .0)) in
+      rw (places-hold n k m b w room e, c) (count-less n b (placesOf l m) k p (i .0))
   grant-right e Nothing s = c
 
   back-right : (s : Sought) → s ≡ sought b (placesOf l m)
@@ -54,7 +58,7 @@ module _ (l : Ledger) (m b : List ℕ) (f : verdict.Accepted ≡ judgedOf l m) (
 module _ (l : Ledger) (m b : List ℕ) (c : RightCount l m) where
   granted-right : length b ≡ 8 → (v : Verdict) → v ≡ judgedOf l m → RightCount (grantedBy v l m b .ledger) (grantedBy v l m b .memory)
   unfolding grantedBy
-  granted-right e verdict.Accepted f = grant-right l m b f c e (sought b (placesOf l m)) refl
+  granted-right e verdict.Accepted f = grant-right l m b f c e (soughtBy (l .marks) b (placesOf l m)) refl
   granted-right e (verdict.Refused r) f = c
 
   given-right : (v : Verdict) → v ≡ judgedOf l m → RightCount (givenBackBy v l m b .ledger) (givenBackBy v l m b .memory)
@@ -80,26 +84,26 @@ right-stays =
 module _ (l : Ledger) (x y n : ℕ) (m b : List ℕ) where
   grant-same : (s : Sought) → SameBut (granting n (withFree l x) m b s) (granting n (withFree l y) m b s)
   unfolding granting
-  grant-same (Held k) = record { answer = refl; memory = refl; first = refl; size = refl }
-  grant-same (Free k) = record { answer = refl; memory = refl; first = refl; size = refl }
-  grant-same Nothing = record { answer = refl; memory = refl; first = refl; size = refl }
+  grant-same (Held k) = record { answer = refl; memory = refl; first = refl; size = refl; marks = refl }
+  grant-same (Free k) = record { answer = refl; memory = refl; first = refl; size = refl; marks = refl }
+  grant-same Nothing = record { answer = refl; memory = refl; first = refl; size = refl; marks = refl }
 
   back-same : (s : Sought) → SameBut (givingBack n (withFree l x) m s) (givingBack n (withFree l y) m s)
   unfolding givingBack
-  back-same (Held k) = record { answer = refl; memory = refl; first = refl; size = refl }
-  back-same (Free k) = record { answer = refl; memory = refl; first = refl; size = refl }
-  back-same Nothing = record { answer = refl; memory = refl; first = refl; size = refl }
+  back-same (Held k) = record { answer = refl; memory = refl; first = refl; size = refl; marks = refl }
+  back-same (Free k) = record { answer = refl; memory = refl; first = refl; size = refl; marks = refl }
+  back-same Nothing = record { answer = refl; memory = refl; first = refl; size = refl; marks = refl }
 
 module _ (l : Ledger) (x y : ℕ) (m b : List ℕ) where
   granted-same : (v : Verdict) → SameBut (grantedBy v (withFree l x) m b) (grantedBy v (withFree l y) m b)
   unfolding grantedBy
-  granted-same verdict.Accepted = grant-same l x y (countedOf l) m b (sought b (placesOf l m))
-  granted-same (verdict.Refused r) = record { answer = refl; memory = refl; first = refl; size = refl }
+  granted-same verdict.Accepted = grant-same l x y (countedOf l) m b (soughtBy (l .marks) b (placesOf l m))
+  granted-same (verdict.Refused r) = record { answer = refl; memory = refl; first = refl; size = refl; marks = refl }
 
   given-same : (v : Verdict) → SameBut (givenBackBy v (withFree l x) m b) (givenBackBy v (withFree l y) m b)
   unfolding givenBackBy
   given-same verdict.Accepted = back-same l x y (countedOf l) m b (sought b (placesOf l m))
-  given-same (verdict.Refused r) = record { answer = refl; memory = refl; first = refl; size = refl }
+  given-same (verdict.Refused r) = record { answer = refl; memory = refl; first = refl; size = refl; marks = refl }
 
 pub any-count : AnyCount
 unfolding granted givenBack
@@ -111,15 +115,31 @@ any-count =
 
 -- ---- where it moves
 again-by : (l : Ledger) (m b : List ℕ) (v : Verdict) → has (heldBy b) (placesOf l m) ≡ true → grantedBy v l m b .ledger ≡ l
-unfolding grantedBy granting sought
+unfolding grantedBy granting soughtBy
 again-by l m b verdict.Accepted h = rw h
 again-by l m b (verdict.Refused r) h = refl
 
+module _ (l : Ledger) (m b : List ℕ) (a : ℕ) where
+  new-found : (s : Sought) → s ≡ soughtBy (l .marks) b (placesOf l m) → has (heldBy b) (placesOf l m) ≡ false
+      → granting (countedOf l) l m b s .answer ≡ Address a → granting (countedOf l) l m b s .ledger .free ≡ cut (countedOf l) (l .free - 1)
+  unfolding granting has
+  new-found (Held k) s h e =
+      let i = held-told (l .marks) b (placesOf l m) k s in
+      absurd (omega (arith, i .0, i .1, ltb-false (lowest (heldBy b) (placesOf l m)) (length (placesOf l m)) h))
+  new-found (Free k) s h e = refl
+  new-found Nothing s h e = let z : _≡_ {A = ℕ} 0 1 = cc in absurd (omega arith)
+
+  new-by : (v : Verdict) → has (heldBy b) (placesOf l m) ≡ false → grantedBy v l m b .answer ≡ Address a
+      → grantedBy v l m b .ledger .free ≡ cut (countedOf l) (l .free - 1)
+  unfolding grantedBy
+  new-by verdict.Accepted h e = new-found (soughtBy (l .marks) b (placesOf l m)) refl h e
+  new-by (verdict.Refused r) h e = let z : _≡_ {A = ℕ} 0 1 = cc in absurd (omega arith)
+
 pub moves : Moves
-unfolding granted grantedBy granting givenBack givenBackBy givingBack sought
+unfolding granted givenBack givenBackBy givingBack sought
 moves =
     record {
-      granted-new = λ l m b f h p. rw (← f, h, p);
+      granted-new = λ l m b a h e. new-by l m b a (judgedOf l m) h e;
       granted-again = λ l m b h. again-by l m b (judgedOf l m) h;
       given-back = λ l m b f h. rw (← f, h);
     }

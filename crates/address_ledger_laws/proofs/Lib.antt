@@ -1,4 +1,8 @@
 pub mod Bytes
+pub mod Marking
+pub mod Leading
+pub mod Marks
+pub mod Stored
 pub mod Holders
 pub mod Counting
 pub mod Standing

@@ -1,13 +1,13 @@
 -- The shift of the witness, computed.
-use Prim.Native.Nat.{ℕ, zero, suc, _+_, _*_, _<_}
+use Prim.Native.Nat.{ℕ, zero, suc, _*_, _<_}
 use mathlib.Core.Path.{_≡_, refl}
 use native.Mathlib.Omega.{arith}
 use borrow.Author.Tests.{eqb-false}
 use lib.ListN.{getD}
-use Rattle.refusal.specs.declared.Verdict.the-variants.{Accepted}
-use Rattle.address_ledger.specs.Place.{placeAt, places, same, isFree, heldBy, lowest, has, countFree, sought, hold, freed}
+use Rattle.address_places.specs.Place.{placeAt, places, same, isFree, heldBy, lowest, has, countFree, sought, hold, freed}
+use Rattle.address_places.specs.Marks.{marked, withMark, marksOf, anew, freeBy, soughtBy}
 use Rattle.short_address.specs.Address.{isAddress, bytesOf}
-use Rattle.address_ledger.specs.Range.{inLimits, judged, counted}
+use Rattle.address_range.specs.Range.{inLimits, judged, counted}
 use Rattle.address_ledger.specs.Ledger.{openedBy, opened, granting, grantedBy, granted, givingBack, givenBackBy, givenBack, freeCount}
 use Rattle.address_ledger_laws.specs.History.{listed, addressOf, enter, strike, afterAsk, afterGive, step, run, after, wholeBoards}
 use Rattle.address_ledger_laws.specs.Shift.{lent, Shift}
@@ -19,7 +19,7 @@ fresh (suc (suc zero)) h = eqb-false 7 1 refl
 fresh (suc (suc (suc k))) h = absurd (omega arith)
 
 pub played : Shift
-unfolding placeAt places same isFree heldBy lowest has countFree sought hold freed inLimits judged counted isAddress bytesOf openedBy opened granting grantedBy granted givingBack givenBackBy givenBack freeCount listed addressOf enter strike afterAsk afterGive step run after wholeBoards
+unfolding placeAt places same isFree heldBy lowest has countFree sought marked withMark marksOf anew freeBy soughtBy hold freed inLimits judged counted isAddress bytesOf openedBy opened granting grantedBy granted givingBack givenBackBy givenBack freeCount listed addressOf enter strike afterAsk afterGive step run after wholeBoards
 played =
     record {
       begins = record { accepted = refl; fresh = fresh; boards = refl };
@@ -31,4 +31,7 @@ played =
       holding = refl;
       memory = refl;
       left = refl;
+      marked = refl;
+      unmarked = refl;
+      hidden = refl;
     }

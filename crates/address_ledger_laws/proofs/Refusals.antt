@@ -1,21 +1,24 @@
 -- Demand 1: each way out of a call that refuses hands back what came in, and the tests of the definitions are those of the numbers.
-use Prim.Native.Nat.{ℕ, _*_}
+use Prim.Native.Nat.{ℕ, zero, suc, _+_, _*_, _/_}
 use mathlib.Core.Path.{_≡_, refl}
-use mathlib.Core.Bool.{Bool, true, false, cond, _||_}
+use mathlib.Core.Bool.{Bool, true, false, cond, _&&_, _||_}
 use mathlib.Core.List.{List}
 use native.Mathlib.Omega.{arith}
 use lib.Dec.{leb}
-use lib.ListN.{length}
+use lib.ListN.{length, take, drop}
+use Rattle.refusal.specs.Verdict.{verdictNumber}
 use Rattle.refusal.specs.declared.Refusal.{Refusal}
 use Rattle.refusal.specs.declared.Verdict.{Verdict}
 use Rattle.refusal.specs.declared.Verdict.the-variants as verdict
-use Rattle.address_ledger.specs.Place.{Place, heldBy, isFree, has, sought}
-use Rattle.address_ledger.specs.Range.{inLimits, judged}
+use Rattle.address_places.specs.Place.{Place, heldBy, isFree, has, sought}
+use Rattle.address_places.specs.Marks.{marked, freeBy, soughtBy}
+use Rattle.address_range.specs.Range.{inLimits, judged}
 use Rattle.address_ledger.specs.Ledger.{Outcome, countedOf, placesOf, judgedOf, emptyLedger, openedBy, opened, granting, grantedBy, granted, givingBack, givenBackBy, givenBack, freeCount}
+use Rattle.address_ledger.specs.Answers.{addressVerdict, addressValue, freeVerdict, freeValue}
 use Rattle.address_ledger.specs.declared.ledger.Ledger.{Ledger}
-use Rattle.address_ledger.specs.declared.place.Sought.{Sought}
-use Rattle.address_ledger.specs.declared.place.Sought.the-variants.{Held, Free, Nothing}
-use Rattle.address_ledger_laws.specs.Demand1.{LedgerCall, opening, asking, returning, counting, addressVerdict, addressValue, freeVerdict, freeValue, verdictNumber, perform, Untouched, refusalNumber, Demand1}
+use Rattle.address_places.specs.declared.place.Sought.{Sought}
+use Rattle.address_places.specs.declared.place.Sought.the-variants.{Held, Free, Nothing}
+use Rattle.address_ledger_laws.specs.Demand1.{LedgerCall, opening, asking, returning, counting, perform, Untouched, offers, refusalNumber, Demand1}
 
 -- ---- a refusal leaves everything
 record Left (l : Ledger) (m : List ℕ) (o : Outcome) : Type 0 where
@@ -42,7 +45,7 @@ module _ (n : ℕ) (l : Ledger) (m b : List ℕ) (r : Refusal) where
 module _ (l : Ledger) (m b : List ℕ) (r : Refusal) where
   grant-left : (v : Verdict) → addressVerdict (grantedBy v l m b .answer) ≡ verdict.Refused r → Left l m (grantedBy v l m b)
   unfolding grantedBy
-  grant-left verdict.Accepted e = grant-found (countedOf l) l m b r (sought b (placesOf l m)) e
+  grant-left verdict.Accepted e = grant-found (countedOf l) l m b r (soughtBy (l .marks) b (placesOf l m)) e
   grant-left (verdict.Refused x) e = record { value = refl; ledger = refl; memory = refl }
 
   back-left : (v : Verdict) → addressVerdict (givenBackBy v l m b .answer) ≡ verdict.Refused r → Left l m (givenBackBy v l m b)
@@ -75,13 +78,25 @@ untouched (returning b) l m r e =
 untouched counting l m r e = record { value = free-left l r _ refl e; ledger = refl; memory = refl }
 
 -- ---- the numbers
-grant-own : (l : Ledger) (m b : List ℕ) (x y : Bool) → has (heldBy b) (placesOf l m) ≡ x → has isFree (placesOf l m) ≡ y
-    → verdictNumber (addressVerdict (granting (countedOf l) l m b (sought b (placesOf l m)) .answer))
-    ≡ cond (has (heldBy b) (placesOf l m) || has isFree (placesOf l m)) 0 17
-unfolding granting sought
-grant-own l m b true y p q = rw p
-grant-own l m b false true p q = rw (p, q)
-grant-own l m b false false p q = rw (p, q)
+offer-cons : (n x j : ℕ) (ps : List Place) (c : ℕ) (l : Ledger) (m b : List ℕ) (t : Bool) → (marked zero x && has isFree (take 64 ps)) ≡ t
+    → verdictNumber (addressVerdict (granting c l m b (freeBy n (x / 2) (j + 64) (drop 64 ps)) .answer)) ≡ cond (offers n (x / 2) (drop 64 ps)) 0 17
+    → verdictNumber (addressVerdict (granting c l m b (freeBy (suc n) x j ps) .answer)) ≡ cond (offers (suc n) x ps) 0 17
+unfolding freeBy offers granting
+offer-cons n x j ps c l m b true t ih = rw t
+offer-cons n x j ps c l m b false t ih = rw t ih
+
+offer : (n x j : ℕ) (ps : List Place) (c : ℕ) (l : Ledger) (m b : List ℕ)
+    → verdictNumber (addressVerdict (granting c l m b (freeBy n x j ps) .answer)) ≡ cond (offers n x ps) 0 17
+unfolding freeBy offers granting
+offer zero x j ps c l m b = refl
+offer (suc n) x j ps c l m b = offer-cons n x j ps c l m b _ refl (offer n (x / 2) (j + 64) (drop 64 ps) c l m b)
+
+grant-own : (l : Ledger) (m b : List ℕ) (x : Bool) → has (heldBy b) (placesOf l m) ≡ x
+    → verdictNumber (addressVerdict (granting (countedOf l) l m b (soughtBy (l .marks) b (placesOf l m)) .answer))
+    ≡ cond (has (heldBy b) (placesOf l m) || offers 64 (l .marks) (placesOf l m)) 0 17
+unfolding granting soughtBy
+grant-own l m b true p = rw p
+grant-own l m b false p = rw p (offer 64 (l .marks) 0 (placesOf l m) (countedOf l) l m b)
 
 back-own : (l : Ledger) (m b : List ℕ) (x y : Bool) → has (heldBy b) (placesOf l m) ≡ x → has isFree (placesOf l m) ≡ y
     → verdictNumber (addressVerdict (givingBack (countedOf l) l m (sought b (placesOf l m)) .answer)) ≡ cond (has (heldBy b) (placesOf l m)) 0 18
@@ -101,7 +116,7 @@ module _ (l : Ledger) (m : List ℕ) where
   number-ask : (b : List ℕ) (p q : Bool) → inLimits (l .first) (l .size) ≡ p → leb (9 * l .size) (length m) ≡ q
       → verdictNumber (perform (asking b) l m .verdict) ≡ refusalNumber (asking b) l m
   unfolding perform granted grantedBy judged refusalNumber
-  number-ask b true true e f = rw (e, f) (grant-own l m b _ _ refl refl)
+  number-ask b true true e f = rw (e, f) (grant-own l m b _ refl)
   number-ask b true false e f = rw (e, f)
   number-ask b false q e f = rw e
 

@@ -1,15 +1,17 @@
--- On lent memory with any contents, whoever wrote them, the lowest matching place counts: said of the bytes, place k being the nine from byte 9k on.
+-- On lent memory with any contents, whoever wrote them, the lowest matching place counts, with marks that are right for those contents: said of the
+-- bytes, place k being the nine from byte 9k on.
 use Prim.Native.Nat.{ℕ, _+_, _*_, _<_}
 use mathlib.Core.Path.{_≡_}
 use mathlib.Core.List.{List}
 use lib.ListN.{length, getD, take, drop}
 use Rattle.refusal.specs.declared.Refusal.the-variants.{Full, Unknown}
 use Rattle.refusal.specs.declared.Verdict.the-variants.{Accepted}
-use Rattle.address_ledger.specs.Place.{hold, freed}
-use Rattle.address_ledger.specs.Range.{judged, counted}
+use Rattle.address_places.specs.Place.{hold, freed}
+use Rattle.address_range.specs.Range.{judged, counted}
 use Rattle.address_ledger.specs.Ledger.{outcome, fewer, more, granted, givenBack}
 use Rattle.address_ledger.specs.declared.answer.AddressAnswer.the-variants.{Address, Refused}
 use Rattle.address_ledger.specs.declared.ledger.Ledger.{Ledger}
+use Rattle.address_ledger_laws.specs.Marked.{RightMarks}
 
 -- at place k stand mark 1 and the board
 pub record HeldAt (m : List ℕ) (b : List ℕ) (k : ℕ) : Type 0 where
@@ -30,9 +32,10 @@ NoneAt P n = (k : ℕ) → k < n → P k → ⊥
 
 pub record LowestMatches (l : Ledger) (m b : List ℕ) (n : ℕ) : Type 0 where
   pub same-again : (k : ℕ) → LowestAt (HeldAt m b) n k → granted l m b ≡ outcome (Address (l .first + k)) l m
-  pub lowest-free : NoneAt (HeldAt m b) n → (k : ℕ) → LowestAt (FreeAt m) n k → granted l m b ≡ outcome (Address (l .first + k)) (fewer n l) (hold m k b)
-  pub full : NoneAt (HeldAt m b) n → NoneAt (FreeAt m) n → granted l m b ≡ outcome (Refused Full) l m
-  pub given-back : (k : ℕ) → LowestAt (HeldAt m b) n k → givenBack l m b ≡ outcome (Address (l .first + k)) (more n l) (freed m k)
+  pub lowest-free : RightMarks l m → NoneAt (HeldAt m b) n → (k : ℕ) → LowestAt (FreeAt m) n k
+      → granted l m b ≡ outcome (Address (l .first + k)) (fewer n k (hold m k b) l) (hold m k b)
+  pub full : RightMarks l m → NoneAt (HeldAt m b) n → NoneAt (FreeAt m) n → granted l m b ≡ outcome (Refused Full) l m
+  pub given-back : (k : ℕ) → LowestAt (HeldAt m b) n k → givenBack l m b ≡ outcome (Address (l .first + k)) (more n k (freed m k) l) (freed m k)
   pub unknown : NoneAt (HeldAt m b) n → givenBack l m b ≡ outcome (Refused Unknown) l m
 
 unfoldable pub AnyMemory : Type 0

@@ -1,21 +1,19 @@
 -- Demand 1 for the ledger: every call answers, a refusal has its number and changes neither the ledger nor the lent memory, and its value is 0.
-use Prim.Native.Nat.{ℕ, _*_}
+use Prim.Native.Nat.{ℕ, zero, suc, _*_, _/_}
 use mathlib.Core.Path.{_≡_}
-use mathlib.Core.Bool.{Bool, cond, _||_}
+use mathlib.Core.Bool.{Bool, false, cond, _&&_, _||_}
 use mathlib.Core.List.{List}
 use lib.Dec.{leb}
-use lib.ListN.{length}
-use Rattle.refusal.specs.Refusal.{numberOf}
+use lib.ListN.{length, take, drop}
+use Rattle.refusal.specs.Verdict.{verdictNumber}
 use Rattle.refusal.specs.declared.Refusal.{Refusal}
 use Rattle.refusal.specs.declared.Verdict.{Verdict}
 use Rattle.refusal.specs.declared.Verdict.the-variants as verdict
-use Rattle.address_ledger.specs.Place.{heldBy, isFree, has}
-use Rattle.address_ledger.specs.Range.{inLimits}
+use Rattle.address_places.specs.Place.{Place, heldBy, isFree, has}
+use Rattle.address_places.specs.Marks.{marked}
+use Rattle.address_range.specs.Range.{inLimits}
 use Rattle.address_ledger.specs.Ledger.{placesOf, emptyLedger, opened, granted, givenBack, freeCount}
-use Rattle.address_ledger.specs.declared.answer.AddressAnswer.{AddressAnswer}
-use Rattle.address_ledger.specs.declared.answer.AddressAnswer.the-variants.{Address, Refused}
-use Rattle.address_ledger.specs.declared.answer.FreeAnswer.{FreeAnswer}
-use Rattle.address_ledger.specs.declared.answer.FreeAnswer.the-variants as free
+use Rattle.address_ledger.specs.Answers.{addressVerdict, addressValue, freeVerdict, freeValue}
 use Rattle.address_ledger.specs.declared.ledger.Ledger.{Ledger}
 
 -- the calls, with what they are handed beside the ledger and the memory
@@ -26,23 +24,6 @@ pub data LedgerCall : Type 0 where
   asking : List ℕ → LedgerCall
   returning : List ℕ → LedgerCall
   counting : LedgerCall
-
--- each answer's verdict and value: an address or a count, and 0 beside a refusal
-abbrev pub addressVerdict : AddressAnswer → Verdict
-addressVerdict (Address a) = verdict.Accepted
-addressVerdict (Refused r) = verdict.Refused r
-
-abbrev pub addressValue : AddressAnswer → ℕ
-addressValue (Address a) = a
-addressValue (Refused r) = 0
-
-abbrev pub freeVerdict : FreeAnswer → Verdict
-freeVerdict (free.Count n) = verdict.Accepted
-freeVerdict (free.Refused r) = verdict.Refused r
-
-abbrev pub freeValue : FreeAnswer → ℕ
-freeValue (free.Count n) = n
-freeValue (free.Refused r) = 0
 
 -- a call that was made: verdict and value, the ledger that it hands back, and the memory afterwards
 pub record Performed : Type 0 where
@@ -76,9 +57,6 @@ pub record Untouched (c : LedgerCall) (l : Ledger) (m : List ℕ) (p : Performed
   pub memory : p .memory ≡ m
 
 -- ---- the numbers, and exactly when each is given; 0 where the call is accepted
-abbrev pub verdictNumber : Verdict → ℕ
-verdictNumber verdict.Accepted = 0
-verdictNumber (verdict.Refused r) = numberOf r
 
 -- the first address and the size of the range that a call is about
 abbrev pub firstOf : LedgerCall → Ledger → ℕ
@@ -93,10 +71,15 @@ sizeOf (asking b) l = l .size
 sizeOf (returning b) l = l .size
 sizeOf counting l = l .size
 
--- FULL: no address is free and the board holds none; UNKNOWN: the board holds none
+-- whether one of so many groups is marked and has a free address
+unfoldable pub offers : ℕ → ℕ → List Place → Bool
+offers zero x ps = false
+offers (suc n) x ps = ((marked zero x && has isFree (take 64 ps)) || offers n (x / 2) (drop 64 ps))
+
+-- FULL: no marked group has a free address and the board holds none; UNKNOWN: the board holds none
 abbrev pub ownNumber : LedgerCall → Ledger → List ℕ → ℕ
 ownNumber (opening first size) l m = 0
-ownNumber (asking b) l m = cond (has (heldBy b) (placesOf l m) || has isFree (placesOf l m)) 0 17
+ownNumber (asking b) l m = cond (has (heldBy b) (placesOf l m) || offers 64 (l .marks) (placesOf l m)) 0 17
 ownNumber (returning b) l m = cond (has (heldBy b) (placesOf l m)) 0 18
 ownNumber counting l m = 0
 

@@ -5,8 +5,9 @@ use mathlib.Core.Bool.{true, false}
 use mathlib.Core.List.{List, List·Memᴰ}
 use lib.ListN.{length, getD, take, drop}
 use Rattle.refusal.specs.declared.Refusal.{Refusal}
-use Rattle.address_ledger.specs.Place.{places, countFree}
-use Rattle.address_ledger.specs.Range.{counted}
+use Rattle.refusal.specs.declared.Refusal.the-variants.{Unknown}
+use Rattle.address_places.specs.Place.{places, countFree}
+use Rattle.address_range.specs.Range.{counted}
 use Rattle.address_ledger.specs.Ledger.{outcome, granted, givenBack, freeCount}
 use Rattle.address_ledger.specs.declared.answer.AddressAnswer.the-variants.{Address, Refused}
 use Rattle.address_ledger.specs.declared.answer.FreeAnswer.the-variants.{Count}
@@ -41,6 +42,16 @@ SameAgain =
     → (b : List ℕ) → listed b (after first size m cs .holding) ≡ true
     → granted (after first size m cs .ledger) (after first size m cs .memory) b
     ≡ outcome (Address (addressOf b (after first size m cs .holding))) (after first size m cs .ledger) (after first size m cs .memory)
+
+-- ---- a board that holds an address gives back that one; any other is UNKNOWN
+pub record GivesBack : Type 0 where
+  pub own : (first size : ℕ) (m : List ℕ) (cs : List Call) → Begins first size m cs
+      → (b : List ℕ) → listed b (after first size m cs .holding) ≡ true
+      → givenBack (after first size m cs .ledger) (after first size m cs .memory) b .answer ≡ Address (addressOf b (after first size m cs .holding))
+  pub unknown : (first size : ℕ) (m : List ℕ) (cs : List Call) → Begins first size m cs
+      → (b : List ℕ) → listed b (after first size m cs .holding) ≡ false
+      → givenBack (after first size m cs .ledger) (after first size m cs .memory) b
+      ≡ outcome (Refused Unknown) (after first size m cs .ledger) (after first size m cs .memory)
 
 -- ---- a freed address is granted again: right after a board gave back address a, a board that holds none is granted one, and a itself where every
 -- lower address of the range is held

@@ -1,5 +1,7 @@
 pub mod History
 pub mod Laws
+pub mod Marked
+pub mod Written
 pub mod AnyMemory
 pub mod Addresses
 pub mod Counts

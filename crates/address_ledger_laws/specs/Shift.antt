@@ -4,7 +4,7 @@ use mathlib.Core.Path.{_≡_}
 use mathlib.Core.List.{List, [], _∷_, _++_}
 use lib.ListN.{replicate}
 use Rattle.refusal.specs.declared.Refusal.the-variants.{Full, Unknown}
-use Rattle.address_ledger.specs.Ledger.{granted, givenBack, freeCount}
+use Rattle.address_ledger.specs.Ledger.{ledgerOf, opened, granted, givenBack, freeCount}
 use Rattle.address_ledger.specs.declared.answer.AddressAnswer.{AddressAnswer}
 use Rattle.address_ledger.specs.declared.answer.AddressAnswer.the-variants.{Address, Refused}
 use Rattle.address_ledger.specs.declared.answer.FreeAnswer.the-variants.{Count}
@@ -45,3 +45,7 @@ pub record Shift : Type 0 where
       ≡ record { board = board 10; address = 0x1000 } ∷ record { board = board 13; address = 0x1001 } ∷ record { board = board 12; address = 0x1002 } ∷ []
   pub memory : day .memory ≡ (1 ∷ board 10) ++ ((1 ∷ board 13) ++ ((1 ∷ board 12) ++ (7 ∷ [])))
   pub left : freeCount (day .ledger) ≡ Count 0
+  -- the one group is marked while an address is free; without its mark none is found
+  pub marked : opened 0x1000 3 lent .ledger .marks ≡ 1
+  pub unmarked : after 0x1000 3 lent morning .ledger .marks ≡ 0
+  pub hidden : granted (ledgerOf 0x1000 3 3 0) lent (board 10) .answer ≡ Refused Full

@@ -1,5 +1,4 @@
 -- Three cases, as the cut has them.
-use native.Mathlib.Omega.{arith}
 use borrow.Author.Needs.{needs}
 use Rattle.address_ledger.proofs.Moves.{less-none, less-cut, less-one}
 use Rattle.address_ledger.proofs.free.one_less.Statement.{statement}

@@ -1,111 +1,80 @@
--- What was found decides, as in the definition, and a place that was found is one of the counted ones.
-use mathlib.Core.Path.{sym, ap, _∙_}
+-- A place that the board holds is one of the counted ones, and its mark is written; else the board is unknown.
+use Prim.Native.Nat.{_*_}
+use mathlib.Core.Path.{ap}
 use native.Mathlib.Omega.{arith}
 use borrow.Author.Needs.{needs}
 use Rattle.address_ledger.specs.declared.ledger.Ledger.{Ledger}
-use Rattle.address_ledger.proofs.Found.{held-within}
-use Rattle.address_ledger.proofs.Calls.{back-held, back-free, back-nothing}
+use Rattle.address_ledger.proofs.Calls.{board-is, usable-freed, back-held, back-unknown}
 use Rattle.address_ledger.proofs.ledger.Ledger.give_back_in.Statement.{statement}
 use Rattle.address_ledger.proofs.ledger.Ledger.give_back_in.Tie as tie
 
-seek-requires : tie.Need-seek-requires
-seek-requires c κs = search needs
-
-enum-known-sought : tie.Need-enum-known-sought
-enum-known-sought c = search needs
+find-board-requires : tie.Need-find-board-requires
+find-board-requires c κs = search needs
 
 mul-memory : tie.Need-mul-memory
 mul-memory c =
-    let start = c .before .before .before .before .before .before .before in
-    let seek = c .before .before .before .seek in
-    let a = start .args in
-    let told = c .before .sought .given in
-    let within = held-within (a .t4) (a .count) (a .memory .now) (told .0 .0) (sym (told .1) ∙ seek .ensures) in
-    record { fits = omega (arith, start .pre .size) }
+    let pre = c .before .before .before .before .before .pre in
+    record { fits = omega (arith, pre .size, c .if1 .taken) }
 
 slice-write-memory : tie.Need-slice-write-memory
 slice-write-memory c =
-    let start = c .before .before .before .before .before .before .before in
-    let seek = c .before .before .before .seek in
-    let a = start .args in
-    let told = c .before .sought .given in
-    omega (arith, start .pre .room, held-within (a .t4) (a .count) (a .memory .now) (told .0 .0) (sym (told .1) ∙ seek .ensures))
+    let pre = c .before .before .before .before .before .pre in
+    omega (arith, pre .room, c .if1 .taken)
 
 more-requires : tie.Need-more-requires
-more-requires c κs = search needs
+more-requires c κs =
+    let a = c .before .before .before .before .before .before .args in
+    let find-board = c .before .before .find-board in
+    let pre = c .before .before .before .before .before .before .pre in
+    usable-freed (a .self) (a .count) (a .memory .now) (9 * find-board .result) pre
 
 address-requires : tie.Need-address-requires
 address-requires c κs =
-    let start = c .before .before .before .before .before .before .before .before in
-    let seek = c .before .before .before .before .seek in
-    let sought = c .before .before .sought in
-    let a = start .args in
-    let told = sought .given in
-    let within = held-within (a .t4) (a .count) (a .memory .now) (told .0 .0) (sym (told .1) ∙ seek .ensures) in
-    omega (arith, start .pre .end, ap (λ (l : Ledger). l .first) (c .more .ensures))
-
-enum-told : tie.Need-enum-told
-enum-told c = search needs
-
-refused-requires : tie.Need-refused-requires
-refused-requires c κs = search needs
-
-enum-told-2 : tie.Need-enum-told-2
-enum-told-2 c = search needs
-
-refused-requires-2 : tie.Need-refused-requires-2
-refused-requires-2 c κs = search needs
+    let pre = c .before .before .before .before .before .before .before .pre in
+    let if1 = c .before .before .if1 in
+    omega (arith, pre .end, if1 .taken, ap (λ (l : Ledger). l .first) (c .more .ensures))
 
 same-length : tie.Need-same-length
 same-length c = search needs
 
 returns : tie.Need-returns
 returns c =
-    let start = c .before .before .before .before .before .before .before .before .before in
-    let seek = c .before .before .before .before .before .seek in
-    let sought = c .before .before .before .sought in
-    let a = start .args in
-    let told = sought .given in
-    back-held (a .count) (a .self) (a .memory .now) (a .t4) _ (c .address .result) (told .0 .0) (sym (told .1) ∙ seek .ensures)
-    (c .before .more .result) (c .before .more .ensures) (c .address .ensures)
+    let a = c .before .before .before .before .before .before .before .before .args in
+    let address = c .address in
+    let pre = c .before .before .before .before .before .before .before .before .pre in
+    let if1 = c .before .before .before .if1 in
+    let more = c .before .more in
+    let place = c .before .before .before .before .find-board in
+    back-held (a .count) (a .self) (a .memory .now) (a .t4) (address .result) (place .result)
+    (board-is (a .self) (a .count) (a .memory .now) (a .t4) pre (place .result) (place .ensures)) (if1 .taken)
+    (more .result) (more .ensures) (address .ensures)
+
+refused-requires : tie.Need-refused-requires
+refused-requires c κs = search needs
 
 same-length-2 : tie.Need-same-length-2
 same-length-2 c = search needs
 
 returns-2 : tie.Need-returns-2
 returns-2 c =
-    let start = c .before .before .before .before .before .before .before in
-    let seek = c .before .before .before .seek in
-    let a = start .args in
-    back-free (a .count) (a .self) (a .memory .now) (a .t4) _ (c .refused .result) _ (sym (c .before .enum-told .given .1) ∙ seek .ensures) (c .refused .ensures)
-
-same-length-3 : tie.Need-same-length-3
-same-length-3 c = search needs
-
-returns-3 : tie.Need-returns-3
-returns-3 c =
-    let start = c .before .before .before .before .before .before .before in
-    let seek = c .before .before .before .seek in
-    let a = start .args in
-    back-nothing (a .count) (a .self) (a .memory .now) (a .t4) _ (c .refused2 .result) (sym (c .before .enum-told2 .given .1) ∙ seek .ensures) (c .refused2 .ensures)
+    let a = c .before .before .before .before .before .before .args in
+    let refused = c .refused in
+    let pre = c .before .before .before .before .before .before .pre in
+    let place = c .before .before .find-board in
+    back-unknown (a .count) (a .self) (a .memory .now) (a .t4) (refused .result) (place .result)
+    (board-is (a .self) (a .count) (a .memory .now) (a .t4) pre (place .result) (place .ensures)) (c .before .if1 .left) (refused .ensures)
 
 pub give-back-in-spec : {M : Type 1} → statement M
 give-back-in-spec =
     tie.close
     (tie.spec
-    seek-requires
-    enum-known-sought
+    find-board-requires
     mul-memory
     slice-write-memory
     more-requires
     address-requires
-    enum-told
-    refused-requires
-    enum-told-2
-    refused-requires-2
     same-length
     returns
+    refused-requires
     same-length-2
-    returns-2
-    same-length-3
-    returns-3)
+    returns-2)

@@ -1,16 +1,23 @@
--- The count is moved and the range stays.
-use Prim.Native.Nat.{ℕ}
-use mathlib.Core.Path.{ap}
+-- The count is moved, the group of the place is marked anew, and the range stays.
 use borrow.Author.Needs.{needs}
-use Rattle.address_ledger.specs.Ledger.{ledgerOf}
+use lib.ListN.{length}
+use Rattle.address_places.proofs.Fit.{fit-all}
+use Rattle.address_ledger.proofs.Calls.{written}
 use Rattle.address_ledger.proofs.ledger.Ledger.more.Statement.{statement}
 use Rattle.address_ledger.proofs.ledger.Ledger.more.Tie as tie
 
 one-more-requires : tie.Need-one-more-requires
 one-more-requires c κs = search needs
 
+mark-anew-requires : tie.Need-mark-anew-requires
+mark-anew-requires c κs = search needs
+
 returns : tie.Need-returns
-returns c = ap (λ (x : ℕ). ledgerOf (c .before .args .self .first) (c .before .args .self .size) x) (c .one-more .ensures)
+returns c =
+    let a = c .before .before .before .args in
+    let pre = c .before .before .before .pre in
+    let room = fit-all (a .count) (length (a .memory .now)) (pre .size) (pre .room) in
+    written (a .self) (a .count) (a .place) (a .memory .now) room _ _ (c .before .one-more .ensures) _ (c .mark-anew .ensures)
 
 pub more-spec : {M : Type 1} → statement M
-more-spec = tie.close (tie.spec one-more-requires returns)
+more-spec = tie.close (tie.spec one-more-requires mark-anew-requires returns)

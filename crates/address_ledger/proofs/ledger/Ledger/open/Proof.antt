@@ -2,7 +2,8 @@
 use mathlib.Core.Path.{sym, _∙_}
 use borrow.Author.Needs.{needs}
 use lib.ListN.{length}
-use Rattle.address_ledger.proofs.Judged.{usable, end-limit}
+use Rattle.address_places.proofs.Fit.{fit-all}
+use Rattle.address_range.proofs.Judged.{usable, counted-is}
 use Rattle.address_ledger.proofs.Calls.{open-refused, open-accepted}
 use Rattle.address_ledger.proofs.ledger.Ledger.open.Statement.{statement}
 use Rattle.address_ledger.proofs.ledger.Ledger.open.Tie as tie
@@ -17,37 +18,30 @@ enum-told : tie.Need-enum-told
 enum-told c = search needs
 
 count-requires : tie.Need-count-requires
-count-requires c κs =
-    let start = c .before .before .before .before in
-    let judge = c .before .before .judge in
-    let a = start .args in
-    end-limit (a .first) (a .size) (length (a .memory .now)) (sym (c .enum-told .given .1) ∙ judge .ensures)
+count-requires c κs = search needs
 
-count-free-requires : tie.Need-count-free-requires
-count-free-requires c κs =
-    let start = c .before .before .before .before .before in
-    let judge = c .before .before .before .judge in
-    let a = start .args in
-    let accepted = sym (c .before .enum-told .given .1) ∙ judge .ensures in
-    usable (a .first) (a .size) (length (a .memory .now)) accepted (c .count .result) (c .count .ensures) .room
+survey-requires : tie.Need-survey-requires
+survey-requires c κs = search needs
 
 returns : tie.Need-returns
 returns c =
-    let start = c .before .before .before .before .before in
+    let a = c .before .before .before .before .before .args in
     let judge = c .before .before .before .judge in
-    let a = start .args in
     let told = c .before .verdict .given in
     open-refused (a .first) (a .size) (a .memory .now) (told .0 .0) (sym (told .1) ∙ judge .ensures)
 
 returns-2 : tie.Need-returns-2
 returns-2 c =
-    let start = c .before .before .before .before .before .before in
+    let a = c .before .before .before .before .before .before .args in
+    let enum-told = c .before .before .enum-told in
     let judge = c .before .before .before .before .judge in
-    let arm = c .before .before .enum-told in
-    let a = start .args in
-    let accepted = sym (arm .given .1) ∙ judge .ensures in
-    open-accepted (a .first) (a .size) (a .memory .now) accepted (c .before .count .result) (c .before .count .ensures) (c .count-free .result) (c .count-free .ensures)
+    let count = c .before .count in
+    let found = c .survey in
+    let accepted = sym (enum-told .given .1) ∙ judge .ensures in
+    let n = counted-is (a .first) (a .size) (length (a .memory .now)) accepted (count .result) (count .ensures) in
+    let places = usable (a .first) (a .size) (length (a .memory .now)) accepted (count .result) n in
+    open-accepted (a .first) (a .size) (a .memory .now) accepted (count .result) n (found .result)
+    (rw (fit-all (count .result) (length (a .memory .now)) (places .size) (places .room)) (found .ensures))
 
 pub open-spec : {M : Type 1} → statement M
-open-spec =
-    tie.close (tie.spec judge-requires enum-known-verdict enum-told count-requires count-free-requires returns returns-2)
+open-spec = tie.close (tie.spec judge-requires enum-known-verdict enum-told count-requires survey-requires returns returns-2)

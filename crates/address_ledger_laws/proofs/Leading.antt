@@ -1,0 +1,129 @@
+-- Where the marks lead: right ones to the lowest free place of all, since every lower group has none; any marks to the first marked group with one.
+use Prim.Native.Nat.{ℕ, zero, suc, _+_, _*_, _/_, _≤_, _<_}
+use mathlib.Core.Path.{_≡_, refl, sym, ap, _∙_}
+use mathlib.Core.Bool.{Bool, true, false, cond}
+use mathlib.Core.List.{List, [], _∷_}
+use native.Mathlib.Omega.{arith}
+use native.Mathlib.Nat.{zero-add}
+use borrow.Author.Tests.{lt-ltb, le-ltb, ltb-true, ltb-false}
+use lib.ListN.{length, take, drop, length-take, length-drop}
+use Rattle.address_places.specs.Place.{Place, places, isFree, lowest, has, sought}
+use Rattle.address_places.specs.Marks.{marked, groupAt, marksOf, freeBy, soughtBy}
+use Rattle.address_places.specs.declared.place.Sought.{Sought}
+use Rattle.address_places.specs.declared.place.Sought.the-variants.{Free, Nothing}
+use Rattle.address_ledger_laws.specs.Marked.{NoneBelow}
+use Rattle.address_ledger_laws.proofs.Marking.{lowest-bit, rest-of, next-group}
+
+-- ---- the lowest free place of a list, by its first places and the rest
+in-front-cons : (p : Place) (i : ℕ) (ps : List Place) (x : Bool) → isFree p ≡ x
+    → (lowest isFree (take i ps) < length (take i ps) → lowest isFree ps ≡ lowest isFree (take i ps))
+    → lowest isFree (p ∷ take i ps) < suc (length (take i ps)) → lowest isFree (p ∷ ps) ≡ lowest isFree (p ∷ take i ps)
+unfolding lowest
+in-front-cons p i ps true e ih h = rw e
+in-front-cons p i ps false e ih h =
+    let g : suc (lowest isFree (take i ps)) < suc (length (take i ps)) = rw e at h in
+    rw e (ap suc (ih (omega arith)))
+
+in-front : (i : ℕ) (ps : List Place) → lowest isFree (take i ps) < length (take i ps) → lowest isFree ps ≡ lowest isFree (take i ps)
+in-front zero ps h = absurd (omega arith)
+in-front (suc i) [] h = absurd (omega arith)
+in-front (suc i) (p ∷ ps) h = in-front-cons p i ps _ refl (in-front i ps) h
+
+behind-cons : (p : Place) (i : ℕ) (ps : List Place) (x : Bool) → isFree p ≡ x
+    → (length (take i ps) ≤ lowest isFree (take i ps) → lowest isFree ps ≡ length (take i ps) + lowest isFree (drop i ps))
+    → suc (length (take i ps)) ≤ lowest isFree (p ∷ take i ps) → lowest isFree (p ∷ ps) ≡ suc (length (take i ps)) + lowest isFree (drop i ps)
+unfolding lowest
+behind-cons p i ps true e ih h = let g : suc (length (take i ps)) ≤ 0 = rw e at h in absurd (omega arith)
+behind-cons p i ps false e ih h =
+    let g : suc (length (take i ps)) ≤ suc (lowest isFree (take i ps)) = rw e at h in
+    rw e (omega (arith, ih (omega arith)))
+
+behind : (i : ℕ) (ps : List Place) → length (take i ps) ≤ lowest isFree (take i ps) → lowest isFree ps ≡ length (take i ps) + lowest isFree (drop i ps)
+unfolding lowest
+behind zero ps h = sym (zero-add (lowest isFree ps))
+behind (suc i) [] h = refl
+behind (suc i) (p ∷ ps) h = behind-cons p i ps _ refl (behind i ps) h
+
+-- ---- right marks
+abbrev walkFound : ℕ → List Place → Sought
+walkFound j ps = cond (has isFree ps) (Free (j + lowest isFree ps)) Nothing
+
+module _ (j : ℕ) (ps : List Place) where
+  front-found : has isFree (take 64 ps) ≡ true → Free (j + lowest isFree (take 64 ps)) ≡ walkFound j ps
+  unfolding has
+  front-found t =
+      let l = ltb-true (lowest isFree (take 64 ps)) (length (take 64 ps)) t in
+      let e = in-front 64 ps l in
+      let w : lowest isFree ps < length ps = omega (arith, e, l, length-take 64 ps) in
+      rw (lt-ltb (lowest isFree ps) (length ps) w, e)
+
+  rest-by : (t : Bool) → has isFree (drop 64 ps) ≡ t → has isFree (take 64 ps) ≡ false → walkFound (j + 64) (drop 64 ps) ≡ walkFound j ps
+  unfolding has
+  rest-by true t f =
+      let e = behind 64 ps (ltb-false (lowest isFree (take 64 ps)) (length (take 64 ps)) f) in
+      let l = ltb-true (lowest isFree (drop 64 ps)) (length (drop 64 ps)) t in
+      let w : lowest isFree ps < length ps = omega (arith, e, l, length-take 64 ps, length-drop 64 ps) in
+      let s : j + 64 + lowest isFree (drop 64 ps) ≡ j + lowest isFree ps = omega (arith, e, l, length-take 64 ps, length-drop 64 ps) in
+      rw (t, lt-ltb (lowest isFree ps) (length ps) w, s)
+  rest-by false t f =
+      let e = behind 64 ps (ltb-false (lowest isFree (take 64 ps)) (length (take 64 ps)) f) in
+      let l = ltb-false (lowest isFree (drop 64 ps)) (length (drop 64 ps)) t in
+      let w : length ps ≤ lowest isFree ps = omega (arith, e, l, length-take 64 ps, length-drop 64 ps) in
+      rw (t, le-ltb (lowest isFree ps) (length ps) w)
+
+walk-cons : (n j : ℕ) (ps : List Place) (t : Bool) → has isFree (take 64 ps) ≡ t
+    → freeBy n (marksOf n (drop 64 ps)) (j + 64) (drop 64 ps) ≡ walkFound (j + 64) (drop 64 ps) → freeBy (suc n) (marksOf (suc n) ps) j ps ≡ walkFound j ps
+unfolding freeBy marksOf marked
+walk-cons n j ps true t ih =
+    rw (lowest-bit (has isFree (take 64 ps)) (marksOf n (drop 64 ps)), t) (front-found j ps t)
+walk-cons n j ps false t ih =
+    rw (lowest-bit (has isFree (take 64 ps)) (marksOf n (drop 64 ps)), rest-of (has isFree (take 64 ps)) (marksOf n (drop 64 ps)), t)
+    (ih ∙ rest-by j ps _ refl t)
+
+walk-found : (n j : ℕ) (ps : List Place) → length ps ≤ 64 * n → freeBy n (marksOf n ps) j ps ≡ walkFound j ps
+unfolding freeBy has lowest
+walk-found zero j [] h = refl
+walk-found zero j (p ∷ ps) h = absurd (omega arith)
+walk-found (suc n) j ps h = walk-cons n j ps _ refl (walk-found n (j + 64) (drop 64 ps) (omega (arith, length-drop 64 ps)))
+
+-- what right marks find is what a walk of all places finds
+pub as-walked : (b : List ℕ) (ps : List Place) → length ps ≤ 4096 → soughtBy (marksOf 64 ps) b ps ≡ sought b ps
+unfolding soughtBy sought
+as-walked b ps h = rw (walk-found 64 0 ps (omega arith), zero-add (lowest isFree ps))
+
+-- ---- any marks
+passed-by : (n x j : ℕ) (ps : List Place) (p q : Bool) → marked zero x ≡ p → has isFree (take 64 ps) ≡ q → (p ≡ true → q ≡ false)
+    → freeBy (suc n) x j ps ≡ freeBy n (x / 2) (j + 64) (drop 64 ps)
+unfolding freeBy
+passed-by n x j ps true true e f h = let z : true ≡ false = h refl in cc
+passed-by n x j ps true false e f h = rw (e, f)
+passed-by n x j ps false q e f h = rw e
+
+module _ (n x j : ℕ) (ps : List Place) (k : ℕ) (none : NoneBelow x ps (suc k)) where
+  pub passed : freeBy (suc n) x j ps ≡ freeBy n (x / 2) (j + 64) (drop 64 ps)
+  passed = passed-by n x j ps _ _ refl refl (none 0 (omega arith))
+
+  pub none-further : NoneBelow (x / 2) (drop 64 ps) k
+  unfolding marked
+  none-further g h m = rw (← next-group g ps) (none (suc g) (omega arith) m)
+
+marked-rest : (g x : ℕ) → marked (suc g) x ≡ true → marked g (x / 2) ≡ true
+unfolding marked
+marked-rest g x m = m
+
+pub first-marked : (n g x j : ℕ) (ps : List Place) → g < n → marked g x ≡ true → has isFree (groupAt g ps) ≡ true → NoneBelow x ps g
+    → freeBy n x j ps ≡ Free (j + (64 * g + lowest isFree (groupAt g ps)))
+unfolding freeBy
+first-marked zero g x j ps h m f none = absurd (omega arith)
+first-marked (suc n) zero x j ps h m f none =
+    let e : 64 * 0 + lowest isFree (take 64 ps) ≡ lowest isFree (take 64 ps) = omega arith in
+    rw (m, f, e)
+first-marked (suc n) (suc g) x j ps h m f none =
+    let i = first-marked n g (x / 2) (j + 64) (drop 64 ps) (omega arith) (marked-rest g x m) (rw (next-group g ps) at f) (none-further n x j ps g none) in
+    let e : j + 64 + (64 * g + lowest isFree (groupAt g (drop 64 ps))) ≡ j + (64 * suc g + lowest isFree (groupAt g (drop 64 ps))) = omega arith in
+    passed n x j ps g none ∙ i ∙ rw (next-group g ps, e)
+
+pub none-marked : (n x j : ℕ) (ps : List Place) → NoneBelow x ps n → freeBy n x j ps ≡ Nothing
+unfolding freeBy
+none-marked zero x j ps none = refl
+none-marked (suc n) x j ps none = passed n x j ps n none ∙ none-marked n (x / 2) (j + 64) (drop 64 ps) (none-further n x j ps n none)

@@ -1,0 +1,9 @@
+pub mod Scan
+pub mod Fit
+pub mod Runs
+pub mod Bits
+pub mod Summary
+pub mod Passing
+pub mod Write
+pub mod Found
+pub mod Offers
