@@ -10,7 +10,7 @@ use lib.Dec.{leb, eqb}
 use lib.ListN.{length}
 use Rattle.refusal.specs.declared.Refusal.the-variants.{Range}
 use Rattle.link_key_usage.specs.Usage.{usageOf, familyOf, familyCovers, listed, knownType, entryAt, entrySays}
-use Rattle.link_key.specs.Key.{keyOf, inLimits, sameKey, sameValue, covers, coverageOf, coverageSays, foundKey}
+use Rattle.link_key.specs.Key.{keyOf, inLimits, sameKey, sameSecret, sameValue, covers, coverageOf, coverageSays, foundKey}
 use Rattle.link_key.specs.declared.Key.{Key}
 use Rattle.link_key_usage.specs.declared.Coverage.the-variants.{Covered, Refused}
 use Rattle.link_key_usage.specs.declared.Entry.the-variants as entry
@@ -39,6 +39,18 @@ same-key-equal k l e =
     let values = both-right (names && usages) (sameValue (k .value) (l .value)) e in
     let v : k .value ≡ l .value = same-equal eqb eqb-true (k .value) (l .value) values in
     alike i u v
+
+pub same-secret-says : (k l : Key) → sameSecret k l ≡ true → (k .identifier ≡ l .identifier) × (k .value ≡ l .value)
+unfolding sameSecret
+same-secret-says k l e =
+    let names = eqb (k .identifier) (l .identifier) in
+    let values = sameValue (k .value) (l .value) in
+    (eqb-true _ _ (both-left names values e), same-equal eqb eqb-true (k .value) (l .value) (both-right names values e))
+
+pub same-secret-made : (k l : Key) → k .identifier ≡ l .identifier → k .value ≡ l .value → sameSecret k l ≡ true
+unfolding sameSecret
+same-secret-made k l p q =
+    rw (eq-eqb (k .identifier) (l .identifier) p, q, same-self eqb (λ n. eq-eqb n n refl) (l .value))
 
 pub limits-identifier : (k : Key) → inLimits k ≡ true → 1 ≤ k .identifier
 unfolding inLimits

@@ -4,7 +4,7 @@ use native.Mathlib.Omega.{arith}
 use mathlib.Core.Path.{_≡_, refl, _∙_, ap}
 use Rattle.refusal.specs.declared.Refusal.{Refusal}
 use Rattle.refusal.specs.declared.Verdict.the-variants as verdict
-use Rattle.node.specs.Frames.{send, verified}
+use Rattle.node.specs.Frames.{send, afterSend, verified}
 use Rattle.node_key_sets.specs.Frames.{changeVerdict}
 use Rattle.node_key_sets.specs.declared.frames.Change.{Change}
 use Rattle.node_key_sets.specs.declared.frames.Change.the-variants as change
@@ -37,10 +37,14 @@ module _ (L : NodeLaws) (a b : Node) (type : ℕ) where
       turn-ends a b type (λ t. t .answer ≡ Failed → t .receiver ≡ b) (λ x e. refl)
       (λ s e. never-failed (verified b type (frameId a type) .change) e)
 
+  sender-stays : turn a b type .sender ≡ afterSend a type
+  sender-stays = turn-ends a b type (λ t. t .sender ≡ afterSend a type) (λ x. refl) (λ s. refl)
+
 pub turn-demand1 : NodeLaws → TurnDemand1
 unfolding turn
 turn-demand1 L = record {
   sender-refused = λ a b type k e. (rw e (L .send-refused a type k e), rw e, rw e);
+  sender-after = sender-stays L;
   refused = refused-leaves L;
   failed = failed-leaves L;
 }

@@ -25,10 +25,12 @@ use Rattle.node_attempt.specs.declared.poll.Step.{Step}
 use Rattle.node_delivery.specs.Delivery.{attemptAfter, belongs, mayCome}
 use Rattle.node_delivery.specs.declared.Delivery.{Delivery}
 use Rattle.node_delivery.specs.declared.Delivery.the-variants.{JoinAnswer, Update}
+use Rattle.node_key_sets.specs.Frames as sets
 use Rattle.node_key_sets.specs.Frames.{verifiedIn}
 use Rattle.node_key_sets.specs.declared.frames.Change.the-variants as change
 use Rattle.node_key_sets.specs.declared.sets.KeySets.{KeySets}
 use Rattle.node_key_sets.specs.declared.frames.Effect.{Effect}
+use Rattle.node_key_sets.specs.declared.frames.Sending.{Sending}
 use Rattle.node_parameters.specs.Octets.{validOctets, knownOctets}
 use Rattle.node_parameters.specs.Reports.{reportsOf}
 use Rattle.node_parameters.specs.declared.octets.HeldOctets.{HeldOctets}
@@ -36,7 +38,7 @@ use Rattle.node.specs.Node.{isBorder, validRole, freshNode, unmade, made, attem
 use Rattle.node.specs.Range.{valid}
 use Rattle.node.specs.Timing.{startPlan, startedFrom, startedBy, start, polled, polledBy, poll}
 use Rattle.node.specs.Delivery.{placementOf, placedBy, configured, undelivered, owesIdentifier, apply, deliverVerdict, applyRead, deliverBy, readFor, deliver}
-use Rattle.node.specs.Frames.{reported, reportedBy, verified}
+use Rattle.node.specs.Frames.{sentBy, unsent, sending, afterSend, reported, reportedBy, verified}
 use Rattle.node.specs.declared.delivery.Delivered.{Delivered}
 use Rattle.node.specs.declared.node.Made.{Made}
 use Rattle.node.specs.declared.node.Node.{Node}
@@ -92,6 +94,14 @@ verified-keeps n type identifier = go (valid n) (verifiedIn (n .sets) type ident
     go : (v : Bool) (h : Effect) → waits (cond v (reportedBy n h) (reported (change.Refused refusal.Range) n) .node) ≡ waits n
     go true h = refl
     go false h = refl
+
+send-keeps : (n : Node) (type : ℕ) → waits (afterSend n type) ≡ waits n
+unfolding sending afterSend
+send-keeps n type = go (valid n) (sets.sending (n .sets) type)
+  where
+    go : (v : Bool) (s : Sending) → waits (cond v (sentBy n s) (unsent n) .node) ≡ waits n
+    go true s = refl
+    go false s = refl
 
 -- ---- join answers and updates: an accepted one leaves the attempt that the call names
 module _ (call : Delivery) (n : Node) (time : ℕ) where
@@ -171,6 +181,7 @@ phases = record {
   start-refused = start-refused;
   deliver-idle = deliver-idle;
   verified-keeps = verified-keeps;
+  send-keeps = send-keeps;
   poll-idle = poll-idle;
   answer-waits = λ n time payload e. belongs-then JoinAnswer n time payload e;
   answer-ends = λ n time payload e. ap (λ (a : Attempt). isWaiting (a .phase)) (deliver-moves JoinAnswer n time payload e);

@@ -12,7 +12,7 @@ use Rattle.node_parameters.specs.declared.octets.HeldOctets.{HeldOctets}
 use Rattle.node.specs.Node.{made}
 use Rattle.node.specs.Timing.{start, poll}
 use Rattle.node.specs.Delivery.{deliver}
-use Rattle.node.specs.Frames.{verified}
+use Rattle.node.specs.Frames.{afterSend, verified}
 use Rattle.node.specs.declared.node.Node.{Node}
 
 abbrev pub waits : Node → Bool
@@ -27,6 +27,7 @@ pub record PhaseLaws : Type 0 where
   pub deliver-idle :
       (call : Delivery) (n : Node) (time : ℕ) (payload : List ℕ) → waits n ≡ false → waits (deliver call n time payload .node) ≡ false
   pub verified-keeps : (n : Node) (type identifier : ℕ) → waits (verified n type identifier .node) ≡ waits n
+  pub send-keeps : (n : Node) (type : ℕ) → waits (afterSend n type) ≡ waits n
   pub poll-idle : (n : Node) (time : ℕ) → waits n ≡ false → waits (poll n time .node) ≡ false
   -- an accepted join answer comes to a node that waits, and it waits no more
   pub answer-waits :
