@@ -8,6 +8,10 @@
 #include <time.h>
 
 extern uint64_t ledger_play(size_t first, size_t size, uint8_t *memory, size_t memory_len, const uint8_t *script, size_t script_len);
+#ifdef OTHER
+/* another build of the same library, such as an earlier one */
+extern uint64_t other_play(size_t first, size_t size, uint8_t *memory, size_t memory_len, const uint8_t *script, size_t script_len);
+#endif
 
 enum { FIRST = 4096, MOST = 4096, ROUNDS = 7 };
 static uint8_t memory[9 * MOST], script[9 * 8 * MOST];
@@ -116,14 +120,23 @@ static uint64_t table_play(void) {
     return sum;
 }
 static void measure(const char *name, size_t size) {
-    double ours = 1e18, theirs = 1e18;
-    uint64_t said = 0, told = 0;
+    double ours = 1e18, theirs = 1e18, others = 1e18;
+    uint64_t said = 0, told = 0, other = 0;
     for (int r = 0; r < ROUNDS; r++) {
         memset(memory, 0, sizeof memory);
         double t = now();
         said = ledger_play(FIRST, size, memory, 9 * size, script, 9 * calls);
         t = now() - t;
         if (t < ours) ours = t;
+#ifdef OTHER
+        memset(memory, 0, sizeof memory);
+        t = now();
+        other = other_play(FIRST, size, memory, 9 * size, script, 9 * calls);
+        t = now() - t;
+        if (t < others) others = t;
+#else
+        other = said;
+#endif
         open_table(size);
         t = now();
         told = table_play();
@@ -131,10 +144,16 @@ static void measure(const char *name, size_t size) {
         if (t < theirs) theirs = t;
         close_table();
     }
-    printf("| %s | %zu | %.0f | %.0f | %.2f |%s\n", name, calls, ours / calls, theirs / calls, ours / theirs, said == told ? "" : " ANSWERS DIFFER");
+    printf("| %s | %zu | %.0f | ", name, calls, ours / calls);
+    if (others < 1e18) printf("%.0f | ", others / calls);
+    printf("%.0f | %.2f |%s\n", theirs / calls, ours / theirs, said == told && said == other ? "" : " ANSWERS DIFFER");
 }
 int main(void) {
+#ifdef OTHER
+    printf("| script | calls | ledger, ns a call | the other build | SQLite, ns a call | ratio |\n|---|---|---|---|---|---|\n");
+#else
     printf("| script | calls | ledger, ns a call | SQLite, ns a call | ratio |\n|---|---|---|---|---|\n");
+#endif
     shift(600, 0), measure("a shift of 600 boards", 600);
     shift(600, 1), measure("the same, asked after every board", 600);
     shift(4096, 0), measure("4,096 boards", 4096);
