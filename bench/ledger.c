@@ -8,10 +8,15 @@
 #include <time.h>
 
 extern uint64_t ledger_play(size_t first, size_t size, uint8_t *memory, size_t memory_len, const uint8_t *script, size_t script_len);
+#ifdef OTHER
+/* another build of the same library, such as an earlier one */
+extern uint64_t other_play(size_t first, size_t size, uint8_t *memory, size_t memory_len, const uint8_t *script, size_t script_len);
+#endif
 
 enum { FIRST = 4096, MOST = 4096, ROUNDS = 7 };
 static uint8_t memory[9 * MOST], script[9 * 8 * MOST];
-static size_t calls;
+/* how many calls the script has, and how many of them come before the clock starts */
+static size_t calls, before;
 static uint64_t seed = 13;
 
 static uint64_t draw(uint64_t below) {
@@ -42,7 +47,7 @@ static void shuffle(size_t *order, size_t n) {
 /* A shift: every board asks, in random order; then half of them give back and ask again; then all give back. With `asked` the free count after each call. */
 static void shift(size_t boards, int asked) {
     static size_t order[MOST];
-    calls = 0;
+    calls = before = 0;
     shuffle(order, boards);
     for (size_t i = 0; i < boards; i++) {
         call(0, order[i]);
@@ -59,9 +64,9 @@ static void shift(size_t boards, int asked) {
         if (asked) call(2, 0);
     }
 }
-/* New boards only, in a range that is nearly full: one place at its end is given back and granted to another board, over and over. */
+/* New boards only, in a range that is full before the clock starts: one place at its end is given back and granted to another board, over and over. */
 static void nearly_full(size_t boards) {
-    calls = 0;
+    calls = 0, before = boards;
     for (size_t i = 0; i < boards; i++) call(0, i);
     for (size_t i = 0; i < boards; i++) call(1, boards - 1 + (i ? i : 0)), call(0, boards + i);
 }
@@ -95,9 +100,9 @@ static int64_t one(sqlite3_stmt *s, int64_t none) {
     sqlite3_reset(s);
     return v;
 }
-static uint64_t table_play(void) {
+static uint64_t table_play(size_t from, size_t to) {
     uint64_t sum = 0;
-    for (size_t i = 0; i < calls; i++) {
+    for (size_t i = from; i < to; i++) {
         const uint8_t *c = script + 9 * i;
         if (c[0] == 2) {
             sum += one(count, 0);
@@ -115,26 +120,45 @@ static uint64_t table_play(void) {
     }
     return sum;
 }
+typedef uint64_t play(size_t, size_t, uint8_t *, size_t, const uint8_t *, size_t);
+/* The least time so far, with this round's. What is answered goes to `said`. */
+static double timed(play *by, size_t size, double least, uint64_t *said) {
+    memset(memory, 0, sizeof memory);
+    by(FIRST, size, memory, 9 * size, script, 9 * before);
+    double t = now();
+    *said = by(FIRST, size, memory, 9 * size, script + 9 * before, 9 * (calls - before));
+    t = now() - t;
+    return t < least ? t : least;
+}
 static void measure(const char *name, size_t size) {
-    double ours = 1e18, theirs = 1e18;
-    uint64_t said = 0, told = 0;
+    double ours = 1e18, theirs = 1e18, others = 1e18;
+    uint64_t said = 0, told = 0, other = 0;
     for (int r = 0; r < ROUNDS; r++) {
-        memset(memory, 0, sizeof memory);
-        double t = now();
-        said = ledger_play(FIRST, size, memory, 9 * size, script, 9 * calls);
-        t = now() - t;
-        if (t < ours) ours = t;
+        ours = timed(ledger_play, size, ours, &said);
+#ifdef OTHER
+        others = timed(other_play, size, others, &other);
+#else
+        other = said;
+#endif
         open_table(size);
-        t = now();
-        told = table_play();
+        table_play(0, before);
+        double t = now();
+        told = table_play(before, calls);
         t = now() - t;
         if (t < theirs) theirs = t;
         close_table();
     }
-    printf("| %s | %zu | %.0f | %.0f | %.2f |%s\n", name, calls, ours / calls, theirs / calls, ours / theirs, said == told ? "" : " ANSWERS DIFFER");
+    size_t n = calls - before;
+    printf("| %s | %zu | %.0f | ", name, n, ours / n);
+    if (others < 1e18) printf("%.0f | ", others / n);
+    printf("%.0f | %.2f |%s\n", theirs / n, ours / theirs, said == told && said == other ? "" : " ANSWERS DIFFER");
 }
 int main(void) {
+#ifdef OTHER
+    printf("| script | calls | ledger, ns a call | the other build | SQLite, ns a call | ratio |\n|---|---|---|---|---|---|\n");
+#else
     printf("| script | calls | ledger, ns a call | SQLite, ns a call | ratio |\n|---|---|---|---|---|\n");
+#endif
     shift(600, 0), measure("a shift of 600 boards", 600);
     shift(600, 1), measure("the same, asked after every board", 600);
     shift(4096, 0), measure("4,096 boards", 4096);

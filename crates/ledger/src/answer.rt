@@ -33,14 +33,40 @@ fn put_count(out: Output, name: &[u8], answer: FreeAnswer, buffer: &mut Buffer) 
     }
 }
 
-// The ledger, as first=4096 size=3 free=2.
+// The ledger, as first=4096 size=3 free=2 marks=[0].
 pub fn put_ledger(out: Output, ledger: Ledger, buffer: &mut Buffer) -> Output {
     let out = out.text(b"first=", buffer)
         .number(ledger.first as u64, buffer);
     let out = out.text(b" size=", buffer)
         .number(ledger.size as u64, buffer);
-    out.text(b" free=", buffer)
-        .number(ledger.free as u64, buffer)
+    let out = out.text(b" free=", buffer)
+        .number(ledger.free as u64, buffer);
+    let out = put_groups(out.text(b" marks=[", buffer), ledger.marks, buffer);
+    out.byte(b']', buffer)
+}
+
+// The marked groups, with commas between them.
+fn put_groups(mut out: Output, marks: u64, buffer: &mut Buffer) -> Output {
+    let mut left = marks;
+    let mut group: u64 = 0;
+    let mut comma = false;
+    while group < 64 {
+        out = put_group(out, group, left % 2 == 1, comma, buffer);
+        comma = comma | (left % 2 == 1);
+        left = left / 2;
+        group += 1;
+    }
+    out
+}
+
+fn put_group(out: Output, group: u64, marked: bool, comma: bool, buffer: &mut Buffer) -> Output {
+    if !marked {
+        return out;
+    }
+    if comma {
+        return out.byte(b',', buffer).number(group, buffer);
+    }
+    out.number(group, buffer)
 }
 
 // So many bytes of the memory from a place on, as h'cafe'.

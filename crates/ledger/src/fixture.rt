@@ -99,6 +99,7 @@ impl Fixture {
                 self.left(out.text(b"set", buffer))
             }
             Order::Count(count) => self.counted(count).left(out.text(b"set", buffer)),
+            Order::Marks(marks) => self.marked(marks).left(out.text(b"set", buffer)),
             Order::Show => self.left(put_ledger(out, self.ledger, buffer)),
             Order::Wrong(fault) => self.left(put_fault(out, fault, buffer)),
             Order::Nothing => self.left(out),
@@ -122,6 +123,13 @@ impl Fixture {
     fn counted(self, count: usize) -> Fixture {
         let mut ledger = self.ledger;
         ledger.free = count;
+        self.with(ledger)
+    }
+
+    // The fixture with other marks kept in its ledger.
+    fn marked(self, marks: u64) -> Fixture {
+        let mut ledger = self.ledger;
+        ledger.marks = marks;
         self.with(ledger)
     }
 

@@ -70,7 +70,7 @@ fn main() {
     let mut buffer = io::large_buffer();
     let session = Session::begin(
         b"ledger: short addresses granted to boards and given back (docs/TOOLS.md).\n\
-open FIRST SIZE, grant BOARD, back BOARD, free, lend N, read PLACE N, write PLACE HEX, clear, count N, show\n",
+open FIRST SIZE, grant BOARD, back BOARD, free, lend N, read PLACE N, write PLACE HEX, clear, count N, marks G.., show\n",
         &mut buffer,
     );
     let desk = Desk {

@@ -1,4 +1,5 @@
 // What a line asks of the tool ledger.
+pub mod groups;
 pub mod line;
 pub mod next;
 pub mod order;

@@ -1,4 +1,5 @@
 // A line of the ledger's input, read in as many parts as it comes in: a command and its words.
+use crate::groups::Groups;
 use tool_numerals::decimal::Decimal;
 use tool_numerals::hex::Hex;
 use tool_text::word::Word;
@@ -15,6 +16,8 @@ pub struct Line {
     // the second one as a number, and all from it on as HEX
     pub second: Decimal,
     pub hex: Hex,
+    // all words after the command as groups
+    pub groups: Groups,
 }
 
 impl Line {
@@ -27,6 +30,7 @@ impl Line {
             board: Hex::new(),
             second: Decimal::Empty,
             hex: Hex::new(),
+            groups: Groups::new(),
         }
     }
 
@@ -51,9 +55,11 @@ impl Line {
             if self.words < 4 {
                 self.words += 1;
             }
+            let groups = self.groups.ended();
+            self.groups = groups;
         }
         self.inside = !space;
-        self.word(part, board, hex)
+        self.with_group(part).word(part, board, hex)
     }
 
     // The line with a part of its last word.
@@ -68,6 +74,16 @@ impl Line {
         }
     }
 
+    // The command names no group.
+    fn with_group(mut self, part: &[u8]) -> Line {
+        if self.words < 2 {
+            return self;
+        }
+        let groups = self.groups.more(part);
+        self.groups = groups;
+        self
+    }
+
     fn with_command(mut self, part: &[u8]) -> Line {
         let command = self.command.more(part);
         self.command = command;
@@ -79,6 +95,7 @@ impl Line {
         let command = self.command;
         let second = self.second;
         let hex = self.hex;
+        let groups = self.groups;
         Line {
             words: self.words,
             inside: self.inside,
@@ -87,6 +104,7 @@ impl Line {
             board: self.board.more(part, board),
             second,
             hex,
+            groups,
         }
     }
 
@@ -95,6 +113,7 @@ impl Line {
         let command = self.command;
         let second = self.second;
         let board = self.board;
+        let groups = self.groups;
         Line {
             words: self.words,
             inside: self.inside,
@@ -103,6 +122,7 @@ impl Line {
             board,
             second: second.more(part),
             hex: self.hex.more(part, hex),
+            groups,
         }
     }
 

@@ -26,6 +26,8 @@ pub enum Order {
     Clear,
     // the kept count
     Count(usize),
+    // a bit for each group
+    Marks(u64),
     Show,
 }
 
@@ -70,6 +72,9 @@ fn number_order(line: Line) -> Order {
     }
     if command.is(b"count") {
         return count_order(line);
+    }
+    if command.is(b"marks") {
+        return marks_order(line);
     }
     Order::Wrong(Fault::Command)
 }
@@ -138,6 +143,14 @@ fn count_order(line: Line) -> Order {
         return Order::Wrong(Fault::Number);
     };
     Order::Count(count as usize)
+}
+
+fn marks_order(line: Line) -> Order {
+    let groups = line.groups.ended();
+    if groups.wrong {
+        return Order::Wrong(Fault::Number);
+    }
+    Order::Marks(groups.marks)
 }
 
 fn read_order(line: Line) -> Order {

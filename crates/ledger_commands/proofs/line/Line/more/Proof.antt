@@ -31,7 +31,10 @@ next-requires : tie.Need-next-requires Inv-loop μ-loop
 next-requires c κs = search needs
 
 add-at : tie.Need-add-at Inv-loop μ-loop
-add-at c = search needs
+add-at c =
+    let find = c .before .before .before .before .before .before .before .before .find in
+    let part = c .before .before .before .before .before .before .before .before .before .before .before .before .before .before .good .1 in
+    search (needs, find .ensures, part .0, part)
 
 loop-less : tie.Need-loop-less Inv-loop μ-loop
 loop-less c = search needs
