@@ -21,7 +21,7 @@ use Rattle.cojp.specs.declared.members.Member.the-variants as mv
 pub members-none : (n : ℕ) (l : List ℕ) → n ≡ 0 → membersAt n l ≡ []
 members-none n l e = rw e
 
-members-step : (n : ℕ) (l : List ℕ) → 0 < n → membersAt n l ≡ andOn (plainAt l) (decode 6 l) (λ t. membersAt (n - 1) t)
+pub members-step : (n : ℕ) (l : List ℕ) → 0 < n → membersAt n l ≡ andOn (plainAt l) (decode 6 l) (λ t. membersAt (n - 1) t)
 members-step n l h = let e : n ≡ suc (n - 1) = omega arith in ap (λ (k : ℕ). membersAt k l) e
 
 -- there is one where one is left

@@ -1,0 +1,67 @@
+use Rattle.cojp_list_read.proofs.Reports.{code-open, code-short, code-left, code-whole}
+use native.Mathlib.Omega.{arith}
+use borrow.Author.Needs.{needs}
+use Rattle.cojp_list_read.proofs.report.after_code.Statement.{statement}
+use Rattle.cojp_list_read.proofs.report.after_code.Tie as tie
+
+integer-at-requires : tie.Need-integer-at-requires
+integer-at-requires c κs = search needs
+
+enum-told : tie.Need-enum-told
+enum-told c = search needs
+
+enum-known-i : tie.Need-enum-known-i
+enum-known-i c = search needs
+
+returns : tie.Need-returns
+returns c =
+    let i = c .before .before in
+    let integer-at = i .before .before in
+    let begun = integer-at .before .before in
+    code-short (begun .args .s .now) (begun .args .at) (begun .args .left) (integer-at .integer-at .result)
+    (integer-at .integer-at .ensures) (begun .args .negative) (begun .args .code) (i .i .given .0 .0) (i .i .given .0 .1 .0)
+    (i .i .given .0 .1 .1 .0) (i .i .given .1) (c .if1 .taken)
+
+sub-pass-over : tie.Need-sub-pass-over
+sub-pass-over c =
+    let i = c .before .before in
+    let integer-at = i .before .before in
+    let begun = integer-at .before .before in
+    code-left (begun .args .s .now) (begun .args .at) (begun .args .left) (integer-at .integer-at .result) (integer-at .integer-at .ensures)
+    (begun .args .negative) (begun .args .code) (i .i .given .0 .0) (i .i .given .0 .1 .0) (i .i .given .0 .1 .1 .0) (i .i .given .1)
+
+pass-over-requires : tie.Need-pass-over-requires
+pass-over-requires c κs =
+    let i = c .before .before in
+    let integer-at = i .before .before in
+    let begun = integer-at .before .before in
+    let l = code-left (begun .args .s .now) (begun .args .at) (begun .args .left) (integer-at .integer-at .result) (integer-at .integer-at .ensures) (begun .args .negative) (begun .args .code) (i .i .given .0 .0) (i .i .given .0 .1 .0) (i .i .given .0 .1 .1 .0) (i .i .given .1) in omega (arith, l)
+
+returns-2 : tie.Need-returns-2
+returns-2 c =
+    let integer-at = c .before .before in
+    let begun = integer-at .before .before in
+    code-open (begun .args .s .now) (begun .args .at) (begun .args .left) (integer-at .integer-at .result) (integer-at .integer-at .ensures)
+    (begun .args .negative) (begun .args .code) (c .enum-told .given .1)
+
+returns-3 : tie.Need-returns-3
+returns-3 c =
+    let i = c .before .before .before in
+    let integer-at = i .before .before in
+    let begun = integer-at .before .before in
+    code-whole (begun .args .s .now) (begun .args .at) (begun .args .left) (integer-at .integer-at .result)
+    (integer-at .integer-at .ensures) (begun .args .negative) (begun .args .code) (i .i .given .0 .0) (i .i .given .0 .1 .0)
+    (i .i .given .0 .1 .1 .0) (i .i .given .1) (c .pass-over .result) (c .pass-over .ensures)
+
+pub after-code-spec : {M : Type 1} → statement M
+after-code-spec =
+    tie.close
+    (tie.spec
+    integer-at-requires
+    enum-told
+    enum-known-i
+    returns
+    sub-pass-over
+    pass-over-requires
+    returns-2
+    returns-3)
