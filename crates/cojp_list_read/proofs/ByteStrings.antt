@@ -27,8 +27,8 @@ use Rattle.cojp_list_read.specs.declared.list.Gathered.the-variants as g
 use Rattle.cojp_list_read.proofs.Gathering.{Gathering, gathering-bad, Turn}
 
 -- ---- the next member is a byte string, or the pattern is broken
-module _ (s : List ℕ) (at left : ℕ) (v : Member) (e : MemberSays s at left v) where
-  module _ (p a : ℕ) (g : v ≡ mv.Bytes p a) where
+module _ {s : List ℕ} {at left : ℕ} {v : Member} (e : MemberSays s at left v) where
+  module _ {p a : ℕ} (g : v ≡ mv.Bytes p a) where
     here : MemberAt s at left (mv.Bytes p a)
     here = rw g at (e .here)
 
@@ -63,26 +63,25 @@ pub string-written : (b : List ℕ) → written (string b ∷ []) ≡ encode (by
 string-written b = append-nil (encode (bytes b))
 
 -- ---- one turn: the byte string at p, of a bytes, was written to the lent part
-module _ (s : List ℕ) (from count : ℕ) (d : List ℕ) {at left len members : ℕ} {d′ : List ℕ}
-    (g : Gathering stringsIn s from count d at left len members d′)
-    (v : Member) (e : MemberSays s at left v) where
+module _ {s : List ℕ} {from count : ℕ} {d : List ℕ} {at left len members : ℕ} {d′ : List ℕ}
+    (g : Gathering stringsIn s from count d at left len members d′) {v : Member} (e : MemberSays s at left v) where
   pub strings-broken : 0 < left → OneOf (0 ∷ 2 ∷ []) (tagOf member.the-type v) → GatheredAs (stringsIn (membersAt count (drop from s))) d gv.Bad d′
-  strings-broken h o = gathering-bad stringsIn s from count d g (string-broken s at left v e h o)
+  strings-broken h o = gathering-bad g (string-broken e h o)
 
-  pub strings-turn : (p a : ℕ) → v ≡ mv.Bytes p a → (n : ℕ) → n ≡ a → {r : Written} {q : List ℕ}
+  pub strings-turn : {p a : ℕ} → v ≡ mv.Bytes p a → (n : ℕ) → n ≡ a → {r : Written} {q : List ℕ}
       → Did (emit (encode (bytes (take n (drop p s))))) (take (length d′ - len) (drop len d′)) r q
       → Turn stringsIn s from count d at left len members d′ (string (take a (drop p s)) ∷ []) (p + a) (left - 1) r q
-  strings-turn p a f n x w = record {
+  strings-turn {p} {a} f n x w = record {
     gathering = g;
-    step = string-next s at left v e p a f;
+    step = string-next e f;
     put = rw (string-written (take a (drop p s)), ← x) w;
   }
 
 -- ---- an array, and anything else
-module _ (s : List ℕ) (at : ℕ) (v : Value) (e : ValueSays s at v) (f : List Plain → Picked) where
-  pub list-array : (p n : ℕ) → v ≡ vv.Array p n
+module _ {s : List ℕ} {at : ℕ} {v : Value} (e : ValueSays s at v) (f : List Plain → Picked) where
+  pub list-array : {p n : ℕ} → v ≡ vv.Array p n
       → listAnswer (fitting 253 (f (membersAt n (drop p s)))) ≡ listAnswer (fitting 253 (inArray f (valueView (drop at s))))
-  list-array p n g = rw (array-here s at v e p n g .1)
+  list-array {p} {n} g = rw (array-here s at v e p n g .1)
 
   pub list-none : OneOf (0 ∷ 1 ∷ 3 ∷ 4 ∷ []) (tagOf value.the-type v)
       → listAnswer nothing ≡ listAnswer (fitting 253 (inArray f (valueView (drop at s))))

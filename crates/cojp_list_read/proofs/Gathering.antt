@@ -102,50 +102,51 @@ module _ (f : List Plain → Picked) (s : List ℕ) (from count : ℕ) (d : List
       same nothing = refl
       same (picked ps) = refl
 
-  module _ {at left len members : ℕ} {d′ : List ℕ} (g : Gathering at left len members d′) where
-    pub gathering-length : length d′ ≡ length d
-    gathering-length = wrote-length (g .wrote) (g .room)
+module _ {f : List Plain → Picked} {s : List ℕ} {from count : ℕ} {d : List ℕ} {at left len members : ℕ} {d′ : List ℕ}
+    (g : Gathering f s from count d at left len members d′) where
+  pub gathering-length : length d′ ≡ length d
+  gathering-length = wrote-length (g .wrote) (g .room)
 
-    pub gathering-within : len ≤ length d′
-    gathering-within = omega (arith, gathering-length, g .wrote .many, g .room)
+  pub gathering-within : len ≤ length d′
+  gathering-within = omega (arith, gathering-length, g .wrote .many, g .room)
 
-    pub gathering-bad : f (membersAt left (drop at s)) ≡ nothing → fitting (length d) (f (membersAt count (drop from s))) ≡ nothing
-    gathering-bad e = rw (g .pattern, e)
+  pub gathering-bad : f (membersAt left (drop at s)) ≡ nothing → fitting (length d) (f (membersAt count (drop from s))) ≡ nothing
+  gathering-bad e = rw (g .pattern, e)
 
-    pub gathering-done : f [] ≡ picked [] → left ≤ 0 → GatheredAs (f (membersAt count (drop from s))) d (gv.Kept members len) d′
-    gathering-done e h =
-        let z : left ≡ 0 = omega arith in
-        let whole : f (membersAt count (drop from s)) ≡ picked (g .so-far) =
-        g .pattern ∙ rw (members-none left (drop at s) z, e, append-nil (g .so-far)) in
-        (g .so-far, rw (whole, le-leb (length (written (g .so-far))) (length d) (g .room)), g .many, g .wrote)
+  pub gathering-done : f [] ≡ picked [] → left ≤ 0 → GatheredAs (f (membersAt count (drop from s))) d (gv.Kept members len) d′
+  gathering-done e h =
+      let z : left ≡ 0 = omega arith in
+      let whole : f (membersAt count (drop from s)) ≡ picked (g .so-far) =
+      g .pattern ∙ rw (members-none left (drop at s) z, e, append-nil (g .so-far)) in
+      (g .so-far, rw (whole, le-leb (length (written (g .so-far))) (length d) (g .room)), g .many, g .wrote)
 
-    -- the next members, xs of them kept
-    module _ (xs : List Plain) (next rest : ℕ) (e : f (membersAt left (drop at s)) ≡ before xs (f (membersAt rest (drop next s)))) where
-      further : f (membersAt count (drop from s)) ≡ before (g .so-far ++ xs) (f (membersAt rest (drop next s)))
-      further = g .pattern ∙ rw e (before-before (g .so-far) xs (f (membersAt rest (drop next s))))
+  -- the next members, xs of them kept
+  module _ (xs : List Plain) (next rest : ℕ) (e : f (membersAt left (drop at s)) ≡ before xs (f (membersAt rest (drop next s)))) where
+    further : f (membersAt count (drop from s)) ≡ before (g .so-far ++ xs) (f (membersAt rest (drop next s)))
+    further = g .pattern ∙ rw e (before-before (g .so-far) xs (f (membersAt rest (drop next s))))
 
-      pub gathering-full : length d′ - len < length (written xs) → fitting (length d) (f (membersAt count (drop from s))) ≡ nothing
-      gathering-full h =
-          rw further
-          (fitting-over (length d) (g .so-far ++ xs) (f (membersAt rest (drop next s)))
-          (omega (arith, written-length (g .so-far) xs, gathering-length, g .wrote .many, g .room)))
+    pub gathering-full : length d′ - len < length (written xs) → fitting (length d) (f (membersAt count (drop from s))) ≡ nothing
+    gathering-full h =
+        rw further
+        (fitting-over (length d) (g .so-far ++ xs) (f (membersAt rest (drop next s)))
+        (omega (arith, written-length (g .so-far) xs, gathering-length, g .wrote .many, g .room)))
 
-      module _ (h : length (written xs) ≤ length d′ - len) where
-        fits : length (written (g .so-far)) + length (written xs) ≤ length d
-        fits = omega (arith, gathering-length, g .wrote .many, g .room)
+    module _ (h : length (written xs) ≤ length d′ - len) where
+      fits : length (written (g .so-far)) + length (written xs) ≤ length d
+      fits = omega (arith, gathering-length, g .wrote .many, g .room)
 
-        pub gathering-count : members + length xs ≤ length d
-        gathering-count = omega (arith, fits, g .many, written-long (g .so-far), written-long xs)
+      pub gathering-count : members + length xs ≤ length d
+      gathering-count = omega (arith, fits, g .many, written-long (g .so-far), written-long xs)
 
-        pub gathering-more : {k : ℕ} {p : List ℕ} → Wrote (written xs) (take (length d′ - len) (drop len d′)) k p
-            → Gathering next rest (len + k) (members + length xs) (take len d′ ++ (p ++ drop (length d′ - len) (drop len d′)))
-        gathering-more w = record {
-          so-far = g .so-far ++ xs;
-          pattern = further;
-          room = omega (arith, fits, written-length (g .so-far) xs);
-          many = omega (arith, g .many, length-append (g .so-far) xs);
-          wrote = rw (written-append (g .so-far) xs) (seam fits (g .wrote) w);
-        }
+      pub gathering-more : {k : ℕ} {p : List ℕ} → Wrote (written xs) (take (length d′ - len) (drop len d′)) k p
+          → Gathering f s from count d next rest (len + k) (members + length xs) (take len d′ ++ (p ++ drop (length d′ - len) (drop len d′)))
+      gathering-more w = record {
+        so-far = g .so-far ++ xs;
+        pattern = further;
+        room = omega (arith, fits, written-length (g .so-far) xs);
+        many = omega (arith, g .many, length-append (g .so-far) xs);
+        wrote = rw (written-append (g .so-far) xs) (seam fits (g .wrote) w);
+      }
 
 -- ---- one turn: r is the answer of writing xs to the lent part, which then is q
 module _ (f : List Plain → Picked) (s : List ℕ) (from count : ℕ) (d : List ℕ) where
@@ -154,31 +155,31 @@ module _ (f : List Plain → Picked) (s : List ℕ) (from count : ℕ) (d : List
     pub step : f (membersAt left (drop at s)) ≡ before xs (f (membersAt rest (drop next s)))
     pub put : Did (emit (written xs)) (take (length d′ - len) (drop len d′)) r q
 
-  module _ {at left len members : ℕ} {d′ : List ℕ} {xs : List Plain} {next rest : ℕ} {r : Written} {q : List ℕ}
-      (t : Turn at left len members d′ xs next rest r q) where
-    lent : length (take (length d′ - len) (drop len d′)) ≡ length d′ - len
-    lent = simp (length-take, length-drop) (omega arith)
+module _ {f : List Plain → Picked} {s : List ℕ} {from count : ℕ} {d : List ℕ} {at left len members : ℕ} {d′ : List ℕ} {xs : List Plain} {next rest : ℕ} {r : Written} {q : List ℕ}
+    (t : Turn f s from count d at left len members d′ xs next rest r q) where
+  lent : length (take (length d′ - len) (drop len d′)) ≡ length d′ - len
+  lent = simp (length-take, length-drop) (omega arith)
 
-    pub turn-length : length (take len d′ ++ (q ++ drop (length d′ - len) (drop len d′))) ≡ length d
-    turn-length =
-        let h : length q ≡ length d′ - len = did-length (t .put) ∙ lent in
-        simp (length-append, length-take, length-drop)
-        (omega (arith, gathering-length f s from count d (t .gathering), gathering-within f s from count d (t .gathering)))
+  pub turn-length : length (take len d′ ++ (q ++ drop (length d′ - len) (drop len d′))) ≡ length d
+  turn-length =
+      let h : length q ≡ length d′ - len = did-length (t .put) ∙ lent in
+      simp (length-append, length-take, length-drop)
+      (omega (arith, gathering-length (t .gathering), gathering-within (t .gathering)))
 
-    pub turn-full : (k : Refusal) → r ≡ wv.Refused k → fitting (length d) (f (membersAt count (drop from s))) ≡ nothing
-    turn-full k y = gathering-full f s from count d (t .gathering) xs next rest (t .step) (omega (arith, lent, did-lacks (t .put) k y))
+  pub turn-full : (k : Refusal) → r ≡ wv.Refused k → fitting (length d) (f (membersAt count (drop from s))) ≡ nothing
+  turn-full k y = gathering-full (t .gathering) xs next rest (t .step) (omega (arith, lent, did-lacks (t .put) k y))
 
-    module _ (k : ℕ) (y : r ≡ wv.Length k) where
-      turn-room : length (written xs) ≤ length d′ - len
-      turn-room = omega (arith, lent, did-fits (t .put) k y .0)
+  module _ (k : ℕ) (y : r ≡ wv.Length k) where
+    turn-room : length (written xs) ≤ length d′ - len
+    turn-room = omega (arith, lent, did-fits (t .put) k y .0)
 
-      pub turn-more : Gathering f s from count d next rest (len + k) (members + length xs) (take len d′ ++ (q ++ drop (length d′ - len) (drop len d′)))
-      turn-more = gathering-more f s from count d (t .gathering) xs next rest (t .step) turn-room (did-fits (t .put) k y .1)
+    pub turn-more : Gathering f s from count d next rest (len + k) (members + length xs) (take len d′ ++ (q ++ drop (length d′ - len) (drop len d′)))
+    turn-more = gathering-more (t .gathering) xs next rest (t .step) turn-room (did-fits (t .put) k y .1)
 
-      pub turn-count : (len + k ≤ length d) × (members + length xs ≤ length d)
-      turn-count =
-          let m = turn-more in
-          (omega (arith, m .wrote .many, m .room), gathering-count f s from count d (t .gathering) xs next rest (t .step) turn-room)
+    pub turn-count : (len + k ≤ length d) × (members + length xs ≤ length d)
+    turn-count =
+        let m = turn-more in
+        (omega (arith, m .wrote .many, m .room), gathering-count (t .gathering) xs next rest (t .step) turn-room)
 
 -- ---- what was gathered in 253 zeros is the list
 zeros-after : (k n : ℕ) → drop k (replicate {A = ℕ} n 0) ≡ replicate (n - k) 0
@@ -202,8 +203,8 @@ module _ (q : Picked) (d : List ℕ) (z : d ≡ replicate 253 0) where
     pub list-bad : r ≡ gv.Bad → fitting 253 q ≡ nothing
     list-bad e = let v : GatheredAs q d gv.Bad d′ = rw e at w in rw (← many-zeros) v
 
-    pub list-kept : (m n : ℕ) → r ≡ gv.Kept m n
+    pub list-kept : {m n : ℕ} → r ≡ gv.Kept m n
         → _≡_ {A = ListRead} (record { good = true; value = record { count = m; len = n; bytes = d′ } }) (listAnswer (fitting 253 q))
-    list-kept m n e =
+    list-kept {m} {n} e =
         let v : GatheredAs q d (gv.Kept m n) d′ = rw e at w in
         kept-by (v .0) m n d′ (v .1) (v .2) (v .3)

@@ -91,7 +91,7 @@ module _ (s : List ℕ) (at n : ℕ) (i : Integer) (w : IntegerAt s at n i) wher
         go (q ∷ []) v = refl
         go (q ∷ x ∷ r) v = rw (integer-is b c, v)
 
-    module _ (m : Bool) (x p : ℕ) (g : i ≡ iv.At m x p) where
+    module _ {m : Bool} {x p : ℕ} (g : i ≡ iv.At m x p) where
       label-here : IntegerAt s at n (iv.At m x p)
       label-here = rw g at w
 
@@ -119,9 +119,9 @@ module _ (s : List ℕ) (at n : ℕ) (i : Integer) (w : IntegerAt s at n i) wher
       go p (q ∷ []) v = refl
       go p (q ∷ x ∷ r) v = rw v
 
-  pub fault-begun : (m : Bool) (x p : ℕ) → i ≡ iv.At m x p → (r : Fault)
+  pub fault-begun : {m : Bool} {x p : ℕ} → i ≡ iv.At m x p → (r : Fault)
       → FaultAt s (n - 1) (faultsIn (integer m x ∷ membersAt (n - 1) (drop p s))) r → FaultAt s n (faultsIn (membersAt n (drop at s))) r
-  fault-begun m x p g r v = let l : IntegerAt s at n (iv.At m x p) = rw g at w in go r (ap faultsIn (l .1)) v
+  fault-begun {m} {x} {p} g r v = let l : IntegerAt s at n (iv.At m x p) = rw g at w in go r (ap faultsIn (l .1)) v
     where
       go : {q t : Picked} (r : Fault) → q ≡ t → FaultAt s (n - 1) t r → FaultAt s n q r
       go fv.Broken e v = e ∙ v
@@ -197,13 +197,13 @@ pub faults-none : faultsIn [] ≡ picked []
 unfolding faultsIn
 faults-none = refl
 
-module _ (s : List ℕ) (from count : ℕ) (d : List ℕ) {at left len members : ℕ} {d′ : List ℕ}
+module _ {s : List ℕ} {from count : ℕ} {d : List ℕ} {at left len members : ℕ} {d′ : List ℕ}
     (g : Gathering faultsIn s from count d at left len members d′)
     (v : Fault) (e : FaultAt s left (faultsIn (membersAt left (drop at s))) v) where
   pub faults-broken : v ≡ fv.Broken → faultsIn (membersAt left (drop at s)) ≡ nothing
   faults-broken f = let w : FaultAt s left (faultsIn (membersAt left (drop at s))) fv.Broken = rw f at e in w
 
-  module _ (b : Bool) (c : ℕ) (m : Bool) (l next rest : ℕ) (f : v ≡ fv.Group b c m l next rest) where
+  module _ {b : Bool} {c : ℕ} {m : Bool} {l next rest : ℕ} (f : v ≡ fv.Group b c m l next rest) where
     group-here : FaultAt s left (faultsIn (membersAt left (drop at s))) (fv.Group b c m l next rest)
     group-here = rw f at e
 

@@ -1,3 +1,4 @@
+-- What was kept so far stands in front of the destination; each turn adds one report, or finds none or no room.
 use Rattle.cojp_list_read.proofs.Reports.{faults-none, faults-broken, faults-less, faults-turn}
 use Rattle.cojp_list_read.proofs.Gathering.{Gathering, gathering-none, gathering-length, gathering-within, gathering-bad, gathering-done, turn-length, turn-full, turn-count, turn-more}
 use Rattle.cojp.specs.Lists.{faultsIn}
@@ -26,16 +27,14 @@ enum-told c = search needs
 same-length : tie.Need-same-length Inv-loop μ-loop
 same-length c =
     let turn = c .before .before .before .before in
-    let begun = turn .before .before .before in
-    gathering-length faultsIn (begun .args .s .now) (begun .args .from) (begun .args .count) (begun .args .dst .now) (turn .loop .inv)
+    gathering-length (turn .loop .inv)
 
 returns : tie.Need-returns Inv-loop μ-loop
 returns c =
     let fault-at = c .before .before in
     let turn = fault-at .before .before in
-    let begun = turn .before .before .before in
-    gathering-bad faultsIn (begun .args .s .now) (begun .args .from) (begun .args .count) (begun .args .dst .now) (turn .loop .inv)
-    (faults-broken (begun .args .s .now) (begun .args .from) (begun .args .count) (begun .args .dst .now) (turn .loop .inv) (fault-at .fault-at .result) (fault-at .fault-at .ensures) (c .enum-told .given .1))
+    gathering-bad (turn .loop .inv)
+    (faults-broken (turn .loop .inv) (fault-at .fault-at .result) (fault-at .fault-at .ensures) (c .enum-told .given .1))
 
 enum-known-f : tie.Need-enum-known-f Inv-loop μ-loop
 enum-known-f c = search needs
@@ -43,16 +42,14 @@ enum-known-f c = search needs
 sub-write-fault : tie.Need-sub-write-fault Inv-loop μ-loop
 sub-write-fault c =
     let turn = c .before .before .before .before .before in
-    let begun = turn .before .before .before in
     omega
-    (arith, gathering-within faultsIn (begun .args .s .now) (begun .args .from) (begun .args .count) (begun .args .dst .now) (turn .loop .inv))
+    (arith, gathering-within (turn .loop .inv))
 
 part-write-fault-start : tie.Need-part-write-fault-start Inv-loop μ-loop
 part-write-fault-start c =
     let turn = c .before .before .before .before .before in
-    let begun = turn .before .before .before in
     omega
-    (arith, gathering-within faultsIn (begun .args .s .now) (begun .args .from) (begun .args .count) (begun .args .dst .now) (turn .loop .inv))
+    (arith, gathering-within (turn .loop .inv))
 
 part-write-fault-end : tie.Need-part-write-fault-end Inv-loop μ-loop
 part-write-fault-end c = search needs
@@ -69,9 +66,7 @@ same-length-2 c =
     let f = write-fault .before .before .before in
     let fault-at = f .before .before in
     let turn = fault-at .before .before in
-    let begun = turn .before .before .before in
-    turn-length faultsIn (begun .args .s .now) (begun .args .from) (begun .args .count) (begun .args .dst .now)
-    (faults-turn (begun .args .s .now) (begun .args .from) (begun .args .count) (begun .args .dst .now) (turn .loop .inv) (fault-at .fault-at .result) (fault-at .fault-at .ensures) (f .f .given .0 .0) (f .f .given .0 .1 .0) (f .f .given .0 .1 .1 .0) (f .f .given .0 .1 .1 .1 .0) (f .f .given .0 .1 .1 .1 .1 .0) (f .f .given .0 .1 .1 .1 .1 .1 .0) (f .f .given .1) (write-fault .write-fault .ensures))
+    turn-length (faults-turn (turn .loop .inv) (fault-at .fault-at .result) (fault-at .fault-at .ensures) (f .f .given .1) (write-fault .write-fault .ensures))
 
 returns-2 : tie.Need-returns-2 Inv-loop μ-loop
 returns-2 c =
@@ -79,9 +74,7 @@ returns-2 c =
     let f = write-fault .before .before .before in
     let fault-at = f .before .before in
     let turn = fault-at .before .before in
-    let begun = turn .before .before .before in
-    turn-full faultsIn (begun .args .s .now) (begun .args .from) (begun .args .count) (begun .args .dst .now)
-    (faults-turn (begun .args .s .now) (begun .args .from) (begun .args .count) (begun .args .dst .now) (turn .loop .inv) (fault-at .fault-at .result) (fault-at .fault-at .ensures) (f .f .given .0 .0) (f .f .given .0 .1 .0) (f .f .given .0 .1 .1 .0) (f .f .given .0 .1 .1 .1 .0) (f .f .given .0 .1 .1 .1 .1 .0) (f .f .given .0 .1 .1 .1 .1 .1 .0) (f .f .given .1) (write-fault .write-fault .ensures))
+    turn-full (faults-turn (turn .loop .inv) (fault-at .fault-at .result) (fault-at .fault-at .ensures) (f .f .given .1) (write-fault .write-fault .ensures))
     (c .enum-told2 .given .0 .0) (c .enum-told2 .given .1)
 
 enum-known-w : tie.Need-enum-known-w Inv-loop μ-loop
@@ -94,7 +87,9 @@ add-len c =
     let fault-at = f .before .before in
     let turn = fault-at .before .before in
     let begun = turn .before .before .before in
-    let i = turn-count faultsIn (begun .args .s .now) (begun .args .from) (begun .args .count) (begun .args .dst .now) (faults-turn (begun .args .s .now) (begun .args .from) (begun .args .count) (begun .args .dst .now) (turn .loop .inv) (fault-at .fault-at .result) (fault-at .fault-at .ensures) (f .f .given .0 .0) (f .f .given .0 .1 .0) (f .f .given .0 .1 .1 .0) (f .f .given .0 .1 .1 .1 .0) (f .f .given .0 .1 .1 .1 .1 .0) (f .f .given .0 .1 .1 .1 .1 .1 .0) (f .f .given .1) (write-fault .write-fault .ensures)) (c .before .w .given .0 .0) (c .before .w .given .1) in omega (arith, i .0)
+    let put = faults-turn (turn .loop .inv) (fault-at .fault-at .result) (fault-at .fault-at .ensures) (f .f .given .1) (write-fault .write-fault .ensures) in
+    let counts = turn-count put (c .before .w .given .0 .0) (c .before .w .given .1) in
+    omega (arith, counts .0, begun)
 
 add-members : tie.Need-add-members Inv-loop μ-loop
 add-members c =
@@ -103,17 +98,16 @@ add-members c =
     let fault-at = f .before .before in
     let turn = fault-at .before .before in
     let begun = turn .before .before .before in
-    let i = turn-count faultsIn (begun .args .s .now) (begun .args .from) (begun .args .count) (begun .args .dst .now) (faults-turn (begun .args .s .now) (begun .args .from) (begun .args .count) (begun .args .dst .now) (turn .loop .inv) (fault-at .fault-at .result) (fault-at .fault-at .ensures) (f .f .given .0 .0) (f .f .given .0 .1 .0) (f .f .given .0 .1 .1 .0) (f .f .given .0 .1 .1 .1 .0) (f .f .given .0 .1 .1 .1 .1 .0) (f .f .given .0 .1 .1 .1 .1 .1 .0) (f .f .given .1) (write-fault .write-fault .ensures)) (c .before .w .given .0 .0) (c .before .w .given .1) in omega (arith, i .1)
+    let put = faults-turn (turn .loop .inv) (fault-at .fault-at .result) (fault-at .fault-at .ensures) (f .f .given .1) (write-fault .write-fault .ensures) in
+    let counts = turn-count put (c .before .w .given .0 .0) (c .before .w .given .1) in
+    omega (arith, counts .1, begun)
 
 loop-less : tie.Need-loop-less Inv-loop μ-loop
 loop-less c =
     let f = c .before .before .before .before .before .before .before .before in
     let fault-at = f .before .before in
     let turn = fault-at .before .before in
-    let begun = turn .before .before .before in
-    faults-less (begun .args .s .now) (begun .args .from) (begun .args .count) (begun .args .dst .now) (turn .loop .inv)
-    (fault-at .fault-at .result) (fault-at .fault-at .ensures) (f .f .given .0 .0) (f .f .given .0 .1 .0) (f .f .given .0 .1 .1 .0)
-    (f .f .given .0 .1 .1 .1 .0) (f .f .given .0 .1 .1 .1 .1 .0) (f .f .given .0 .1 .1 .1 .1 .1 .0) (f .f .given .1)
+    faults-less (turn .loop .inv) (fault-at .fault-at .result) (fault-at .fault-at .ensures) (f .f .given .1)
 
 loop-again : tie.Need-loop-again Inv-loop μ-loop
 loop-again c =
@@ -121,20 +115,16 @@ loop-again c =
     let f = write-fault .before .before .before in
     let fault-at = f .before .before in
     let turn = fault-at .before .before in
-    let begun = turn .before .before .before in
-    turn-more faultsIn (begun .args .s .now) (begun .args .from) (begun .args .count) (begun .args .dst .now)
-    (faults-turn (begun .args .s .now) (begun .args .from) (begun .args .count) (begun .args .dst .now) (turn .loop .inv) (fault-at .fault-at .result) (fault-at .fault-at .ensures) (f .f .given .0 .0) (f .f .given .0 .1 .0) (f .f .given .0 .1 .1 .0) (f .f .given .0 .1 .1 .1 .0) (f .f .given .0 .1 .1 .1 .1 .0) (f .f .given .0 .1 .1 .1 .1 .1 .0) (f .f .given .1) (write-fault .write-fault .ensures))
+    turn-more (faults-turn (turn .loop .inv) (fault-at .fault-at .result) (fault-at .fault-at .ensures) (f .f .given .1) (write-fault .write-fault .ensures))
     (c .before .w .given .0 .0) (c .before .w .given .1)
 
 same-length-3 : tie.Need-same-length-3 Inv-loop μ-loop
 same-length-3 c =
-    let begun = c .before .before .before .before in
-    gathering-length faultsIn (begun .args .s .now) (begun .args .from) (begun .args .count) (begun .args .dst .now) (c .before .loop .inv)
+    gathering-length (c .before .loop .inv)
 
 returns-3 : tie.Need-returns-3 Inv-loop μ-loop
 returns-3 c =
-    let begun = c .before .before .before .before in
-    gathering-done faultsIn (begun .args .s .now) (begun .args .from) (begun .args .count) (begun .args .dst .now) (c .before .loop .inv)
+    gathering-done (c .before .loop .inv)
     faults-none (c .loop-test .left)
 
 pub gather-faults-spec : {M : Type 1} → statement M

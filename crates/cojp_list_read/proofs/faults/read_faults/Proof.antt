@@ -1,9 +1,12 @@
+-- What was gathered in zeros is the list; of no member there is none.
 use Rattle.cojp_list_read.proofs.Reports.{some-more, some-none}
 use Rattle.cojp_list_read.proofs.Gathering.{list-bad, list-kept}
-use Rattle.cojp.specs.Lists.{fitting, faultsIn, listAnswer}
+use Prim.Native.Nat.{ℕ}
+use mathlib.Core.List.{List}
+use Rattle.cojp.specs.Lists.{fitting, faultsIn, some, listAnswer}
 use Rattle.cojp.specs.Bytes.{membersAt}
 use lib.ListN.{replicate, drop}
-use mathlib.Core.Path.{refl, ap, sym, _∙_}
+use mathlib.Core.Path.{_≡_, refl, ap, sym, _∙_}
 use borrow.Author.Needs.{needs}
 use Rattle.cojp_list_read.proofs.faults.read_faults.Statement.{statement}
 use Rattle.cojp_list_read.proofs.faults.read_faults.Tie as tie
@@ -31,19 +34,30 @@ bad-list-requires-2 c κs = search needs
 enum-known-g : tie.Need-enum-known-g
 enum-known-g c = search needs
 
+-- one member at least, so the pattern is that of reports
+some-reports : (n : ℕ) (l : List ℕ) → ¬ (n ≡ 0)
+    → listAnswer (fitting 253 (faultsIn (membersAt n l))) ≡ listAnswer (fitting 253 (some faultsIn (membersAt n l)))
+some-reports n l h = ap (λ q. listAnswer (fitting 253 q)) (sym (some-more faultsIn n l h))
+
 returns-2 : tie.Need-returns-2
 returns-2 c =
-    let gather-faults = c .before .before .before .before in
-    let if-place = gather-faults .before .before in
-    let begun = if-place .before .before in
-    c .bad-list2 .ensures ∙ ap listAnswer (sym (list-bad (faultsIn (membersAt (begun .args .count) (drop (begun .args .from) (begun .args .s .now)))) (replicate 253 0) refl (gather-faults .gather-faults .result) (gather-faults .gather-faults .last .1 .1 .1 .0) (gather-faults .gather-faults .ensures) (c .before .enum-told .given .1))) ∙ ap (λ q. listAnswer (fitting 253 q)) (sym (some-more faultsIn (begun .args .count) (drop (begun .args .from) (begun .args .s .now)) (if-place .if1 .left)))
+    let gathered = c .before .before .before .before in
+    let asked = gathered .before .before in
+    let a = asked .before .before .args in
+    let members = faultsIn (membersAt (a .count) (drop (a .from) (a .s .now))) in
+    let call = gathered .gather-faults in
+    let bad = list-bad members (replicate 253 0) refl (call .result) (call .last .1 .1 .1 .0) (call .ensures) (c .before .enum-told .given .1) in
+    c .bad-list2 .ensures ∙ ap listAnswer (sym bad) ∙ some-reports (a .count) (drop (a .from) (a .s .now)) (asked .if1 .left)
 
 returns-3 : tie.Need-returns-3
 returns-3 c =
-    let gather-faults = c .before .before .before .before in
-    let if-place = gather-faults .before .before in
-    let begun = if-place .before .before in
-    list-kept (faultsIn (membersAt (begun .args .count) (drop (begun .args .from) (begun .args .s .now)))) (replicate 253 0) refl (gather-faults .gather-faults .result) (gather-faults .gather-faults .last .1 .1 .1 .0) (gather-faults .gather-faults .ensures) (c .before .g .given .0 .0) (c .before .g .given .0 .1 .0) (c .before .g .given .1) ∙ ap (λ q. listAnswer (fitting 253 q)) (sym (some-more faultsIn (begun .args .count) (drop (begun .args .from) (begun .args .s .now)) (if-place .if1 .left)))
+    let gathered = c .before .before .before .before in
+    let asked = gathered .before .before in
+    let a = asked .before .before .args in
+    let members = faultsIn (membersAt (a .count) (drop (a .from) (a .s .now))) in
+    let call = gathered .gather-faults in
+    list-kept members (replicate 253 0) refl (call .result) (call .last .1 .1 .1 .0) (call .ensures) (c .before .g .given .1)
+    ∙ some-reports (a .count) (drop (a .from) (a .s .now)) (asked .if1 .left)
 
 pub read-faults-spec : {M : Type 1} → statement M
 read-faults-spec =

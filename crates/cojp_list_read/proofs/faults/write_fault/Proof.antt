@@ -1,3 +1,4 @@
+-- Head after head, where all three have room.
 use Rattle.cojp_list_read.proofs.Reports.{heads-few, report-room, report-done}
 use native.Mathlib.Omega.{arith}
 use borrow.Author.Needs.{needs}

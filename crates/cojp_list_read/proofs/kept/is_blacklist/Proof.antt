@@ -1,3 +1,4 @@
+-- The list is read again from its own bytes.
 use Rattle.cojp_list_read.proofs.Again.{list-small, kept-long, kept-again}
 use Rattle.cojp.specs.Lists.{bytesIn, stringsIn}
 use lib.Seq.{length-take-le}

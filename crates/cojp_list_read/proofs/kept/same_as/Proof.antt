@@ -1,3 +1,4 @@
+-- Number of members and bytes are compared.
 use Rattle.cojp_list_read.proofs.Again.{same-bad, same-counts, same-parts}
 use borrow.Author.Tests.{not-true, not-false}
 use lib.Seq.{length-take-le}

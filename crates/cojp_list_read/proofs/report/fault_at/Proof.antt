@@ -1,3 +1,4 @@
+-- A report begins with its code.
 use Rattle.cojp_list_read.proofs.Reports.{fault-headless, fault-begun}
 use borrow.Author.Needs.{needs}
 use Rattle.cojp_list_read.proofs.report.fault_at.Statement.{statement}
@@ -22,16 +23,15 @@ returns : tie.Need-returns
 returns c =
     let integer-at = c .before .before in
     let begun = integer-at .before .before in
-    fault-headless (begun .args .s .now) (begun .args .at) (begun .args .left) (integer-at .integer-at .result)
-    (integer-at .integer-at .ensures) (begun .pre) (c .enum-told .given .1)
+    let a = begun .args in
+    fault-headless (a .s .now) (a .at) (a .left) (integer-at .integer-at .result) (integer-at .integer-at .ensures) (begun .pre) (c .enum-told .given .1)
 
 returns-2 : tie.Need-returns-2
 returns-2 c =
     let i = c .before .before in
     let integer-at = i .before .before in
-    let begun = integer-at .before .before in
-    fault-begun (begun .args .s .now) (begun .args .at) (begun .args .left) (integer-at .integer-at .result)
-    (integer-at .integer-at .ensures) (i .i .given .0 .0) (i .i .given .0 .1 .0) (i .i .given .0 .1 .1 .0) (i .i .given .1)
+    let a = integer-at .before .before .args in
+    fault-begun (a .s .now) (a .at) (a .left) (integer-at .integer-at .result) (integer-at .integer-at .ensures) (i .i .given .1)
     (c .after-code .result) (c .after-code .ensures)
 
 pub fault-at-spec : {M : Type 1} → statement M

@@ -1,3 +1,4 @@
+-- A head of major type 0 or 1 is an integer.
 use Rattle.cojp_list_read.proofs.Reports.{integer-end, integer-number, integer-minus, integer-none}
 use borrow.Author.Needs.{needs}
 use Rattle.cojp_list_read.proofs.report.integer_at.Statement.{statement}

@@ -1,3 +1,4 @@
+-- An item that can be read is one member; what cannot be read is the last.
 use Rattle.cojp_list_read.proofs.Reports.{any-refused, any-next}
 use borrow.Author.Needs.{needs}
 use Rattle.cojp_list_read.proofs.report.pass_over.Statement.{statement}

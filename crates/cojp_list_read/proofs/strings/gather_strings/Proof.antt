@@ -1,9 +1,10 @@
+-- What was kept so far stands in front of the destination; each turn adds one byte string, or finds none or no room.
 use Rattle.cojp_list_read.proofs.Gathering.{turn-length, turn-full, turn-count, turn-more}
 use Rattle.cojp_list_read.proofs.ByteStrings.{strings-broken, strings-turn}
-use Prim.Native.Nat.{_+_, _-_}
 use Rattle.cojp_list_read.proofs.ByteStrings.{string-inside, strings-none}
 use Rattle.cojp_list_read.proofs.Gathering.{Gathering, gathering-none, gathering-length, gathering-within, gathering-done}
 use Rattle.cojp.specs.Lists.{stringsIn}
+use Prim.Native.Nat.{_+_, _-_}
 use native.Mathlib.Omega.{arith}
 use borrow.Author.Needs.{needs}
 use Rattle.cojp_list_read.proofs.strings.gather_strings.Statement.{statement}
@@ -29,23 +30,19 @@ enum-known-m c = search needs
 add-end : tie.Need-add-end Inv-loop μ-loop
 add-end c =
     let member-at = c .before .before .before in
-    let turn = member-at .before .before in
-    let begun = turn .before .before .before in
-    let i = string-inside (begun .args .s .now) (turn .loop .at) (turn .loop .left) (member-at .member-at .result) (member-at .member-at .ensures) (c .before .m .given .0 .0) (c .before .m .given .0 .1 .0) (c .before .m .given .1) in omega (arith, i)
+    omega (arith, string-inside (member-at .member-at .ensures) (c .before .m .given .1))
 
 sub-write-bytes : tie.Need-sub-write-bytes Inv-loop μ-loop
 sub-write-bytes c =
     let turn = c .before .before .before .before .before in
-    let begun = turn .before .before .before in
     omega
-    (arith, gathering-within stringsIn (begun .args .s .now) (begun .args .from) (begun .args .count) (begun .args .dst .now) (turn .loop .inv))
+    (arith, gathering-within (turn .loop .inv))
 
 part-write-bytes-start : tie.Need-part-write-bytes-start Inv-loop μ-loop
 part-write-bytes-start c =
     let turn = c .before .before .before .before .before in
-    let begun = turn .before .before .before in
     omega
-    (arith, gathering-within stringsIn (begun .args .s .now) (begun .args .from) (begun .args .count) (begun .args .dst .now) (turn .loop .inv))
+    (arith, gathering-within (turn .loop .inv))
 
 part-write-bytes-end : tie.Need-part-write-bytes-end Inv-loop μ-loop
 part-write-bytes-end c = search needs
@@ -60,9 +57,7 @@ part-write-bytes-end-2 : tie.Need-part-write-bytes-end-2 Inv-loop μ-loop
 part-write-bytes-end-2 c =
     let m = c .before .before in
     let member-at = m .before .before in
-    let turn = member-at .before .before in
-    let begun = turn .before .before .before in
-    let i = string-inside (begun .args .s .now) (turn .loop .at) (turn .loop .left) (member-at .member-at .result) (member-at .member-at .ensures) (m .m .given .0 .0) (m .m .given .0 .1 .0) (m .m .given .1) in omega (arith, i)
+    omega (arith, string-inside (member-at .member-at .ensures) (m .m .given .1))
 
 write-bytes-requires : tie.Need-write-bytes-requires Inv-loop μ-loop
 write-bytes-requires c κs = search needs
@@ -74,21 +69,21 @@ same-length : tie.Need-same-length Inv-loop μ-loop
 same-length c =
     let write-bytes = c .before .before .before .before in
     let m = write-bytes .before .before .before .before in
+    let start = m .m .given .0 .0 in
+    let size = m .m .given .0 .1 .0 in
     let member-at = m .before .before in
     let turn = member-at .before .before in
-    let begun = turn .before .before .before in
-    turn-length stringsIn (begun .args .s .now) (begun .args .from) (begun .args .count) (begun .args .dst .now)
-    (strings-turn (begun .args .s .now) (begun .args .from) (begun .args .count) (begun .args .dst .now) (turn .loop .inv) (member-at .member-at .result) (member-at .member-at .ensures) (m .m .given .0 .0) (m .m .given .0 .1 .0) (m .m .given .1) ((m .m .given .0 .0 + m .m .given .0 .1 .0) - m .m .given .0 .0) (omega arith) (write-bytes .write-bytes .ensures))
+    turn-length (strings-turn (turn .loop .inv) (member-at .member-at .ensures) (m .m .given .1) ((start + size) - start) (omega arith) (write-bytes .write-bytes .ensures))
 
 returns : tie.Need-returns Inv-loop μ-loop
 returns c =
     let write-bytes = c .before .before .before .before in
     let m = write-bytes .before .before .before .before in
+    let start = m .m .given .0 .0 in
+    let size = m .m .given .0 .1 .0 in
     let member-at = m .before .before in
     let turn = member-at .before .before in
-    let begun = turn .before .before .before in
-    turn-full stringsIn (begun .args .s .now) (begun .args .from) (begun .args .count) (begun .args .dst .now)
-    (strings-turn (begun .args .s .now) (begun .args .from) (begun .args .count) (begun .args .dst .now) (turn .loop .inv) (member-at .member-at .result) (member-at .member-at .ensures) (m .m .given .0 .0) (m .m .given .0 .1 .0) (m .m .given .1) ((m .m .given .0 .0 + m .m .given .0 .1 .0) - m .m .given .0 .0) (omega arith) (write-bytes .write-bytes .ensures))
+    turn-full (strings-turn (turn .loop .inv) (member-at .member-at .ensures) (m .m .given .1) ((start + size) - start) (omega arith) (write-bytes .write-bytes .ensures))
     (c .enum-told .given .0 .0) (c .enum-told .given .1)
 
 enum-known-w : tie.Need-enum-known-w Inv-loop μ-loop
@@ -98,10 +93,14 @@ add-len : tie.Need-add-len Inv-loop μ-loop
 add-len c =
     let write-bytes = c .before .before .before .before .before in
     let m = write-bytes .before .before .before .before in
+    let start = m .m .given .0 .0 in
+    let size = m .m .given .0 .1 .0 in
     let member-at = m .before .before in
     let turn = member-at .before .before in
     let begun = turn .before .before .before in
-    let i = turn-count stringsIn (begun .args .s .now) (begun .args .from) (begun .args .count) (begun .args .dst .now) (strings-turn (begun .args .s .now) (begun .args .from) (begun .args .count) (begun .args .dst .now) (turn .loop .inv) (member-at .member-at .result) (member-at .member-at .ensures) (m .m .given .0 .0) (m .m .given .0 .1 .0) (m .m .given .1) ((m .m .given .0 .0 + m .m .given .0 .1 .0) - m .m .given .0 .0) (omega arith) (write-bytes .write-bytes .ensures)) (c .before .w .given .0 .0) (c .before .w .given .1) in omega (arith, i .0)
+    let put = strings-turn (turn .loop .inv) (member-at .member-at .ensures) (m .m .given .1) ((start + size) - start) (omega arith) (write-bytes .write-bytes .ensures) in
+    let counts = turn-count put (c .before .w .given .0 .0) (c .before .w .given .1) in
+    omega (arith, counts .0, begun)
 
 sub-left : tie.Need-sub-left Inv-loop μ-loop
 sub-left c = search needs
@@ -110,10 +109,14 @@ add-members : tie.Need-add-members Inv-loop μ-loop
 add-members c =
     let write-bytes = c .before .before .before .before .before in
     let m = write-bytes .before .before .before .before in
+    let start = m .m .given .0 .0 in
+    let size = m .m .given .0 .1 .0 in
     let member-at = m .before .before in
     let turn = member-at .before .before in
     let begun = turn .before .before .before in
-    let i = turn-count stringsIn (begun .args .s .now) (begun .args .from) (begun .args .count) (begun .args .dst .now) (strings-turn (begun .args .s .now) (begun .args .from) (begun .args .count) (begun .args .dst .now) (turn .loop .inv) (member-at .member-at .result) (member-at .member-at .ensures) (m .m .given .0 .0) (m .m .given .0 .1 .0) (m .m .given .1) ((m .m .given .0 .0 + m .m .given .0 .1 .0) - m .m .given .0 .0) (omega arith) (write-bytes .write-bytes .ensures)) (c .before .w .given .0 .0) (c .before .w .given .1) in omega (arith, i .1)
+    let put = strings-turn (turn .loop .inv) (member-at .member-at .ensures) (m .m .given .1) ((start + size) - start) (omega arith) (write-bytes .write-bytes .ensures) in
+    let counts = turn-count put (c .before .w .given .0 .0) (c .before .w .given .1) in
+    omega (arith, counts .1, begun)
 
 loop-less : tie.Need-loop-less Inv-loop μ-loop
 loop-less c = search needs
@@ -122,36 +125,32 @@ loop-again : tie.Need-loop-again Inv-loop μ-loop
 loop-again c =
     let write-bytes = c .before .before .before .before .before in
     let m = write-bytes .before .before .before .before in
+    let start = m .m .given .0 .0 in
+    let size = m .m .given .0 .1 .0 in
     let member-at = m .before .before in
     let turn = member-at .before .before in
-    let begun = turn .before .before .before in
-    turn-more stringsIn (begun .args .s .now) (begun .args .from) (begun .args .count) (begun .args .dst .now)
-    (strings-turn (begun .args .s .now) (begun .args .from) (begun .args .count) (begun .args .dst .now) (turn .loop .inv) (member-at .member-at .result) (member-at .member-at .ensures) (m .m .given .0 .0) (m .m .given .0 .1 .0) (m .m .given .1) ((m .m .given .0 .0 + m .m .given .0 .1 .0) - m .m .given .0 .0) (omega arith) (write-bytes .write-bytes .ensures))
+    turn-more (strings-turn (turn .loop .inv) (member-at .member-at .ensures) (m .m .given .1) ((start + size) - start) (omega arith) (write-bytes .write-bytes .ensures))
     (c .before .w .given .0 .0) (c .before .w .given .1)
 
 same-length-2 : tie.Need-same-length-2 Inv-loop μ-loop
 same-length-2 c =
     let turn = c .before .before .before in
-    let begun = turn .before .before .before in
-    gathering-length stringsIn (begun .args .s .now) (begun .args .from) (begun .args .count) (begun .args .dst .now) (turn .loop .inv)
+    gathering-length (turn .loop .inv)
 
 returns-2 : tie.Need-returns-2 Inv-loop μ-loop
 returns-2 c =
     let turn = c .before .before in
     let turn-2 = turn .before in
-    let begun = turn-2 .before .before .before in
-    strings-broken (begun .args .s .now) (begun .args .from) (begun .args .count) (begun .args .dst .now) (turn-2 .loop .inv)
-    (c .before .member-at .result) (c .before .member-at .ensures) (turn .loop-test .taken) (c .match .keys2)
+    strings-broken (turn-2 .loop .inv)
+    (c .before .member-at .ensures) (turn .loop-test .taken) (c .match .keys2)
 
 same-length-3 : tie.Need-same-length-3 Inv-loop μ-loop
 same-length-3 c =
-    let begun = c .before .before .before .before in
-    gathering-length stringsIn (begun .args .s .now) (begun .args .from) (begun .args .count) (begun .args .dst .now) (c .before .loop .inv)
+    gathering-length (c .before .loop .inv)
 
 returns-3 : tie.Need-returns-3 Inv-loop μ-loop
 returns-3 c =
-    let begun = c .before .before .before .before in
-    gathering-done stringsIn (begun .args .s .now) (begun .args .from) (begun .args .count) (begun .args .dst .now) (c .before .loop .inv)
+    gathering-done (c .before .loop .inv)
     strings-none (c .loop-test .left)
 
 pub gather-strings-spec : {M : Type 1} → statement M

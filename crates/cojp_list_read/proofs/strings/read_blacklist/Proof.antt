@@ -1,3 +1,4 @@
+-- An array is read member by member, and anything else is no list.
 use Rattle.cojp_list_read.proofs.ByteStrings.{list-array, list-none}
 use Rattle.cojp.specs.Lists.{stringsIn}
 use mathlib.Core.Path.{_∙_}
@@ -21,14 +22,12 @@ returns : tie.Need-returns
 returns c =
     let v = c .before .before in
     let value-at = v .before .before in
-    let begun = value-at .before .before in
-    c .read-strings .ensures ∙ list-array (begun .args .s .now) (begun .args .at) (value-at .value-at .result) (value-at .value-at .ensures) stringsIn (v .v .given .0 .0) (v .v .given .0 .1 .0) (v .v .given .1)
+    c .read-strings .ensures ∙ list-array (value-at .value-at .ensures) stringsIn (v .v .given .1)
 
 returns-2 : tie.Need-returns-2
 returns-2 c =
     let value-at = c .before .before in
-    let begun = value-at .before .before in
-    c .bad-list .ensures ∙ list-none (begun .args .s .now) (begun .args .at) (value-at .value-at .result) (value-at .value-at .ensures) stringsIn (c .before .match .keys2)
+    c .bad-list .ensures ∙ list-none (value-at .value-at .ensures) stringsIn (c .before .match .keys2)
 
 pub read-blacklist-spec : {M : Type 1} → statement M
 read-blacklist-spec =

@@ -1,3 +1,4 @@
+-- What was gathered in zeros is the list.
 use Rattle.cojp_list_read.proofs.Gathering.{list-bad, list-kept}
 use Rattle.cojp.specs.Lists.{stringsIn, listAnswer}
 use Rattle.cojp.specs.Bytes.{membersAt}
@@ -24,17 +25,20 @@ enum-known-g c = search needs
 
 returns : tie.Need-returns
 returns c =
-    let gather-strings = c .before .before .before .before in
-    let begun = gather-strings .before .before .before in
-    c .bad-list .ensures ∙ ap listAnswer (sym (list-bad (stringsIn (membersAt (begun .args .count) (drop (begun .args .from) (begun .args .s .now)))) (replicate 253 0) refl (gather-strings .gather-strings .result) (gather-strings .gather-strings .last .1 .1 .1 .0) (gather-strings .gather-strings .ensures) (c .before .enum-told .given .1)))
+    let gathered = c .before .before .before .before in
+    let a = gathered .before .before .before .args in
+    let members = stringsIn (membersAt (a .count) (drop (a .from) (a .s .now))) in
+    let call = gathered .gather-strings in
+    let bad = list-bad members (replicate 253 0) refl (call .result) (call .last .1 .1 .1 .0) (call .ensures) (c .before .enum-told .given .1) in
+    c .bad-list .ensures ∙ ap listAnswer (sym bad)
 
 returns-2 : tie.Need-returns-2
 returns-2 c =
-    let gather-strings = c .before .before .before .before in
-    let begun = gather-strings .before .before .before in
-    list-kept (stringsIn (membersAt (begun .args .count) (drop (begun .args .from) (begun .args .s .now)))) (replicate 253 0) refl
-    (gather-strings .gather-strings .result) (gather-strings .gather-strings .last .1 .1 .1 .0) (gather-strings .gather-strings .ensures)
-    (c .before .g .given .0 .0) (c .before .g .given .0 .1 .0) (c .before .g .given .1)
+    let gathered = c .before .before .before .before in
+    let a = gathered .before .before .before .args in
+    let members = stringsIn (membersAt (a .count) (drop (a .from) (a .s .now))) in
+    let call = gathered .gather-strings in
+    list-kept members (replicate 253 0) refl (call .result) (call .last .1 .1 .1 .0) (call .ensures) (c .before .g .given .1)
 
 pub read-strings-spec : {M : Type 1} → statement M
 read-strings-spec =
