@@ -11,10 +11,10 @@ use lib.Dec.{ltb, eqb}
 use lib.ListN.{length, take, drop, length-drop}
 use lib.Seq.{drop-drop}
 use Rattle.refusal.specs.declared.Refusal.{Refusal}
-use Rattle.cbor.specs.Item.{Size, half, single, double, Item, Items, unsigned, bytes, array, simple, float, more}
+use Rattle.cbor.specs.Item.{Size, half, single, double, Item, Items, unsigned, negative, bytes, array, simple, float, more}
 use Rattle.cbor.specs.Decode.{Outcome, refused, got, andThen, next, heading, Heading, members, pairs, Major, unsigneds, negatives, byteStrings, textStrings, arrays, maps, tags, others, majorOf, special, content, decodeBy, decode}
 use Rattle.cbor.specs.Answer.{headAnswer}
-use Rattle.cbor.specs.View.{Plain, number, string, other, View, plain, list, plainOf, plainsOf, viewOf, labelOf, plainBy, plainAt, plainsAt, viewBy, viewAt, labelBy, labelAt, valueBy, valueAnswer, restOf, afterItem, afterItems, ValueAt, ValueSays}
+use Rattle.cbor.specs.View.{Plain, number, minus, string, other, View, plain, list, plainOf, plainsOf, viewOf, labelOf, plainBy, plainAt, plainsAt, viewBy, viewAt, labelBy, labelAt, valueBy, valueAnswer, restOf, afterItem, afterItems, ValueAt, ValueSays}
 use Rattle.cbor.specs.declared.head.Head.{Head}
 use Rattle.cbor.specs.declared.head.HeadRead.{HeadRead}
 use Rattle.cbor.specs.declared.head.HeadRead.the-variants as hv
@@ -78,6 +78,10 @@ module _ (s : List ℕ) (at : ℕ) (r : HeadRead) (e : r ≡ headAnswer (length 
     unfolding majorOf
     value-number f = sym (value-got ∙ rw (f, head-place s at r e h g))
 
+    pub value-minus : m ≡ 1 → vv.Minus a (h .next) ≡ valueAnswer (length s) (heading (drop at s))
+    unfolding majorOf
+    value-minus f = sym (value-got ∙ rw (f, head-place s at r e h g))
+
     pub value-string : m ≡ 2 → a ≤ length s - h .next → vv.Bytes (h .next) a ≡ valueAnswer (length s) (heading (drop at s))
     unfolding majorOf
     value-string f l =
@@ -94,19 +98,19 @@ module _ (s : List ℕ) (at : ℕ) (r : HeadRead) (e : r ≡ headAnswer (length 
     unfolding majorOf
     value-array f = sym (value-got ∙ rw (f, head-place s at r e h g))
 
-    neither : (m : ℕ) → ¬ (m ≡ 0) → ¬ (m ≡ 2) → ¬ (m ≡ 4) → valueBy (length s) (majorOf m) a t ≡ vv.Other
+    neither : (m : ℕ) → ¬ (m ≡ 0) → ¬ (m ≡ 1) → ¬ (m ≡ 2) → ¬ (m ≡ 4) → valueBy (length s) (majorOf m) a t ≡ vv.Other
     unfolding majorOf
-    neither zero n o q = absurd (n refl)
-    neither (suc zero) n o q = refl
-    neither (suc (suc zero)) n o q = absurd (o refl)
-    neither (suc (suc (suc zero))) n o q = refl
-    neither (suc (suc (suc (suc zero)))) n o q = absurd (q refl)
-    neither (suc (suc (suc (suc (suc zero))))) n o q = refl
-    neither (suc (suc (suc (suc (suc (suc zero)))))) n o q = refl
-    neither (suc (suc (suc (suc (suc (suc (suc m))))))) n o q = refl
+    neither zero n x o q = absurd (n refl)
+    neither (suc zero) n x o q = absurd (x refl)
+    neither (suc (suc zero)) n x o q = absurd (o refl)
+    neither (suc (suc (suc zero))) n x o q = refl
+    neither (suc (suc (suc (suc zero)))) n x o q = absurd (q refl)
+    neither (suc (suc (suc (suc (suc zero))))) n x o q = refl
+    neither (suc (suc (suc (suc (suc (suc zero)))))) n x o q = refl
+    neither (suc (suc (suc (suc (suc (suc (suc m))))))) n x o q = refl
 
-    pub value-other : ¬ (m ≡ 0) → ¬ (m ≡ 2) → ¬ (m ≡ 4) → vv.Other ≡ valueAnswer (length s) (heading (drop at s))
-    value-other n o q = sym (value-got ∙ neither m n o q)
+    pub value-other : ¬ (m ≡ 0) → ¬ (m ≡ 1) → ¬ (m ≡ 2) → ¬ (m ≡ 4) → vv.Other ≡ valueAnswer (length s) (heading (drop at s))
+    value-other n x o q = sym (value-got ∙ neither m n x o q)
 
 -- ---- what is left after n members is what is left after n items
 nothing-after : (d : ℕ) → afterItem d [] ≡ []
@@ -153,7 +157,7 @@ module _ (d : ℕ) (s : List ℕ) (at : ℕ) where
     abbrev arg : ℕ
     arg = h .argument
 
-    -- neither a number, nor a byte string, nor an array
+    -- neither an integer, nor a byte string, nor an array
     says-other : (M : Major) → majorOf (h .major) ≡ M → viewBy (suc d) M arg t ≡ plain other → plainBy M arg t ≡ other → ValueAt d s at vv.Other
     says-other M f v q = record { view = view-headed ∙ rw f v; member = plain-headed ∙ rw f q; rest = tt }
 
@@ -177,7 +181,11 @@ module _ (d : ℕ) (s : List ℕ) (at : ℕ) where
       member = plain-headed ∙ rw f;
       rest = (i, decode-headed ∙ rw f (ap (got (unsigned arg)) l));
     }
-    says-by negatives f = says-other negatives f refl refl
+    says-by negatives f = record {
+      view = view-headed ∙ rw f;
+      member = plain-headed ∙ rw f;
+      rest = (i, decode-headed ∙ rw f (ap (got (negative arg)) l));
+    }
     says-by byteStrings f = says-string f (decLe arg (length t))
     says-by textStrings f = says-other textStrings f refl refl
     says-by arrays f = record {

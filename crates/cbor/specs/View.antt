@@ -1,4 +1,4 @@
--- What the layer above asks of an item: of a map's label whether it is an integer, of a value whether it is a number, a byte string,
+-- What the layer above asks of an item: of a map's label whether it is an integer, of a value whether it is an integer, a byte string,
 -- an array of such, or something else. Said of the tree, and then of the bytes that a place's head begins.
 use Prim.Native.Nat.{ℕ, zero, suc, _+_, _-_, _≤_}
 use mathlib.Core.Bool.{cond}
@@ -16,6 +16,8 @@ use Rattle.cbor.specs.declared.value.Value.the-variants as vv
 -- a member of an array
 pub data Plain : Type 0 where
   number : ℕ → Plain
+  -- the number -1 - n
+  minus : ℕ → Plain
   string : List ℕ → Plain
   other : Plain
 
@@ -27,7 +29,7 @@ pub data View : Type 0 where
 -- ---- of the tree
 abbrev pub plainOf : Item → Plain
 plainOf (unsigned n) = number n
-plainOf (negative n) = other
+plainOf (negative n) = minus n
 plainOf (bytes s) = string s
 plainOf (text s) = other
 plainOf (array is) = other
@@ -42,7 +44,7 @@ plainsOf (more i is) = plainOf i ∷ plainsOf is
 
 abbrev pub viewOf : Item → View
 viewOf (unsigned n) = plain (number n)
-viewOf (negative n) = plain other
+viewOf (negative n) = plain (minus n)
 viewOf (bytes s) = plain (string s)
 viewOf (text s) = plain other
 viewOf (array is) = list (plainsOf is)
@@ -82,7 +84,7 @@ stringOf (got s t) = string s
 
 abbrev pub plainBy : Major → ℕ → List ℕ → Plain
 plainBy unsigneds n t = number n
-plainBy negatives n t = other
+plainBy negatives n t = minus n
 plainBy byteStrings n t = stringOf (next n t)
 plainBy textStrings n t = other
 plainBy arrays n t = other
@@ -108,7 +110,7 @@ plainsAt d (suc n) l = andOn (plainAt l) (decode d l) (λ t. plainsAt d n t)
 
 abbrev pub viewBy : ℕ → Major → ℕ → List ℕ → View
 viewBy d unsigneds n t = plain (number n)
-viewBy d negatives n t = plain other
+viewBy d negatives n t = plain (minus n)
 viewBy d byteStrings n t = plain (stringOf (next n t))
 viewBy d textStrings n t = plain other
 viewBy d arrays n t = list (plainsAt d n t)
@@ -156,7 +158,7 @@ labelAt l = labelHead (heading l)
 -- ---- what `value_at` answers: the places in a slice of length n where a value's bytes or members begin, t being what follows its head
 abbrev pub valueBy : ℕ → Major → ℕ → List ℕ → Value
 valueBy n unsigneds a t = vv.Number a (n - length t)
-valueBy n negatives a t = vv.Other
+valueBy n negatives a t = vv.Minus a (n - length t)
 valueBy n byteStrings a t = cond (leb a (length t)) (vv.Bytes (n - length t) a) vv.Other
 valueBy n textStrings a t = vv.Other
 valueBy n arrays a t = vv.Array (n - length t) a
@@ -175,6 +177,7 @@ module _ (d : ℕ) (s : List ℕ) where
   saysView (vv.Bytes p a) = plain (string (take a (drop p s)))
   saysView (vv.Array p n) = list (plainsAt (suc d) n (drop p s))
   saysView vv.Other = plain other
+  saysView (vv.Minus n p) = plain (minus n)
 
   abbrev pub saysRest : ℕ → Value → Type 0
   saysRest at (vv.Number n p) = (p ≤ length s) × (decode (suc d) (drop at s) ≡ got (unsigned n) (drop p s))
@@ -182,6 +185,7 @@ module _ (d : ℕ) (s : List ℕ) where
       (p + a ≤ length s) × (decode (suc d) (drop at s) ≡ got (bytes (take a (drop p s))) (drop (p + a) s))
   saysRest at (vv.Array p n) = (p ≤ length s) × (afterItem (suc d) (drop at s) ≡ afterItems d n (drop p s))
   saysRest at vv.Other = Unit {0}
+  saysRest at (vv.Minus n p) = (p ≤ length s) × (decode (suc d) (drop at s) ≡ got (negative n) (drop p s))
 
 -- a value as a member: an array is neither a number nor a byte string
 abbrev pub flat : View → Plain

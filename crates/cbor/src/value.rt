@@ -12,12 +12,14 @@ pub enum Label {
     Number(u64),
 }
 
-// A value: an unsigned number and where the bytes go on, a byte string, an array whose members begin at `start`, or something else.
+// A value: an unsigned number and where the bytes go on, a byte string, an array whose members begin at `start`, something else, or the
+// negative number -1 - `number`.
 pub enum Value {
     Number { number: u64, next: usize },
     Bytes { start: usize, len: usize },
     Array { start: usize, count: u64 },
     Other,
+    Minus { number: u64, next: usize },
 }
 
 // The label at a place.
@@ -51,6 +53,10 @@ pub fn value_at(s: &[u8], at: usize) -> Value
             let next = head.next;
             match major {
                 0 => Value::Number {
+                    number: argument,
+                    next: next,
+                },
+                1 => Value::Minus {
                     number: argument,
                     next: next,
                 },

@@ -12,7 +12,7 @@ use borrow.Author.Tests.{ne-eqb}
 use types.Run.{OneOf}
 use denote.Enum.Declared.{tagOf}
 use Rattle.short_address.specs.Address.{isAddress}
-use Rattle.cbor.specs.View.{Plain, number, string, other, ValueSays}
+use Rattle.cbor.specs.View.{Plain, number, minus, string, other, ValueSays}
 use Rattle.cbor.specs.declared.value.Value.{Value}
 use Rattle.cbor.specs.declared.value.Value.the-variants as vv
 use Rattle.cbor.proofs.value.Value as value
@@ -84,16 +84,19 @@ module _ (s b : List ℕ) (at n : ℕ) (r : Reading AddressParameter) where
         Wrong : Plain → Type 0
         Wrong (number x) = ⊥
         Wrong (string t) = Unit {0}
+        Wrong (minus x) = Unit {0}
         Wrong other = Unit {0}
 
         wrong : (q : Plain) (qs : List Plain) → Neither (q ∷ qs) → Wrong q
         wrong (number x) qs w = w
         wrong (string t) qs w = tt
+        wrong (minus x) qs w = tt
         wrong other qs w = tt
 
         strings : (t : List ℕ) (q : Plain) → string t ≡ q → Wrong q
         strings t (number x) f = absurd (let z : _≡_ {A = ℕ} 0 1 = cc in omega arith)
         strings t (string u) f = tt
+        strings t (minus x) f = tt
         strings t other f = tt
 
         go : (v : Member) → MemberAt s at n v → OneOf (1 ∷ 2 ∷ []) (tagOf member.the-type v)
@@ -105,6 +108,7 @@ module _ (s b : List ℕ) (at n : ℕ) (r : Reading AddressParameter) where
         last : (q : Plain) (qs : List Plain) → Wrong q → addressConcluded broken ≡ addressConcluded (addressIn (string b ∷ q ∷ qs))
         last (number x) qs w = absurd w
         last (string t) qs w = refl
+        last (minus x) qs w = refl
         last other qs w = refl
 
 -- ---- its members
@@ -123,6 +127,7 @@ module _ (s : List ℕ) (at n : ℕ) (v : Member) (m : MemberSays s at n v) (r :
       none [] w = refl
       none (number x ∷ ps) w = refl
       none (string t ∷ ps) w = absurd w
+      none (minus x ∷ ps) w = refl
       none (other ∷ ps) w = refl
 
       go : (v : Member) → MemberAt s at n v → OneOf (0 ∷ 2 ∷ []) (tagOf member.the-type v)
@@ -137,6 +142,6 @@ module _ (s : List ℕ) (at : ℕ) (v : Value) (e : ValueSays s at v) (r : Readi
       → r ≡ addressRead (valueView (drop at s))
   address-array p n g f = f ∙ rw (array-here s at v e p n g .1)
 
-  pub address-broken : OneOf (0 ∷ 1 ∷ 3 ∷ []) (tagOf value.the-type v) → r ≡ addressConcluded broken
+  pub address-broken : OneOf (0 ∷ 1 ∷ 3 ∷ 4 ∷ []) (tagOf value.the-type v) → r ≡ addressConcluded broken
       → r ≡ addressRead (valueView (drop at s))
   address-broken o f = f ∙ rw (no-array s at v e o .1)

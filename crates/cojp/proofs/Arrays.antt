@@ -10,7 +10,7 @@ use types.Run.{OneOf}
 use denote.Enum.Declared.{tagOf}
 use Rattle.cbor.specs.Decode.{Outcome, refused, got, decode}
 use Rattle.cbor.specs.Item.{Item}
-use Rattle.cbor.specs.View.{Plain, number, string, other, plain, list, plainAt, andOn, restOf, ValueAt, ValueSays}
+use Rattle.cbor.specs.View.{Plain, number, minus, string, other, plain, list, plainAt, andOn, restOf, ValueAt, ValueSays}
 use Rattle.cbor.specs.declared.value.Value.{Value}
 use Rattle.cbor.specs.declared.value.Value.the-variants as vv
 use Rattle.cbor.proofs.value.Value as value
@@ -21,7 +21,7 @@ use Rattle.cojp.specs.declared.members.Member.the-variants as mv
 pub members-none : (n : ℕ) (l : List ℕ) → n ≡ 0 → membersAt n l ≡ []
 members-none n l e = rw e
 
-members-step : (n : ℕ) (l : List ℕ) → 0 < n → membersAt n l ≡ andOn (plainAt l) (decode 6 l) (λ t. membersAt (n - 1) t)
+pub members-step : (n : ℕ) (l : List ℕ) → 0 < n → membersAt n l ≡ andOn (plainAt l) (decode 6 l) (λ t. membersAt (n - 1) t)
 members-step n l h = let e : n ≡ suc (n - 1) = omega arith in ap (λ (k : ℕ). membersAt k l) e
 
 -- there is one where one is left
@@ -33,29 +33,21 @@ members-some n l h = go (decode 6 l) (members-step n l h)
     go (refused k) e = (other, [], e)
     go (got i t) e = (plainAt l, membersAt (n - 1) t, e)
 
--- and if it is neither a number nor a byte string, it is something else
-pub members-other : (n : ℕ) (l : List ℕ) → 0 < n → Neither (membersAt n l) → (ps : List Plain) × (membersAt n l ≡ other ∷ ps)
-members-other n l h w = let (p, ps, e) = members-some n l h in (ps, e ∙ ap (λ (q : Plain). q ∷ ps) (go p ps (rw e at w)))
-  where
-    go : (p : Plain) (ps : List Plain) → Neither (p ∷ ps) → p ≡ other
-    go (number x) ps w = absurd w
-    go (string s) ps w = absurd w
-    go other ps w = refl
-
 -- ---- what a value says as a member, n being left
 module _ (s : List ℕ) (at n : ℕ) where
-  nothing : 0 < n → plainAt (drop at s) ≡ other → Neither (membersAt n (drop at s))
-  nothing h m = rw (members-step n (drop at s) h) (go (decode 6 (drop at s)))
+  nothing : 0 < n → (p : Plain) → plainAt (drop at s) ≡ p → ((ps : List Plain) → Neither (p ∷ ps)) → Neither (membersAt n (drop at s))
+  nothing h p m z = rw (members-step n (drop at s) h) (go (decode 6 (drop at s)))
     where
       go : (o : Outcome Item) → Neither (andOn (plainAt (drop at s)) o (λ t. membersAt (n - 1) t))
       go (refused k) = tt
-      go (got i t) = rw m tt
+      go (got i t) = rw m (z (membersAt (n - 1) t))
 
   value-member : 0 < n → (v : Value) → ValueAt 5 s at v → MemberAt s at n (memberOf v)
   value-member h (vv.Number x p) w = (h, members-step n (drop at s) h ∙ rw (w .rest .1, w .member))
   value-member h (vv.Bytes p a) w = (h, w .rest .0, members-step n (drop at s) h ∙ rw (w .rest .1, w .member))
-  value-member h (vv.Array p m) w = nothing h (w .member)
-  value-member h vv.Other w = nothing h (w .member)
+  value-member h (vv.Array p m) w = nothing h other (w .member) (λ ps. tt)
+  value-member h vv.Other w = nothing h other (w .member) (λ ps. tt)
+  value-member h (vv.Minus x p) w = nothing h (minus x) (w .member) (λ ps. tt)
 
 -- ---- and where the bytes go on
 pub nothing-left : (n : ℕ) (l : List ℕ) → n ≡ 0 → afterMembers n l ≡ l
@@ -72,6 +64,7 @@ module _ (s : List ℕ) (at n : ℕ) where
   value-rest h (vv.Bytes p a) w = after-step n (drop at s) _ (drop (p + a) s) h (w .rest .1)
   value-rest h (vv.Array p m) w = tt
   value-rest h vv.Other w = tt
+  value-rest h (vv.Minus x p) w = tt
 
 -- ---- the returns of `member_at`
 module _ (s : List ℕ) (at n : ℕ) where
@@ -84,14 +77,15 @@ module _ (s : List ℕ) (at n : ℕ) where
         let l : 0 < n = omega arith in
         rw (← f) (record { is = rw (ne-eqb n 0 h) (ap memberOf (e .is)); here = value-member s at n l v (e .says 5); rest = value-rest s at n l v (e .says 5) })
 
-    pub neither-told : OneOf (2 ∷ 3 ∷ []) (tagOf value.the-type v) → MemberSays s at n mv.Neither
+    pub neither-told : OneOf (2 ∷ 3 ∷ 4 ∷ []) (tagOf value.the-type v) → MemberSays s at n mv.Neither
     neither-told o = value-told mv.Neither (go v o)
       where
-        go : (v : Value) → OneOf (2 ∷ 3 ∷ []) (tagOf value.the-type v) → memberOf v ≡ mv.Neither
-        go (vv.Number x p) o = absurd (⊎-elim (λ e. omega arith) (λ e. omega arith) o)
-        go (vv.Bytes p a) o = absurd (⊎-elim (λ e. omega arith) (λ e. omega arith) o)
+        go : (v : Value) → OneOf (2 ∷ 3 ∷ 4 ∷ []) (tagOf value.the-type v) → memberOf v ≡ mv.Neither
+        go (vv.Number x p) o = absurd (⊎-elim (λ e. omega arith) (λ o. ⊎-elim (λ e. omega arith) (λ e. omega arith) o) o)
+        go (vv.Bytes p a) o = absurd (⊎-elim (λ e. omega arith) (λ o. ⊎-elim (λ e. omega arith) (λ e. omega arith) o) o)
         go (vv.Array p a) o = refl
         go vv.Other o = refl
+        go (vv.Minus x p) o = refl
 
 -- ---- what an answer of `member_at` says
 module _ (s : List ℕ) (at n : ℕ) (v : Member) (e : MemberSays s at n v) where
@@ -130,12 +124,15 @@ module _ (s : List ℕ) (at : ℕ) (v : Value) (e : ValueSays s at v) where
       let w : ValueAt 6 s at (vv.Bytes p a) = rw g at (e .says 6) in
       sym (ap restOf (w .rest .1))
 
-  pub no-array : OneOf (0 ∷ 1 ∷ 3 ∷ []) (tagOf value.the-type v) → (p : Plain) × (valueView (drop at s) ≡ plain p)
+  pub no-array : OneOf (0 ∷ 1 ∷ 3 ∷ 4 ∷ []) (tagOf value.the-type v) → (p : Plain) × (valueView (drop at s) ≡ plain p)
   no-array o = go v (e .says 5) o
     where
-      go : (v : Value) → ValueAt 5 s at v → OneOf (0 ∷ 1 ∷ 3 ∷ []) (tagOf value.the-type v)
+      go : (v : Value) → ValueAt 5 s at v → OneOf (0 ∷ 1 ∷ 3 ∷ 4 ∷ []) (tagOf value.the-type v)
           → (p : Plain) × (valueView (drop at s) ≡ plain p)
       go (vv.Number x p) w o = (number x, w .view)
       go (vv.Bytes p a) w o = (string (take a (drop p s)), w .view)
-      go (vv.Array p a) w o = absurd (⊎-elim (λ e. omega arith) (λ o. ⊎-elim (λ e. omega arith) (λ e. omega arith) o) o)
+      go (vv.Array p a) w o =
+          absurd
+          (⊎-elim (λ e. omega arith) (λ o. ⊎-elim (λ e. omega arith) (λ o. ⊎-elim (λ e. omega arith) (λ e. omega arith) o) o) o)
       go vv.Other w o = (other, w .view)
+      go (vv.Minus x p) w o = (minus x, w .view)

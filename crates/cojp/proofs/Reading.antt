@@ -12,7 +12,7 @@ use Rattle.refusal.specs.Verdict.{refused-not}
 use Rattle.refusal.specs.declared.Refusal.the-variants as refusal
 use Rattle.refusal.specs.declared.Verdict.the-variants.{Accepted}
 use Rattle.cbor.specs.Decode.{heading}
-use Rattle.cbor.specs.View.{Plain, number, string, other, View, plain, list}
+use Rattle.cbor.specs.View.{Plain, number, minus, string, other, View, plain, list}
 use Rattle.link_key.specs.Key.{noKey}
 use Rattle.link_key_set.specs.KeySet.{keysOf, allowed, allowedSet}
 use Rattle.link_key.specs.declared.Key.{Key}
@@ -67,11 +67,13 @@ address-in : (ps : List Plain) → Good (λ (a : ShortAddress). isAddress (a .by
 unfolding Good addressIn
 address-in [] = tt
 address-in (number n ∷ r) = tt
+address-in (minus n ∷ r) = tt
 address-in (other ∷ r) = tt
 address-in (string s ∷ []) = address-by s false 0
 address-in (string s ∷ number n ∷ []) = address-by s true n
 address-in (string s ∷ number n ∷ p ∷ r) = tt
 address-in (string s ∷ string t ∷ r) = tt
+address-in (string s ∷ minus n ∷ r) = tt
 address-in (string s ∷ other ∷ r) = tt
 
 address-good : (v : View) → Good (λ (a : ShortAddress). isAddress (a .bytes) ≡ true) (addressJudged v)
@@ -92,6 +94,7 @@ module _ (least : ℕ) where
       good-if sized (low && high) (octetsOf s)
       (λ e. (leb-true least (length s) (both-left low high e), leb-true (length s) 16 (both-right low high e)))
   octets-good (plain (number n)) = tt
+  octets-good (plain (minus n)) = tt
   octets-good (plain other) = tt
   octets-good (list ps) = tt
 

@@ -84,13 +84,15 @@ module _ (s : List ℕ) (at least : ℕ) (v : Value) (e : ValueSays s at v) wher
     unfolding octetsJudged
     octets-taken b l h f = rw (string-here .view, whole, le-leb least a l, le-leb a 16 h, f ∙ copied-inside s p a h string-inside)
 
-  pub octets-broken : OneOf (0 ∷ 2 ∷ 3 ∷ []) (tagOf value.the-type v) → refused refusal.«Type» ≡ octetsRead least (valueView (drop at s))
+  pub octets-broken : OneOf (0 ∷ 2 ∷ 3 ∷ 4 ∷ []) (tagOf value.the-type v) → refused refusal.«Type» ≡ octetsRead least (valueView (drop at s))
   unfolding octetsJudged
   octets-broken o = go v (e .says 5) o
     where
-      go : (v : Value) → ValueAt 5 s at v → OneOf (0 ∷ 2 ∷ 3 ∷ []) (tagOf value.the-type v)
+      go : (v : Value) → ValueAt 5 s at v → OneOf (0 ∷ 2 ∷ 3 ∷ 4 ∷ []) (tagOf value.the-type v)
           → refused refusal.«Type» ≡ octetsRead least (valueView (drop at s))
       go (vv.Number x p) w o = rw (w .view)
-      go (vv.Bytes p a) w o = absurd (⊎-elim (λ e. omega arith) (λ o. ⊎-elim (λ e. omega arith) (λ e. omega arith) o) o)
+      go (vv.Bytes p a) w o = absurd
+          (⊎-elim (λ e. omega arith) (λ o. ⊎-elim (λ e. omega arith) (λ o. ⊎-elim (λ e. omega arith) (λ e. omega arith) o) o) o)
       go (vv.Array p a) w o = rw (w .view)
       go vv.Other w o = rw (w .view)
+      go (vv.Minus x p) w o = rw (w .view)

@@ -4,7 +4,7 @@ use mathlib.Core.Bool.{Bool, true, false, cond}
 use mathlib.Core.List.{List, [], _∷_}
 use lib.ListN.{replicate}
 use Rattle.short_address.specs.Address.{isAddress}
-use Rattle.cbor.specs.View.{Plain, number, string, other, View, plain, list}
+use Rattle.cbor.specs.View.{Plain, number, minus, string, other, View, plain, list}
 use Rattle.refusal.specs.declared.Verdict.the-variants as verdict
 use Rattle.cojp.specs.declared.address.AddressRead.{AddressRead}
 use Rattle.cojp.specs.Reading.{Reading, refused, read, Judgement, broken, unfit, good, concluded}
@@ -34,11 +34,13 @@ addressBy s leased lease = cond (isAddress s) (good (addressOf s leased lease)) 
 unfoldable pub addressIn : List Plain → Judgement ShortAddress
 addressIn [] = broken
 addressIn (number n ∷ r) = broken
+addressIn (minus n ∷ r) = broken
 addressIn (other ∷ r) = broken
 addressIn (string s ∷ []) = addressBy s false 0
 addressIn (string s ∷ number n ∷ []) = addressBy s true n
 addressIn (string s ∷ number n ∷ p ∷ r) = broken
 addressIn (string s ∷ string t ∷ r) = broken
+addressIn (string s ∷ minus n ∷ r) = broken
 addressIn (string s ∷ other ∷ r) = broken
 
 abbrev pub addressJudged : View → Judgement ShortAddress

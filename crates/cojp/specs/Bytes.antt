@@ -7,7 +7,7 @@ use mathlib.Core.List.{List, [], _∷_}
 use lib.Dec.{eqb}
 use lib.ListN.{length, take, drop}
 use Rattle.cbor.specs.Decode.{heading}
-use Rattle.cbor.specs.View.{Plain, number, string, other, View, viewAt, plainsAt, afterItem, afterItems, valueAnswer}
+use Rattle.cbor.specs.View.{Plain, number, minus, string, other, View, viewAt, plainsAt, afterItem, afterItems, valueAnswer}
 use Rattle.cbor.specs.declared.value.Value.{Value}
 use Rattle.cbor.specs.declared.value.Value.the-variants as vv
 use Rattle.cojp.specs.declared.members.Member.{Member}
@@ -38,17 +38,19 @@ memberOf (vv.Number x p) = mv.Number x p
 memberOf (vv.Bytes p a) = mv.Bytes p a
 memberOf (vv.Array p m) = mv.Neither
 memberOf vv.Other = mv.Neither
+memberOf (vv.Minus x p) = mv.Neither
 
 -- the member at a place, n members being left
 abbrev pub memberAnswer : List ℕ → ℕ → ℕ → Member
 memberAnswer s at n = cond (eqb n 0) mv.Neither (memberOf (valueAnswer (length s) (heading (drop at s))))
 
 -- ---- what that answer says of the members and of the bytes after them
--- neither a number nor a byte string comes next
+-- neither an unsigned number nor a byte string comes next
 abbrev pub Neither : List Plain → Type 0
 Neither [] = Unit {0}
 Neither (number n ∷ ps) = ⊥
 Neither (string s ∷ ps) = ⊥
+Neither (minus n ∷ ps) = Unit {0}
 Neither (other ∷ ps) = Unit {0}
 
 abbrev pub MemberAt : List ℕ → ℕ → ℕ → Member → Type 0

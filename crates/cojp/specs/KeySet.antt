@@ -5,7 +5,7 @@ use mathlib.Core.Bool.{cond}
 use mathlib.Core.List.{List, [], _∷_, _++_}
 use lib.ListN.{length, replicate}
 use Rattle.refusal.specs.declared.Refusal.the-variants.{Keys}
-use Rattle.cbor.specs.View.{Plain, number, string, other, View, plain, list}
+use Rattle.cbor.specs.View.{Plain, number, minus, string, other, View, plain, list}
 use Rattle.link_key.specs.Key.{keyOf, noKey}
 use Rattle.link_key_set.specs.KeySet.{noKeys, allowed}
 use Rattle.link_key.specs.declared.Key.{Key}
@@ -42,13 +42,16 @@ group i u v (groupsOf ks) = groupsOf (keyOf i u v ∷ ks)
 unfoldable pub groups : List Plain → Groups
 groups [] = groupsOf []
 groups (string v ∷ r) = notGroups
+groups (minus n ∷ r) = notGroups
 groups (other ∷ r) = notGroups
 groups (number i ∷ []) = notGroups
 groups (number i ∷ string v ∷ r) = group i 0 v (groups r)
+groups (number i ∷ minus n ∷ r) = notGroups
 groups (number i ∷ other ∷ r) = notGroups
 groups (number i ∷ number u ∷ []) = notGroups
 groups (number i ∷ number u ∷ string v ∷ r) = group i u v (groups r)
 groups (number i ∷ number u ∷ number w ∷ r) = notGroups
+groups (number i ∷ number u ∷ minus n ∷ r) = notGroups
 groups (number i ∷ number u ∷ other ∷ r) = notGroups
 
 -- the whole pattern comes before the limits

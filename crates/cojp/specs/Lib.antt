@@ -11,3 +11,4 @@ pub mod Laws
 pub mod InRange
 pub mod Examples
 pub mod Bytes
+pub mod Lists

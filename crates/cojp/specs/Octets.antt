@@ -4,7 +4,7 @@ use mathlib.Core.Bool.{cond, _&&_}
 use mathlib.Core.List.{List, _++_}
 use lib.Dec.{leb}
 use lib.ListN.{length, take, drop, replicate}
-use Rattle.cbor.specs.View.{number, string, other, View, plain, list}
+use Rattle.cbor.specs.View.{number, minus, string, other, View, plain, list}
 use Rattle.refusal.specs.declared.Verdict.the-variants as verdict
 use Rattle.cojp.specs.declared.octets.OctetsRead.{OctetsRead}
 use Rattle.cojp.specs.Reading.{Reading, refused, read, Judgement, broken, unfit, good, concluded}
@@ -43,6 +43,7 @@ noOctetsParameter r = octetsParameter r noOctets
 unfoldable pub octetsJudged : ℕ → View → Judgement Octets
 octetsJudged least (plain (string s)) = cond (leb least (length s) && leb (length s) 16) (good (octetsOf s)) unfit
 octetsJudged least (plain (number n)) = broken
+octetsJudged least (plain (minus n)) = broken
 octetsJudged least (plain other) = broken
 octetsJudged least (list ps) = broken
 

@@ -8,7 +8,7 @@ use Rattle.refusal.specs.declared.Refusal.the-variants as refusal
 use Rattle.refusal.specs.declared.Verdict.the-variants as verdict
 use Rattle.cbor.specs.Decode.{Outcome, Heading, heading}
 use Rattle.cbor.specs.Strict.{strictHeading}
-use Rattle.cbor.specs.View.{number, string, other, View, plain, list}
+use Rattle.cbor.specs.View.{number, minus, string, other, View, plain, list}
 use Rattle.cojp.specs.Reading.{Reading, refused, read, onward, put, Judgement, broken, unfit, good, concluded, ifTaken}
 use Rattle.cojp.specs.Octets.{noOctetsParameter, octetsRead}
 use Rattle.cojp.specs.Walk.{Form, standingOf, payloadReadBy}
@@ -28,6 +28,7 @@ emptyRequest = record { role = 0; network = noOctetsParameter Absent; passed = 0
 unfoldable pub roleJudged : View → Judgement ℕ
 roleJudged (plain (number n)) = cond (leb n 1) (good n) unfit
 roleJudged (plain (string s)) = broken
+roleJudged (plain (minus n)) = broken
 roleJudged (plain other) = broken
 roleJudged (list ps) = broken
 

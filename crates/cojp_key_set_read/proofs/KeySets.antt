@@ -12,7 +12,7 @@ use borrow.Author.Tests.{lt-leb, le-leb, ltb-true, ltb-false, leb-true, leb-fals
 use types.Run.{OneOf}
 use denote.Enum.Declared.{tagOf}
 use Rattle.refusal.specs.declared.Refusal.the-variants as refusal
-use Rattle.cbor.specs.View.{Plain, number, string, other, ValueSays}
+use Rattle.cbor.specs.View.{Plain, number, minus, string, other, ValueSays}
 use Rattle.cbor.specs.declared.value.Value.{Value}
 use Rattle.cbor.specs.declared.value.Value.the-variants as vv
 use Rattle.cbor.proofs.value.Value as value
@@ -31,7 +31,7 @@ use Rattle.cojp.specs.declared.key_set.KeysParameter.{KeysParameter}
 use Rattle.cojp.specs.declared.members.Member.{Member}
 use Rattle.cojp.specs.declared.members.Member.the-variants as mv
 use Rattle.logic_facts.specs.Tests.{both-left, both-right}
-use Rattle.cojp.proofs.Arrays.{nothing-left, members-none, members-other, array-here, no-array}
+use Rattle.cojp.proofs.Arrays.{nothing-left, members-none, members-some, array-here, no-array}
 use Rattle.cojp.proofs.Strings.{copied-inside}
 use Rattle.cojp.proofs.members.Member as member
 
@@ -57,10 +57,16 @@ module _ (l : List ℕ) (n : ℕ) (v : Member) where
     unfolding groups
     group-headless o = go v (e .here) o
       where
+        none : (p : Plain) (ps : List Plain) → Neither (p ∷ ps) → groups (p ∷ ps) ≡ notGroups
+        none (number x) ps w = absurd w
+        none (minus x) ps w = refl
+        none (string s) ps w = refl
+        none other ps w = refl
+
         go : (v : Member) → MemberAt l 0 n v → OneOf (1 ∷ 2 ∷ []) (tagOf member.the-type v) → groups (membersAt n l) ≡ notGroups
         go (mv.Number x p) w o = absurd (⊎-elim (λ e. omega arith) (λ e. omega arith) o)
         go (mv.Bytes p a) w o = rw (w .2)
-        go mv.Neither w o = rw (members-other n l h w .1)
+        go mv.Neither w o = let (p, ps, f) = members-some n l h in rw f (none p ps (rw f at w))
 
   module _ (at i : ℕ) (e : MemberSays l at n v) where
     pub group-used : (u p : ℕ) → v ≡ mv.Number u p → (r : Group)
@@ -84,6 +90,7 @@ module _ (l : List ℕ) (n : ℕ) (v : Member) where
         go [] w = refl
         go (number x ∷ ps) w = absurd w
         go (string s ∷ ps) w = absurd w
+        go (minus x ∷ ps) w = refl
         go (other ∷ ps) w = refl
 
     module _ (u : ℕ) where
@@ -103,6 +110,7 @@ module _ (l : List ℕ) (n : ℕ) (v : Member) where
           none [] w = refl
           none (number x ∷ ps) w = absurd w
           none (string s ∷ ps) w = absurd w
+          none (minus x ∷ ps) w = refl
           none (other ∷ ps) w = refl
 
           go : (v : Member) → MemberAt l at n v → OneOf (0 ∷ 2 ∷ []) (tagOf member.the-type v)
@@ -306,5 +314,5 @@ module _ (s : List ℕ) (at : ℕ) (v : Value) (e : ValueSays s at v) (r : Readi
       → r ≡ keysRead (valueView (drop at s))
   keys-array p n g f = f ∙ rw (array-here s at v e p n g .1)
 
-  pub keys-broken : OneOf (0 ∷ 1 ∷ 3 ∷ []) (tagOf value.the-type v) → r ≡ refused refusal.«Type» → r ≡ keysRead (valueView (drop at s))
+  pub keys-broken : OneOf (0 ∷ 1 ∷ 3 ∷ 4 ∷ []) (tagOf value.the-type v) → r ≡ refused refusal.«Type» → r ≡ keysRead (valueView (drop at s))
   keys-broken o f = f ∙ rw (no-array s at v e o .1)

@@ -50,16 +50,18 @@ module _ (s : List ℕ) (at : ℕ) (v : Value) (e : ValueSays s at v) where
     pub role-ends : drop p s ≡ afterValue (drop at s)
     role-ends = let w : ValueAt 6 s at (vv.Number n p) = rw g at (e .says 6) in sym (ap restOf (w .rest .1))
 
-  pub role-broken : OneOf (1 ∷ 2 ∷ 3 ∷ []) (tagOf value.the-type v) → refused refusal.«Type» ≡ roleRead (valueView (drop at s))
+  pub role-broken : OneOf (1 ∷ 2 ∷ 3 ∷ 4 ∷ []) (tagOf value.the-type v) → refused refusal.«Type» ≡ roleRead (valueView (drop at s))
   unfolding roleJudged
   role-broken o = go v (e .says 5) o
     where
-      go : (v : Value) → ValueAt 5 s at v → OneOf (1 ∷ 2 ∷ 3 ∷ []) (tagOf value.the-type v)
+      go : (v : Value) → ValueAt 5 s at v → OneOf (1 ∷ 2 ∷ 3 ∷ 4 ∷ []) (tagOf value.the-type v)
           → refused refusal.«Type» ≡ roleRead (valueView (drop at s))
-      go (vv.Number x p) w o = absurd (⊎-elim (λ e. omega arith) (λ o. ⊎-elim (λ e. omega arith) (λ e. omega arith) o) o)
+      go (vv.Number x p) w o = absurd
+          (⊎-elim (λ e. omega arith) (λ o. ⊎-elim (λ e. omega arith) (λ o. ⊎-elim (λ e. omega arith) (λ e. omega arith) o) o) o)
       go (vv.Bytes p a) w o = rw (w .view)
       go (vv.Array p a) w o = rw (w .view)
       go vv.Other w o = rw (w .view)
+      go (vv.Minus x p) w o = rw (w .view)
 
 -- a refusal of the role, s being the payload and l what is left after the value
 pub role-refused : (named : Bool) (x : Reading ℕ) (s l : List ℕ) (r : RoleRead) (k : Refusal) → r ≡ record { verdict = verdict.Refused k; role = 0; next = 0 }

@@ -2,7 +2,7 @@
 use native.Mathlib.Omega.{arith}
 use borrow.Author.Needs.{needs}
 use Rattle.cbor.proofs.Answers.{head-inside}
-use Rattle.cbor.proofs.Views.{value-refused, value-number, value-string, value-cut, value-array, value-other, value-told}
+use Rattle.cbor.proofs.Views.{value-refused, value-number, value-minus, value-string, value-cut, value-array, value-other, value-told}
 use Rattle.cbor.proofs.value.value_at.Statement.{statement}
 use Rattle.cbor.proofs.value.value_at.Tie as tie
 
@@ -39,11 +39,11 @@ returns-2 c =
 
 returns-3 : tie.Need-returns-3
 returns-3 c =
-    let k = c .before .before .before in
+    let k = c .before .before in
     let r = k .before .before in
     let a = r .before .before .args in
     value-told (a .s .now) (a .at) _
-    (value-string (a .s .now) (a .at) (r .read-head .result) (r .read-head .ensures) (k .h .given .0 .0) (k .h .given .1) (omega arith) (c .if1 .taken))
+    (value-minus (a .s .now) (a .at) (r .read-head .result) (r .read-head .ensures) (k .h .given .0 .0) (k .h .given .1) (omega arith))
 
 returns-4 : tie.Need-returns-4
 returns-4 c =
@@ -51,15 +51,15 @@ returns-4 c =
     let r = k .before .before in
     let a = r .before .before .args in
     value-told (a .s .now) (a .at) _
-    (value-cut (a .s .now) (a .at) (r .read-head .result) (r .read-head .ensures) (k .h .given .0 .0) (k .h .given .1) (omega arith) (c .if1 .left))
+    (value-string (a .s .now) (a .at) (r .read-head .result) (r .read-head .ensures) (k .h .given .0 .0) (k .h .given .1) (omega arith) (c .if1 .taken))
 
 returns-5 : tie.Need-returns-5
 returns-5 c =
-    let k = c .before .before in
+    let k = c .before .before .before in
     let r = k .before .before in
     let a = r .before .before .args in
     value-told (a .s .now) (a .at) _
-    (value-array (a .s .now) (a .at) (r .read-head .result) (r .read-head .ensures) (k .h .given .0 .0) (k .h .given .1) (omega arith))
+    (value-cut (a .s .now) (a .at) (r .read-head .result) (r .read-head .ensures) (k .h .given .0 .0) (k .h .given .1) (omega arith) (c .if1 .left))
 
 returns-6 : tie.Need-returns-6
 returns-6 c =
@@ -67,7 +67,15 @@ returns-6 c =
     let r = k .before .before in
     let a = r .before .before .args in
     value-told (a .s .now) (a .at) _
-    (value-other (a .s .now) (a .at) (r .read-head .result) (r .read-head .ensures) (k .h .given .0 .0) (k .h .given .1) (λ e. omega arith) (λ e. omega arith) (λ e. omega arith))
+    (value-array (a .s .now) (a .at) (r .read-head .result) (r .read-head .ensures) (k .h .given .0 .0) (k .h .given .1) (omega arith))
+
+returns-7 : tie.Need-returns-7
+returns-7 c =
+    let k = c .before .before in
+    let r = k .before .before in
+    let a = r .before .before .args in
+    value-told (a .s .now) (a .at) _
+    (value-other (a .s .now) (a .at) (r .read-head .result) (r .read-head .ensures) (k .h .given .0 .0) (k .h .given .1) (λ e. omega arith) (λ e. omega arith) (λ e. omega arith) (λ e. omega arith))
 
 pub value-at-spec : {M : Type 1} → statement M
 value-at-spec =
@@ -82,4 +90,5 @@ value-at-spec =
     returns-3
     returns-4
     returns-5
-    returns-6)
+    returns-6
+    returns-7)

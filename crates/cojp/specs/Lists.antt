@@ -1,0 +1,114 @@
+-- Arrays that are kept as they are written (RFC 9031: blacklist, unsupported configuration): which members are kept, and the bytes that
+-- they are then. docs/RFC9031.md has the rules.
+use Prim.Native.Nat.{ℕ}
+use mathlib.Core.Bool.{Bool, true, false, cond, _&&_}
+use mathlib.Core.List.{List, [], _∷_, _++_}
+use lib.Dec.{leb, eqb}
+use lib.ListN.{length, take, replicate}
+use Rattle.refusal.specs.declared.Refusal.the-variants.{Range}
+use Rattle.cbor.specs.Answer.{Plan, emit, refuse}
+use Rattle.cbor.specs.Item.{Item, Items, unsigned, negative, bytes, simple, none, more}
+use Rattle.cbor.specs.Encode.{encodes, shortest}
+use Rattle.cbor.specs.View.{Plain, number, minus, string, other, View, plain, list}
+use Rattle.byte_lists.specs.Same.{same}
+use Rattle.cojp.specs.Bytes.{membersAt}
+use Rattle.cojp.specs.Octets.{padded}
+use Rattle.cojp.specs.declared.list.ItemList.{ItemList}
+use Rattle.cojp.specs.declared.list.ListRead.{ListRead}
+
+-- a member as it is written: what is no number and no byte string is null
+abbrev pub plainItem : Plain → Item
+plainItem (number n) = unsigned n
+plainItem (minus n) = negative n
+plainItem (string s) = bytes s
+plainItem other = simple 22
+
+abbrev pub itemsOf : List Plain → Items
+itemsOf [] = none
+itemsOf (p ∷ ps) = more (plainItem p) (itemsOf ps)
+
+abbrev pub written : List Plain → List ℕ
+written ps = encodes (itemsOf ps)
+
+-- ---- the members that are kept, or a broken pattern
+pub data Picked : Type 0 where
+  nothing : Picked
+  picked : List Plain → Picked
+
+-- with these in front
+abbrev pub before : List Plain → Picked → Picked
+before ps nothing = nothing
+before ps (picked qs) = picked (ps ++ qs)
+
+-- a blacklist: byte strings
+unfoldable pub stringsIn : List Plain → Picked
+stringsIn [] = picked []
+stringsIn (number n ∷ r) = nothing
+stringsIn (minus n ∷ r) = nothing
+stringsIn (string s ∷ r) = before (string s ∷ []) (stringsIn r)
+stringsIn (other ∷ r) = nothing
+
+abbrev pub isInteger : Plain → Bool
+isInteger (number n) = true
+isInteger (minus n) = true
+isInteger (string s) = false
+isInteger other = false
+
+abbrev pub integer : Bool → ℕ → Plain
+integer true n = minus n
+integer false n = number n
+
+-- reports: groups of a code, a label and any item, which is kept as null
+unfoldable pub faultsIn : List Plain → Picked
+faultsIn [] = picked []
+faultsIn (p ∷ []) = nothing
+faultsIn (p ∷ q ∷ []) = nothing
+faultsIn (p ∷ q ∷ x ∷ r) = cond (isInteger p && isInteger q) (before (p ∷ q ∷ other ∷ []) (faultsIn r)) nothing
+
+-- at least one member
+abbrev pub some : (List Plain → Picked) → List Plain → Picked
+some f [] = nothing
+some f (p ∷ ps) = f (p ∷ ps)
+
+-- an array of them
+abbrev pub inArray : (List Plain → Picked) → View → Picked
+inArray f (plain p) = nothing
+inArray f (list ps) = f ps
+
+-- ---- the list
+-- what has room in n bytes
+abbrev pub fitting : ℕ → Picked → Picked
+fitting n nothing = nothing
+fitting n (picked ps) = cond (leb (length (written ps)) n) (picked ps) nothing
+
+abbrev pub listOf : List Plain → ItemList
+listOf ps = record { count = length ps; len = length (written ps); bytes = padded 253 (written ps) }
+
+abbrev pub noList : ItemList
+noList = record { count = 0; len = 0; bytes = replicate 253 0 }
+
+abbrev pub listAnswer : Picked → ListRead
+listAnswer nothing = record { good = false; value = noList }
+listAnswer (picked ps) = record { good = true; value = listOf ps }
+
+-- ---- a list that is handed in: it is in its limits if reading it again gives it
+abbrev pub bytesIn : ItemList → List ℕ
+bytesIn l = take (l .len) (l .bytes)
+
+unfoldable pub sameAs : ListRead → ItemList → Bool
+sameAs r l = (r .good && eqb (r .value .count) (l .count) && same (bytesIn (r .value)) (bytesIn l))
+
+unfoldable pub kept : (List Plain → Picked) → ItemList → Bool
+kept f l = (leb (l .len) 253 && sameAs (listAnswer (fitting 253 (f (membersAt (l .count) (bytesIn l))))) l)
+
+-- ---- the array that is written of a list
+abbrev pub pickedItems : Picked → Items
+pickedItems nothing = none
+pickedItems (picked ps) = itemsOf ps
+
+abbrev pub itemsIn : (List Plain → Picked) → ItemList → Items
+itemsIn f l = pickedItems (f (membersAt (l .count) (bytesIn l)))
+
+-- writing it: RANGE where the list has more bytes than its array
+unfoldable pub listPlan : ItemList → Plan
+listPlan l = cond (leb (l .len) 253) (emit (shortest 4 (l .count) ++ bytesIn l)) (refuse Range)

@@ -1,0 +1,210 @@
+-- Members are gathered one after the other: what was kept so far stands in front of the destination.
+use Prim.Native.Nat.{ℕ, zero, suc, _+_, _-_, _≤_, _<_}
+use mathlib.Core.Path.{_≡_, refl, ap, _∙_}
+use mathlib.Core.Bool.{true}
+use mathlib.Core.List.{List, [], _∷_, _++_, append-assoc, append-nil}
+use native.Mathlib.Omega.{arith}
+use lib.ListN.{length, take, drop, replicate, length-append, length-take, length-drop, length-replicate}
+use borrow.Author.Tests.{le-leb, lt-leb}
+use native.Mathlib.Decide.{decLe}
+use Rattle.refusal.specs.declared.Refusal.{Refusal}
+use Rattle.cbor.specs.Answer.{Did, Wrote, emit}
+use Rattle.cbor.specs.declared.write.Written.{Written}
+use Rattle.cbor.specs.declared.write.Written.the-variants as wv
+use Rattle.cbor.specs.Encode.{encode}
+use Rattle.cbor.specs.View.{Plain, number, minus, string, other}
+use Rattle.cbor.proofs.Writing.{seam, length-head, wrote-none, wrote-length, length-string, did-done, did-kept, did-never}
+use Rattle.cojp.specs.Bytes.{membersAt}
+use Rattle.cojp.proofs.Arrays.{members-none}
+use Rattle.cojp.specs.Lists.{Picked, nothing, picked, before, fitting, plainItem, written, listAnswer}
+use Rattle.cojp.specs.Octets.{padded}
+use Rattle.cojp.specs.declared.list.ListRead.{ListRead}
+use Rattle.cojp_list_read.specs.Gathered.{GatheredAs}
+use Rattle.cojp_list_read.specs.declared.list.Gathered.{Gathered}
+use Rattle.cojp_list_read.specs.declared.list.Gathered.the-variants as gv
+
+-- ---- a writer's answer tells whether there was room
+module _ {p d d′ : List ℕ} {r : Written} (w : Did (emit p) d r d′) where
+  pub did-lacks : (k : Refusal) → r ≡ wv.Refused k → length d < length p
+  did-lacks k e = go (decLe (length p) (length d))
+    where
+      go : Dec (length p ≤ length d) → length d < length p
+      go (yes h) = absurd (did-never p d r d′ k h w e)
+      go (no h) = omega arith
+
+  pub did-fits : (n : ℕ) → r ≡ wv.Length n → (length p ≤ length d) × Wrote p d n d′
+  did-fits n e = go (decLe (length p) (length d))
+    where
+      go : Dec (length p ≤ length d) → (length p ≤ length d) × Wrote p d n d′
+      go (yes h) = (h, did-done p d r d′ n h w e)
+      go (no h) =
+          let l : length d < length p = omega arith in
+          let f : r ≡ wv.Refused _ = simp (lt-leb (length p) (length d) l) at (w .says) in
+          absurd (let z : _≡_ {A = ℕ} 0 1 = cc in omega arith)
+
+  -- the destination keeps its length
+  pub did-length : length d′ ≡ length d
+  did-length = go (decLe (length p) (length d))
+    where
+      go : Dec (length p ≤ length d) → length d′ ≡ length d
+      go (yes h) = wrote-length (did-kept p d r d′ h w) h
+      go (no h) =
+          let l : length d < length p = omega arith in
+          ap length (simp (lt-leb (length p) (length d) l) at (w .holds))
+
+-- ---- members one after the other
+pub before-before : (a b : List Plain) (q : Picked) → before a (before b q) ≡ before (a ++ b) q
+before-before a b nothing = refl
+before-before a b (picked ps) = rw (append-assoc a b ps)
+
+pub written-append : (a b : List Plain) → written (a ++ b) ≡ written a ++ written b
+written-append [] b = refl
+written-append (p ∷ a) b = rw (written-append a b, append-assoc (encode (plainItem p)))
+
+pub written-length : (a b : List Plain) → length (written (a ++ b)) ≡ length (written a) + length (written b)
+written-length a b = ap length (written-append a b) ∙ length-append (written a) (written b)
+
+-- each takes a byte at least
+one-byte : (p : Plain) → 1 ≤ length (encode (plainItem p))
+one-byte (number n) = omega (arith, length-head 0 n)
+one-byte (minus n) = omega (arith, length-head 1 n)
+one-byte (string s) = omega (arith, length-string 2 s)
+one-byte other = omega (arith, length-head 7 22)
+
+pub written-long : (ps : List Plain) → length ps ≤ length (written ps)
+written-long [] = omega arith
+written-long (p ∷ ps) = omega (arith, one-byte p, written-long ps, length-append (encode (plainItem p)) (written ps))
+
+fitting-over : (n : ℕ) (a : List Plain) (q : Picked) → n < length (written a) → fitting n (before a q) ≡ nothing
+fitting-over n a nothing h = refl
+fitting-over n a (picked ps) h = let l : n < length (written (a ++ ps)) = omega (arith, written-length a ps) in rw (lt-leb (length (written (a ++ ps))) n l)
+
+-- ---- a loop over the members that are left
+-- f says what is kept of members; d is the destination before, and d′ now
+module _ (f : List Plain → Picked) (s : List ℕ) (from count : ℕ) (d : List ℕ) where
+  pub record Gathering (at left len members : ℕ) (d′ : List ℕ) : Type 0 where
+    pub so-far : List Plain
+    pub pattern : f (membersAt count (drop from s)) ≡ before so-far (f (membersAt left (drop at s)))
+    pub room : length (written so-far) ≤ length d
+    pub many : members ≡ length so-far
+    pub wrote : Wrote (written so-far) d len d′
+
+  pub gathering-none : Gathering from count 0 0 d
+  gathering-none = record {
+    so-far = [];
+    pattern = same (f (membersAt count (drop from s)));
+    room = omega arith;
+    many = refl;
+    wrote = wrote-none d;
+  }
+    where
+      same : (q : Picked) → q ≡ before [] q
+      same nothing = refl
+      same (picked ps) = refl
+
+module _ {f : List Plain → Picked} {s : List ℕ} {from count : ℕ} {d : List ℕ} {at left len members : ℕ} {d′ : List ℕ}
+    (g : Gathering f s from count d at left len members d′) where
+  pub gathering-length : length d′ ≡ length d
+  gathering-length = wrote-length (g .wrote) (g .room)
+
+  pub gathering-within : len ≤ length d′
+  gathering-within = omega (arith, gathering-length, g .wrote .many, g .room)
+
+  pub gathering-bad : f (membersAt left (drop at s)) ≡ nothing → fitting (length d) (f (membersAt count (drop from s))) ≡ nothing
+  gathering-bad e = rw (g .pattern, e)
+
+  pub gathering-done : f [] ≡ picked [] → left ≤ 0 → GatheredAs (f (membersAt count (drop from s))) d (gv.Kept members len) d′
+  gathering-done e h =
+      let z : left ≡ 0 = omega arith in
+      let whole : f (membersAt count (drop from s)) ≡ picked (g .so-far) =
+      g .pattern ∙ rw (members-none left (drop at s) z, e, append-nil (g .so-far)) in
+      (g .so-far, rw (whole, le-leb (length (written (g .so-far))) (length d) (g .room)), g .many, g .wrote)
+
+  -- the next members, xs of them kept
+  module _ (xs : List Plain) (next rest : ℕ) (e : f (membersAt left (drop at s)) ≡ before xs (f (membersAt rest (drop next s)))) where
+    further : f (membersAt count (drop from s)) ≡ before (g .so-far ++ xs) (f (membersAt rest (drop next s)))
+    further = g .pattern ∙ rw e (before-before (g .so-far) xs (f (membersAt rest (drop next s))))
+
+    pub gathering-full : length d′ - len < length (written xs) → fitting (length d) (f (membersAt count (drop from s))) ≡ nothing
+    gathering-full h =
+        rw further
+        (fitting-over (length d) (g .so-far ++ xs) (f (membersAt rest (drop next s)))
+        (omega (arith, written-length (g .so-far) xs, gathering-length, g .wrote .many, g .room)))
+
+    module _ (h : length (written xs) ≤ length d′ - len) where
+      fits : length (written (g .so-far)) + length (written xs) ≤ length d
+      fits = omega (arith, gathering-length, g .wrote .many, g .room)
+
+      pub gathering-count : members + length xs ≤ length d
+      gathering-count = omega (arith, fits, g .many, written-long (g .so-far), written-long xs)
+
+      pub gathering-more : {k : ℕ} {p : List ℕ} → Wrote (written xs) (take (length d′ - len) (drop len d′)) k p
+          → Gathering f s from count d next rest (len + k) (members + length xs) (take len d′ ++ (p ++ drop (length d′ - len) (drop len d′)))
+      gathering-more w = record {
+        so-far = g .so-far ++ xs;
+        pattern = further;
+        room = omega (arith, fits, written-length (g .so-far) xs);
+        many = omega (arith, g .many, length-append (g .so-far) xs);
+        wrote = rw (written-append (g .so-far) xs) (seam fits (g .wrote) w);
+      }
+
+-- ---- one turn: r is the answer of writing xs to the lent part, which then is q
+module _ (f : List Plain → Picked) (s : List ℕ) (from count : ℕ) (d : List ℕ) where
+  pub record Turn (at left len members : ℕ) (d′ : List ℕ) (xs : List Plain) (next rest : ℕ) (r : Written) (q : List ℕ) : Type 0 where
+    pub gathering : Gathering f s from count d at left len members d′
+    pub step : f (membersAt left (drop at s)) ≡ before xs (f (membersAt rest (drop next s)))
+    pub put : Did (emit (written xs)) (take (length d′ - len) (drop len d′)) r q
+
+module _ {f : List Plain → Picked} {s : List ℕ} {from count : ℕ} {d : List ℕ} {at left len members : ℕ} {d′ : List ℕ} {xs : List Plain} {next rest : ℕ} {r : Written} {q : List ℕ}
+    (t : Turn f s from count d at left len members d′ xs next rest r q) where
+  lent : length (take (length d′ - len) (drop len d′)) ≡ length d′ - len
+  lent = simp (length-take, length-drop) (omega arith)
+
+  pub turn-length : length (take len d′ ++ (q ++ drop (length d′ - len) (drop len d′))) ≡ length d
+  turn-length =
+      let h : length q ≡ length d′ - len = did-length (t .put) ∙ lent in
+      simp (length-append, length-take, length-drop)
+      (omega (arith, gathering-length (t .gathering), gathering-within (t .gathering)))
+
+  pub turn-full : (k : Refusal) → r ≡ wv.Refused k → fitting (length d) (f (membersAt count (drop from s))) ≡ nothing
+  turn-full k y = gathering-full (t .gathering) xs next rest (t .step) (omega (arith, lent, did-lacks (t .put) k y))
+
+  module _ (k : ℕ) (y : r ≡ wv.Length k) where
+    turn-room : length (written xs) ≤ length d′ - len
+    turn-room = omega (arith, lent, did-fits (t .put) k y .0)
+
+    pub turn-more : Gathering f s from count d next rest (len + k) (members + length xs) (take len d′ ++ (q ++ drop (length d′ - len) (drop len d′)))
+    turn-more = gathering-more (t .gathering) xs next rest (t .step) turn-room (did-fits (t .put) k y .1)
+
+    pub turn-count : (len + k ≤ length d) × (members + length xs ≤ length d)
+    turn-count =
+        let m = turn-more in
+        (omega (arith, m .wrote .many, m .room), gathering-count (t .gathering) xs next rest (t .step) turn-room)
+
+-- ---- what was gathered in 253 zeros is the list
+zeros-after : (k n : ℕ) → drop k (replicate {A = ℕ} n 0) ≡ replicate (n - k) 0
+zeros-after zero n = let e : n - 0 ≡ n = omega arith in rw e
+zeros-after (suc k) zero = let e : 0 - suc k ≡ 0 = omega arith in rw e
+zeros-after (suc k) (suc n) = let e : suc n - suc k ≡ n - k = omega arith in rw e (zeros-after k n)
+
+module _ (q : Picked) (d : List ℕ) (z : d ≡ replicate 253 0) where
+  many-zeros : length d ≡ 253
+  many-zeros = ap length z ∙ length-replicate {A = ℕ} 253 0
+
+  kept-by : (ps : List Plain) (m n : ℕ) (d′ : List ℕ) → fitting (length d) q ≡ picked ps → m ≡ length ps → Wrote (written ps) d n d′
+      → _≡_ {A = ListRead} (record { good = true; value = record { count = m; len = n; bytes = d′ } }) (listAnswer (fitting 253 q))
+  unfolding padded
+  kept-by ps m n d′ f many wrote =
+      let f′ : fitting 253 q ≡ picked ps = rw many-zeros at f in
+      let b : d′ ≡ written ps ++ replicate (253 - length (written ps)) 0 = wrote .holds ∙ rw (z, zeros-after (length (written ps)) 253) in
+      rw (f′, many, wrote .many, b)
+
+  module _ (r : Gathered) (d′ : List ℕ) (w : GatheredAs q d r d′) where
+    pub list-bad : r ≡ gv.Bad → fitting 253 q ≡ nothing
+    list-bad e = let v : GatheredAs q d gv.Bad d′ = rw e at w in rw (← many-zeros) v
+
+    pub list-kept : {m n : ℕ} → r ≡ gv.Kept m n
+        → _≡_ {A = ListRead} (record { good = true; value = record { count = m; len = n; bytes = d′ } }) (listAnswer (fitting 253 q))
+    list-kept {m} {n} e =
+        let v : GatheredAs q d (gv.Kept m n) d′ = rw e at w in
+        kept-by (v .0) m n d′ (v .1) (v .2) (v .3)

@@ -1,0 +1,6 @@
+mod Gathering
+mod ByteStrings
+mod Reports
+mod Again
+mod Back
+mod Writing

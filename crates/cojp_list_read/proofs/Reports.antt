@@ -1,0 +1,223 @@
+-- Reports are read, written and gathered.
+use Prim.Native.Nat.{ℕ, _+_, _-_, _≤_, _<_}
+use mathlib.Core.Path.{_≡_, refl, ap, _∙_}
+use mathlib.Core.Bool.{Bool, true, false, cond}
+use mathlib.Core.List.{List, [], _∷_, _++_, append-assoc, append-nil}
+use mathlib.Core.Logic.{⊎-elim}
+use native.Mathlib.Omega.{arith}
+use lib.ListN.{length, take, drop, length-append, length-take, length-drop}
+use types.Run.{OneOf}
+use denote.Enum.Declared.{tagOf}
+use Rattle.refusal.specs.declared.Refusal.{Refusal}
+use Rattle.refusal.specs.declared.Refusal.the-variants.{Room}
+use Rattle.cbor.specs.Answer.{Did, Wrote, emit, headPlan, skipAnswer}
+use Rattle.cbor.specs.Decode.{Outcome, refused, got, decode}
+use Rattle.cbor.specs.Encode.{encode, shortest, extraOf}
+use Rattle.cbor.specs.Item.{Item}
+use Rattle.cbor.specs.View.{Plain, string, other, plainAt, andOn, ValueAt, ValueSays}
+use Rattle.cbor.specs.declared.item.Skip.{Skip}
+use Rattle.cbor.specs.declared.item.Skip.the-variants as sv
+use Rattle.cbor.specs.declared.value.Value.{Value}
+use Rattle.cbor.specs.declared.value.Value.the-variants as vv
+use Rattle.cbor.specs.declared.write.Written.{Written}
+use Rattle.cbor.specs.declared.write.Written.the-variants as wv
+use Rattle.cbor.proofs.value.Value as value
+use Rattle.cbor.proofs.Answers.{skip-refused, skip-next}
+use Rattle.cbor.proofs.Writing.{seam, wrote-as, wrote-length, did-emit, did-kept, did-room, head-did, length-head, short-head, extra-most}
+use Rattle.cojp.specs.Bytes.{membersAt}
+use Rattle.cojp.proofs.Arrays.{members-none, members-step, members-some}
+use Rattle.cojp.specs.Lists.{Picked, nothing, picked, plainItem, written, isInteger, integer, faultsIn, some}
+use Rattle.cojp_list_read.specs.Gathered.{NoNumber, IntegerAt, AnyAt, FaultAt}
+use Rattle.cojp_list_read.specs.declared.report.Integer.{Integer}
+use Rattle.cojp_list_read.specs.declared.report.Integer.the-variants as iv
+use Rattle.cojp_list_read.specs.declared.report.Fault.{Fault}
+use Rattle.cojp_list_read.specs.declared.report.Fault.the-variants as fv
+use Rattle.cojp_list_read.specs.declared.report.Place.{Place}
+use Rattle.cojp_list_read.proofs.Gathering.{Gathering, Turn}
+
+-- ---- the returns of `integer_at` and `pass_over`
+module _ (s : List ℕ) (at n : ℕ) where
+  pub integer-end : n ≡ 0 → NoNumber (membersAt n (drop at s))
+  integer-end h = rw (members-none n (drop at s) h) tt
+
+  module _ (h : ¬ (n ≡ 0)) (v : Value) (e : ValueSays s at v) where
+    pub integer-number : (x p : ℕ) → v ≡ vv.Number x p → IntegerAt s at n (iv.At false x p)
+    integer-number x p g =
+        let w : ValueAt 5 s at (vv.Number x p) = rw g at (e .says 5) in
+        (omega arith, members-step n (drop at s) (omega arith) ∙ rw (w .rest .1, w .member))
+
+    pub integer-minus : (x p : ℕ) → v ≡ vv.Minus x p → IntegerAt s at n (iv.At true x p)
+    integer-minus x p g =
+        let w : ValueAt 5 s at (vv.Minus x p) = rw g at (e .says 5) in
+        (omega arith, members-step n (drop at s) (omega arith) ∙ rw (w .rest .1, w .member))
+
+    pub integer-none : OneOf (1 ∷ 2 ∷ 3 ∷ []) (tagOf value.the-type v) → NoNumber (membersAt n (drop at s))
+    integer-none o = go v (e .says 5) o
+      where
+        none : (p : Plain) → plainAt (drop at s) ≡ p → isInteger p ≡ false → NoNumber (membersAt n (drop at s))
+        none p m z = rw (members-step n (drop at s) (omega arith)) (by (decode 6 (drop at s)))
+          where
+            by : (o : Outcome Item) → NoNumber (andOn (plainAt (drop at s)) o (λ t. membersAt (n - 1) t))
+            by (refused k) = refl
+            by (got i t) = rw m z
+
+        go : (v : Value) → ValueAt 5 s at v → OneOf (1 ∷ 2 ∷ 3 ∷ []) (tagOf value.the-type v) → NoNumber (membersAt n (drop at s))
+        go (vv.Number x p) w o = absurd (⊎-elim (λ e. omega arith) (λ o. ⊎-elim (λ e. omega arith) (λ e. omega arith) o) o)
+        go (vv.Bytes p a) w o = none (string (take a (drop p s))) (w .member) refl
+        go (vv.Array p a) w o = none other (w .member) refl
+        go vv.Other w o = none other (w .member) refl
+        go (vv.Minus x p) w o = absurd (⊎-elim (λ e. omega arith) (λ o. ⊎-elim (λ e. omega arith) (λ e. omega arith) o) o)
+
+  module _ (h : 0 < n) (k : Skip) (e : k ≡ skipAnswer (length s) (decode 6 (drop at s))) where
+    pub any-refused : (j : Refusal) → k ≡ sv.Refused j → AnyAt s at n (record { next = at; left = 0 })
+    any-refused j g = (other, h, members-step n (drop at s) h ∙ rw (skip-refused s at 6 k e j g, members-none 0 (drop at s) refl))
+
+    pub any-next : (p : ℕ) → k ≡ sv.Next p → AnyAt s at n (record { next = p; left = n - 1 })
+    any-next p g = (plainAt (drop at s), omega arith, members-step n (drop at s) h ∙ rw (skip-next s at 6 k e p g .1))
+
+-- ---- the returns of `after_code` and `fault_at`
+integer-is : (b : Bool) (x : ℕ) → isInteger (integer b x) ≡ true
+integer-is true x = refl
+integer-is false x = refl
+
+module _ (s : List ℕ) (at n : ℕ) (i : Integer) (w : IntegerAt s at n i) where
+  module _ (b : Bool) (c : ℕ) where
+    pub code-open : i ≡ iv.NoInteger → faultsIn (integer b c ∷ membersAt n (drop at s)) ≡ nothing
+    unfolding faultsIn
+    code-open g = let v : IntegerAt s at n iv.NoInteger = rw g at w in go (membersAt n (drop at s)) v
+      where
+        go : (ps : List Plain) → NoNumber ps → faultsIn (integer b c ∷ ps) ≡ nothing
+        go [] v = refl
+        go (q ∷ []) v = refl
+        go (q ∷ x ∷ r) v = rw (integer-is b c, v)
+
+    module _ {m : Bool} {x p : ℕ} (g : i ≡ iv.At m x p) where
+      label-here : IntegerAt s at n (iv.At m x p)
+      label-here = rw g at w
+
+      pub code-short : n ≡ 1 → faultsIn (integer b c ∷ membersAt n (drop at s)) ≡ nothing
+      unfolding faultsIn
+      code-short h = let z : n - 1 ≡ 0 = omega arith in rw (label-here .1, members-none (n - 1) (drop p s) z)
+
+      pub code-left : 1 ≤ n
+      code-left = label-here .0
+
+      pub code-whole : (r : Place) → AnyAt s p (n - 1) r
+          → FaultAt s n (faultsIn (integer b c ∷ membersAt n (drop at s))) (fv.Group b c m x (r .next) (r .left))
+      unfolding faultsIn
+      code-whole r (y, l, f) = (omega arith, rw (label-here .1, f, integer-is b c, integer-is m x))
+
+  pub fault-headless : 0 < n → i ≡ iv.NoInteger → faultsIn (membersAt n (drop at s)) ≡ nothing
+  unfolding faultsIn
+  fault-headless h g =
+      let v : IntegerAt s at n iv.NoInteger = rw g at w in
+      let (p, ps, f) = members-some n (drop at s) h in
+      rw f (go p ps (rw f at v))
+    where
+      go : (p : Plain) (ps : List Plain) → isInteger p ≡ false → faultsIn (p ∷ ps) ≡ nothing
+      go p [] v = refl
+      go p (q ∷ []) v = refl
+      go p (q ∷ x ∷ r) v = rw v
+
+  pub fault-begun : {m : Bool} {x p : ℕ} → i ≡ iv.At m x p → (r : Fault)
+      → FaultAt s (n - 1) (faultsIn (integer m x ∷ membersAt (n - 1) (drop p s))) r → FaultAt s n (faultsIn (membersAt n (drop at s))) r
+  fault-begun {m} {x} {p} g r v = let l : IntegerAt s at n (iv.At m x p) = rw g at w in go r (ap faultsIn (l .1)) v
+    where
+      go : {q t : Picked} (r : Fault) → q ≡ t → FaultAt s (n - 1) t r → FaultAt s n q r
+      go fv.Broken e v = e ∙ v
+      go (fv.Group b c k l p r) e v = (omega (arith, v .0), e ∙ v .1)
+
+-- ---- a report is written: head after head
+integer-bytes : (b : Bool) (x : ℕ) → encode (plainItem (integer b x)) ≡ shortest (cond b 1 0) x
+integer-bytes true x = refl
+integer-bytes false x = refl
+
+major-most : (b : Bool) → cond b 1 0 ≤ 7
+major-most true = omega arith
+major-most false = omega arith
+
+-- a head after what was written
+head-next : {p d d′ q : List ℕ} {n k : ℕ} {r : Written} (j x : ℕ) → length p + length (shortest j x) ≤ length d → j ≤ 7 → k ≡ extraOf x + 1
+    → Wrote p d n d′ → Did (headPlan j x) (take (length d′ - n) (drop n d′)) r q
+    → Wrote (p ++ shortest j x) d (n + k) (take n d′ ++ (q ++ drop (length d′ - n) (drop n d′)))
+head-next {p} {d} {d′} {q} {n} {k} {r} j x h m e w v =
+    let part = take (length d′ - n) (drop n d′) in
+    let room : length (shortest j x) ≤ length part =
+    simp (length-take, length-drop) (omega (arith, wrote-length w (omega arith), w .many)) in
+    seam h w (wrote-as k (omega (arith, length-head j x)) (did-kept (shortest j x) part r q room (head-did j x part r q m v)))
+
+module _ (b : Bool) (c : ℕ) (m : Bool) (l : ℕ) (d : List ℕ) {n k : ℕ} (e : n ≡ extraOf c + 1) (f : k ≡ extraOf l + 1) where
+  abbrev report : List Plain
+  report = integer b c ∷ integer m l ∷ other ∷ []
+
+  report-bytes : written report ≡ (shortest (cond b 1 0) c ++ shortest (cond m 1 0) l) ++ shortest 7 22
+  report-bytes = rw (integer-bytes b c, integer-bytes m l, append-nil (shortest 7 22), append-assoc (shortest (cond b 1 0) c))
+
+  pub heads-few : n + k ≤ 18
+  heads-few = omega (arith, extra-most c, extra-most l)
+
+  report-length : length (written report) ≡ n + k + 1
+  report-length =
+      ap length report-bytes ∙ length-append (shortest (cond b 1 0) c ++ shortest (cond m 1 0) l) (shortest 7 22)
+      ∙ omega (arith, length-append (shortest (cond b 1 0) c) (shortest (cond m 1 0) l), length-head (cond b 1 0) c, length-head (cond m 1 0) l, short-head 7 22 (omega arith))
+
+  pub report-room : length d < n + k + 1 → Did (emit (written report)) d (wv.Refused Room) d
+  report-room h = did-room (written report) d (omega (arith, report-length))
+
+  module _ (h : n + k + 1 ≤ length d) (i j : ℕ) (x : i ≡ cond b 1 0) (y : j ≡ cond m 1 0)
+      {r₁ r₂ : Written} {d₁ q₂ : List ℕ} (w₁ : Did (headPlan i c) d r₁ d₁) (w₂ : Did (headPlan j l) (take (length d₁ - n) (drop n d₁)) r₂ q₂) where
+    abbrev d₂ : List ℕ
+    d₂ = take n d₁ ++ (q₂ ++ drop (length d₁ - n) (drop n d₁))
+
+    first : Wrote (shortest (cond b 1 0) c) d n d₁
+    first =
+        let v : Did (headPlan (cond b 1 0) c) d r₁ d₁ = rw x at w₁ in
+        wrote-as n (omega (arith, length-head (cond b 1 0) c))
+        (did-kept (shortest (cond b 1 0) c) d r₁ d₁ (omega (arith, length-head (cond b 1 0) c)) (head-did (cond b 1 0) c d r₁ d₁ (major-most b) v))
+
+    second : Wrote (shortest (cond b 1 0) c ++ shortest (cond m 1 0) l) d (n + k) d₂
+    second =
+        let v : Did (headPlan (cond m 1 0) l) (take (length d₁ - n) (drop n d₁)) r₂ q₂ = rw y at w₂ in
+        head-next (cond m 1 0) l (omega (arith, length-head (cond b 1 0) c, length-head (cond m 1 0) l)) (major-most m) f first v
+
+    pub report-done : {r₃ : Written} {q₃ : List ℕ} → Did (headPlan 7 22) (take (length d₂ - (n + k)) (drop (n + k) d₂)) r₃ q₃
+        → Did (emit (written report)) d (wv.Length (n + k + 1)) (take (n + k) d₂ ++ (q₃ ++ drop (length d₂ - (n + k)) (drop (n + k) d₂)))
+    report-done v =
+        did-emit (omega (arith, report-length))
+        (rw report-bytes
+        (head-next 7 22
+        (omega (arith, length-append (shortest (cond b 1 0) c) (shortest (cond m 1 0) l), length-head (cond b 1 0) c, length-head (cond m 1 0) l, short-head 7 22 (omega arith)))
+        (omega arith)
+        (omega (arith, length-head 7 22, short-head 7 22 (omega arith)))
+        second
+        v))
+
+-- ---- gathering
+pub faults-none : faultsIn [] ≡ picked []
+unfolding faultsIn
+faults-none = refl
+
+module _ {s : List ℕ} {from count : ℕ} {d : List ℕ} {at left len members : ℕ} {d′ : List ℕ}
+    (g : Gathering faultsIn s from count d at left len members d′)
+    (v : Fault) (e : FaultAt s left (faultsIn (membersAt left (drop at s))) v) where
+  pub faults-broken : v ≡ fv.Broken → faultsIn (membersAt left (drop at s)) ≡ nothing
+  faults-broken f = let w : FaultAt s left (faultsIn (membersAt left (drop at s))) fv.Broken = rw f at e in w
+
+  module _ {b : Bool} {c : ℕ} {m : Bool} {l next rest : ℕ} (f : v ≡ fv.Group b c m l next rest) where
+    group-here : FaultAt s left (faultsIn (membersAt left (drop at s))) (fv.Group b c m l next rest)
+    group-here = rw f at e
+
+    pub faults-less : rest < left
+    faults-less = group-here .0
+
+    pub faults-turn : {r : Written} {q : List ℕ}
+        → Did (emit (written (integer b c ∷ integer m l ∷ other ∷ []))) (take (length d′ - len) (drop len d′)) r q
+        → Turn faultsIn s from count d at left len members d′ (integer b c ∷ integer m l ∷ other ∷ []) next rest r q
+    faults-turn w = record { gathering = g; step = group-here .1; put = w }
+
+-- at least one
+pub some-more : (f : List Plain → Picked) (n : ℕ) (l : List ℕ) → ¬ (n ≡ 0) → some f (membersAt n l) ≡ f (membersAt n l)
+some-more f n l h = let (p, ps, e) = members-some n l (omega arith) in rw e
+
+pub some-none : (f : List Plain → Picked) (n : ℕ) (l : List ℕ) → n ≡ 0 → some f (membersAt n l) ≡ nothing
+some-none f n l h = rw (members-none n l h)

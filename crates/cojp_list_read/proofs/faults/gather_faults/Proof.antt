@@ -1,0 +1,155 @@
+-- What was kept so far stands in front of the destination; each turn adds one report, or finds none or no room.
+use Rattle.cojp_list_read.proofs.Reports.{faults-none, faults-broken, faults-less, faults-turn}
+use Rattle.cojp_list_read.proofs.Gathering.{Gathering, gathering-none, gathering-length, gathering-within, gathering-bad, gathering-done, turn-length, turn-full, turn-count, turn-more}
+use Rattle.cojp.specs.Lists.{faultsIn}
+use native.Mathlib.Omega.{arith}
+use borrow.Author.Needs.{needs}
+use Rattle.cojp_list_read.proofs.faults.gather_faults.Statement.{statement}
+use Rattle.cojp_list_read.proofs.faults.gather_faults.Tie as tie
+
+abbrev Inv-loop : tie.InvT-loop
+Inv-loop s from count dst₀ at₀ left₀ len₀ members₀ dst at left len members = Gathering faultsIn s from count dst₀ at left len members dst
+
+abbrev μ-loop : tie.MeasureT-loop
+μ-loop s from count dst₀ at₀ left₀ len₀ members₀ dst at left len members = left
+
+loop-holds : tie.Need-loop-holds Inv-loop μ-loop
+loop-holds c =
+    let begun = c .before .before in
+    gathering-none faultsIn (begun .args .s .now) (begun .args .from) (begun .args .count) (begun .args .dst .now)
+
+fault-at-requires : tie.Need-fault-at-requires Inv-loop μ-loop
+fault-at-requires c κs = search needs
+
+enum-told : tie.Need-enum-told Inv-loop μ-loop
+enum-told c = search needs
+
+same-length : tie.Need-same-length Inv-loop μ-loop
+same-length c =
+    let turn = c .before .before .before .before in
+    gathering-length (turn .loop .inv)
+
+returns : tie.Need-returns Inv-loop μ-loop
+returns c =
+    let fault-at = c .before .before in
+    let turn = fault-at .before .before in
+    gathering-bad (turn .loop .inv)
+    (faults-broken (turn .loop .inv) (fault-at .fault-at .result) (fault-at .fault-at .ensures) (c .enum-told .given .1))
+
+enum-known-f : tie.Need-enum-known-f Inv-loop μ-loop
+enum-known-f c = search needs
+
+sub-write-fault : tie.Need-sub-write-fault Inv-loop μ-loop
+sub-write-fault c =
+    let turn = c .before .before .before .before .before in
+    omega
+    (arith, gathering-within (turn .loop .inv))
+
+part-write-fault-start : tie.Need-part-write-fault-start Inv-loop μ-loop
+part-write-fault-start c =
+    let turn = c .before .before .before .before .before in
+    omega
+    (arith, gathering-within (turn .loop .inv))
+
+part-write-fault-end : tie.Need-part-write-fault-end Inv-loop μ-loop
+part-write-fault-end c = search needs
+
+write-fault-requires : tie.Need-write-fault-requires Inv-loop μ-loop
+write-fault-requires c κs = search needs
+
+enum-told-2 : tie.Need-enum-told-2 Inv-loop μ-loop
+enum-told-2 c = search needs
+
+same-length-2 : tie.Need-same-length-2 Inv-loop μ-loop
+same-length-2 c =
+    let write-fault = c .before .before .before .before in
+    let f = write-fault .before .before .before in
+    let fault-at = f .before .before in
+    let turn = fault-at .before .before in
+    turn-length (faults-turn (turn .loop .inv) (fault-at .fault-at .result) (fault-at .fault-at .ensures) (f .f .given .1) (write-fault .write-fault .ensures))
+
+returns-2 : tie.Need-returns-2 Inv-loop μ-loop
+returns-2 c =
+    let write-fault = c .before .before .before .before in
+    let f = write-fault .before .before .before in
+    let fault-at = f .before .before in
+    let turn = fault-at .before .before in
+    turn-full (faults-turn (turn .loop .inv) (fault-at .fault-at .result) (fault-at .fault-at .ensures) (f .f .given .1) (write-fault .write-fault .ensures))
+    (c .enum-told2 .given .0 .0) (c .enum-told2 .given .1)
+
+enum-known-w : tie.Need-enum-known-w Inv-loop μ-loop
+enum-known-w c = search needs
+
+add-len : tie.Need-add-len Inv-loop μ-loop
+add-len c =
+    let write-fault = c .before .before .before .before .before in
+    let f = write-fault .before .before .before in
+    let fault-at = f .before .before in
+    let turn = fault-at .before .before in
+    let begun = turn .before .before .before in
+    let put = faults-turn (turn .loop .inv) (fault-at .fault-at .result) (fault-at .fault-at .ensures) (f .f .given .1) (write-fault .write-fault .ensures) in
+    let counts = turn-count put (c .before .w .given .0 .0) (c .before .w .given .1) in
+    omega (arith, counts .0, begun)
+
+add-members : tie.Need-add-members Inv-loop μ-loop
+add-members c =
+    let write-fault = c .before .before .before .before .before in
+    let f = write-fault .before .before .before in
+    let fault-at = f .before .before in
+    let turn = fault-at .before .before in
+    let begun = turn .before .before .before in
+    let put = faults-turn (turn .loop .inv) (fault-at .fault-at .result) (fault-at .fault-at .ensures) (f .f .given .1) (write-fault .write-fault .ensures) in
+    let counts = turn-count put (c .before .w .given .0 .0) (c .before .w .given .1) in
+    omega (arith, counts .1, begun)
+
+loop-less : tie.Need-loop-less Inv-loop μ-loop
+loop-less c =
+    let f = c .before .before .before .before .before .before .before .before in
+    let fault-at = f .before .before in
+    let turn = fault-at .before .before in
+    faults-less (turn .loop .inv) (fault-at .fault-at .result) (fault-at .fault-at .ensures) (f .f .given .1)
+
+loop-again : tie.Need-loop-again Inv-loop μ-loop
+loop-again c =
+    let write-fault = c .before .before .before .before .before in
+    let f = write-fault .before .before .before in
+    let fault-at = f .before .before in
+    let turn = fault-at .before .before in
+    turn-more (faults-turn (turn .loop .inv) (fault-at .fault-at .result) (fault-at .fault-at .ensures) (f .f .given .1) (write-fault .write-fault .ensures))
+    (c .before .w .given .0 .0) (c .before .w .given .1)
+
+same-length-3 : tie.Need-same-length-3 Inv-loop μ-loop
+same-length-3 c =
+    gathering-length (c .before .loop .inv)
+
+returns-3 : tie.Need-returns-3 Inv-loop μ-loop
+returns-3 c =
+    gathering-done (c .before .loop .inv)
+    faults-none (c .loop-test .left)
+
+pub gather-faults-spec : {M : Type 1} → statement M
+gather-faults-spec =
+    tie.close
+    (tie.spec
+    Inv-loop
+    μ-loop
+    loop-holds
+    fault-at-requires
+    enum-told
+    same-length
+    returns
+    enum-known-f
+    sub-write-fault
+    part-write-fault-start
+    part-write-fault-end
+    write-fault-requires
+    enum-told-2
+    same-length-2
+    returns-2
+    enum-known-w
+    add-len
+    add-members
+    loop-less
+    loop-again
+    same-length-3
+    returns-3)

@@ -1,0 +1,72 @@
+// A list that is handed in is within its limits if reading it again gives it.
+use crate::faults::read_faults;
+use crate::strings::read_strings;
+use cojp::ItemList;
+use cojp::ListRead;
+ghost use mathlib.Core.Path.{_≡_};
+ghost use Prim.Native.Nat.{_≤_};
+ghost use Rattle.byte_lists.specs.Same.{same};
+ghost use Rattle.cojp.specs.Lists.{stringsIn, faultsIn, some, sameAs, kept};
+
+// Whether two parts agree byte by byte.
+fn same_bytes(a: &[u8], b: &[u8]) -> bool
+    ensures { λ r. ⌜ r ≡ same (now (a .entry)) (now (b .entry)) ⌝ }
+{
+    let n = a.len();
+    if b.len() != n {
+        return false;
+    }
+    let mut i: usize = 0;
+    while i < n {
+        if a[i] != b[i] {
+            return false;
+        }
+        i += 1;
+    }
+    true
+}
+
+// Whether what was read again is the list.
+fn same_as(again: ListRead, l: ItemList) -> bool
+    requires { ⌜ (again .value .len ≤ 253) × (l .len ≤ 253) ⌝ }
+    ensures { λ r. ⌜ r ≡ sameAs again l ⌝ }
+{
+    if !again.good {
+        return false;
+    }
+    let other = again.value;
+    if other.count != l.count {
+        return false;
+    }
+    let x = other.bytes;
+    let n = other.len;
+    let y = l.bytes;
+    let m = l.len;
+    same_bytes(&x[..n], &y[..m])
+}
+
+// Whether a list that is handed in is a blacklist: reading it again gives it.
+pub fn is_blacklist(l: ItemList) -> bool
+    ensures { λ r. ⌜ r ≡ kept stringsIn l ⌝ }
+{
+    let len = l.len;
+    if 253 < len {
+        return false;
+    }
+    let bytes = l.bytes;
+    let again = read_strings(&bytes[..len], 0, l.count);
+    same_as(again, l)
+}
+
+// Whether a list that is handed in is one of reports.
+pub fn is_unsupported(l: ItemList) -> bool
+    ensures { λ r. ⌜ r ≡ kept (some faultsIn) l ⌝ }
+{
+    let len = l.len;
+    if 253 < len {
+        return false;
+    }
+    let bytes = l.bytes;
+    let again = read_faults(&bytes[..len], 0, l.count);
+    same_as(again, l)
+}

@@ -1,0 +1,19 @@
+// Arrays of a published configuration or request that are kept as they are written: read, judged, and written again.
+pub mod faults;
+pub mod kept;
+mod list;
+mod report;
+pub mod strings;
+pub mod write;
+
+pub use faults::read_unsupported;
+pub use kept::is_blacklist;
+pub use kept::is_unsupported;
+pub use strings::read_blacklist;
+pub use write::write_list;
+ghost use Rattle.cojp_list_read.specs.Laws.{ListLaws};
+
+// What is promised of lists that are kept: their bytes, and that they read back.
+pub fn laws()
+    ensures { λ r. ⌜ ListLaws ⌝ }
+{}
