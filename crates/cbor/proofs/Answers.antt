@@ -8,9 +8,10 @@ use lib.ListN.{length, drop, length-drop}
 use lib.Seq.{drop-drop}
 use Rattle.refusal.specs.declared.Refusal.{Refusal}
 use Rattle.cbor.specs.Item.{Item}
-use Rattle.cbor.specs.Decode.{Outcome, refused, got, heading, Heading, members, decodeBy, decode}
+use Rattle.cbor.specs.Decode.{Outcome, refused, got, heading, Heading, members, decodeBy}
 use Rattle.cbor.specs.Strict.{headBy}
-use Rattle.cbor.specs.Answer.{headAnswer, skipAnswer}
+use Rattle.cbor.specs.Answer.{headAnswer, skipAnswer, outcomeNumber, skipNumber}
+use Rattle.cbor.specs.Says.{saysEnd, SkipSays}
 use Rattle.cbor.specs.declared.head.Head.{Head}
 use Rattle.cbor.specs.declared.head.HeadRead.{HeadRead}
 use Rattle.cbor.specs.declared.head.HeadRead.the-variants as hv
@@ -32,6 +33,21 @@ skip-answer s (got a t) (sv.Next p) q =
     let e : rest (drop p s) ≡ rest t = q .says in
     let f : drop p s ≡ t = cc in
     ap sv.Next (left-over s t p (q .inside) f)
+
+tells-number : {A : Type 0} (n : ℕ) (o : Outcome A) → skipNumber (skipAnswer n o) ≡ outcomeNumber o
+tells-number n (refused k) = refl
+tells-number n (got a t) = refl
+
+tells-end : {A : Type 0} (s : List ℕ) (o : Outcome A) (r : Skip) → Passed s o r → saysEnd s o r
+tells-end s (refused k) (sv.Refused j) q = refl
+tells-end s (refused k) (sv.Next p) q = let e : rest (drop p s) ≡ stop k = q .says in cc
+tells-end s (got a t) (sv.Refused j) q = let e : stop j ≡ rest t = q .says in cc
+tells-end s (got a t) (sv.Next p) q = let e : rest (drop p s) ≡ rest t = q .says in cc
+
+pub skip-tells : {A : Type 0} (s : List ℕ) (o : Outcome A) (r : Skip) → Passed s o r → SkipSays s o r
+skip-tells s o r q =
+    let e = skip-answer s o r q in
+    record { is = e; number = rw e (tells-number (length s) o); end = tells-end s o r q }
 
 -- ---- from the equations
 -- what is left of drop at s, k bytes further, begins at the length less what is left
@@ -108,11 +124,3 @@ module _ (s : List ℕ) (at : ℕ) (r : HeadRead) (e : r ≡ headAnswer (length 
 
     pub head-place : length s - length (drop (h .next) s) ≡ h .next
     head-place = sym (left-over s (drop (h .next) s) (h .next) head-inside refl)
-
--- ---- in the arm of an item that was refused, or passed over
-module _ (s : List ℕ) (at d : ℕ) (r : Skip) (e : r ≡ skipAnswer (length s) (decode d (drop at s))) where
-  pub skip-refused : (k : Refusal) → r ≡ sv.Refused k → decode d (drop at s) ≡ refused k
-  skip-refused k g = passed-refused s (decode d (drop at s)) k (rw g at (passed-item false s at d r e))
-
-  pub skip-next : (p : ℕ) → r ≡ sv.Next p → (i : Item) × (decode d (drop at s) ≡ got i (drop p s))
-  skip-next p g = passed-got s (decode d (drop at s)) p (rw g at (passed-item false s at d r e))

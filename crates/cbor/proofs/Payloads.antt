@@ -1,6 +1,6 @@
 -- What the answers of `open_map` say of the payload's outermost item.
 use Prim.Native.Nat.{ℕ, zero, suc, _-_, _≤_}
-use mathlib.Core.Path.{_≡_, refl, ap, sym, _∙_}
+use mathlib.Core.Path.{_≡_, refl, ap, sym, subst, _∙_}
 use mathlib.Core.Bool.{Bool, true, false, cond}
 use mathlib.Core.List.{List, [], _∷_}
 use mathlib.Core.Logic.{_⊎_, inl, inr, ⊎-elim}
@@ -9,9 +9,10 @@ use borrow.Author.Tests.{eqb-true, eqb-false}
 use lib.Dec.{eqb}
 use lib.ListN.{length, drop}
 use Rattle.refusal.specs.declared.Refusal.{Refusal}
-use Rattle.cbor.specs.Item.{Item, Pairs, map}
+use Rattle.cbor.specs.Item.{Item, Pairs, map, pair}
 use Rattle.cbor.specs.Decode.{Outcome, refused, got, andThen, next, heading, Heading, members, pairs, majorOf, content, decodeBy, decode, payload, payloadBy, ended}
-use Rattle.cbor.specs.Answer.{mapAnswer, openAnswer}
+use Rattle.cbor.specs.Answer.{mapAnswer, openAnswer, outcomeNumber, openedNumber}
+use Rattle.cbor.specs.Says.{PairsAt, saysOpened, OpenSays}
 use Rattle.cbor.specs.Strict.{headBy}
 use Rattle.cbor.specs.View.{ifMap}
 use Rattle.refusal.specs.declared.Refusal.the-variants.{Loose}
@@ -21,17 +22,17 @@ use Rattle.cbor.proofs.Answers.{place}
 use Rattle.cbor.proofs.Outcomes.{never, then-got, same-value, same-rest}
 use Rattle.cbor.proofs.Strict.{payload-same}
 use Rattle.cbor.proofs.Tails.{Tail, heading-tail}
-use Rattle.cbor.proofs.Views.{special-all}
+use Rattle.cbor.proofs.Views.{special-all, tree-label, tree-view}
 
 -- read strictly, or not
-pub record IsMap (b : Bool) (s : List ℕ) (n p : ℕ) : Type 0 where
+record IsMap (b : Bool) (s : List ℕ) (n p : ℕ) : Type 0 where
   pub pairs-are : Pairs
   pub left : List ℕ
   pub inside : p ≤ length s
   pub read : payloadBy (headBy b) s ≡ got (map pairs-are) []
   pub each : pairs (decode 7) n (drop p s) ≡ got pairs-are left
 
-pub record IsOther (b : Bool) (s : List ℕ) : Type 1 where
+record IsOther (b : Bool) (s : List ℕ) : Type 1 where
   pub item : Item
   pub read : payloadBy (headBy b) s ≡ got item []
   pub other : {R : Type 0} (f : Pairs → R) (x : R) → ifMap f x item ≡ x
@@ -145,6 +146,20 @@ module _ (s : List ℕ) (r : Opened) (e : r ≡ openAnswer (length s) (payload s
           })
           (by-test (eqb (h .major) 5) (h .argument) (length s - length u) ov.NoMap f′)
 
+-- the pairs of a map stand one behind the other
+first-stands : (n : ℕ) (l : List ℕ) (k : Item) (t : List ℕ) (v : Item) (w : List ℕ) (ps : Pairs) → decode 7 l ≡ got k t → decode 7 t ≡ got v w
+    → PairsAt n w ps → PairsAt (suc n) l (pair k v ps)
+first-stands n l k t v w ps a x q = (n, refl, tree-label 6 l k t a, rw a (tree-view 5 t v w x), rw (a, x) q)
+
+pairs-stand : (n : ℕ) (l : List ℕ) (ps : Pairs) (u : List ℕ) → pairs (decode 7) n l ≡ got ps u → PairsAt n l ps
+unfolding pairs
+pairs-stand zero l ps u e = rw (← same-value e) refl
+pairs-stand (suc n) l ps u e =
+    let (k, t, a, b) = then-got (decode 7 l) _ ps u e in
+    let (v, w, x, y) = then-got (decode 7 t) _ ps u b in
+    let (qs, z, i, j) = then-got (pairs (decode 7) n w) _ ps u y in
+    subst (PairsAt (suc n) l) (same-value j) (first-stands n l k t v w qs a x (pairs-stand n w qs z i))
+
 -- ---- read strictly, or not: a payload that is not LOOSE is as in the ordinary reading
 module _ (b : Bool) (s : List ℕ) (r : Opened) (e : r ≡ openAnswer (length s) (payloadBy (headBy b) s) (heading s)) where
   as-plain : payloadBy (headBy b) s ≡ payload s → r ≡ openAnswer (length s) (payload s) (heading s)
@@ -153,14 +168,14 @@ module _ (b : Bool) (s : List ℕ) (r : Opened) (e : r ≡ openAnswer (length s)
   as-loose : payloadBy (headBy b) s ≡ refused Loose → r ≡ ov.Refused Loose
   as-loose f = rw f at e
 
-  pub opened-refused : (k : Refusal) → r ≡ ov.Refused k → payloadBy (headBy b) s ≡ refused k
+  opened-refused : (k : Refusal) → r ≡ ov.Refused k → payloadBy (headBy b) s ≡ refused k
   opened-refused k g =
       ⊎-elim
       (λ f. let h : ov.Refused k ≡ ov.Refused Loose = sym g ∙ as-loose f in f ∙ ap refused (sym (same-refusal h)))
       (λ f. f ∙ plain-refused s r (as-plain f) k g)
       (payload-same b s)
 
-  pub opened-map : (n p : ℕ) → r ≡ ov.Map n p → IsMap b s n p
+  opened-map : (n p : ℕ) → r ≡ ov.Map n p → IsMap b s n p
   opened-map n p g =
       ⊎-elim
       (λ f. let h : ov.Map n p ≡ ov.Refused Loose = sym g ∙ as-loose f in absurd (let z : _≡_ {A = ℕ} 0 1 = cc in omega arith))
@@ -169,7 +184,7 @@ module _ (b : Bool) (s : List ℕ) (r : Opened) (e : r ≡ openAnswer (length s)
       record { pairs-are = w .pairs-are; left = w .left; inside = w .inside; read = f ∙ w .read; each = w .each })
       (payload-same b s)
 
-  pub opened-other : r ≡ ov.NoMap → IsOther b s
+  opened-other : r ≡ ov.NoMap → IsOther b s
   opened-other g =
       ⊎-elim
       (λ f. let h : ov.NoMap ≡ ov.Refused Loose = sym g ∙ as-loose f in absurd (let z : _≡_ {A = ℕ} 0 1 = cc in omega arith))
@@ -177,3 +192,21 @@ module _ (b : Bool) (s : List ℕ) (r : Opened) (e : r ≡ openAnswer (length s)
       let w = plain-other s r (as-plain f) g in
       record { item = w .item; read = f ∙ w .read; other = w .other })
       (payload-same b s)
+
+  tells : (x : Opened) → r ≡ x → (openedNumber x ≡ outcomeNumber (payloadBy (headBy b) s)) × saysOpened b s x
+  tells (ov.Refused k) g = let f = opened-refused k g in (rw f, f)
+  tells ov.NoMap g =
+      let w = opened-other g in
+      (rw (w .read), record { item = w .item; read = w .read; other = w .other (λ ps. true) false })
+  tells (ov.Map n p) g =
+      let w = opened-map n p g in (
+        rw (w .read),
+        record {
+          pairs-are = w .pairs-are;
+          read = w .read;
+          stand = pairs-stand n (drop p s) (w .pairs-are) (w .left) (w .each);
+        },
+      )
+
+  pub opened-tells : OpenSays b s r
+  opened-tells = record { is = e; number = tells r refl .0; says = tells r refl .1 }

@@ -10,7 +10,8 @@ use native.Mathlib.Decide.{decLt}
 use borrow.Author.Tests.{le-ltb, lt-ltb, eq-eqb}
 use lib.ListN.{length, length-append}
 use lib.Seq.{take-append-seam, drop-append-seam, take-at, drop-at}
-use Rattle.cbor.specs.Item.{Size, half, single, double, Item, Items, Pairs, unsigned, negative, bytes, text, array, map, tag, simple, float, none, more, empty, pair, count, countPairs, depth, depths, depthPairs, width, Fit, Fits, FitPairs}
+use Rattle.cbor.specs.Item.{Size, half, single, double, Item, Items, Pairs, unsigned, negative, bytes, text, array, map, tag, simple}
+use Rattle.cbor.specs.Item.{float, none, more, empty, pair, count, countPairs, depth, depths, depthPairs, width, Fit, Fits, FitPairs}
 use Rattle.cbor.specs.Decode.{Outcome, got, andThen, next, digits, argument, heading, Heading, members, pairs, majorOf, content, decodeBy, payloadBy}
 use Rattle.cbor.specs.Strict.{isShort, strictHeading, headBy}
 use Rattle.cbor.specs.Encode.{bytesOf, headWith, infoOf, extraOf, shortest, sizeInfo, encode, encodes, encodePairs}
@@ -41,7 +42,12 @@ next-all s r = next-got (length s) (s ++ r) (omega (arith, length-append s r)) �
 wide-read : (k w n : ℕ) (r : List ℕ) → 24 ≤ k → k ≤ 27 → 2 ^ (k - 24) ≡ w → n < 256 ^ w → argument k (bytesOf w n ++ r) ≡ got n r
 wide-read k w n r l h e b =
     argument-wide k (bytesOf w n ++ r) l h
-    ∙ rw (e, next-got w (bytesOf w n ++ r) (omega (arith, length-append (bytesOf w n) r, length-bytesOf w n)), take-at (bytesOf w n) r w (length-bytesOf w n), drop-at (bytesOf w n) r w (length-bytesOf w n))
+    ∙ rw (
+      e,
+      next-got w (bytesOf w n ++ r) (omega (arith, length-append (bytesOf w n) r, length-bytesOf w n)),
+      take-at (bytesOf w n) r w (length-bytesOf w n),
+      drop-at (bytesOf w n) r w (length-bytesOf w n),
+    )
     (ap (λ (x : ℕ). got x r) (digits-bytesOf w 0 n b ∙ omega arith))
 
 -- a head with k bytes of argument after the first

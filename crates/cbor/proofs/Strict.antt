@@ -11,8 +11,9 @@ use lib.ListN.{length, drop}
 use Rattle.refusal.specs.Refusal.{numberOf}
 use Rattle.refusal.specs.declared.Refusal.{Refusal}
 use Rattle.refusal.specs.declared.Refusal.the-variants.{Loose}
-use Rattle.cbor.specs.Item.{Item, Items, Pairs, more, pair, bytes, text, array, map, tag}
-use Rattle.cbor.specs.Decode.{Outcome, refused, got, andThen, next, argument, heading, Heading, members, pairs, Major, unsigneds, negatives, byteStrings, textStrings, arrays, maps, tags, others, majorOf, content, decodeBy, decode, payload, payloadBy, ended}
+use Rattle.cbor.specs.Item.{Item, more, pair, array, map, tag}
+use Rattle.cbor.specs.Decode.{Outcome, refused, got, andThen, next, argument, heading, Heading, members, pairs, Major, unsigneds}
+use Rattle.cbor.specs.Decode.{negatives, byteStrings, textStrings, arrays, maps, tags, others, majorOf, content, decodeBy, decode, payload, payloadBy, ended}
 use Rattle.cbor.specs.Answer.{headAnswer}
 use Rattle.cbor.specs.declared.head.Head.{Head}
 use Rattle.cbor.specs.declared.head.HeadRead.{HeadRead}

@@ -10,8 +10,9 @@ use lib.Dec.{ltb}
 use lib.ListN.{length, take, drop, length-drop, length-take, take-append-drop}
 use lib.Seq.{drop-drop}
 use Rattle.cbor.specs.Item.{Item, Items, Pairs}
-use Rattle.cbor.specs.Decode.{Outcome, refused, got, andThen, next, argument, heading, Heading, members, pairs, Major, unsigneds, negatives, byteStrings, textStrings, arrays, maps, tags, others, majorOf, content, decodeBy}
-use Rattle.cbor.specs.Strict.{short, shortOnly, strictHeading, headBy}
+use Rattle.cbor.specs.Decode.{Outcome, refused, got, andThen, next, argument, heading, Heading, members, pairs, Major, unsigneds}
+use Rattle.cbor.specs.Decode.{negatives, byteStrings, textStrings, arrays, maps, tags, others, majorOf, content, decodeBy}
+use Rattle.cbor.specs.Strict.{short, strictHeading, headBy}
 use Rattle.cbor.specs.Laws.{Suffix}
 use Rattle.cbor.proofs.Heads.{next-got, next-cut}
 

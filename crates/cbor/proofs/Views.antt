@@ -1,4 +1,4 @@
--- What `label_at` and `value_at` answer, and what their answers say of the tree: where an item can be read at a place,
+-- What the answers of `read_head` and `value_at` say of the tree: where an item can be read at a place,
 -- its head tells whether it is an integer, a number, a byte string or an array of such.
 use Prim.Native.Nat.{ℕ, zero, suc, _+_, _-_, _≤_, _<_}
 use mathlib.Core.Path.{_≡_, refl, ap, sym, _∙_}
@@ -8,13 +8,16 @@ use native.Mathlib.Omega.{arith}
 use native.Mathlib.Decide.{decLe}
 use borrow.Author.Tests.{le-leb, lt-leb}
 use lib.Dec.{ltb, eqb}
-use lib.ListN.{length, take, drop, length-drop}
+use lib.ListN.{length, drop, length-drop}
 use lib.Seq.{drop-drop}
 use Rattle.refusal.specs.declared.Refusal.{Refusal}
 use Rattle.cbor.specs.Item.{Size, half, single, double, Item, Items, unsigned, negative, bytes, array, simple, float, more}
-use Rattle.cbor.specs.Decode.{Outcome, refused, got, andThen, next, heading, Heading, members, pairs, Major, unsigneds, negatives, byteStrings, textStrings, arrays, maps, tags, others, majorOf, special, content, decodeBy, decode}
-use Rattle.cbor.specs.Answer.{headAnswer}
-use Rattle.cbor.specs.View.{Plain, number, minus, string, other, View, plain, list, plainOf, plainsOf, viewOf, labelOf, plainBy, plainAt, plainsAt, viewBy, viewAt, labelBy, labelAt, valueBy, valueAnswer, restOf, afterItem, afterItems, ValueAt, ValueSays}
+use Rattle.cbor.specs.Decode.{Outcome, refused, got, andThen, next, heading, Heading, members, pairs, Major, unsigneds, negatives}
+use Rattle.cbor.specs.Decode.{byteStrings, textStrings, arrays, maps, tags, others, majorOf, special, content, decodeBy, decode}
+use Rattle.cbor.specs.Answer.{headAnswer, outcomeNumber, headNumber}
+use Rattle.cbor.specs.Says.{LabelSays, saysLabel, HeadSays}
+use Rattle.cbor.specs.View.{number, minus, string, other, plain, list, plainOf, plainsOf, viewOf, labelOf, plainBy, plainAt}
+use Rattle.cbor.specs.View.{plainsAt, viewBy, viewAt, labelBy, labelAt, valueBy, valueAnswer, restOf, afterItem, afterItems, ValueAt, ValueSays}
 use Rattle.cbor.specs.declared.head.Head.{Head}
 use Rattle.cbor.specs.declared.head.HeadRead.{HeadRead}
 use Rattle.cbor.specs.declared.head.HeadRead.the-variants as hv
@@ -26,9 +29,9 @@ use Rattle.cbor.proofs.Heads.{next-got, next-cut}
 use Rattle.cbor.proofs.Outcomes.{then-got, same-value}
 use Rattle.cbor.proofs.Tails.{Tail, heading-tail}
 
--- ---- the returns of `label_at` and `value_at`
+-- ---- a head, and the returns of `value_at`
 module _ (s : List ℕ) (at : ℕ) (r : HeadRead) (e : r ≡ headAnswer (length s) (heading (drop at s))) where
-  pub label-refused : (k : Refusal) → r ≡ hv.Refused k → lv.NoInteger ≡ labelAt (drop at s)
+  label-refused : (k : Refusal) → r ≡ hv.Refused k → labelAt (drop at s) ≡ lv.NoInteger
   unfolding labelAt
   label-refused k g = rw (head-refused s at r e k g)
 
@@ -49,13 +52,13 @@ module _ (s : List ℕ) (at : ℕ) (r : HeadRead) (e : r ≡ headAnswer (length 
     unfolding labelAt
     label-got = rw (head-got s at r e h g)
 
-    pub label-number : m ≡ 0 → lv.Number a ≡ labelAt (drop at s)
+    label-number : m ≡ 0 → labelAt (drop at s) ≡ lv.Number a
     unfolding majorOf
-    label-number f = sym (label-got ∙ rw f)
+    label-number f = label-got ∙ rw f
 
-    pub label-negative : m ≡ 1 → lv.Negative ≡ labelAt (drop at s)
+    label-negative : m ≡ 1 → labelAt (drop at s) ≡ lv.Negative
     unfolding majorOf
-    label-negative f = sym (label-got ∙ rw f)
+    label-negative f = label-got ∙ rw f
 
     no-integer : (m : ℕ) → 2 ≤ m → labelBy (majorOf m) a ≡ lv.NoInteger
     unfolding majorOf
@@ -68,8 +71,20 @@ module _ (s : List ℕ) (at : ℕ) (r : HeadRead) (e : r ≡ headAnswer (length 
     no-integer (suc (suc (suc (suc (suc (suc zero)))))) l = refl
     no-integer (suc (suc (suc (suc (suc (suc (suc m))))))) l = refl
 
-    pub label-other : 2 ≤ m → lv.NoInteger ≡ labelAt (drop at s)
-    label-other l = sym (label-got ∙ no-integer m l)
+    -- an integer is nothing but its head
+    integer-ends : (m : ℕ) → m ≤ 1 → (i n : ℕ) (l : List ℕ) (d : ℕ) → restOf (content (decode d) (majorOf m) i n l) ≡ l
+    unfolding majorOf
+    integer-ends zero u i n l d = refl
+    integer-ends (suc zero) u i n l d = refl
+    integer-ends (suc (suc m)) u i n l d = absurd (omega arith)
+
+    head-ends : m ≤ 1 → (d : ℕ) → afterItem (suc d) (drop at s) ≡ t
+    unfolding decodeBy
+    head-ends l d = rw (head-got s at r e h g) (integer-ends m l (h .info) a t d)
+
+    label-says : LabelSays s at h
+    label-says =
+        record { number = label-number; negative = label-negative; none = λ l. label-got ∙ no-integer m l; ends = head-ends }
 
     value-got : valueAnswer (length s) (heading (drop at s)) ≡ valueBy (length s) (majorOf m) a t
     value-got = rw (head-got s at r e h g)
@@ -111,6 +126,17 @@ module _ (s : List ℕ) (at : ℕ) (r : HeadRead) (e : r ≡ headAnswer (length 
 
     pub value-other : ¬ (m ≡ 0) → ¬ (m ≡ 1) → ¬ (m ≡ 2) → ¬ (m ≡ 4) → vv.Other ≡ valueAnswer (length s) (heading (drop at s))
     value-other n x o q = sym (value-got ∙ neither m n x o q)
+
+  tells-label : (x : HeadRead) → r ≡ x → saysLabel s at x
+  tells-label (hv.Refused k) g = label-refused k g
+  tells-label (hv.Got h) g = label-says h g
+
+  tells-number : (o : Outcome Heading) → headNumber (headAnswer (length s) o) ≡ outcomeNumber o
+  tells-number (refused k) = refl
+  tells-number (got h u) = refl
+
+  pub head-tells : HeadSays s at r
+  head-tells = record { is = e; number = rw e (tells-number (heading (drop at s))); label = tells-label r refl }
 
 -- ---- what is left after n members is what is left after n items
 nothing-after : (d : ℕ) → afterItem d [] ≡ []

@@ -6,6 +6,7 @@ use mathlib.Core.List.{List, _++_}
 use mathlib.Core.Path.{_≡_}
 use lib.ListN.{length, drop}
 use lib.Dec.{ltb, leb, eqb}
+use Rattle.refusal.specs.Refusal.{numberOf}
 use Rattle.refusal.specs.declared.Refusal.{Refusal}
 use Rattle.refusal.specs.declared.Refusal.the-variants.{Room, Range}
 use Rattle.refusal.specs.declared.Verdict.{Verdict}
@@ -52,6 +53,24 @@ abbrev pub openAnswer : ℕ → Outcome Item → Outcome Heading → Opened
 openAnswer n (refused k) h = ov.Refused k
 openAnswer n (got i u) (refused k) = ov.Refused k
 openAnswer n (got i u) (got h t) = mapAnswer n h t
+
+-- ---- the answers in the documents' numbers: a refusal's, and 0 where there is none; that an item is no map is no refusal yet
+abbrev pub outcomeNumber : {A : Type 0} → Outcome A → ℕ
+outcomeNumber (refused k) = numberOf k
+outcomeNumber (got a t) = 0
+
+abbrev pub headNumber : HeadRead → ℕ
+headNumber (hv.Refused k) = numberOf k
+headNumber (hv.Got h) = 0
+
+abbrev pub skipNumber : Skip → ℕ
+skipNumber (sv.Refused k) = numberOf k
+skipNumber (sv.Next p) = 0
+
+abbrev pub openedNumber : Opened → ℕ
+openedNumber (ov.Refused k) = numberOf k
+openedNumber ov.NoMap = 0
+openedNumber (ov.Map n p) = 0
 
 -- ---- writing
 -- what is asked of a writer: a refusal whatever the room, or these bytes if they have room

@@ -4,4 +4,5 @@ pub mod Encode
 pub mod Strict
 pub mod Answer
 pub mod View
+pub mod Says
 pub mod Laws

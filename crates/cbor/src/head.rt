@@ -7,6 +7,7 @@ ghost use lib.ListN.{length, drop};
 ghost use Rattle.cbor.specs.Answer.{headAnswer, announced};
 ghost use Rattle.cbor.specs.Decode.{got, argument, heading};
 ghost use Rattle.cbor.specs.Encode.{infoOf};
+ghost use Rattle.cbor.specs.Says.{HeadSays};
 ghost use Rattle.cbor.specs.Strict.{isShort, headBy};
 
 // A head, whether it is the shortest that holds its argument, and the place where the bytes go on after it.
@@ -117,7 +118,7 @@ fn head_from(s: &[u8], at: usize, first: u8) -> HeadRead
 
 // The head at a place; CUT where its bytes end, FORM where its length information is 28 to 31.
 pub fn read_head(s: &[u8], at: usize) -> HeadRead
-    ensures { λ r. ⌜ r ≡ headAnswer (length (now (s .entry))) (heading (drop at (now (s .entry)))) ⌝ }
+    ensures { λ r. ⌜ HeadSays (now (s .entry)) at r ⌝ }
 {
     if s.len() <= at {
         return HeadRead::Refused(Refusal::Cut);

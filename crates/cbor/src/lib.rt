@@ -13,7 +13,6 @@ pub use item::Opened;
 pub use item::Skip;
 pub use value::Label;
 pub use value::Value;
-pub use value::label_at;
 pub use value::value_at;
 pub use write::Written;
 ghost use Rattle.cbor.specs.Laws.{ItemLaws};

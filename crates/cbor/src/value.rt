@@ -1,9 +1,7 @@
 // What stands at a place, as far as the layer above asks.
 use crate::head::HeadRead;
 use crate::head::read_head;
-ghost use mathlib.Core.Path.{_≡_};
-ghost use lib.ListN.{drop};
-ghost use Rattle.cbor.specs.View.{labelAt, ValueSays};
+ghost use Rattle.cbor.specs.View.{ValueSays};
 
 // A map's label: an integer, or something else.
 pub enum Label {
@@ -20,24 +18,6 @@ pub enum Value {
     Array { start: usize, count: u64 },
     Other,
     Minus { number: u64, next: usize },
-}
-
-// The label at a place.
-pub fn label_at(s: &[u8], at: usize) -> Label
-    ensures { λ r. ⌜ r ≡ labelAt (drop at (now (s .entry))) ⌝ }
-{
-    let h = read_head(s, at);
-    match h {
-        HeadRead::Refused(_) => Label::NoInteger,
-        HeadRead::Got(head) => {
-            let major = head.major;
-            match major {
-                0 => Label::Number(head.argument),
-                1 => Label::Negative,
-                _ => Label::NoInteger,
-            }
-        }
-    }
 }
 
 // The value at a place; a byte string that the slice does not hold whole is something else.

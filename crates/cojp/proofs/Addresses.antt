@@ -1,6 +1,6 @@
 -- A short address is its bytes, and after them nothing or a lease.
 use Prim.Native.Nat.{ℕ, suc, _+_, _-_, _≤_, _<_}
-use mathlib.Core.Path.{_≡_, refl, _∙_}
+use mathlib.Core.Path.{_≡_, refl, sym, _∙_}
 use mathlib.Core.Bool.{Bool, true, false}
 use mathlib.Core.List.{List, [], _∷_}
 use mathlib.Core.Logic.{⊎-elim}
@@ -8,21 +8,20 @@ use native.Mathlib.Omega.{arith}
 use native.Mathlib.Numerals.{add-one}
 use lib.ListN.{length, take, drop, getD, length-drop}
 use lib.Seq.{drop-cons, length-take-le}
-use borrow.Author.Tests.{ne-eqb}
 use types.Run.{OneOf}
 use denote.Enum.Declared.{tagOf}
-use Rattle.short_address.specs.Address.{isAddress}
+use Rattle.short_address.specs.Address.{isAddress, AddressLaws}
 use Rattle.cbor.specs.View.{Plain, number, minus, string, other, ValueSays}
 use Rattle.cbor.specs.declared.value.Value.{Value}
 use Rattle.cbor.specs.declared.value.Value.the-variants as vv
 use Rattle.cbor.proofs.value.Value as value
-use Rattle.cojp.specs.Address.{addressOf, addressParameter, noAddressParameter, addressBy, addressIn, addressConcluded, addressRead}
+use Rattle.cojp.specs.Address.{addressOf, addressParameter, addressBy, addressIn, addressConcluded, addressRead}
 use Rattle.cojp.specs.Bytes.{valueView, membersAt, Neither, MemberAt, MemberSays}
 use Rattle.cojp.specs.Reading.{Reading, read, broken, unfit}
 use Rattle.cojp.specs.declared.address.AddressParameter.{AddressParameter}
 use Rattle.cojp.specs.declared.members.Member.{Member}
 use Rattle.cojp.specs.declared.members.Member.the-variants as mv
-use Rattle.cojp.specs.declared.report.Report.the-variants.{Taken, Discarded}
+use Rattle.cojp.specs.declared.report.Report.the-variants.{Taken}
 use Rattle.cojp.proofs.Arrays.{members-none, members-some, array-here, no-array}
 use Rattle.cojp.proofs.members.Member as member
 
@@ -31,9 +30,8 @@ module _ (s : List ℕ) (p a : ℕ) (i : p + a ≤ length s) (b : Bool) (n : ℕ
   whole : length (take a (drop p s)) ≡ a
   whole = length-take-le a (drop p s) (omega (arith, length-drop p s))
 
-  pub address-short : ¬ (a ≡ 2) → addressConcluded unfit ≡ addressConcluded (addressBy (take a (drop p s)) b n)
-  unfolding isAddress
-  address-short h = rw (whole, ne-eqb a 2 h)
+  pub address-short : AddressLaws → ¬ (a ≡ 2) → addressConcluded unfit ≡ addressConcluded (addressBy (take a (drop p s)) b n)
+  address-short laws h = let none = laws .two-bytes (take a (drop p s)) (λ e. h (sym whole ∙ e)) in rw none
 
   two : a ≡ 2 → take a (drop p s) ≡ getD s p 0 ∷ getD s (p + 1) 0 ∷ []
   two e =

@@ -2,6 +2,7 @@
 use Prim.Native.Nat.{ℕ}
 use mathlib.Core.Path.{_≡_, refl}
 use native.Mathlib.Omega.{arith}
+use Rattle.refusal.specs.Verdict.{verdictNumber}
 use Rattle.refusal.specs.declared.Refusal.{Refusal}
 use Rattle.refusal.specs.declared.Verdict.the-variants.{Refused}
 use Rattle.cojp.specs.Reading.{Reading, refused, read, onward}
@@ -22,8 +23,20 @@ configuration-empty :
 configuration-empty (refused j) k e = refl
 configuration-empty (read c) k e = absurd (let z : _≡_ {A = ℕ} 0 1 = cc in omega arith)
 
+request-zero : (o : Reading JoinRequest) → ¬ (verdictNumber (requestAnswer o .verdict) ≡ 0) → requestAnswer o .request ≡ emptyRequest
+request-zero (refused j) e = refl
+request-zero (read q) e = absurd (e refl)
+
+configuration-zero :
+    (o : Reading Configuration) → ¬ (verdictNumber (configurationAnswer o .verdict) ≡ 0) →
+    configurationAnswer o .configuration ≡ emptyConfiguration
+configuration-zero (refused j) e = refl
+configuration-zero (read c) e = absurd (e refl)
+
 pub readers-demand1 : ReadersDemand1
 readers-demand1 = record {
   request = (λ head s k e. request-empty (onward (payloadReadBy requestForm head nothingGathered s) settled) k e);
   configuration = (λ head s k e. configuration-empty (payloadReadBy configurationForm head emptyConfiguration s) k e);
+  request-number = (λ head s e. request-zero (onward (payloadReadBy requestForm head nothingGathered s) settled) e);
+  configuration-number = (λ head s e. configuration-zero (payloadReadBy configurationForm head emptyConfiguration s) e);
 }

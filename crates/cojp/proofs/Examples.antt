@@ -14,6 +14,7 @@ use Rattle.cojp.specs.Configuration.{configurationStanding, configuratio
 use Rattle.cojp.specs.Examples.{MarkedExamples}
 
 pub marked : MarkedExamples
-unfolding payloadBy strictHeading isShort infoOf decodeBy heading argument next digits members pairs majorOf allowed padded octetsJudged isAddress addressIn groups payloadReadBy roleJudged requestStanding requestTaking owing configurationStanding configurationTaking
+unfolding payloadBy strictHeading isShort infoOf decodeBy heading argument next digits members pairs majorOf allowed padded octetsJudged
+    isAddress addressIn groups payloadReadBy roleJudged requestStanding requestTaking owing configurationStanding configurationTaking
 marked =
     (refl, (refl, (refl, (refl, (refl, (refl, (refl, (refl, (refl, (refl, (refl, (refl, (refl, (refl, (refl, tt)))))))))))))))

@@ -22,11 +22,11 @@ accepting-on (verdict.Refused k) f p = tt
 
 module _ (r : OctetsRead) (x : Reading OctetsParameter) (n : ℕ) (e : r ≡ octetsAnswer x n) where
   pub octets-settled : (y : Reading OctetsParameter) → x ≡ y → r ≡ octetsAnswer y (r .next)
-  octets-settled y f = let g : r .next ≡ n = ap (λ (q : OctetsRead). q .next) e ∙ own x in e ∙ ap (λ (z : Reading OctetsParameter). octetsAnswer z n) f ∙ ap (octetsAnswer y) (sym g)
+  octets-settled y f = go x e ∙ ap (λ (z : Reading OctetsParameter). octetsAnswer z (r .next)) f
     where
-      own : (x : Reading OctetsParameter) → octetsAnswer x n .next ≡ n
-      own (refused k) = refl
-      own (read p) = refl
+      go : (x : Reading OctetsParameter) → r ≡ octetsAnswer x n → r ≡ octetsAnswer x (r .next)
+      go (refused k) e = e
+      go (read p) e = e ∙ ap (octetsAnswer (read p)) (sym (ap (λ (q : OctetsRead). q .next) e))
 
   octets-rest : (s t : List ℕ) → drop n s ≡ t → Accepting (r .verdict) (drop (r .next) s ≡ t)
   octets-rest s t f = rw e (go x)
@@ -41,11 +41,11 @@ module _ (r : OctetsRead) (x : Reading OctetsParameter) (n : ℕ) (e : r ≡ oct
 
 module _ (r : AddressRead) (x : Reading AddressParameter) (n : ℕ) (e : r ≡ addressAnswer x n) where
   pub address-settled : (y : Reading AddressParameter) → x ≡ y → r ≡ addressAnswer y (r .next)
-  address-settled y f = let g : r .next ≡ n = ap (λ (q : AddressRead). q .next) e ∙ own x in e ∙ ap (λ (z : Reading AddressParameter). addressAnswer z n) f ∙ ap (addressAnswer y) (sym g)
+  address-settled y f = go x e ∙ ap (λ (z : Reading AddressParameter). addressAnswer z (r .next)) f
     where
-      own : (x : Reading AddressParameter) → addressAnswer x n .next ≡ n
-      own (refused k) = refl
-      own (read p) = refl
+      go : (x : Reading AddressParameter) → r ≡ addressAnswer x n → r ≡ addressAnswer x (r .next)
+      go (refused k) e = e
+      go (read p) e = e ∙ ap (addressAnswer (read p)) (sym (ap (λ (q : AddressRead). q .next) e))
 
   address-rest : (s t : List ℕ) → drop n s ≡ t → Accepting (r .verdict) (drop (r .next) s ≡ t)
   address-rest s t f = rw e (go x)
@@ -60,7 +60,9 @@ module _ (r : AddressRead) (x : Reading AddressParameter) (n : ℕ) (e : r ≡ a
 
 module _ (r : KeysRead) (x : Reading KeysParameter) (n : ℕ) (e : r ≡ keysAnswer x n) where
   pub keys-settled : (y : Reading KeysParameter) → x ≡ y → r ≡ keysAnswer y (r .next)
-  keys-settled y f = let g : r .next ≡ n = ap (λ (q : KeysRead). q .next) e ∙ own x in e ∙ ap (λ (z : Reading KeysParameter). keysAnswer z n) f ∙ ap (keysAnswer y) (sym g)
+  keys-settled y f =
+      let g : r .next ≡ n = ap (λ (q : KeysRead). q .next) e ∙ own x in
+      e ∙ ap (λ (z : Reading KeysParameter). keysAnswer z n) f ∙ ap (keysAnswer y) (sym g)
     where
       own : (x : Reading KeysParameter) → keysAnswer x n .next ≡ n
       own (refused k) = refl

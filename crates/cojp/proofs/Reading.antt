@@ -14,24 +14,25 @@ use Rattle.refusal.specs.declared.Verdict.the-variants.{Accepted}
 use Rattle.cbor.specs.Decode.{heading}
 use Rattle.cbor.specs.View.{Plain, number, minus, string, other, View, plain, list}
 use Rattle.link_key.specs.Key.{noKey}
-use Rattle.link_key_set.specs.KeySet.{keysOf, allowed, allowedSet}
+use Rattle.link_key_set.specs.KeySet.{allowed, allowedSet}
 use Rattle.link_key.specs.declared.Key.{Key}
 use Rattle.link_key_set.specs.declared.key_set.KeySet.{KeySet}
-use Rattle.link_key_set.proofs.KeySets.{allowed-few}
+use Rattle.link_key_set.specs.KeyLaws.{KeyLaws}
 use Rattle.cojp.specs.Reading.{Reading, refused, read, put, Judgement, broken, unfit, good, concluded}
 use Rattle.cojp.specs.Octets.{octetsJudged, octetsOf, octetsParameter, noOctetsParameter}
 use Rattle.short_address.specs.Address.{isAddress}
 use Rattle.cojp.specs.Address.{addressBy, addressIn, addressJudged, addressOf, addressParameter, noAddressParameter}
 use Rattle.cojp.specs.KeySet.{Groups, notGroups, groupsOf, groups, keysIn, keysJudged, keySetOf, keysParameter}
 use Rattle.cojp.specs.Walk.{payloadRead}
-use Rattle.cojp.specs.Configuration.{emptyConfiguration, withKeys, withAddress, withJrc, withNetwork, withPrefix, withPassed, configurationTaking, configurationForm, configurationAnswer, readConfiguration}
+use Rattle.cojp.specs.Configuration.{emptyConfiguration, withKeys, withAddress, withJrc, withNetwork, withPrefix, withPassed}
+use Rattle.cojp.specs.Configuration.{configurationTaking, configurationForm, configurationAnswer}
 use Rattle.cojp.specs.InRange.{InRange, ReadsInRange}
 use Rattle.cojp.specs.Writing.{keysInRange, addressInRange, jrcInRange, octetsInRange}
 use Rattle.cojp.specs.declared.address.ShortAddress.{ShortAddress}
 use Rattle.cojp.specs.declared.configuration.Configuration.{Configuration}
 use Rattle.cojp.specs.declared.octets.Octets.{Octets}
 use Rattle.cojp.specs.declared.report.Report.the-variants.{Taken, Discarded}
-use Rattle.logic_facts.specs.Tests.{both, both-left, both-right}
+use Rattle.logic_facts.specs.Tests.{both-left, both-right}
 use Rattle.cojp.proofs.Walks.{Gives, payload-gives}
 
 -- ---- a good value
@@ -45,20 +46,19 @@ unfolding Good
 good-if P true a f = f refl
 good-if P false a f = tt
 
-set-of : (ks : List Key) → allowed ks ≡ true → allowedSet (keySetOf ks) ≡ true
-unfolding allowedSet
-set-of ks e =
-    let few = allowed-few ks e in
-    both (leb (length ks) 8) (allowed (keysOf (keySetOf ks))) (le-leb _ _ few) (rw (take-at ks (replicate (8 - length ks) noKey) (length ks) refl) e)
+module _ (K : KeyLaws) where
+  set-of : (ks : List Key) → allowed ks ≡ true → allowedSet (keySetOf ks) ≡ true
+  set-of ks e =
+      K .allowed-set (keySetOf ks) (K .allowed-few ks e) (rw (take-at ks (replicate (8 - length ks) noKey) (length ks) refl) e)
 
-keys-good : (v : View) → Good (λ (s : KeySet). allowedSet s ≡ true) (keysJudged v)
-unfolding Good
-keys-good (plain p) = tt
-keys-good (list ps) = go (groups ps)
-  where
-    go : (g : Groups) → Good (λ (s : KeySet). allowedSet s ≡ true) (keysIn g)
-    go notGroups = tt
-    go (groupsOf ks) = good-if (λ (s : KeySet). allowedSet s ≡ true) (allowed ks) (keySetOf ks) (set-of ks)
+  keys-good : (v : View) → Good (λ (s : KeySet). allowedSet s ≡ true) (keysJudged v)
+  unfolding Good
+  keys-good (plain p) = tt
+  keys-good (list ps) = go (groups ps)
+    where
+      go : (g : Groups) → Good (λ (s : KeySet). allowedSet s ≡ true) (keysIn g)
+      go notGroups = tt
+      go (groupsOf ks) = good-if (λ (s : KeySet). allowedSet s ≡ true) (allowed ks) (keySetOf ks) (set-of ks)
 
 address-by : (s : List ℕ) (leased : Bool) (lease : ℕ) → Good (λ (a : ShortAddress). isAddress (a .bytes) ≡ true) (addressBy s leased lease)
 address-by s leased lease = good-if (λ (a : ShortAddress). isAddress (a .bytes) ≡ true) (isAddress s) (addressOf s leased lease) (λ e. e)
@@ -107,7 +107,7 @@ put-fits Q take outside broken f g o h = tt
 put-fits Q take outside unfit f g o h = o
 put-fits Q take outside (good a) f g o h = h a g
 
-module _ (c : Configuration) (h : InRange c) where
+module _ (K : KeyLaws) (c : Configuration) (h : InRange c) where
   keys-put : (p : _) → keysInRange p ≡ true → InRange (withKeys c p)
   keys-put p e = record { keys = e; address = h .address; jrc = h .jrc; network = h .network; prefix = h .prefix }
 
@@ -134,7 +134,7 @@ module _ (c : Configuration) (h : InRange c) where
   unfolding configurationTaking sized
   taking-fits n v =
       either-fits (eqb n 2) _ _
-      (put-fits (λ (s : KeySet). allowedSet s ≡ true) (keysParameter Taken) (refused refusal.Keys) (keysJudged v) (withKeys c) (keys-good v) tt
+      (put-fits (λ (s : KeySet). allowedSet s ≡ true) (keysParameter Taken) (refused refusal.Keys) (keysJudged v) (withKeys c) (keys-good K v) tt
       (λ s e. keys-put (keysParameter Taken s) e))
       (either-fits (eqb n 3) _ _
       (put-fits (λ (a : ShortAddress). isAddress (a .bytes) ≡ true) (addressParameter Taken) (read (noAddressParameter Discarded))
@@ -152,10 +152,10 @@ module _ (c : Configuration) (h : InRange c) where
 empty-fits : InRange emptyConfiguration
 empty-fits = record { keys = refl; address = refl; jrc = refl; network = refl; prefix = refl }
 
-pub reads-in-range : ReadsInRange
-reads-in-range p e =
+pub reads-in-range : KeyLaws → ReadsInRange
+reads-in-range K p e =
     go (payloadRead configurationForm emptyConfiguration p)
-    (payload-gives configurationForm InRange (λ c h. passing-fits c h (c .passed + 1)) taking-fits heading emptyConfiguration empty-fits p) e
+    (payload-gives configurationForm InRange (λ c h. passing-fits K c h (c .passed + 1)) (taking-fits K) heading emptyConfiguration empty-fits p) e
   where
     go : (r : Reading Configuration) → Gives InRange r → configurationAnswer r .verdict ≡ Accepted → InRange (configurationAnswer r .configuration)
     go (refused k) h q = refused-not k q

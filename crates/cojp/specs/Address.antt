@@ -54,7 +54,7 @@ addressConcluded j = concluded (read (noAddressParameter Discarded)) (addressPar
 abbrev pub addressRead : View → Reading AddressParameter
 addressRead v = addressConcluded (addressJudged v)
 
--- the answer: beside a refusal the parameter is absent; the value ends at `next`
+-- the answer: the value ends at `next`; beside a refusal the parameter is absent and `next` is 0
 abbrev pub addressAnswer : Reading AddressParameter → ℕ → AddressRead
-addressAnswer (refused k) next = record { verdict = verdict.Refused k; parameter = noAddressParameter Absent; next = next }
+addressAnswer (refused k) next = record { verdict = verdict.Refused k; parameter = noAddressParameter Absent; next = 0 }
 addressAnswer (read p) next = record { verdict = verdict.Accepted; parameter = p; next = next }

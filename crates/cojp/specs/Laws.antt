@@ -5,6 +5,7 @@ use mathlib.Core.List.{List}
 use mathlib.Core.Bool.{Bool, false, cond}
 use lib.Dec.{ltb}
 use lib.ListN.{length}
+use Rattle.refusal.specs.Verdict.{verdictNumber}
 use Rattle.refusal.specs.declared.Refusal.{Refusal}
 use Rattle.refusal.specs.declared.Refusal.the-variants.{Loose}
 use Rattle.refusal.specs.declared.Verdict.the-variants.{Accepted, Refused}
@@ -23,13 +24,20 @@ use Rattle.cojp.specs.declared.report.Report.the-variants.{Discarded}
 use Rattle.cojp.specs.declared.request.JoinRequest.{JoinRequest}
 use Rattle.cojp.specs.declared.request.RequestRead.{RequestRead}
 
--- ---- demand 1, for every reader of heads: a reader's refusal comes with the empty object, a writer's leaves the lent bytes as they were
+-- ---- demand 1, for every reader of heads: a reader's refusal comes with the empty object, a writer's leaves the lent bytes as they were;
+-- a refusal is told by its number, which is not 0, or by its case
 pub record ReadersDemand1 : Type 0 where
   pub request :
       (head : List ℕ → Outcome Heading) (s : List ℕ) (k : Refusal) → readRequestBy head s .verdict ≡ Refused k →
       readRequestBy head s .request ≡ emptyRequest
   pub configuration :
       (head : List ℕ → Outcome Heading) (s : List ℕ) (k : Refusal) → readConfigurationBy head s .verdict ≡ Refused k →
+      readConfigurationBy head s .configuration ≡ emptyConfiguration
+  pub request-number :
+      (head : List ℕ → Outcome Heading) (s : List ℕ) → ¬ (verdictNumber (readRequestBy head s .verdict) ≡ 0) →
+      readRequestBy head s .request ≡ emptyRequest
+  pub configuration-number :
+      (head : List ℕ → Outcome Heading) (s : List ℕ) → ¬ (verdictNumber (readConfigurationBy head s .verdict) ≡ 0) →
       readConfigurationBy head s .configuration ≡ emptyConfiguration
 
 -- ---- the strict readings: LOOSE where the scan of a payload that is not LONG meets a longer head, else the ordinary answer,

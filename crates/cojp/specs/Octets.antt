@@ -51,7 +51,7 @@ octetsJudged least (list ps) = broken
 abbrev pub octetsRead : ℕ → View → Reading OctetsParameter
 octetsRead least v = concluded (read (noOctetsParameter Discarded)) (octetsParameter Taken) (octetsJudged least v)
 
--- the answer: beside a refusal the parameter is absent; the value ends at `next`
+-- the answer: the value ends at `next`; beside a refusal the parameter is absent and `next` is 0
 abbrev pub octetsAnswer : Reading OctetsParameter → ℕ → OctetsRead
-octetsAnswer (refused k) next = record { verdict = verdict.Refused k; parameter = noOctetsParameter Absent; next = next }
+octetsAnswer (refused k) next = record { verdict = verdict.Refused k; parameter = noOctetsParameter Absent; next = 0 }
 octetsAnswer (read p) next = record { verdict = verdict.Accepted; parameter = p; next = next }

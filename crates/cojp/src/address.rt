@@ -27,7 +27,7 @@ pub struct AddressParameter {
     pub value: ShortAddress,
 }
 
-// Beside a refusal the parameter is absent, and `next`, where the bytes go on after the value, says nothing.
+// `next` is where the bytes go on after the value. Beside a refusal the parameter is absent and `next` is 0.
 pub struct AddressRead {
     pub verdict: Verdict,
     pub parameter: AddressParameter,
@@ -85,6 +85,7 @@ fn address_from(
     requires { ⌜ start + len ≤ length (now s) ⌝ }
     ensures { λ r. ⌜ r ≡ addressAnswer (addressConcluded (addressBy (take len (drop start (now (s .entry)))) leased lease)) next ⌝ }
 {
+    short_address::laws();
     if len != 2 {
         return discarded_address(next);
     }
@@ -143,7 +144,7 @@ fn address_members(s: &[u8], at: usize, count: u64) -> AddressRead
     }
 }
 
-// The short address at a place.
+// The short address at a place of a payload that passed the item scan; of other bytes it says what `valueView` makes of them.
 pub fn read_address(s: &[u8], at: usize) -> AddressRead
     ensures { λ r. ⌜ r ≡ addressAnswer (addressRead (valueView (drop at (now (s .entry))))) (r .next) ⌝ }
     ensures rest { λ r. ⌜ Accepting (r .verdict) (drop (r .next) (now (s .entry)) ≡ afterValue (drop at (now (s .entry)))) ⌝ }

@@ -51,7 +51,9 @@ pub fn marked_examples()
 // What the reader of configurations takes is in range.
 pub fn reads_in_range()
     ensures { λ r. ⌜ ReadsInRange ⌝ }
-{}
+{
+    link_key_set::laws();
+}
 
 // Demand 1 for the readers: a refusal comes with the empty object.
 pub fn readers_demand1()

@@ -10,7 +10,7 @@ pub enum Member {
     Neither,
 }
 
-// The member at a place, where `left` members are left.
+// The member at a place of a payload that passed the item scan, where `left` members are left.
 pub fn member_at(s: &[u8], at: usize, left: u64) -> Member
     ensures { λ r. ⌜ MemberSays (now (s .entry)) at left r ⌝ }
 {

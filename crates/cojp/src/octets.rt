@@ -23,7 +23,7 @@ pub struct OctetsParameter {
     pub value: Octets,
 }
 
-// Beside a refusal the parameter is absent, and `next`, where the bytes go on after the value, says nothing.
+// `next` is where the bytes go on after the value. Beside a refusal the parameter is absent and `next` is 0.
 pub struct OctetsRead {
     pub verdict: Verdict,
     pub parameter: OctetsParameter,
@@ -45,7 +45,8 @@ pub fn no_octets(report: Report) -> OctetsParameter
     }
 }
 
-// The byte string at a place, of `least` to 16 bytes.
+// The byte string of `least` to 16 bytes at a place of a payload that passed the item scan; of other bytes it says what `valueView` makes
+// of them.
 pub fn read_octets(s: &[u8], at: usize, least: usize) -> OctetsRead
     ensures { λ r. ⌜ r ≡ octetsAnswer (octetsRead least (valueView (drop at (now (s .entry))))) (r .next) ⌝ }
     ensures rest { λ r. ⌜ Accepting (r .verdict) (drop (r .next) (now (s .entry)) ≡ afterValue (drop at (now (s .entry)))) ⌝ }

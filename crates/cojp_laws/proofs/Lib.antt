@@ -1,3 +1,4 @@
 mod Demand1
 mod ReadBack
 mod RoundTrip
+mod Reserved

@@ -1,4 +1,7 @@
 // What the object layer promises of its definitions of reading and writing, whoever writes and reads.
+pub mod addresses;
+
+pub use addresses::addresses_alone;
 use cojp::Configuration;
 use cojp::JoinRequest;
 ghost use Rattle.cojp.specs.Laws.{WritersDemand1, RequestRoundTrip, ConfigurationRoundTrip, LargestConfiguration};

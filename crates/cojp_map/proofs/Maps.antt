@@ -1,7 +1,7 @@
 -- The pairs of a map, for any object: what is read pair by pair at their places is what is read of the tree.
-use Prim.Native.Nat.{ℕ, zero, suc, _+_, _-_, _≤_, _<_}
-use mathlib.Core.Path.{_≡_, refl, ap, sym, _∙_}
-use mathlib.Core.Bool.{Bool, true, false}
+use Prim.Native.Nat.{ℕ, suc, _+_, _-_, _≤_, _<_}
+use mathlib.Core.Path.{_≡_, refl, ap, sym, subst, _∙_}
+use mathlib.Core.Bool.{Bool, true, false, cond}
 use mathlib.Core.List.{List}
 use native.Mathlib.Omega.{arith}
 use lib.ListN.{length, drop}
@@ -12,11 +12,12 @@ use Rattle.refusal.specs.declared.Refusal.{Refusal}
 use Rattle.refusal.specs.declared.Refusal.the-variants as refusal
 use Rattle.refusal.specs.declared.Verdict.{Verdict}
 use Rattle.refusal.specs.declared.Verdict.the-variants as verdict
-use Rattle.cbor.specs.Answer.{headAnswer, skipAnswer, openAnswer}
-use Rattle.cbor.specs.Decode.{majorOf, decodeBy, got, heading, pairs, decode, payloadBy}
+use Rattle.cbor.specs.Decode.{Outcome, decode, payloadBy}
+use Rattle.cbor.specs.Decode as decode
+use Rattle.cbor.specs.Item.{Item, Pairs, unsigned, negative, bytes, text, array, map, tag, simple, float, empty, pair}
+use Rattle.cbor.specs.Says.{LabelSays, saysLabel, HeadSays, saysEnd, SkipSays, PairsAt, saysOpened, OpenSays}
 use Rattle.cbor.specs.Strict.{headBy}
-use Rattle.cbor.specs.Item.{Item, Pairs}
-use Rattle.cbor.specs.View.{View, labelOf, viewOf, labelAt}
+use Rattle.cbor.specs.View.{View, labelOf, viewOf, ifMap, labelAt}
 use Rattle.cbor.specs.declared.item.Opened.{Opened}
 use Rattle.cbor.specs.declared.item.Opened.the-variants as ov
 use Rattle.cbor.specs.declared.item.Skip.{Skip}
@@ -26,52 +27,77 @@ use Rattle.cbor.specs.declared.value.Label.the-variants as label
 use Rattle.cbor.specs.declared.head.Head.{Head}
 use Rattle.cbor.specs.declared.head.HeadRead.{HeadRead}
 use Rattle.cbor.specs.declared.head.HeadRead.the-variants as hv
-use Rattle.cbor.proofs.Answers.{head-got, skip-refused, skip-next}
-use Rattle.cbor.proofs.Outcomes.{then-got, same-value}
-use Rattle.cbor.proofs.Payloads.{opened-refused, opened-map, opened-other}
-use Rattle.cbor.proofs.Views.{tree-label, tree-view}
 use Rattle.cojp.specs.Bytes.{valueView, afterValue}
 use Rattle.cojp.specs.Reading.{Reading, refused, read, onward, put, said, Accepting}
-use Rattle.cojp.specs.Walk.{Form, standingOf, knownRead, pairRead, pairsRead, scannedRead, payloadReadBy}
+use Rattle.cojp.specs.Walk.{Form, standingOf, knownRead, pairRead, pairsRead, mapRead, scannedRead, payloadReadBy}
 use Rattle.cojp.specs.declared.report.Report.{Report}
 use Rattle.cojp.specs.declared.report.Report.the-variants.{Absent, Taken, Discarded}
 use Rattle.cojp.specs.declared.walk.Standing.{Standing}
 use Rattle.cojp.specs.declared.walk.Standing.the-variants.{Unknown, Fresh, Again}
-use Rattle.cojp_map.specs.Pairs.{startOf, startAnswer, labelVerdict, labelNumber, Told, seen, once, walkAt}
+use Rattle.cojp_map.specs.Pairs.{startOf, startAnswer, mapIn, pairsIn, saysStart, StartSays, labelledAnswer, Told, seen, once, walkAt}
 use Rattle.cojp_map.specs.declared.open.Start.{Start}
 use Rattle.cojp_map.specs.declared.open.Start.the-variants as start
 use Rattle.cojp_map.specs.declared.pair.Labelled.{Labelled}
 
 -- ---- the returns of `open_payload`
-pub start-long : (b : Bool) (s : List ℕ) → 256 < length s → start.Refused refusal.Long ≡ startAnswer b s
-unfolding startAnswer
-start-long b s h = rw (lt-ltb 256 (length s) h)
+pub start-long : (b : Bool) (s : List ℕ) → 256 < length s → StartSays b s (start.Refused refusal.Long)
+unfolding startAnswer pairsIn
+start-long b s h = let long = lt-ltb 256 (length s) h in record { is = rw long; says = rw long }
 
-pub start-opened : (b : Bool) (s : List ℕ) → length s ≤ 256 → (o : Opened) → o ≡ openAnswer (length s) (payloadBy (headBy b) s) (heading s) → (p : Opened) → o ≡ p → startOf p ≡ startAnswer b s
-unfolding startAnswer
-start-opened b s h o e p g = rw (le-ltb 256 (length s) h, ← e, g)
+not-map : {R : Type 0} (f : Pairs → R) (x : R) (i : Item) → ifMap (λ ps. true) false i ≡ false → ifMap f x i ≡ x
+not-map f x (map ps) e = absurd (let z : _≡_ {A = ℕ} 0 1 = cc in omega arith)
+not-map f x (unsigned n) e = refl
+not-map f x (negative n) e = refl
+not-map f x (bytes b) e = refl
+not-map f x (text b) e = refl
+not-map f x (array is) e = refl
+not-map f x (tag n i) e = refl
+not-map f x (simple n) e = refl
+not-map f x (float w n) e = refl
+
+module _ (b : Bool) (s : List ℕ) (h : length s ≤ 256) where
+  start-says : (p : Opened) → saysOpened b s p → saysStart b s (startOf p)
+  unfolding pairsIn
+  start-says (ov.Refused k) w = rw (le-ltb 256 (length s) h, w)
+  start-says ov.NoMap w = rw (le-ltb 256 (length s) h, w .read) (not-map read (refused refusal.«Type») (w .item) (w .other))
+  start-says (ov.Map n p) w = (w .pairs-are, rw (le-ltb 256 (length s) h, w .read), w .stand)
+
+  pub start-opened : (o : Opened) → OpenSays b s o → (p : Opened) → o ≡ p → StartSays b s (startOf p)
+  unfolding startAnswer
+  start-opened o e p g =
+      record { is = rw (le-ltb 256 (length s) h, ← e .is, g); says = start-says p (subst (saysOpened b s) g (e .says)) }
 
 -- ---- the returns of `item_end`
-module _ (s : List ℕ) (at : ℕ) (k : Skip) (e : k ≡ skipAnswer (length s) (decode 7 (drop at s))) where
+module _ (s : List ℕ) (at : ℕ) (k : Skip) (e : SkipSays s (decode 7 (drop at s)) k) where
   pub end-refused : (j : Refusal) → k ≡ sv.Refused j → drop (length s) s ≡ afterValue (drop at s)
-  end-refused j g = rw (skip-refused s at 7 k e j g) (drop-length s)
+  end-refused j g = drop-length s ∙ sym (subst (saysEnd s (decode 7 (drop at s))) g (e .end))
 
   pub end-next : (p : ℕ) → k ≡ sv.Next p → drop p s ≡ afterValue (drop at s)
-  end-next p g = rw (skip-next s at 7 k e p g .1)
+  end-next p g = sym (subst (saysEnd s (decode 7 (drop at s))) g (e .end))
 
 -- ---- the returns of `labelled_at`
-pub told-none : (s l : List ℕ) (r : Labelled) (end : ℕ)
-    → r ≡ record { verdict = verdict.Refused refusal.«Type»; label = 0; value = end } → label.NoInteger ≡ labelAt l → Told s l r
-told-none s l r end e f = rw (e, ← f) (refl, refl, tt)
+told-none : (s l : List ℕ) (r : Labelled) → r ≡ record { verdict = verdict.Refused refusal.«Type»; label = 0; value = length s }
+    → labelAt l ≡ label.NoInteger → Told s l r
+told-none s l r e f = rw e (record { is = rw f; rest = tt })
 
-module _ (s : List ℕ) (at : ℕ) (r : HeadRead) (e : r ≡ headAnswer (length s) (heading (drop at s))) where
-  pub unsigned-end : (h : Head) → r ≡ hv.Got h → h .major ≡ 0 → drop (h .next) s ≡ afterValue (drop at s)
-  unfolding decodeBy majorOf
-  unsigned-end h g f = rw (head-got s at r e h g, f)
+module _ (s : List ℕ) (at : ℕ) (r : HeadRead) (e : HeadSays s at r) where
+  pub told-refused : (k : Refusal) → r ≡ hv.Refused k → (x : Labelled)
+      → x ≡ record { verdict = verdict.Refused refusal.«Type»; label = 0; value = length s } → Told s (drop at s) x
+  told-refused k g x f = told-none s (drop at s) x f (subst (saysLabel s at) g (e .label))
 
-  pub negative-end : (h : Head) → r ≡ hv.Got h → h .major ≡ 1 → drop (h .next) s ≡ afterValue (drop at s)
-  unfolding decodeBy majorOf
-  negative-end h g f = rw (head-got s at r e h g, f)
+  module _ (h : Head) (g : r ≡ hv.Got h) where
+    here : LabelSays s at h
+    here = subst (saysLabel s at) g (e .label)
+
+    pub told-number : h .major ≡ 0 → Told s (drop at s) (record { verdict = verdict.Accepted; label = h .argument; value = h .next })
+    told-number m = record { is = rw (here .number m); rest = sym (here .ends (omega arith) 6) }
+
+    pub told-negative : h .major ≡ 1 → Told s (drop at s) (record { verdict = verdict.Accepted; label = 0; value = h .next })
+    told-negative m = record { is = rw (here .negative m); rest = sym (here .ends (omega arith) 6) }
+
+    pub told-other : 2 ≤ h .major → (x : Labelled)
+        → x ≡ record { verdict = verdict.Refused refusal.«Type»; label = 0; value = length s } → Told s (drop at s) x
+    told-other m x f = told-none s (drop at s) x f (here .none m)
 
 -- ---- what was read is put in its place
 pub put-said : {A B : Type 0} (f : A → B) (v : Verdict) (a : A) (x : Reading A) → said v a ≡ x → said v (f a) ≡ put f x
@@ -80,10 +106,6 @@ put-said {A} f v a x e = go v ∙ ap (put f) e
     go : (v : Verdict) → said v (f a) ≡ put f (said v a)
     go verdict.Accepted = refl
     go (verdict.Refused k) = refl
-
-pub put-put : {A B C : Type 0} (f : B → C) (g : A → B) (x : Reading A) → put f (put g x) ≡ put (λ a. f (g a)) x
-put-put f g (refused k) = refl
-put-put f g (read a) = refl
 
 -- ---- a known label: it comes again, or its value is read and put in its place
 abbrev pub ifAgain : Bool → Standing
@@ -111,18 +133,24 @@ module _ {S : Type 0} (F : Form S) where
     pub ends : Accepting w (drop next s ≡ afterValue (afterValue l))
 
   module _ (c : S) (s l : List ℕ) (p : Labelled) (t : Told s l p) where
+    fine-is : p .verdict ≡ labelledAnswer (length s) (labelAt l) (p .value) .verdict
+    fine-is = ap (λ (q : Labelled). q .verdict) (t .is)
+
+    label-is : p .label ≡ labelledAnswer (length s) (labelAt l) (p .value) .label
+    label-is = ap (λ (q : Labelled). q .label) (t .is)
+
     pub turned-known : 0 < p .label → (w : Verdict) (d : S) (next : ℕ)
         → said w d ≡ knownRead F (F .standing c (p .label)) c (p .label) (valueView (drop (p .value) s))
         → Accepting w (drop next s ≡ afterValue (drop (p .value) s)) → Turned c s l w d next
     turned-known h w d next e f = go (labelAt l) refl
       where
         go : (x : Label) → labelAt l ≡ x → Turned c s l w d next
-        go label.NoInteger g = absurd (let z : p .label ≡ 0 = t .1 ∙ rw g in omega arith)
-        go label.Negative g = absurd (let z : p .label ≡ 0 = t .1 ∙ rw g in omega arith)
+        go label.NoInteger g = absurd (let z : p .label ≡ 0 = label-is ∙ rw g in omega arith)
+        go label.Negative g = absurd (let z : p .label ≡ 0 = label-is ∙ rw g in omega arith)
         go (label.Number n) g =
-            let n-is : p .label ≡ n = t .1 ∙ rw g in
-            let fine : p .verdict ≡ verdict.Accepted = t .0 ∙ rw g in
-            let value : drop (p .value) s ≡ afterValue l = rw fine at (t .2) in
+            let n-is : p .label ≡ n = label-is ∙ rw g in
+            let fine : p .verdict ≡ verdict.Accepted = fine-is ∙ rw g in
+            let value : drop (p .value) s ≡ afterValue l = rw fine at (t .rest) in
             record { says = e ∙ rw (g, n-is, value); ends = rw (← value) f }
 
     pub turned-passed : F .standing c (p .label) ≡ Unknown → (next : ℕ) → drop next s ≡ afterValue (drop (p .value) s)
@@ -131,16 +159,16 @@ module _ {S : Type 0} (F : Form S) where
       where
         go : (x : Label) → labelAt l ≡ x → Turned c s l (p .verdict) (F .passing c) next
         go label.NoInteger g =
-            let bad : p .verdict ≡ verdict.Refused refusal.«Type» = t .0 ∙ rw g in
+            let bad : p .verdict ≡ verdict.Refused refusal.«Type» = fine-is ∙ rw g in
             rw bad (record { says = rw g; ends = tt })
         go label.Negative g =
-            let fine : p .verdict ≡ verdict.Accepted = t .0 ∙ rw g in
-            let value : drop (p .value) s ≡ afterValue l = rw fine at (t .2) in
+            let fine : p .verdict ≡ verdict.Accepted = fine-is ∙ rw g in
+            let value : drop (p .value) s ≡ afterValue l = rw fine at (t .rest) in
             rw fine (record { says = rw g; ends = f ∙ ap afterValue value })
         go (label.Number n) g =
-            let n-is : p .label ≡ n = t .1 ∙ rw g in
-            let fine : p .verdict ≡ verdict.Accepted = t .0 ∙ rw g in
-            let value : drop (p .value) s ≡ afterValue l = rw fine at (t .2) in
+            let n-is : p .label ≡ n = label-is ∙ rw g in
+            let fine : p .verdict ≡ verdict.Accepted = fine-is ∙ rw g in
+            let value : drop (p .value) s ≡ afterValue l = rw fine at (t .rest) in
             let unknown : F .standing c n ≡ Unknown = rw n-is at h in
             rw fine (record { says = rw (g, unknown); ends = f ∙ ap afterValue value })
 
@@ -188,48 +216,45 @@ module _ {S : Type 0} (F : Form S) where
   onward-same (refused k) f g h = refl
   onward-same (read d) f g h = h d
 
-  first-pair : (n : ℕ) (c : S) (l : List ℕ) (k : Item) (t : List ℕ) → decode 7 l ≡ got k t → (v : Item) (w : List ℕ) → decode 7 t ≡ got v w
-      → walkAt F (suc n) c l ≡ onward (pairRead F c (labelOf k) (viewOf v)) (λ d. walkAt F n d w)
+  walk-tree : (ps : Pairs) (n : ℕ) (c : S) (l : List ℕ) → PairsAt n l ps → walkAt F n c l ≡ pairsRead F c ps
   unfolding walkAt
-  first-pair n c l k t a v w x = rw (tree-label 6 l k t a, a, tree-view 5 t v w x, x)
+  walk-tree empty n c l e = rw e
+  walk-tree (pair k v ps) n c l (m, e, a, x, q) =
+      rw (e, a, x)
+      (onward-same (pairRead F c (labelOf k) (viewOf v)) (λ d. walkAt F m d (afterValue (afterValue l))) (λ d. pairsRead F d ps)
+      (λ d. walk-tree ps m d (afterValue (afterValue l)) q))
 
-  pub walk-tree : (n : ℕ) (c : S) (l : List ℕ) (ps : Pairs) (u : List ℕ) → pairs (decode 7) n l ≡ got ps u → walkAt F n c l ≡ pairsRead F c ps
-  unfolding pairs walkAt
-  walk-tree zero c l ps u e = ap (pairsRead F c) (same-value e)
-  walk-tree (suc n) c l ps u e =
-      let (k, t, a, b) = then-got (decode 7 l) _ ps u e in
-      let (v, w, x, y) = then-got (decode 7 t) _ ps u b in
-      let (qs, z, i, j) = then-got (pairs (decode 7) n w) _ ps u y in
-      first-pair n c l k t a v w x
-      ∙ onward-same (pairRead F c (labelOf k) (viewOf v)) (λ d. walkAt F n d w) (λ d. pairsRead F d qs) (λ d. walk-tree n d w qs z i)
-      ∙ ap (pairsRead F c) (same-value j)
+  -- ---- a whole payload, read strictly or not
+  map-read : (c : S) (i : Item) → mapRead F c i ≡ onward (ifMap read (refused refusal.«Type») i) (pairsRead F c)
+  map-read c (map ps) = refl
+  map-read c (unsigned n) = refl
+  map-read c (negative n) = refl
+  map-read c (bytes b) = refl
+  map-read c (text b) = refl
+  map-read c (array is) = refl
+  map-read c (tag n i) = refl
+  map-read c (simple n) = refl
+  map-read c (float w n) = refl
 
-  -- ---- a whole payload
-  abbrev startRead : S → List ℕ → Start → Reading S
-  startRead c s (start.Refused k) = refused k
-  startRead c s (start.Pairs n p) = walkAt F n c (drop p s)
-
-  -- read strictly, or not: the pairs of a payload that passed are the same
-  module _ (b : Bool) where
-    opened-read : (c : S) (s : List ℕ) (o : Opened) → o ≡ openAnswer (length s) (payloadBy (headBy b) s) (heading s)
-        → scannedRead F c (payloadBy (headBy b) s) ≡ startRead c s (startOf o)
-    opened-read c s (ov.Refused k) e = rw (opened-refused b s (ov.Refused k) e k refl)
-    opened-read c s ov.NoMap e = let w = opened-other b s ov.NoMap e refl in rw (w .read) (w .other (pairsRead F c) (refused refusal.«Type»))
-    opened-read c s (ov.Map n p) e =
-        let w = opened-map b s (ov.Map n p) e n p refl in
-        rw (w .read) (sym (walk-tree n c (drop p s) (w .pairs-are) (w .left) (w .each)))
-
-    start-read : (c : S) (s : List ℕ) → payloadReadBy F (headBy b) c s ≡ startRead c s (startAnswer b s)
-    unfolding startAnswer payloadReadBy
-    start-read c s = go (ltb 256 (length s)) refl
+  module _ (b : Bool) (c : S) (s : List ℕ) where
+    read-in : payloadReadBy F (headBy b) c s ≡ onward (pairsIn b s) (pairsRead F c)
+    unfolding payloadReadBy pairsIn
+    read-in = go (ltb 256 (length s)) (payloadBy (headBy b) s)
       where
-        go : (l : Bool) → ltb 256 (length s) ≡ l → payloadReadBy F (headBy b) c s ≡ startRead c s (startAnswer b s)
-        go true h = rw h
-        go false h = rw h (opened-read c s (openAnswer (length s) (payloadBy (headBy b) s) (heading s)) refl)
+        go : (l : Bool) (o : Outcome Item)
+            → cond l (refused refusal.Long) (scannedRead F c o) ≡ onward (cond l (refused refusal.Long) (mapIn o)) (pairsRead F c)
+        go true o = refl
+        go false (decode.refused k) = refl
+        go false (decode.got i t) = map-read c i
 
-    module _ (c : S) (s : List ℕ) (r : Start) (e : r ≡ startAnswer b s) where
+    read-by : (x : Reading Pairs) → pairsIn b s ≡ x → payloadReadBy F (headBy b) c s ≡ onward x (pairsRead F c)
+    read-by x e = read-in ∙ ap (λ (y : Reading Pairs). onward y (pairsRead F c)) e
+
+    module _ (r : Start) (e : StartSays b s r) where
       pub read-refused : (k : Refusal) → r ≡ start.Refused k → payloadReadBy F (headBy b) c s ≡ refused k
-      read-refused k g = start-read c s ∙ rw (← e, g)
+      read-refused k g = read-by (refused k) (subst (saysStart b s) g (e .says))
 
       pub read-pairs : (n p : ℕ) → r ≡ start.Pairs n p → payloadReadBy F (headBy b) c s ≡ walkAt F n c (drop p s)
-      read-pairs n p g = start-read c s ∙ rw (← e, g)
+      read-pairs n p g =
+          let (ps, w, q) = subst (saysStart b s) g (e .says) in
+          read-by (read ps) w ∙ sym (walk-tree ps n c (drop p s) q)

@@ -7,12 +7,14 @@ use mathlib.Core.List.{List}
 use lib.Dec.{ltb}
 use lib.ListN.{length, drop}
 use Rattle.refusal.specs.declared.Refusal.the-variants as refusal
-use Rattle.refusal.specs.declared.Verdict.{Verdict}
 use Rattle.refusal.specs.declared.Verdict.the-variants as verdict
 use Rattle.cbor.specs.Answer.{openAnswer}
-use Rattle.cbor.specs.Decode.{heading, payloadBy}
+use Rattle.cbor.specs.Decode.{Outcome, heading, payloadBy}
+use Rattle.cbor.specs.Decode as decode
+use Rattle.cbor.specs.Item.{Item, Pairs}
+use Rattle.cbor.specs.Says.{PairsAt}
 use Rattle.cbor.specs.Strict.{headBy}
-use Rattle.cbor.specs.View.{labelAt}
+use Rattle.cbor.specs.View.{ifMap, labelAt}
 use Rattle.cbor.specs.declared.item.Opened.{Opened}
 use Rattle.cbor.specs.declared.item.Opened.the-variants as ov
 use Rattle.cbor.specs.declared.value.Label.{Label}
@@ -36,21 +38,33 @@ unfoldable pub startAnswer : Bool → List ℕ → Start
 startAnswer b s =
     cond (ltb 256 (length s)) (start.Refused refusal.Long) (startOf (openAnswer (length s) (payloadBy (headBy b) s) (heading s)))
 
--- ---- a label: TYPE where it is no integer; a negative one has the number 0, which no object knows
-abbrev pub labelVerdict : Label → Verdict
-labelVerdict label.NoInteger = verdict.Refused refusal.«Type»
-labelVerdict label.Negative = verdict.Accepted
-labelVerdict (label.Number n) = verdict.Accepted
+-- the pairs of the map, or why there are none
+abbrev pub mapIn : Outcome Item → Reading Pairs
+mapIn (decode.refused k) = refused k
+mapIn (decode.got i t) = ifMap read (refused refusal.«Type») i
 
-abbrev pub labelNumber : Label → ℕ
-labelNumber label.NoInteger = 0
-labelNumber label.Negative = 0
-labelNumber (label.Number n) = n
+unfoldable pub pairsIn : Bool → List ℕ → Reading Pairs
+pairsIn b s = cond (ltb 256 (length s)) (refused refusal.Long) (mapIn (payloadBy (headBy b) s))
+
+-- what the answer says of them: the refusal, or that they stand from a place on
+abbrev pub saysStart : Bool → List ℕ → Start → Type 0
+saysStart b s (start.Refused k) = pairsIn b s ≡ refused k
+saysStart b s (start.Pairs n p) = (ps : Pairs) × (pairsIn b s ≡ read ps) × PairsAt n (drop p s) ps
+
+pub record StartSays (b : Bool) (s : List ℕ) (r : Start) : Type 0 where
+  pub is : r ≡ startAnswer b s
+  pub says : saysStart b s r
+
+-- ---- a label: TYPE where it is no integer, and the place is then the payload's end; a negative one has the number 0, which no object knows
+abbrev pub labelledAnswer : ℕ → Label → ℕ → Labelled
+labelledAnswer end label.NoInteger p = record { verdict = verdict.Refused refusal.«Type»; label = 0; value = end }
+labelledAnswer end label.Negative p = record { verdict = verdict.Accepted; label = 0; value = p }
+labelledAnswer end (label.Number n) p = record { verdict = verdict.Accepted; label = n; value = p }
 
 -- what an answer about a label says, s being the payload and l what is left of it from the label on
-abbrev pub Told : List ℕ → List ℕ → Labelled → Type 0
-Told s l r =
-    (r .verdict ≡ labelVerdict (labelAt l)) × (r .label ≡ labelNumber (labelAt l)) × Accepting (r .verdict) (drop (r .value) s ≡ afterValue l)
+pub record Told (s l : List ℕ) (r : Labelled) : Type 0 where
+  pub is : r ≡ labelledAnswer (length s) (labelAt l) (r .value)
+  pub rest : Accepting (r .verdict) (drop (r .value) s ≡ afterValue l)
 
 -- ---- a known label comes again if its parameter was taken or discarded
 abbrev pub seen : Report → Bool

@@ -2,8 +2,7 @@
 use cbor::Opened;
 use cbor_scan::open_map;
 use refusal::Refusal;
-ghost use mathlib.Core.Path.{_≡_};
-ghost use Rattle.cojp_map.specs.Pairs.{startAnswer};
+ghost use Rattle.cojp_map.specs.Pairs.{StartSays};
 
 // Document 01's limit of a payload.
 pub const PAYLOAD_BYTES: usize = 256;
@@ -16,7 +15,7 @@ pub enum Start {
 
 // The payload's map: LONG, what the item scan, strict or not, refuses, or TYPE where it is no map.
 pub fn open_payload(payload: &[u8], strict: bool) -> Start
-    ensures { λ r. ⌜ r ≡ startAnswer strict (now (payload .entry)) ⌝ }
+    ensures { λ r. ⌜ StartSays strict (now (payload .entry)) r ⌝ }
 {
     if PAYLOAD_BYTES < payload.len() {
         return Start::Refused(Refusal::Long);

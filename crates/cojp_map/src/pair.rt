@@ -13,7 +13,7 @@ ghost use Rattle.cojp_map.specs.Pairs.{Told};
 // The levels that are left for the members of a payload's map.
 pub const MEMBER_LEVELS: u8 = 7;
 
-// A pair's label, and where its value begins; beside a refusal the place says nothing.
+// A pair's label, and where its value begins; beside a refusal the number is 0 and the place the payload's end.
 // A negative label has the number 0, which no object knows either.
 pub struct Labelled {
     pub verdict: Verdict,
@@ -21,7 +21,7 @@ pub struct Labelled {
     pub value: usize,
 }
 
-// Where the bytes go on after the value at a place: the end where no item can be read there.
+// Where the bytes go on after the value at a place: the end where no item can be read there, which a payload that passed the scan does not have.
 pub fn item_end(s: &[u8], at: usize) -> usize
     ensures { λ r. ⌜ drop r (now (s .entry)) ≡ afterValue (drop at (now (s .entry))) ⌝ }
 {

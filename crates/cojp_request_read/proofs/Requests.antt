@@ -5,7 +5,7 @@ use mathlib.Core.Bool.{Bool, true, false}
 use mathlib.Core.List.{List, [], _∷_}
 use mathlib.Core.Logic.{⊎-elim}
 use native.Mathlib.Omega.{arith}
-use lib.ListN.{length, drop}
+use lib.ListN.{drop}
 use borrow.Author.Tests.{ne-eqb, le-leb, lt-leb}
 use types.Run.{OneOf}
 use denote.Enum.Declared.{tagOf}
@@ -18,7 +18,7 @@ use Rattle.cbor.specs.declared.value.Value.{Value}
 use Rattle.cbor.specs.declared.value.Value.the-variants as vv
 use Rattle.cbor.proofs.value.Value as value
 use Rattle.cojp.specs.Bytes.{valueView, afterValue}
-use Rattle.cojp.specs.Octets.{octetsRead}
+use Rattle.cojp.specs.Octets.{octetsRead, octetsAnswer}
 use Rattle.cojp.specs.Reading.{Reading, refused, read, onward, said, Accepting}
 use Rattle.cojp.specs.Request.{roleJudged, roleRead, roleStanding, withRole, withNetwork, requestStanding, requestTaking, requestForm, settled, requestAnswer}
 use Rattle.cojp.specs.Walk.{knownRead}
@@ -29,6 +29,7 @@ use Rattle.cojp.specs.declared.request.RequestRead.{RequestRead}
 use Rattle.cojp.specs.declared.walk.Standing.the-variants.{Unknown}
 use Rattle.cojp_map.specs.Pairs.{Told, seen, once}
 use Rattle.cojp_map.specs.declared.pair.Labelled.{Labelled}
+use Rattle.cojp_map.proofs.Parameters.{octets-said}
 use Rattle.cojp_map.proofs.Maps.{put-said, known-put, ifAgain, standing-seen, Turned, turned-known, turned-passed}
 use Rattle.cojp_request_read.specs.Requests.{gatheredOf}
 use Rattle.cojp_request_read.specs.declared.request.RoleRead.{RoleRead}
@@ -122,13 +123,16 @@ module _ (named : Bool) (role : ℕ) (network : OctetsParameter) (passed : ℕ)
       → (said (r .verdict) (r .role) ≡ once named (roleRead here)) × Accepting (r .verdict) (drop (r .next) s ≡ after)
       → next ≡ r .next → named′ ≡ true → role′ ≡ r .role → network′ ≡ network → passed′ ≡ passed → w ≡ r .verdict → Turn
   turn-role h r (e, f) n-is b-is r-is o-is p-is w-is =
-      by-reader (omega arith) (rw (w-is, b-is, r-is, o-is, p-is) (role-known old (p .label) here h (r .verdict) (r .role) e)) (rw (w-is, n-is) f) p-is
+      let read = role-known old (p .label) here h (r .verdict) (r .role) e in
+      by-reader (omega arith) (rw (w-is, b-is, r-is, o-is, p-is) read) (rw (w-is, n-is) f) p-is
 
   pub turn-network : p .label ≡ 5 → (r : OctetsRead)
-      → (said (r .verdict) (r .parameter) ≡ once (seen (network .report)) (octetsRead 0 here)) × Accepting (r .verdict) (drop (r .next) s ≡ after)
+      → (r ≡ octetsAnswer (once (seen (network .report)) (octetsRead 0 here)) (r .next)) × Accepting (r .verdict) (drop (r .next) s ≡ after)
       → next ≡ r .next → named′ ≡ named → role′ ≡ role → network′ ≡ r .parameter → passed′ ≡ passed → w ≡ r .verdict → Turn
   turn-network h r (e, f) n-is b-is r-is o-is p-is w-is =
-      by-reader (omega arith) (rw (w-is, b-is, r-is, o-is, p-is) (network-known old (p .label) here h (r .verdict) (r .parameter) e)) (rw (w-is, n-is) f) p-is
+      let value = octets-said r (once (seen (network .report)) (octetsRead 0 here)) (r .next) e in
+      let read = network-known old (p .label) here h (r .verdict) (r .parameter) value in
+      by-reader (omega arith) (rw (w-is, b-is, r-is, o-is, p-is) read) (rw (w-is, n-is) f) p-is
 
   pub turn-passed : ¬ (p .label ≡ 1) → ¬ (p .label ≡ 5) → (end : ℕ) → drop end s ≡ after
       → next ≡ end → named′ ≡ named → role′ ≡ role → network′ ≡ network → passed′ ≡ passed + 1 → w ≡ p .verdict → Turn

@@ -149,6 +149,10 @@ set-allowed set e =
     let few = leb (set .count) 8 in
     (leb-true (set .count) 8 (both-left few (allowed (keysOf set)) e), both-right few (allowed (keysOf set)) e)
 
+pub allowed-set : (set : KeySet) → set .count ≤ 8 → allowed (keysOf set) ≡ true → allowedSet set ≡ true
+unfolding allowedSet
+allowed-set set few e = rw (le-leb (set .count) 8 few, e)
+
 -- a set is outside its limits, or they are those of its keys
 pub set-over : (set : KeySet) → 8 < set .count → allowedSet set ≡ false
 unfolding allowedSet

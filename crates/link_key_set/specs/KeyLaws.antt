@@ -56,6 +56,7 @@ pub record KeyLaws : Type 0 where
   pub allowed-some : (ks : List Key) → allowed ks ≡ true → 1 ≤ length ks
   pub allowed-few : (ks : List Key) → allowed ks ≡ true → length ks ≤ 8
   pub set-allowed : (set : KeySet) → allowedSet set ≡ true → (set .count ≤ 8) × (allowed (keysOf set) ≡ true)
+  pub allowed-set : (set : KeySet) → set .count ≤ 8 → allowed (keysOf set) ≡ true → allowedSet set ≡ true
   pub limits-identifier : (k : Key) → inLimits k ≡ true → 1 ≤ k .identifier
   pub keys-of-none : keysOf noKeys ≡ []
   pub keys-of-count-0 : (set : KeySet) → set .count ≡ 0 → keysOf set ≡ []

@@ -9,3 +9,4 @@ mod GivesUp
 mod NodeLaws
 mod Answers
 mod Waiting
+mod Reserved

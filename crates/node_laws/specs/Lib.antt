@@ -3,3 +3,4 @@ pub mod Laws
 pub mod Same
 pub mod Answers
 pub mod Phases
+pub mod Addresses

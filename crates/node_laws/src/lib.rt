@@ -1,5 +1,9 @@
 // What holds of a node's calls: demand 1, what the layer above may rely on, when a join attempt gives up, and that the same objects do
 // the same.
+pub mod addresses;
+
+pub use addresses::addresses_alone;
+pub use addresses::addresses_seen;
 ghost use Rattle.node_laws.specs.Answers.{AnswersSay};
 ghost use Rattle.node_laws.specs.Calls.{Demand1};
 ghost use Rattle.node_laws.specs.Laws.{NodeLaws, GivesUp};

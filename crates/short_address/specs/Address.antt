@@ -2,7 +2,8 @@
 -- address was allocated.
 use Prim.Native.Nat.{ℕ, _<_, _/_, _%_}
 use mathlib.Core.Path.{_≡_}
-use mathlib.Core.Bool.{Bool, not, _&&_}
+use mathlib.Core.Bool.{Bool, false, not, _&&_}
+use mathlib.Core.Logic.{_⊎_}
 use mathlib.Core.List.{List, [], _∷_}
 use lib.Dec.{eqb, leb, ltb}
 use lib.ListN.{length, getD}
@@ -19,6 +20,13 @@ isAddress s = (eqb (length s) 2 && not (isReserved s))
 unfoldable pub bytesOf : ℕ → List ℕ
 bytesOf n = n / 256 ∷ n % 256 ∷ []
 
--- by their numbers, the addresses are 0000 to FFFD
+-- the two as claims name them, byte by byte
+abbrev pub Reserved : List ℕ → Type 0
+Reserved s = (s ≡ 0xff ∷ 0xfe ∷ []) ⊎ (s ≡ 0xff ∷ 0xff ∷ [])
+
 pub record AddressLaws : Type 0 where
+  -- by their numbers, the addresses are 0000 to FFFD
   pub numbers : (n : ℕ) → n < 0x10000 → isAddress (bytesOf n) ≡ ltb n 0xfffe
+  -- no other length is one, and neither of the two is
+  pub two-bytes : (s : List ℕ) → ¬ (length s ≡ 2) → isAddress s ≡ false
+  pub reserved : (s : List ℕ) → Reserved s → isAddress s ≡ false

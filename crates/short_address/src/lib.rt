@@ -22,7 +22,7 @@ pub fn bytes_of(number: u16) -> [u8; 2]
     [(number / 256) as u8, (number % 256) as u8]
 }
 
-// The addresses are those with the numbers 0000 to FFFD.
+// The addresses are the two bytes of the numbers 0000 to FFFD; FF FE and FF FF are none.
 pub fn laws()
     ensures { λ _. ⌜ AddressLaws ⌝ }
 {}

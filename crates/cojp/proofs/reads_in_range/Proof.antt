@@ -1,10 +1,14 @@
--- What is taken is in range: proofs/Reading.antt goes over the parameters.
+-- What is taken is in range: proofs/Reading.antt goes over the parameters, by what is promised of key sets.
+use borrow.Author.Needs.{needs}
 use Rattle.cojp.proofs.Reading.{reads-in-range}
 use Rattle.cojp.proofs.reads_in_range.Statement.{statement}
 use Rattle.cojp.proofs.reads_in_range.Tie as tie
 
+laws-requires : tie.Need-laws-requires
+laws-requires c κs = search needs
+
 returns : tie.Need-returns
-returns c = reads-in-range
+returns c = reads-in-range (c .laws .ensures)
 
 pub reads-in-range-spec : {M : Type 1} → statement M
-reads-in-range-spec = tie.close (tie.spec returns)
+reads-in-range-spec = tie.close (tie.spec laws-requires returns)

@@ -4,7 +4,7 @@ use Rattle.link_key.proofs.Keys.{same-key-equal, limits-identifier}
 use Rattle.link_key_set.proofs.KeySets.{same-keys-self, same-keys-equal, has-none, none-has, shares-apart, apart-shares, shares-turned}
 use Rattle.link_key_set.proofs.KeySets.{has-append, limits-append, none-twice-append, one-of-a-name, cover-found, cover-finds, find-found}
 use Rattle.link_key_set.proofs.KeySets.{find-own, find-none, none-find, allowed-none-twice, allowed-in-limits, allowed-some, allowed-few}
-use Rattle.link_key_set.proofs.KeySets.{set-allowed, keys-of-none}
+use Rattle.link_key_set.proofs.KeySets.{set-allowed, allowed-set, keys-of-none}
 use Rattle.link_key_set.proofs.laws.Statement.{statement}
 use Rattle.link_key_set.proofs.laws.Tie as tie
 
@@ -42,6 +42,7 @@ returns c =
       allowed-some = allowed-some;
       allowed-few = allowed-few;
       set-allowed = set-allowed;
+      allowed-set = allowed-set;
       limits-identifier = limits-identifier;
       keys-of-none = keys-of-none;
       keys-of-count-0 = λ set e. rw e;

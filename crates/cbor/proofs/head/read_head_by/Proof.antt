@@ -1,5 +1,4 @@
 -- The head as it is read, or LOOSE by its flag.
-use mathlib.Core.Path.{_∙_}
 use borrow.Author.Needs.{needs}
 use Rattle.cbor.proofs.Strict.{strict-refused, strict-kept, strict-loose, not-strict}
 use Rattle.cbor.proofs.head.read_head_by.Statement.{statement}
@@ -16,23 +15,33 @@ enum-known-h-2 c = search needs
 
 returns : tie.Need-returns
 returns c =
+    let told = c .before .h .given in
+    let test = c .before .before .before .if1 in
+    let head = c .before .before .before .before .read-head in
     let a = c .before .before .before .before .before .before .args in
-    strict-refused (a .s .now) (a .at) (a .strict) (c .before .before .before .before .read-head .result) (c .before .before .before .before .read-head .ensures) (c .before .before .before .if1 .taken) (c .before .h .given .0 .0) (c .before .h .given .1)
+    strict-refused (a .s .now) (a .at) (a .strict) (head .result) (head .ensures .is) (test .taken) (told .0 .0) (told .1)
 
 returns-2 : tie.Need-returns-2
 returns-2 c =
+    let told = c .before .before .h2 .given in
+    let test = c .before .before .before .before .if1 in
+    let head = c .before .before .before .before .before .read-head in
     let a = c .before .before .before .before .before .before .before .args in
-    strict-kept (a .s .now) (a .at) (a .strict) (c .before .before .before .before .before .read-head .result) (c .before .before .before .before .before .read-head .ensures) (c .before .before .before .before .if1 .taken) (c .before .before .h2 .given .0 .0) (c .before .before .h2 .given .1) (c .if2 .taken)
+    strict-kept (a .s .now) (a .at) (a .strict) (head .result) (head .ensures .is) (test .taken) (told .0 .0) (told .1) (c .if2 .taken)
 
 returns-3 : tie.Need-returns-3
 returns-3 c =
+    let told = c .before .before .h2 .given in
+    let test = c .before .before .before .before .if1 in
+    let head = c .before .before .before .before .before .read-head in
     let a = c .before .before .before .before .before .before .before .args in
-    strict-loose (a .s .now) (a .at) (a .strict) (c .before .before .before .before .before .read-head .result) (c .before .before .before .before .before .read-head .ensures) (c .before .before .before .before .if1 .taken) (c .before .before .h2 .given .0 .0) (c .before .before .h2 .given .1) (c .if2 .left)
+    strict-loose (a .s .now) (a .at) (a .strict) (head .result) (head .ensures .is) (test .taken) (told .0 .0) (told .1) (c .if2 .left)
 
 returns-4 : tie.Need-returns-4
 returns-4 c =
+    let head = c .before .read-head in
     let a = c .before .before .before .args in
-    not-strict (a .s .now) (a .at) (a .strict) (c .before .read-head .result) (c .before .read-head .ensures) (c .if1 .left)
+    not-strict (a .s .now) (a .at) (a .strict) (head .result) (head .ensures .is) (c .if1 .left)
 
 pub read-head-by-spec : {M : Type 1} → statement M
 read-head-by-spec =

@@ -20,14 +20,14 @@ sub-room c =
     let k = c .before .before in
     let r = k .before .before in
     let a = r .before .before .args in
-    head-inside (a .s .now) (a .at) (r .read-head .result) (r .read-head .ensures) (k .h .given .0 .0) (k .h .given .1)
+    head-inside (a .s .now) (a .at) (r .read-head .result) (r .read-head .ensures .is) (k .h .given .0 .0) (k .h .given .1)
 
 returns : tie.Need-returns
 returns c =
     let r = c .before .before in
     let a = r .before .before .args in
     value-told (a .s .now) (a .at) _
-    (value-refused (a .s .now) (a .at) (r .read-head .result) (r .read-head .ensures) (c .enum-told .given .0 .0) (c .enum-told .given .1))
+    (value-refused (a .s .now) (a .at) (r .read-head .result) (r .read-head .ensures .is) (c .enum-told .given .0 .0) (c .enum-told .given .1))
 
 returns-2 : tie.Need-returns-2
 returns-2 c =
@@ -35,7 +35,7 @@ returns-2 c =
     let r = k .before .before in
     let a = r .before .before .args in
     value-told (a .s .now) (a .at) _
-    (value-number (a .s .now) (a .at) (r .read-head .result) (r .read-head .ensures) (k .h .given .0 .0) (k .h .given .1) (omega arith))
+    (value-number (a .s .now) (a .at) (r .read-head .result) (r .read-head .ensures .is) (k .h .given .0 .0) (k .h .given .1) (omega arith))
 
 returns-3 : tie.Need-returns-3
 returns-3 c =
@@ -43,7 +43,7 @@ returns-3 c =
     let r = k .before .before in
     let a = r .before .before .args in
     value-told (a .s .now) (a .at) _
-    (value-minus (a .s .now) (a .at) (r .read-head .result) (r .read-head .ensures) (k .h .given .0 .0) (k .h .given .1) (omega arith))
+    (value-minus (a .s .now) (a .at) (r .read-head .result) (r .read-head .ensures .is) (k .h .given .0 .0) (k .h .given .1) (omega arith))
 
 returns-4 : tie.Need-returns-4
 returns-4 c =
@@ -51,7 +51,7 @@ returns-4 c =
     let r = k .before .before in
     let a = r .before .before .args in
     value-told (a .s .now) (a .at) _
-    (value-string (a .s .now) (a .at) (r .read-head .result) (r .read-head .ensures) (k .h .given .0 .0) (k .h .given .1) (omega arith) (c .if1 .taken))
+    (value-string (a .s .now) (a .at) (r .read-head .result) (r .read-head .ensures .is) (k .h .given .0 .0) (k .h .given .1) (omega arith) (c .if1 .taken))
 
 returns-5 : tie.Need-returns-5
 returns-5 c =
@@ -59,7 +59,7 @@ returns-5 c =
     let r = k .before .before in
     let a = r .before .before .args in
     value-told (a .s .now) (a .at) _
-    (value-cut (a .s .now) (a .at) (r .read-head .result) (r .read-head .ensures) (k .h .given .0 .0) (k .h .given .1) (omega arith) (c .if1 .left))
+    (value-cut (a .s .now) (a .at) (r .read-head .result) (r .read-head .ensures .is) (k .h .given .0 .0) (k .h .given .1) (omega arith) (c .if1 .left))
 
 returns-6 : tie.Need-returns-6
 returns-6 c =
@@ -67,7 +67,7 @@ returns-6 c =
     let r = k .before .before in
     let a = r .before .before .args in
     value-told (a .s .now) (a .at) _
-    (value-array (a .s .now) (a .at) (r .read-head .result) (r .read-head .ensures) (k .h .given .0 .0) (k .h .given .1) (omega arith))
+    (value-array (a .s .now) (a .at) (r .read-head .result) (r .read-head .ensures .is) (k .h .given .0 .0) (k .h .given .1) (omega arith))
 
 returns-7 : tie.Need-returns-7
 returns-7 c =
@@ -75,7 +75,7 @@ returns-7 c =
     let r = k .before .before in
     let a = r .before .before .args in
     value-told (a .s .now) (a .at) _
-    (value-other (a .s .now) (a .at) (r .read-head .result) (r .read-head .ensures) (k .h .given .0 .0) (k .h .given .1) (λ e. omega arith) (λ e. omega arith) (λ e. omega arith) (λ e. omega arith))
+    (value-other (a .s .now) (a .at) (r .read-head .result) (r .read-head .ensures .is) (k .h .given .0 .0) (k .h .given .1) (λ e. omega arith) (λ e. omega arith) (λ e. omega arith) (λ e. omega arith))
 
 pub value-at-spec : {M : Type 1} → statement M
 value-at-spec =

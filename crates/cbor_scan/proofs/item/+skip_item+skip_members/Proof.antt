@@ -10,8 +10,9 @@ use lib.ListN.{length, drop}
 use Rattle.cbor.specs.Decode.{members}
 use Rattle.cbor.specs.declared.head.HeadRead.the-variants as hv
 use Rattle.cbor.specs.declared.item.Skip.the-variants as sv
-use Rattle.cbor.proofs.Answers.{skip-answer, head-says, passed-item, passed-members}
-use Rattle.cbor_scan.proofs.Items.{itemBy, item-deep, item-refused, item-alone, item-string, item-short, item-array, item-map-refused, item-map, item-tag, members-refused, members-before, members-done}
+use Rattle.cbor.proofs.Answers.{skip-answer, skip-tells, head-says, passed-item, passed-members}
+use Rattle.cbor_scan.proofs.Items.{itemBy, item-deep, item-refused, item-alone, item-string, item-short, item-array}
+use Rattle.cbor_scan.proofs.Items.{item-map-refused, item-map, item-tag, members-refused, members-before, members-done}
 use Rattle.cbor.proofs.Places.{HeadAt, Passed, forget}
 use Rattle.cbor_scan.proofs.item.skip_item.Reads as skip-item
 use Rattle.cbor_scan.proofs.item.skip_item.Kinds as skip-item-kinds
@@ -89,7 +90,7 @@ half-of t k =
 skip-item-returns : item-need skip-item-lts.Need-returns
 skip-item-returns t c =
     let a = c .before .before .args in
-    skip-answer (a .s .now) (itemBy (a .strict) (a .levels) (drop (a .at) (a .s .now))) _
+    skip-tells (a .s .now) (itemBy (a .strict) (a .levels) (drop (a .at) (a .s .now))) _
     (item-deep (a .strict) (a .s .now) (a .at) (a .levels) (c .if1 .taken))
 
 skip-item-sub-below : item-need skip-item-lts.Need-sub-below
@@ -156,7 +157,7 @@ skip-item-returns-2 : item-need skip-item-lts.Need-returns-2
 skip-item-returns-2 t c =
     let k = c .before in
     let a = k .before .before .before .before .before .args in
-    skip-answer (a .s .now) (itemBy (a .strict) (a .levels) (drop (a .at) (a .s .now))) _
+    skip-tells (a .s .now) (itemBy (a .strict) (a .levels) (drop (a .at) (a .s .now))) _
     (item-refused (a .strict) (a .s .now) (a .at) (a .levels) (k .h .given .0 .0) (k .before .before .before .if1 .left)
     (rw (k .h .given .1) at (head-says (a .strict) (a .s .now) (a .at) (k .before .before .read-head-by .result) (k .before .before .read-head-by .ensures))))
 
@@ -165,7 +166,7 @@ skip-item-returns-3 t c =
     let arm = c .before .before .before in
     let a = arm .before .before .before .before .before .args in
     let h = arm .h2 .given .0 .0 in
-    skip-answer (a .s .now) (itemBy (a .strict) (a .levels) (drop (a .at) (a .s .now))) _
+    skip-tells (a .s .now) (itemBy (a .strict) (a .levels) (drop (a .at) (a .s .now))) _
     (item-array (a .strict) (a .s .now) (a .at) (a .levels) h (arm .before .before .before .if1 .left) (head-of t arm) (omega arith) _
     (passed-members (a .strict) (a .s .now) (h .next) (a .levels - 1) (h .argument) (c .skip-members .result) (head-of t arm .inside) (c .skip-members .ensures)))
 
@@ -174,10 +175,11 @@ skip-item-returns-4 t c =
     let arm = c .before .before .before .before .before .before in
     let a = arm .before .before .before .before .before .args in
     let h = arm .h2 .given .0 .0 in
-    skip-answer (a .s .now) (itemBy (a .strict) (a .levels) (drop (a .at) (a .s .now))) _
+    let half = c .before .before .before .skip-members2 in
+    skip-tells (a .s .now) (itemBy (a .strict) (a .levels) (drop (a .at) (a .s .now))) _
     (item-map-refused (a .strict) (a .s .now) (a .at) (a .levels) h (arm .before .before .before .if1 .left) (head-of t arm) (omega arith) (c .before .half .given .0 .0)
     (rw (c .before .half .given .1) at
-    (passed-members (a .strict) (a .s .now) (h .next) (a .levels - 1) (h .argument) (c .before .before .before .skip-members2 .result) (head-of t arm .inside) (c .before .before .before .skip-members2 .ensures))))
+    (passed-members (a .strict) (a .s .now) (h .next) (a .levels - 1) (h .argument) (half .result) (head-of t arm .inside) (half .ensures))))
 
 skip-item-returns-5 : item-need skip-item-lts.Need-returns-5
 skip-item-returns-5 t c =
@@ -185,7 +187,7 @@ skip-item-returns-5 t c =
     let a = arm .before .before .before .before .before .args in
     let h = arm .h2 .given .0 .0 in
     let half = c .before .before in
-    skip-answer (a .s .now) (itemBy (a .strict) (a .levels) (drop (a .at) (a .s .now))) _
+    skip-tells (a .s .now) (itemBy (a .strict) (a .levels) (drop (a .at) (a .s .now))) _
     (item-map (a .strict) (a .s .now) (a .at) (a .levels) h (arm .before .before .before .if1 .left) (head-of t arm) (omega arith) (half .half2 .given .0 .0) _ (half-of t half)
     (passed-members (a .strict) (a .s .now) (half .half2 .given .0 .0) (a .levels - 1) (h .argument) (c .skip-members3 .result) (half-of t half .inside) (c .skip-members3 .ensures)))
 
@@ -194,16 +196,16 @@ skip-item-returns-6 t c =
     let arm = c .before .before .before in
     let a = arm .before .before .before .before .before .args in
     let h = arm .h2 .given .0 .0 in
-    skip-answer (a .s .now) (itemBy (a .strict) (a .levels) (drop (a .at) (a .s .now))) _
+    skip-tells (a .s .now) (itemBy (a .strict) (a .levels) (drop (a .at) (a .s .now))) _
     (item-tag (a .strict) (a .s .now) (a .at) (a .levels) h (arm .before .before .before .if1 .left) (head-of t arm) (omega arith) _
-    (passed-item (a .strict) (a .s .now) (h .next) (a .levels - 1) (c .skip-item .result) (c .skip-item .ensures)))
+    (passed-item (a .strict) (a .s .now) (h .next) (a .levels - 1) (c .skip-item .result) (c .skip-item .ensures .is)))
 
 skip-item-returns-7 : item-need skip-item-lts.Need-returns-7
 skip-item-returns-7 t c =
     let arm = c .before .before .before .before .before in
     let a = arm .before .before .before .before .before .args in
     let h = arm .h2 .given .0 .0 in
-    skip-answer (a .s .now) (itemBy (a .strict) (a .levels) (drop (a .at) (a .s .now))) _
+    skip-tells (a .s .now) (itemBy (a .strict) (a .levels) (drop (a .at) (a .s .now))) _
     (item-string (a .strict) (a .s .now) (a .at) (a .levels) h (arm .before .before .before .if1 .left) (head-of t arm) (omega arith) (omega arith) (omega arith))
 
 skip-item-returns-8 : item-need skip-item-lts.Need-returns-8
@@ -211,7 +213,7 @@ skip-item-returns-8 t c =
     let arm = c .before .before .before .before .before in
     let a = arm .before .before .before .before .before .args in
     let h = arm .h2 .given .0 .0 in
-    skip-answer (a .s .now) (itemBy (a .strict) (a .levels) (drop (a .at) (a .s .now))) _
+    skip-tells (a .s .now) (itemBy (a .strict) (a .levels) (drop (a .at) (a .s .now))) _
     (item-short (a .strict) (a .s .now) (a .at) (a .levels) h (arm .before .before .before .if1 .left) (head-of t arm) (omega arith) (omega arith) (omega arith))
 
 skip-item-returns-9 : item-need skip-item-lts.Need-returns-9
@@ -219,7 +221,7 @@ skip-item-returns-9 t c =
     let arm = c .before .before .before in
     let a = arm .before .before .before .before .before .args in
     let h = arm .h2 .given .0 .0 in
-    skip-answer (a .s .now) (itemBy (a .strict) (a .levels) (drop (a .at) (a .s .now))) _
+    skip-tells (a .s .now) (itemBy (a .strict) (a .levels) (drop (a .at) (a .s .now))) _
     (item-alone (a .strict) (a .s .now) (a .at) (a .levels) h (arm .before .before .before .if1 .left) (head-of t arm) (λ l u. omega arith))
 
 skip-item-returns-10 : item-need skip-item-lts.Need-returns-10
@@ -227,7 +229,7 @@ skip-item-returns-10 t c =
     let arm = c .before .before .before .before in
     let a = arm .before .before .before .before .before .args in
     let h = arm .h2 .given .0 .0 in
-    skip-answer (a .s .now) (itemBy (a .strict) (a .levels) (drop (a .at) (a .s .now))) _
+    skip-tells (a .s .now) (itemBy (a .strict) (a .levels) (drop (a .at) (a .s .now))) _
     (item-alone (a .strict) (a .s .now) (a .at) (a .levels) h (arm .before .before .before .if1 .left) (head-of t arm) (λ l u. omega arith))
 
 abbrev skip-members-Inv-loop : skip-members-lts.InvT-loop
@@ -238,7 +240,10 @@ abbrev skip-members-μ-loop : skip-members-lts.MeasureT-loop
 skip-members-μ-loop s at levels count strict p₀ left₀ p left = left
 
 -- a need of the members
-abbrev members-need : (Members-calls → In 1 skip-members-kinds.ps → Out 1 skip-members-kinds.ps skip-members-kinds.r → skip-members-lts.InvT-loop → skip-members-lts.MeasureT-loop → Type 0) → Type 0
+abbrev members-need :
+    (Members-calls → In 1 skip-members-kinds.ps → Out 1 skip-members-kinds.ps skip-members-kinds.r → skip-members-lts.InvT-loop
+    → skip-members-lts.MeasureT-loop → Type 0) →
+    Type 0
 members-need N = (t : ℕ) → N (members-calls t) (skip-members-at t) skip-members.Post skip-members-Inv-loop skip-members-μ-loop
 
 -- one member was passed over
@@ -249,13 +254,16 @@ one-of : (t : ℕ) (k : skip-members-lts.After-one2 (members-calls t) (skip-memb
 one-of t k =
     let turn = k .before .before .before .before in
     let a = turn .before .before .before .args in
-    rw (k .one2 .given .1) at (passed-item (a .strict) (a .s .now) (turn .loop .p) (a .levels) (k .before .before .skip-item .result) (k .before .before .skip-item .ensures))
+    let one = k .before .before .skip-item in
+    rw (k .one2 .given .1) at (passed-item (a .strict) (a .s .now) (turn .loop .p) (a .levels) (one .result) (one .ensures .is))
 
 skip-members-inside-requires : members-need skip-members-lts.Need-inside-requires
 skip-members-inside-requires t c κs = tt
 
 skip-members-loop-holds : members-need skip-members-lts.Need-loop-holds
-skip-members-loop-holds t c = (c .inside .ensures .0, ap (λ l. forget (members (itemBy (c .before .before .args .strict) (c .before .before .args .levels)) (c .before .before .args .count) l)) (c .inside .ensures .1))
+skip-members-loop-holds t c =
+    let a = c .before .before .args in
+    (c .inside .ensures .0, ap (λ l. forget (members (itemBy (a .strict) (a .levels)) (a .count) l)) (c .inside .ensures .1))
 
 skip-members-skip-item-requires : members-need skip-members-lts.Need-skip-item-requires
 skip-members-skip-item-requires t c κs = (omega (arith, c .before .before .before .before .pre .0), tt)
@@ -268,11 +276,12 @@ skip-members-returns t c =
     let turn = c .before .before .before .before .before in
     let a = turn .before .before .before .args in
     let l = turn .loop in
+    let one = c .before .before .before .skip-item in
     skip-answer (a .s .now) (members (itemBy (a .strict) (a .levels)) (a .count) (drop (a .at) (a .s .now))) _
     (record {
       says =
           sym (members-refused (a .strict) (a .s .now) (l .p) (a .levels) (l .left) (omega arith) (c .before .one .given .0 .0)
-          (rw (c .before .one .given .1) at (passed-item (a .strict) (a .s .now) (l .p) (a .levels) (c .before .before .before .skip-item .result) (c .before .before .before .skip-item .ensures))))
+          (rw (c .before .one .given .1) at (passed-item (a .strict) (a .s .now) (l .p) (a .levels) (one .result) (one .ensures .is))))
           ∙ l .inv .1;
       inside = tt;
     })
@@ -291,7 +300,8 @@ skip-members-loop-again t c =
     let turn = c .before .before .before .before .before in
     let a = turn .before .before .before .args in
     let l = turn .loop in
-    (one-of t (c .before) .inside, members-before (a .strict) (a .s .now) (l .p) (a .levels) (l .left) (omega arith) (c .before .one2 .given .0 .0) (one-of t (c .before)) ∙ l .inv .1)
+    let one = one-of t (c .before) in
+    (one .inside, members-before (a .strict) (a .s .now) (l .p) (a .levels) (l .left) (omega arith) (c .before .one2 .given .0 .0) one ∙ l .inv .1)
 
 skip-members-returns-2 : members-need skip-members-lts.Need-returns-2
 skip-members-returns-2 t c =

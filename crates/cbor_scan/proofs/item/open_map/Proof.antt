@@ -1,5 +1,6 @@
 -- A payload that was scanned is opened by its head.
 use borrow.Author.Needs.{needs}
+use Rattle.cbor.proofs.Payloads.{opened-tells}
 use Rattle.cbor_scan.proofs.Payloads.{open-refused, open-unheaded, open-map, open-other}
 use Rattle.cbor_scan.proofs.item.open_map.Statement.{statement}
 use Rattle.cbor_scan.proofs.item.open_map.Tie as tie
@@ -24,29 +25,47 @@ enum-known-h-2 c = search needs
 
 returns : tie.Need-returns
 returns c =
-    let v = c .before .before .before in
-    open-refused (v .before .before .args .strict) (v .before .before .args .s .now) (v .scan .result) (v .scan .ensures) (c .before .scanned .given .0 .0) (c .before .scanned .given .1)
+    let told = c .before .scanned .given in
+    let scan = c .before .before .before .scan in
+    let a = c .before .before .before .before .before .args in
+    let s = a .s .now in
+    opened-tells (a .strict) s _ (open-refused (a .strict) s (scan .result) (scan .ensures) (told .0 .0) (told .1))
 
 returns-2 : tie.Need-returns-2
 returns-2 c =
+    let told = c .before .h .given in
     let r = c .before .before .before in
-    let v = r .before .before .before in
-    let s = v .before .before .args .s .now in
-    open-unheaded (v .before .before .args .strict) s (v .scan .result) (v .scan .ensures) (r .before .enum-told .given .1) (r .read-head .result) (r .read-head .ensures) (c .before .h .given .0 .0) (c .before .h .given .1)
+    let head = r .read-head in
+    let fine = r .before .enum-told .given .1 in
+    let scan = r .before .before .before .scan in
+    let a = r .before .before .before .before .before .args in
+    let s = a .s .now in
+    opened-tells (a .strict) s _
+    (open-unheaded (a .strict) s (scan .result) (scan .ensures) fine (head .result) (head .ensures .is) (told .0 .0) (told .1))
 
 returns-3 : tie.Need-returns-3
 returns-3 c =
+    let told = c .before .before .h2 .given in
     let r = c .before .before .before .before in
-    let v = r .before .before .before in
-    let s = v .before .before .args .s .now in
-    open-map (v .before .before .args .strict) s (v .scan .result) (v .scan .ensures) (r .before .enum-told .given .1) (r .read-head .result) (r .read-head .ensures) (c .before .before .h2 .given .0 .0) (c .before .before .h2 .given .1) (c .if1 .taken)
+    let head = r .read-head in
+    let fine = r .before .enum-told .given .1 in
+    let scan = r .before .before .before .scan in
+    let a = r .before .before .before .before .before .args in
+    let s = a .s .now in
+    opened-tells (a .strict) s _
+    (open-map (a .strict) s (scan .result) (scan .ensures) fine (head .result) (head .ensures .is) (told .0 .0) (told .1) (c .if1 .taken))
 
 returns-4 : tie.Need-returns-4
 returns-4 c =
+    let told = c .before .before .h2 .given in
     let r = c .before .before .before .before in
-    let v = r .before .before .before in
-    let s = v .before .before .args .s .now in
-    open-other (v .before .before .args .strict) s (v .scan .result) (v .scan .ensures) (r .before .enum-told .given .1) (r .read-head .result) (r .read-head .ensures) (c .before .before .h2 .given .0 .0) (c .before .before .h2 .given .1) (c .if1 .left)
+    let head = r .read-head in
+    let fine = r .before .enum-told .given .1 in
+    let scan = r .before .before .before .scan in
+    let a = r .before .before .before .before .before .args in
+    let s = a .s .now in
+    opened-tells (a .strict) s _
+    (open-other (a .strict) s (scan .result) (scan .ensures) fine (head .result) (head .ensures .is) (told .0 .0) (told .1) (c .if1 .left))
 
 pub open-map-spec : {M : Type 1} → statement M
 open-map-spec =

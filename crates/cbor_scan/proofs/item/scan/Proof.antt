@@ -20,7 +20,7 @@ returns c =
     let s = k .before .before .args .s .now in
     let b = k .before .before .args .strict in
     scan-refused b s (c .before .r .given .0 .0)
-    (rw (c .before .r .given .1) at (passed-item b s 0 8 (k .skip-item .result) (k .skip-item .ensures)))
+    (rw (c .before .r .given .1) at (passed-item b s 0 8 (k .skip-item .result) (k .skip-item .ensures .is)))
 
 returns-2 : tie.Need-returns-2
 returns-2 c =
@@ -28,7 +28,7 @@ returns-2 c =
     let s = k .before .before .args .s .now in
     let b = k .before .before .args .strict in
     let r = c .before .before .r2 in
-    scan-extra b s (r .given .0 .0) (rw (r .given .1) at (passed-item b s 0 8 (k .skip-item .result) (k .skip-item .ensures))) (c .if1 .taken)
+    scan-extra b s (r .given .0 .0) (rw (r .given .1) at (passed-item b s 0 8 (k .skip-item .result) (k .skip-item .ensures .is))) (c .if1 .taken)
 
 returns-3 : tie.Need-returns-3
 returns-3 c =
@@ -36,7 +36,7 @@ returns-3 c =
     let s = k .before .before .args .s .now in
     let b = k .before .before .args .strict in
     let r = c .before .before .r2 in
-    scan-whole b s (r .given .0 .0) (rw (r .given .1) at (passed-item b s 0 8 (k .skip-item .result) (k .skip-item .ensures))) (c .if1 .left)
+    scan-whole b s (r .given .0 .0) (rw (r .given .1) at (passed-item b s 0 8 (k .skip-item .result) (k .skip-item .ensures .is))) (c .if1 .left)
 
 pub scan-spec : {M : Type 1} → statement M
 scan-spec =

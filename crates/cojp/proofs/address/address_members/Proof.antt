@@ -35,13 +35,18 @@ returns c =
     let a = c .before .before .before .before .before .before .args in
     let m = c .before .before .before .before .member-at in
     let g = c .before .before .first .given in
-    (address-settled (c .lease-after .result) _ _ (c .lease-after .ensures .0) _ (address-begun (a .s .now) (a .at) (a .count) (m .result) (m .ensures) _ (g .0 .0) (g .0 .1 .0) (g .1) refl), accepting-on (c .lease-after .result .verdict) (λ e. e ∙ sym (bytes-after (a .s .now) (a .at) (a .count) (m .result) (m .ensures) (g .0 .0) (g .0 .1 .0) (g .1))) (c .lease-after .ensures .1))
+    let s = a .s .now in
+    let r = c .lease-after in
+    let begun = address-begun s (a .at) (a .count) (m .result) (m .ensures) _ (g .0 .0) (g .0 .1 .0) (g .1) refl in
+    let after = bytes-after s (a .at) (a .count) (m .result) (m .ensures) (g .0 .0) (g .0 .1 .0) (g .1) in
+    (address-settled (r .result) _ _ (r .ensures .0) _ begun, accepting-on (r .result .verdict) (λ e. e ∙ sym after) (r .ensures .1))
 
 returns-2 : tie.Need-returns-2
 returns-2 c =
     let a = c .before .before .before .before .args in
     let m = c .before .before .member-at in
-    (address-settled (c .broken-address .result) _ _ (c .broken-address .ensures) _ (address-headless (a .s .now) (a .at) (a .count) (m .result) (m .ensures) _ (c .before .match .keys2) refl), rw (c .broken-address .ensures) tt)
+    let headless = address-headless (a .s .now) (a .at) (a .count) (m .result) (m .ensures) _ (c .before .match .keys2) refl in
+    (address-settled (c .broken-address .result) _ 0 (c .broken-address .ensures) _ headless, rw (c .broken-address .ensures) tt)
 
 pub address-members-spec : {M : Type 1} → statement M
 address-members-spec =

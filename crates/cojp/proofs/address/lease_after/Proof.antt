@@ -20,7 +20,11 @@ returns : tie.Need-returns
 returns c =
     let a = c .before .before .before .args in
     let b = take (a .len) (drop (a .start) (a .s .now)) in
-    address-told (c .address-from .result) _ _ (c .address-from .ensures) _ (lease-none (a .s .now) b (a .start + a .len) (a .left) _ (c .before .if1 .taken) refl) (a .s .now) _ (sym (nothing-left (a .left) (drop (a .start + a .len) (a .s .now)) (c .before .if1 .taken)))
+    let s = a .s .now in
+    let end = a .start + a .len in
+    let none = lease-none s b end (a .left) _ (c .before .if1 .taken) refl in
+    let after = nothing-left (a .left) (drop end s) (c .before .if1 .taken) in
+    address-told (c .address-from .result) _ _ (c .address-from .ensures) _ none s _ (sym after)
 
 member-at-requires : tie.Need-member-at-requires
 member-at-requires c κs = search needs
@@ -43,7 +47,13 @@ returns-2 c =
     let b = take (a .len) (drop (a .start) (a .s .now)) in
     let m = c .before .before .before .before .before .member-at in
     let g = c .before .before .before .second .given in
-    address-told (c .address-from2 .result) _ _ (c .address-from2 .ensures) _ (lease-one (a .s .now) b (a .start + a .len) (a .left) _ (m .result) (m .ensures) (g .0 .0) (g .0 .1 .0) (g .1) (c .before .if2 .taken) refl) (a .s .now) _ (sym (number-after (a .s .now) (a .start + a .len) (a .left) (m .result) (m .ensures) (g .0 .0) (g .0 .1 .0) (g .1) ∙ nothing-left (a .left - 1) (drop (g .0 .1 .0) (a .s .now)) (omega (arith, c .before .if2 .taken))))
+    let s = a .s .now in
+    let end = a .start + a .len in
+    let one = c .before .if2 .taken in
+    let lease = lease-one s b end (a .left) _ (m .result) (m .ensures) (g .0 .0) (g .0 .1 .0) (g .1) one refl in
+    let number = number-after s end (a .left) (m .result) (m .ensures) (g .0 .0) (g .0 .1 .0) (g .1) in
+    let after = nothing-left (a .left - 1) (drop (g .0 .1 .0) s) (omega (arith, one)) in
+    address-told (c .address-from2 .result) _ _ (c .address-from2 .ensures) _ lease s _ (sym (number ∙ after))
 
 returns-3 : tie.Need-returns-3
 returns-3 c =
@@ -51,14 +61,19 @@ returns-3 c =
     let b = take (a .len) (drop (a .start) (a .s .now)) in
     let m = c .before .before .before .before .before .member-at in
     let g = c .before .before .before .second .given in
-    (address-settled (c .broken-address .result) _ _ (c .broken-address .ensures) _ (lease-many (a .s .now) b (a .start + a .len) (a .left) _ (m .result) (m .ensures) (g .0 .0) (g .0 .1 .0) (g .1) (c .before .before .before .before .before .before .if1 .left) (c .before .if2 .left) refl), rw (c .broken-address .ensures) tt)
+    let some = c .before .before .before .before .before .before .if1 .left in
+    let many = lease-many (a .s .now) b (a .start + a .len) (a .left) _ (m .result) (m .ensures) (g .0 .0) (g .0 .1 .0) (g .1) some
+    (c .before .if2 .left) refl in
+    (address-settled (c .broken-address .result) _ 0 (c .broken-address .ensures) _ many, rw (c .broken-address .ensures) tt)
 
 returns-4 : tie.Need-returns-4
 returns-4 c =
     let a = c .before .before .before .before .before .args in
     let b = take (a .len) (drop (a .start) (a .s .now)) in
     let m = c .before .before .member-at in
-    (address-settled (c .broken-address2 .result) _ _ (c .broken-address2 .ensures) _ (lease-other (a .s .now) b (a .start + a .len) (a .left) _ (m .result) (m .ensures) (c .before .before .before .if1 .left) (c .before .match .keys2) refl), rw (c .broken-address2 .ensures) tt)
+    let some = c .before .before .before .if1 .left in
+    let other = lease-other (a .s .now) b (a .start + a .len) (a .left) _ (m .result) (m .ensures) some (c .before .match .keys2) refl in
+    (address-settled (c .broken-address2 .result) _ 0 (c .broken-address2 .ensures) _ other, rw (c .broken-address2 .ensures) tt)
 
 pub lease-after-spec : {M : Type 1} → statement M
 lease-after-spec =

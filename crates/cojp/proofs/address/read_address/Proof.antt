@@ -24,13 +24,18 @@ returns c =
     let a = c .before .before .before .before .before .before .args in
     let v = c .before .before .before .before .value-at in
     let g = c .before .before .v .given in
-    (address-settled (c .address-members .result) _ _ (c .address-members .ensures .0) _ (address-array (a .s .now) (a .at) (v .result) (v .ensures) _ (g .0 .0) (g .0 .1 .0) (g .1) refl), accepting-on (c .address-members .result .verdict) (λ e. e ∙ sym (array-after (a .s .now) (a .at) (v .result) (v .ensures) (g .0 .0) (g .0 .1 .0) (g .1))) (c .address-members .ensures .1))
+    let s = a .s .now in
+    let r = c .address-members in
+    let array = address-array s (a .at) (v .result) (v .ensures) _ (g .0 .0) (g .0 .1 .0) (g .1) refl in
+    let after = array-after s (a .at) (v .result) (v .ensures) (g .0 .0) (g .0 .1 .0) (g .1) in
+    (address-settled (r .result) _ _ (r .ensures .0) _ array, accepting-on (r .result .verdict) (λ e. e ∙ sym after) (r .ensures .1))
 
 returns-2 : tie.Need-returns-2
 returns-2 c =
     let a = c .before .before .before .before .args in
     let v = c .before .before .value-at in
-    (address-settled (c .broken-address .result) _ _ (c .broken-address .ensures) _ (address-broken (a .s .now) (a .at) (v .result) (v .ensures) _ (c .before .match .keys2) refl), rw (c .broken-address .ensures) tt)
+    let broken = address-broken (a .s .now) (a .at) (v .result) (v .ensures) _ (c .before .match .keys2) refl in
+    (address-settled (c .broken-address .result) _ 0 (c .broken-address .ensures) _ broken, rw (c .broken-address .ensures) tt)
 
 pub read-address-spec : {M : Type 1} → statement M
 read-address-spec =

@@ -1,8 +1,8 @@
 -- There are such bytes, or all is zero; what is copied so far are the first of them, and zeros stand after them.
 use native.Mathlib.Omega.{arith}
-use Prim.Native.Nat.{_≤_, _-_}
+use Prim.Native.Nat.{_+_, _≤_, _-_}
 use mathlib.Core.Path.{_≡_}
-use lib.ListN.{take, drop}
+use lib.ListN.{length, take, drop}
 use Rattle.cojp.specs.Octets.{padded}
 use Rattle.cojp.proofs.Strings.{pad-none, pad-more, pad-end, copied-long, copied-past}
 use Rattle.cojp.proofs.copy.copied.Statement.{statement}
@@ -21,7 +21,9 @@ returns-2 : tie.Need-returns-2 Inv-loop μ-loop
 returns-2 c = copied-past (c .before .before .args .s .now) (c .before .before .args .at) (c .before .before .args .n) (c .before .if1 .left) (omega (arith, c .if2 .taken))
 
 returns-3 : tie.Need-returns-3 Inv-loop μ-loop
-returns-3 c = copied-past (c .before .before .before .args .s .now) (c .before .before .before .args .at) (c .before .before .before .args .n) (c .before .before .if1 .left) (omega (arith, c .if3 .taken, c .before .if2 .left))
+returns-3 c =
+    let a = c .before .before .before .args in
+    copied-past (a .s .now) (a .at) (a .n) (c .before .before .if1 .left) (omega (arith, c .if3 .taken, c .before .if2 .left))
 
 loop-holds : tie.Need-loop-holds Inv-loop μ-loop
 loop-holds c = (omega arith, pad-none (c .before .before .before .args .s .now) (c .before .before .before .args .at))
@@ -44,12 +46,19 @@ loop-less c = omega arith
 loop-again : tie.Need-loop-again Inv-loop μ-loop
 loop-again c =
     let a = c .before .before .before .before .before .before .args in
-    (omega arith, rw (c .before .before .loop .inv .1) (pad-more (a .s .now) (a .at) (a .n) (c .before .before .loop .i) (c .before .loop-test .taken) (c .before .before .before .before .before .if1 .left) (omega (arith, c .before .before .before .if3 .left, c .before .before .before .before .if2 .left))))
+    let test = c .before .loop-test in
+    let turn = c .before .before .loop in
+    let fits = c .before .before .before .before .before .if1 .left in
+    let inside : a .at + a .n ≤ length (a .s .now) = omega (arith, c .before .before .before .if3 .left, c .before .before .before .before .if2 .left) in
+    (omega arith, rw (turn .inv .1) (pad-more (a .s .now) (a .at) (a .n) (turn .i) (test .taken) fits inside))
 
 returns-4 : tie.Need-returns-4 Inv-loop μ-loop
 returns-4 c =
     let a = c .before .before .before .before .before .args in
-    pad-end (a .s .now) (a .at) (a .n) (c .before .loop .i) (c .before .loop .out) (c .before .loop .inv .1) (omega arith) (c .before .before .before .before .if1 .left) (omega (arith, c .before .before .if3 .left, c .before .before .before .if2 .left))
+    let turn = c .before .loop in
+    let fits = c .before .before .before .before .if1 .left in
+    let inside : a .at + a .n ≤ length (a .s .now) = omega (arith, c .before .before .if3 .left, c .before .before .before .if2 .left) in
+    pad-end (a .s .now) (a .at) (a .n) (turn .i) (turn .out) (turn .inv .1) (omega arith) fits inside
 
 pub copied-spec : {M : Type 1} → statement M
 copied-spec =

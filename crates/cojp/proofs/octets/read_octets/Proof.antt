@@ -23,7 +23,8 @@ add-next c =
     let a = c .before .before .before .before .before .args in
     let v = c .before .before .before .value-at in
     let g = c .before .v .given in
-    omega (arith, string-inside (a .s .now) (a .at) (a .least) (v .result) (v .ensures) (g .0 .0) (g .0 .1 .0) (g .1), c .before .before .before .before .before .good)
+    let inside = string-inside (a .s .now) (a .at) (a .least) (v .result) (v .ensures) (g .0 .0) (g .0 .1 .0) (g .1) in
+    omega (arith, inside, c .before .before .before .before .before .good)
 
 discarded-requires : tie.Need-discarded-requires
 discarded-requires c κs = search needs
@@ -33,7 +34,10 @@ returns c =
     let a = c .before .before .before .before .before .before .before .args in
     let v = c .before .before .before .before .before .value-at in
     let g = c .before .before .before .v .given in
-    octets-told (c .discarded .result) _ _ (c .discarded .ensures) _ (octets-few (a .s .now) (a .at) (a .least) (v .result) (v .ensures) (g .0 .0) (g .0 .1 .0) (g .1) _ refl (c .before .if1 .taken)) (a .s .now) _ (string-after (a .s .now) (a .at) (v .result) (v .ensures) (g .0 .0) (g .0 .1 .0) (g .1))
+    let s = a .s .now in
+    let few = octets-few s (a .at) (a .least) (v .result) (v .ensures) (g .0 .0) (g .0 .1 .0) (g .1) _ refl (c .before .if1 .taken) in
+    let after = string-after s (a .at) (v .result) (v .ensures) (g .0 .0) (g .0 .1 .0) (g .1) in
+    octets-told (c .discarded .result) _ _ (c .discarded .ensures) _ few s _ after
 
 discarded-requires-2 : tie.Need-discarded-requires-2
 discarded-requires-2 c κs = search needs
@@ -43,7 +47,11 @@ returns-2 c =
     let a = c .before .before .before .before .before .before .before .before .args in
     let v = c .before .before .before .before .before .before .value-at in
     let g = c .before .before .before .before .v .given in
-    octets-told (c .discarded2 .result) _ _ (c .discarded2 .ensures) _ (octets-many (a .s .now) (a .at) (a .least) (v .result) (v .ensures) (g .0 .0) (g .0 .1 .0) (g .1) _ refl (c .before .before .if1 .left) (c .before .if2 .taken)) (a .s .now) _ (string-after (a .s .now) (a .at) (v .result) (v .ensures) (g .0 .0) (g .0 .1 .0) (g .1))
+    let s = a .s .now in
+    let enough = c .before .before .if1 .left in
+    let many = octets-many s (a .at) (a .least) (v .result) (v .ensures) (g .0 .0) (g .0 .1 .0) (g .1) _ refl enough (c .before .if2 .taken) in
+    let after = string-after s (a .at) (v .result) (v .ensures) (g .0 .0) (g .0 .1 .0) (g .1) in
+    octets-told (c .discarded2 .result) _ _ (c .discarded2 .ensures) _ many s _ after
 
 copied-requires : tie.Need-copied-requires
 copied-requires c κs = search needs
@@ -56,13 +64,20 @@ returns-3 c =
     let a = c .before .before .before .before .before .before .before .before .args in
     let v = c .before .before .before .before .before .before .value-at in
     let g = c .before .before .before .before .v .given in
-    (ap (λ (x : Reading OctetsParameter). octetsAnswer x (g .0 .0 + g .0 .1 .0)) (octets-taken (a .s .now) (a .at) (a .least) (v .result) (v .ensures) (g .0 .0) (g .0 .1 .0) (g .1) (c .copied .result) (c .before .before .if1 .left) (c .before .if2 .left) (c .copied .ensures)), string-after (a .s .now) (a .at) (v .result) (v .ensures) (g .0 .0) (g .0 .1 .0) (g .1))
+    let s = a .s .now in
+    let copy = c .copied in
+    let taken = octets-taken s (a .at) (a .least) (v .result) (v .ensures) (g .0 .0) (g .0 .1 .0) (g .1) (copy .result)
+    (c .before .before .if1 .left) (c .before .if2 .left) (copy .ensures) in (
+      ap (λ (x : Reading OctetsParameter). octetsAnswer x (g .0 .0 + g .0 .1 .0)) taken,
+      string-after s (a .at) (v .result) (v .ensures) (g .0 .0) (g .0 .1 .0) (g .1),
+    )
 
 returns-4 : tie.Need-returns-4
 returns-4 c =
     let a = c .before .before .before .before .args in
     let v = c .before .before .value-at in
-    (rw (c .no-octets .ensures) (ap (λ (x : Reading OctetsParameter). octetsAnswer x 0) (octets-broken (a .s .now) (a .at) (a .least) (v .result) (v .ensures) (c .before .match .keys2))), tt)
+    let broken = octets-broken (a .s .now) (a .at) (a .least) (v .result) (v .ensures) (c .before .match .keys2) in
+    (rw (c .no-octets .ensures) (ap (λ (x : Reading OctetsParameter). octetsAnswer x 0) broken), tt)
 
 pub read-octets-spec : {M : Type 1} → statement M
 read-octets-spec =

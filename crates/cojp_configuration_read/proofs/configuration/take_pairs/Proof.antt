@@ -7,6 +7,7 @@ use borrow.Author.Needs.{needs}
 use Rattle.cojp.specs.Bytes.{valueView}
 use Rattle.cojp.specs.Configuration.{configurationForm, configurationAnswer, emptyConfiguration, withKeys, withAddress, withJrc, withNetwork, withPrefix}
 use Rattle.cojp_map.specs.Pairs.{walkAt}
+use Rattle.cojp_map.proofs.Parameters.{octets-said}
 use Rattle.cojp_map.proofs.Maps.{Walking, walk-start, walk-done, turn-stops, turn-goes}
 use Rattle.cojp_configuration_read.proofs.Configurations.{keys-known, address-known, jrc-known, network-known, prefix-known, unknown, Turn, turn-known, turn-passed}
 use Rattle.cojp_configuration_read.proofs.configuration.take_pairs.Statement.{statement}
@@ -69,11 +70,11 @@ turn m =
     (⊎-elim (λ w. turn-known _ _ _ _ (p .ensures) _ _ _ (omega (arith, w .0 .keys2)) (w .1 .result .verdict) (withAddress old (w .1 .result .parameter)) (w .1 .result .next)
     (address-known old n v (w .0 .keys2) (w .1 .result .verdict) (w .1 .result .parameter) (w .1 .ensures .0)) (w .1 .ensures .1) refl (w .3) (w .4) (w .5))
     (⊎-elim (λ w. turn-known _ _ _ _ (p .ensures) _ _ _ (omega (arith, w .0 .keys3)) (w .1 .result .verdict) (withJrc old (w .1 .result .parameter)) (w .1 .result .next)
-    (jrc-known old n v (w .0 .keys3) (w .1 .result .verdict) (w .1 .result .parameter) (w .1 .ensures .0)) (w .1 .ensures .1) refl (w .3) (w .4) (w .5))
+    (jrc-known old n v (w .0 .keys3) (w .1 .result .verdict) (w .1 .result .parameter) (octets-said (w .1 .result) _ _ (w .1 .ensures .0))) (w .1 .ensures .1) refl (w .3) (w .4) (w .5))
     (⊎-elim (λ w. turn-known _ _ _ _ (p .ensures) _ _ _ (omega (arith, w .0 .keys4)) (w .1 .result .verdict) (withNetwork old (w .1 .result .parameter)) (w .1 .result .next)
-    (network-known old n v (w .0 .keys4) (w .1 .result .verdict) (w .1 .result .parameter) (w .1 .ensures .0)) (w .1 .ensures .1) refl (w .3) (w .4) (w .5))
+    (network-known old n v (w .0 .keys4) (w .1 .result .verdict) (w .1 .result .parameter) (octets-said (w .1 .result) _ _ (w .1 .ensures .0))) (w .1 .ensures .1) refl (w .3) (w .4) (w .5))
     (⊎-elim (λ w. turn-known _ _ _ _ (p .ensures) _ _ _ (omega (arith, w .0 .keys5)) (w .1 .result .verdict) (withPrefix old (w .1 .result .parameter)) (w .1 .result .next)
-    (prefix-known old n v (w .0 .keys5) (w .1 .result .verdict) (w .1 .result .parameter) (w .1 .ensures .0)) (w .1 .ensures .1) refl (w .3) (w .4) (w .5))
+    (prefix-known old n v (w .0 .keys5) (w .1 .result .verdict) (w .1 .result .parameter) (octets-said (w .1 .result) _ _ (w .1 .ensures .0))) (w .1 .ensures .1) refl (w .3) (w .4) (w .5))
     (λ w. turn-passed _ _ _ _ (p .ensures) _ _ _ (unknown old n v (w .0 .rest .0 .0 .0 .0 .1) (w .0 .rest .0 .0 .0 .1) (w .0 .rest .0 .0 .1) (w .0 .rest .0 .1) (w .0 .rest .1))
     (w .2 .result) (w .2 .ensures) (w .3) (w .4) (w .5)))))) (m .match .came)
 
@@ -125,7 +126,9 @@ returns c =
     let walked = c .before .before .before .before .before .before .before .loop in
     let a = c .before .before .before .before .before .before .before .before .before .before .args in
     c .refused-configuration .ensures
-    ∙ ap configurationAnswer (turn-stops configurationForm _ _ (a .s .now) _ (walked .inv) (omega (arith, test .taken)) (pair .match .verdict) _ (pair .match .at) (turn pair .turned) (why .0 .0) (why .1))
+    ∙ ap configurationAnswer
+    (turn-stops configurationForm _ _ (a .s .now) _ (walked .inv) (omega (arith, test .taken)) (pair .match .verdict) _ (pair .match .at)
+    (turn pair .turned) (why .0 .0) (why .1))
 
 enum-told : tie.Need-enum-told Inv-loop μ-loop
 enum-told c = search needs
@@ -142,7 +145,8 @@ loop-again c =
     let test = c .before .before .before .before .loop-test in
     let walked = c .before .before .before .before .before .loop in
     let a = c .before .before .before .before .before .before .before .before .args in
-    turn-goes configurationForm _ _ (a .s .now) _ (walked .inv) (omega (arith, test .taken)) (pair .match .verdict) _ (pair .match .at) (turn pair .turned) (c .enum-told .given .1) (pair .match .c .passed) (turn pair .few)
+    turn-goes configurationForm _ _ (a .s .now) _ (walked .inv) (omega (arith, test .taken)) (pair .match .verdict) _ (pair .match .at)
+    (turn pair .turned) (c .enum-told .given .1) (pair .match .c .passed) (turn pair .few)
 
 returns-2 : tie.Need-returns-2 Inv-loop μ-loop
 returns-2 c =

@@ -23,26 +23,29 @@ enum-known-opened-2 c = search needs
 
 returns-2 : tie.Need-returns-2
 returns-2 c =
-    let at-opened = c .before in
-    let map = at-opened .before .before in
+    let told = c .before .opened .given in
+    let map = c .before .before .before in
+    let r = map .open-map in
     let test = map .before in
-    let start = test .before .before in
-    start-opened (start .args .strict) (start .args .payload .now) (test .if1 .left) (map .open-map .result) (map .open-map .ensures) (ov.Refused (at-opened .opened .given .0 .0)) (at-opened .opened .given .1)
+    let a = test .before .before .args in
+    start-opened (a .strict) (a .payload .now) (test .if1 .left) (r .result) (r .ensures) (ov.Refused (told .0 .0)) (told .1)
 
 returns-3 : tie.Need-returns-3
 returns-3 c =
     let map = c .before .before in
+    let r = map .open-map in
     let test = map .before in
-    let start = test .before .before in
-    start-opened (start .args .strict) (start .args .payload .now) (test .if1 .left) (map .open-map .result) (map .open-map .ensures) ov.NoMap (c .enum-told .given .1)
+    let a = test .before .before .args in
+    start-opened (a .strict) (a .payload .now) (test .if1 .left) (r .result) (r .ensures) ov.NoMap (c .enum-told .given .1)
 
 returns-4 : tie.Need-returns-4
 returns-4 c =
-    let at-opened = c .before in
-    let map = at-opened .before .before in
+    let told = c .before .opened2 .given in
+    let map = c .before .before .before in
+    let r = map .open-map in
     let test = map .before in
-    let start = test .before .before in
-    start-opened (start .args .strict) (start .args .payload .now) (test .if1 .left) (map .open-map .result) (map .open-map .ensures) (ov.Map (at-opened .opened2 .given .0 .0) (at-opened .opened2 .given .0 .1 .0)) (at-opened .opened2 .given .1)
+    let a = test .before .before .args in
+    start-opened (a .strict) (a .payload .now) (test .if1 .left) (r .result) (r .ensures) (ov.Map (told .0 .0) (told .0 .1 .0)) (told .1)
 
 pub open-payload-spec : {M : Type 1} → statement M
 open-payload-spec =

@@ -123,7 +123,8 @@ loop-again c =
     let test = c .before .before .before .before .loop-test in
     let walked = c .before .before .before .before .before .loop in
     let a = c .before .before .before .before .before .before .before .before .args in
-    turn-goes requestForm _ _ (a .s .now) _ (walked .inv) (omega (arith, test .taken)) (pair .match .verdict) _ (pair .match .at) (turn pair .turned) (c .enum-told .given .1) (pair .match .passed) (turn pair .few)
+    turn-goes requestForm _ _ (a .s .now) _ (walked .inv) (omega (arith, test .taken)) (pair .match .verdict) _ (pair .match .at)
+    (turn pair .turned) (c .enum-told .given .1) (pair .match .passed) (turn pair .few)
 
 settled-request-requires : tie.Need-settled-request-requires Inv-loop μ-loop
 settled-request-requires c κs = search needs
