@@ -1,16 +1,17 @@
 -- Where the marks lead: right ones to the lowest free place of all, since every lower group has none; any marks to the first marked group with one.
-use Prim.Native.Nat.{ℕ, zero, suc, _+_, _*_, _/_, _≤_, _<_}
+use Prim.Native.Nat.{ℕ, zero, suc, _+_, _*_, _/_, _%_, _≤_, _<_}
 use mathlib.Core.Path.{_≡_, refl, sym, ap, _∙_}
 use mathlib.Core.Bool.{Bool, true, false, cond}
 use mathlib.Core.List.{List, [], _∷_}
 use native.Mathlib.Omega.{arith}
 use native.Mathlib.Nat.{zero-add}
 use borrow.Author.Tests.{lt-ltb, le-ltb, ltb-true, ltb-false}
-use lib.ListN.{length, take, drop, length-take, length-drop}
+use lib.ListN.{length, take, drop, set, length-take, length-drop}
 use Rattle.address_places.specs.Place.{Place, places, isFree, lowest, has, sought}
 use Rattle.address_places.specs.Marks.{marked, groupAt, marksOf, freeBy, soughtBy}
 use Rattle.address_places.specs.declared.place.Sought.{Sought}
 use Rattle.address_places.specs.declared.place.Sought.the-variants.{Free, Nothing}
+use Rattle.address_places.proofs.Offers.{freeAt, free-inside}
 use Rattle.address_ledger_laws.specs.Marked.{NoneBelow}
 use Rattle.address_ledger_laws.proofs.Marking.{lowest-bit, rest-of, next-group}
 
@@ -127,3 +128,46 @@ pub none-marked : (n x j : ℕ) (ps : List Place) → NoneBelow x ps n → freeB
 unfolding freeBy
 none-marked zero x j ps none = refl
 none-marked (suc n) x j ps none = passed n x j ps n none ∙ none-marked n (x / 2) (j + 64) (drop 64 ps) (none-further n x j ps n none)
+
+-- ---- a group with a free place has one
+lowest-cons : (p : Place) (ps : List Place) (k : ℕ) (x : Bool) → isFree p ≡ x → lowest isFree ps ≤ k → lowest isFree (p ∷ ps) ≤ suc k
+unfolding lowest
+lowest-cons p ps k true e h = rw e (omega arith)
+lowest-cons p ps k false e h = rw e (omega arith)
+
+no-higher : (ps : List Place) (k : ℕ) → freeAt ps k ≡ true → lowest isFree ps ≤ k
+unfolding freeAt lowest
+no-higher [] k h = omega arith
+no-higher (p ∷ ps) zero h = rw h (omega arith)
+no-higher (p ∷ ps) (suc k) h = lowest-cons p ps k _ refl (no-higher ps k h)
+
+free-taken : (j : ℕ) (ps : List Place) (k : ℕ) → k < j → freeAt ps k ≡ true → freeAt (take j ps) k ≡ true
+unfolding freeAt
+free-taken zero ps k l h = absurd (omega arith)
+free-taken (suc j) [] k l h = h
+free-taken (suc j) (p ∷ ps) zero l h = h
+free-taken (suc j) (p ∷ ps) (suc k) l h = free-taken j ps k (omega arith) h
+
+free-dropped : (j : ℕ) (ps : List Place) (k : ℕ) → freeAt ps (j + k) ≡ true → freeAt (drop j ps) k ≡ true
+unfolding freeAt
+free-dropped zero ps k h = rw (zero-add k) at h
+free-dropped (suc j) [] k h = h
+free-dropped (suc j) (p ∷ ps) k h =
+    let e : suc j + k ≡ suc (j + k) = omega arith in
+    let g : freeAt (p ∷ ps) (suc (j + k)) ≡ true = rw e at h in
+    free-dropped j ps k g
+
+pub group-has : (ps : List Place) (k : ℕ) → freeAt ps k ≡ true → has isFree (groupAt (k / 64) ps) ≡ true
+unfolding has
+group-has ps k h =
+    let e : 64 * (k / 64) + k % 64 ≡ k = omega arith in
+    let f : freeAt ps (64 * (k / 64) + k % 64) ≡ true = rw e h in
+    let g : freeAt (groupAt (k / 64) ps) (k % 64) ≡ true = free-taken 64 (drop (64 * (k / 64)) ps) (k % 64) (omega arith) (free-dropped (64 * (k / 64)) ps (k % 64) f) in
+    lt-ltb (lowest isFree (groupAt (k / 64) ps)) (length (groupAt (k / 64) ps))
+    (omega (arith, no-higher (groupAt (k / 64) ps) (k % 64) g, free-inside (groupAt (k / 64) ps) (k % 64) g))
+
+pub free-set : (ps : List Place) (k : ℕ) (p : Place) → k < length ps → isFree p ≡ true → freeAt (set ps k p) k ≡ true
+unfolding freeAt
+free-set [] k p l h = absurd (omega arith)
+free-set (q ∷ ps) zero p l h = h
+free-set (q ∷ ps) (suc k) p l h = free-set ps k p (omega arith) h

@@ -1,7 +1,7 @@
 -- The marks of a ledger from call to call: by the bits for its own group and the others, and by where the marks lead.
 use Prim.Native.Nat.{ℕ, _+_, _*_, _/_, _<_}
-use mathlib.Core.Path.{_≡_, refl, sym, ap}
-use mathlib.Core.Bool.{false}
+use mathlib.Core.Path.{_≡_, refl, sym, ap, _∙_}
+use mathlib.Core.Bool.{true, false}
 use mathlib.Core.List.{List}
 use native.Mathlib.Omega.{arith}
 use native.Mathlib.Nat.{zero-add}
@@ -10,12 +10,12 @@ use lib.ListN.{length, drop}
 use Rattle.refusal.specs.declared.Verdict.{Verdict}
 use Rattle.refusal.specs.declared.Verdict.the-variants as verdict
 use Rattle.address_places.specs.Place.{Place, places, heldBy, isFree, lowest, has, sought, hold, freed}
-use Rattle.address_places.specs.Marks.{groupAt, marksOf, anew, soughtBy}
+use Rattle.address_places.specs.Marks.{marked, groupAt, marksOf, anew, soughtBy}
 use Rattle.address_places.specs.declared.place.Sought.{Sought}
 use Rattle.address_places.specs.declared.place.Sought.the-variants.{Held, Free, Nothing}
 use Rattle.address_places.proofs.Scan.{length-places}
 use Rattle.address_places.proofs.Found.{held-within}
-use Rattle.address_places.proofs.Offers.{held-told, free-inside-of}
+use Rattle.address_places.proofs.Offers.{freeAt, held-told, free-inside-of}
 use Rattle.address_range.specs.Range.{judged, counted, Usable}
 use Rattle.address_range.proofs.Judged.{usable}
 use Rattle.address_ledger.specs.Ledger.{Outcome, countedOf, placesOf, judgedOf, openedBy, opened, granting, grantedBy, granted, givingBack, givenBackBy, givenBack}
@@ -23,9 +23,9 @@ use Rattle.address_ledger.specs.declared.answer.AddressAnswer.the-variants.{Add
 use Rattle.address_ledger.specs.declared.ledger.Ledger.{Ledger}
 use Rattle.address_ledger.proofs.Calls.{grant-accepted}
 use Rattle.address_ledger_laws.specs.Marked.{RightMarks, MarksStay, walkedBy, AsWalked, MarkedAnew, AnyMarks}
-use Rattle.address_ledger_laws.proofs.Bytes.{places-hold, places-freed, cleared}
+use Rattle.address_ledger_laws.proofs.Bytes.{places-hold, places-freed, cleared, cleared-is}
 use Rattle.address_ledger_laws.proofs.Marking.{own-mark, other-mark, marks-say, anew-right}
-use Rattle.address_ledger_laws.proofs.Leading.{as-walked, first-marked, none-marked}
+use Rattle.address_ledger_laws.proofs.Leading.{as-walked, first-marked, none-marked, group-has, free-set}
 
 module _ (l : Ledger) (m : List ℕ) (f : verdict.Accepted ≡ judgedOf l m) where
   pub in-use : Usable (l .first) (length m) (countedOf l)
@@ -132,6 +132,20 @@ module _ (l : Ledger) (m b : List ℕ) (k : ℕ) (f : verdict.Accepted ≡ judge
   back-new (Free j) s e = let z : _≡_ {A = ℕ} 0 1 = cc in absurd (omega arith)
   back-new Nothing s e = let z : _≡_ {A = ℕ} 0 1 = cc in absurd (omega arith)
 
+  back-marked : (s : Sought) → s ≡ sought b (placesOf l m)
+      → givingBack (countedOf l) l m s .answer ≡ Address (l .first + k) → marked (k / 64) (givingBack (countedOf l) l m s .ledger .marks) ≡ true
+  unfolding givingBack
+  back-marked (Held j) s e =
+      let i = held-within b (countedOf l) m j s in
+      let w = written l j (freed m j) (omega (arith, i, in-use l m f .size)) (givingBack (countedOf l) l m (Held j)) refl refl in
+      let q = same-place l k j e in
+      let free : freeAt (placesOf l (freed m j)) j ≡ true =
+      rw (places-freed (countedOf l) j m i (in-use l m f .room))
+      (free-set (placesOf l m) j (cleared (drop (9 * j) m)) (omega (arith, i, length-places (countedOf l) m)) (cleared-is (drop (9 * j) m))) in
+      rw (← q) (w .own ∙ group-has (placesOf l (freed m j)) j free)
+  back-marked (Free j) s e = let z : _≡_ {A = ℕ} 0 1 = cc in absurd (omega arith)
+  back-marked Nothing s e = let z : _≡_ {A = ℕ} 0 1 = cc in absurd (omega arith)
+
 module _ (l : Ledger) (m b : List ℕ) (k : ℕ) where
   granted-new : (v : Verdict) → v ≡ judgedOf l m → has (heldBy b) (placesOf l m) ≡ false → grantedBy v l m b .answer ≡ Address (l .first + k)
       → MarkedAnew l k (grantedBy v l m b)
@@ -144,6 +158,12 @@ module _ (l : Ledger) (m b : List ℕ) (k : ℕ) where
   given-new verdict.Accepted f e = back-new l m b k f (sought b (placesOf l m)) refl e
   given-new (verdict.Refused r) f e = let z : _≡_ {A = ℕ} 0 1 = cc in absurd (omega arith)
 
+  given-marked : (v : Verdict) → v ≡ judgedOf l m → givenBackBy v l m b .answer ≡ Address (l .first + k)
+      → marked (k / 64) (givenBackBy v l m b .ledger .marks) ≡ true
+  unfolding givenBackBy
+  given-marked verdict.Accepted f e = back-marked l m b k f (sought b (placesOf l m)) refl e
+  given-marked (verdict.Refused r) f e = let z : _≡_ {A = ℕ} 0 1 = cc in absurd (omega arith)
+
 pub any-marks : AnyMarks
 unfolding granted grantedBy granting givenBack soughtBy
 any-marks =
@@ -152,4 +172,5 @@ any-marks =
       full = λ l m b f h none. rw (← f, h, none-marked 64 (l .marks) 0 (placesOf l m) none);
       granted-new = λ l m b k h e. granted-new l m b k (judgedOf l m) refl h e;
       given-back = λ l m b k e. given-new l m b k (judgedOf l m) refl e;
+      given-marked = λ l m b k e. given-marked l m b k (judgedOf l m) refl e;
     }

@@ -34,4 +34,5 @@ played =
       marked = refl;
       unmarked = refl;
       hidden = refl;
+      elsewhere = refl;
     }

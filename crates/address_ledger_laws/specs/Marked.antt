@@ -51,3 +51,6 @@ pub record AnyMarks : Type 0 where
   pub granted-new : (l : Ledger) (m b : List ℕ) (k : ℕ) → has (heldBy b) (placesOf l m) ≡ false → granted l m b .answer ≡ Address (l .first + k)
       → MarkedAnew l k (granted l m b)
   pub given-back : (l : Ledger) (m b : List ℕ) (k : ℕ) → givenBack l m b .answer ≡ Address (l .first + k) → MarkedAnew l k (givenBack l m b)
+  -- which after a give back has a free address
+  pub given-marked : (l : Ledger) (m b : List ℕ) (k : ℕ) → givenBack l m b .answer ≡ Address (l .first + k)
+      → marked (k / 64) (givenBack l m b .ledger .marks) ≡ true

@@ -49,3 +49,5 @@ pub record Shift : Type 0 where
   pub marked : opened 0x1000 3 lent .ledger .marks ≡ 1
   pub unmarked : after 0x1000 3 lent morning .ledger .marks ≡ 0
   pub hidden : granted (ledgerOf 0x1000 3 3 0) lent (board 10) .answer ≡ Refused Full
+  -- of two groups, both free, the second alone marked: its first address is granted
+  pub elsewhere : granted (ledgerOf 0x1000 66 66 2) (replicate 594 7) (board 10) .answer ≡ Address 0x1040
