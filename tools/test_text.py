@@ -39,9 +39,8 @@ def answer(line):
     words = re.findall(rb"[^ ]+", line)
     rest = re.sub(rb"^([^ ]+ *){%d}" % HEX_AT, b"", line) if HEX_AT < len(words) else b""
     tail = words[HEX_AT] if HEX_AT < len(words) else b""
-    return " ".join(
-        [str(min(len(words), HEX_AT + 2)), letters(words[0]), number(words, 1), number(words, 2), number(words, 3), letters(tail), payload(rest)]
-    )
+    numbers = [number(words, i) for i in range(1, HEX_AT + 2)]
+    return " ".join([str(min(len(words), HEX_AT + 3)), letters(words[0]), *numbers, letters(tail), payload(rest)])
 
 
 def echo(line):
@@ -95,6 +94,7 @@ def lines(r):
     yield b"answer 1 2 " + b"0f" * 35000 + b"0"
     yield b"answer 1 2 " + b"0f" * 35000 + b"-"
     yield b"w" * 70000 + b" 5"
+    yield b"set 1 counter 7 " + b"0" * 66000 + b"42"
     yield b"#" * 70000
     # carriage returns and line ends around the buffer's end
     for k in range(3):

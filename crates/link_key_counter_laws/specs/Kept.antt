@@ -39,7 +39,8 @@ pub record KeptLaws : Type 0 where
       (type : ℕ) (s : CountedSet) (x : Slot) (k : Key) → firstServing type s ≡ some x → sameSecret (x .key) k ≡ false →
       keptCounter (raised s x) k ≡ keptCounter s k
   -- in a set that replaces this one at once a key has the counter that it had
-  pub succeeded-keeps : (s : CountedSet) (keys : KeySet) (k : Key) → Holds k (keysOf keys) → keptCounter (succeeded s keys) k ≡ keptCounter s k
+  pub succeeded-keeps :
+      (s : CountedSet) (keys : KeySet) (k : Key) → Holds k (keysOf keys) → keptCounter (succeeded s keys) k ≡ keptCounter s k
   -- there are eight counters always
   pub raised-size : (s : CountedSet) (x : Slot) → length (s .counters) ≡ 8 → length (raised s x .counters) ≡ 8
   pub arrived-size : (keys : KeySet) → length (arrived keys .counters) ≡ 8

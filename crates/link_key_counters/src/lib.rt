@@ -6,7 +6,6 @@ use link_key_set::key_set::no_keys;
 ghost use mathlib.Core.Path.{_≡_};
 ghost use Prim.Native.Nat.{_<_};
 ghost use mathlib.Core.Option.{some};
-ghost use lib.ListN.{getD};
 ghost use Rattle.link_key_counters.specs.Counters.{slot, arrived, noCounted, spentOn, spend, keptCounter, succeeded};
 ghost use Rattle.link_key_counters.specs.CounterLaws.{CounterLaws};
 

@@ -17,7 +17,7 @@ use Rattle.network.specs.Network.{nodeAt}
 use Rattle.network.specs.Events.{turning, run, Come, Throughout}
 use Rattle.network.specs.Rounds.{Neighbours, Towards, Hops, here, hop, AllLinked, Round, Rounds, none, more}
 use Rattle.network.specs.Demand3.{NoneUsedUp}
-use Rattle.network.specs.Sleepers.{Lacks, SupposedSome, SomeLack}
+use Rattle.network.specs.Sleepers.{Lacks, SupposedSome, PassesWhile, SomeLack}
 use Rattle.network.specs.Witness
 use Rattle.network.specs.Witness.{newKeys}
 use Rattle.network.specs.Building.{thirdKeys, awake, building, buildingLinks, beforehand, takenIn, around, BuildingWitness}
@@ -171,7 +171,7 @@ unfolding computing
 switched = refl
 
 pub building-witness : SomeLack → BuildingWitness
-unfolding SomeLack computing
+unfolding PassesWhile computing
 building-witness claim =
     let said = claim awake building 0 newKeys 1 supposed beforehand before in
     let followed = said .1 unspent-before Update 20000 Witness.payload takes buildingLinks 1 around after linked rounds unspent-after in

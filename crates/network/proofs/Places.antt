@@ -7,7 +7,6 @@ use mathlib.Core.List.{List, [], _∷_, List·Memᴰ·head, List·Memᴰ·tail, 
 use borrow.Author.Tests.{eq-eqb, ne-eqb}
 use lib.ListN.{length, length-set}
 use lib.Seq.{getD-set-same, getD-set-other}
-use Rattle.link_key_set.specs.KeySet.{Covers}
 use Rattle.link_key.specs.declared.Key.{Key}
 use Rattle.node.specs.Node.{emptyNode, activeOf, pendingOf}
 use Rattle.node_laws.specs.Calls.{NodeCall, starting, polling, delivering, asking, sending, receiving, reporting, perform}
@@ -16,10 +15,10 @@ use Rattle.node.specs.declared.node.Node.{Node}
 use Rattle.network.specs.Network.{Network, nodeAt, withNode}
 use Rattle.network.specs.Events.{Event, turning, calling, step, run, Permitted, Comes, Come, Throughout}
 use Rattle.network.specs.Rounds.{Links, Linked, AllLinked}
-use Rattle.network.specs.Demand3.{NoneUsedUp}
+use Rattle.network.specs.Sleepers.{OneLeft}
 use Rattle.network.specs.Turn.{turn}
 use Rattle.network.proofs.Turns.{stay-self, sender-stays, receiver-either, receiver-role}
-use Rattle.network.proofs.Receiving.{Kind, new, Quiet, Is, becomes, stays-is, turn-becomes, new-can}
+use Rattle.network.proofs.Receiving.{Kind, new, Quiet, IsNew, Is, becomes, stays-is, turn-becomes}
 use Rattle.network.proofs.Flood.{Kinds, with, moves, flows, still}
 
 -- ---- one node replaced
@@ -115,18 +114,17 @@ module _ (L : NodeLaws) (ks : List Key) where
     run-quiet net [] h a = a
     run-quiet net (e ∷ es) h a = run-quiet (step net e) es (h .1) (step-quiet net e (h .0) a)
 
-  -- with turns of a type that the set covers, and its keys not used up, the kinds flow
-  module _ (links : Links) (type : ℕ) (covering : Covers ks type) where
+  -- with turns of a type for which each node that has the set active has a key left, the kinds flow
+  module _ (links : Links) (type : ℕ) where
     ready :
-        (kinds : Kinds) (net : Network) (e : Event) → Comes net e → Linked links type e → NoneUsedUp ks type net → Are ks kinds net →
+        (kinds : Kinds) (net : Network) (e : Event) → Comes net e → Linked links type e → OneLeft ks type net → Are ks kinds net →
         Ready kinds net e
     unfolding Comes
-    ready kinds net (turning i j u) h l unspent a =
-        λ w. rw (l .1) (new-can L ks (nodeAt net i) type covering (unspent i (h .0)) (rw w at (a i (h .0))))
-    ready kinds net (calling i c) h l unspent a = tt
+    ready kinds net (turning i j u) h l left a = λ w. let is : IsNew ks (nodeAt net i) = rw w at (a i (h .0)) in rw (l .1) (left i (h .0) (is .active))
+    ready kinds net (calling i c) h l left a = tt
 
     pub run-flows :
-        (kinds : Kinds) (net : Network) (es : List Event) → Come net es → AllLinked links type es → Throughout (NoneUsedUp ks type) net es →
+        (kinds : Kinds) (net : Network) (es : List Event) → Come net es → AllLinked links type es → Throughout (OneLeft ks type) net es →
         Are ks kinds net → Are ks (flows kinds es) (run net es)
     unfolding run Come Throughout
     run-flows kinds net [] h l u a = a
@@ -134,7 +132,13 @@ module _ (L : NodeLaws) (ks : List Key) where
         run-flows (moves kinds e) (step net e) es (h .1) (λ x m. l x (List·Memᴰ·tail m)) (u .1)
         (step-are kinds net e (h .0) (ready kinds net e (h .0) (l e (List·Memᴰ·head refl)) (u .0) a) a)
 
--- ---- what holds at every moment holds at the end
+-- ---- what holds at every moment holds at the end, and so does what follows from it
+pub throughout-map :
+    (P Q : Network → Type 0) → ((net : Network) → P net → Q net) → (net : Network) (es : List Event) → Throughout P net es → Throughout Q net es
+unfolding Throughout
+throughout-map P Q f net [] u = f net u
+throughout-map P Q f net (e ∷ es) u = (f net (u .0), throughout-map P Q f (step net e) es (u .1))
+
 pub at-end : (P : Network → Type 0) (net : Network) (es : List Event) → Throughout P net es → P (run net es)
 unfolding run Throughout
 at-end P net [] u = u

@@ -4,12 +4,12 @@ use Prim.Native.Nat.{ℕ}
 use mathlib.Core.Path.{_≡_, refl, sym, _∙_}
 use mathlib.Core.Logic.{⊎-elim}
 use mathlib.Core.List.{List, [], List·Memᴰ, List·Memᴰ·not-nil}
-use Rattle.link_key_set.specs.KeySet.{Apart, Covers}
+use Rattle.link_key_set.specs.KeySet.{Apart}
 use Rattle.link_key.specs.declared.Key.{Key}
 use Rattle.node.specs.Node.{activeOf, pendingOf}
 use Rattle.node.specs.Range.{Valid}
 use Rattle.node.specs.Frames.{send}
-use Rattle.node_laws.specs.Laws.{KeysStay, Unspent, CanSend, Sends, NodeLaws}
+use Rattle.node_laws.specs.Laws.{KeysStay, CanSend, Sends, NodeLaws}
 use Rattle.node.specs.declared.node.Node.{Node}
 use Rattle.network.specs.Events.{Under}
 use Rattle.network.specs.Turn.{turn}
@@ -120,10 +120,6 @@ module _ (L : NodeLaws) (ks : List Key) (a b : Node) (type : ℕ) where
   turn-becomes new new c p q = new-receives q
 
 module _ (L : NodeLaws) (ks : List Key) (a : Node) (type : ℕ) where
-  -- a node that has switched can send a type that the set covers, where its keys are not used up
-  pub new-can : Covers ks type → Unspent ks type a → IsNew ks a → CanSend a type
-  new-can covering unspent w = L .covers-can a type (rw (w .active) covering) (rw (w .active) unspent)
-
   -- a node that has not switched sends nothing under the set
   other-sends : Apart (activeOf a) ks → Under ks (send a type) → ⊥
   other-sends other u = other (send a type .key) (send a type .key) (L .send-from a type (u .accepted) .member) (u .member) refl

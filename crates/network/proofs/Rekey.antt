@@ -1,6 +1,6 @@
--- Demand 3, where some nodes may lack the new set. Before the border router accepts it, the border router and the nodes that lack it are apart
--- from it and all others wait with it pending: nothing moves, and nobody sends under it. Then the border router has switched, and each round
--- carries the set one hop further along nodes that wait for it. Where every node had it, that is demand 3.
+-- Demand 3, where some nodes may lack the new set. Before the border router accepts it, the border router and the nodes that lack it are
+-- apart from it and all others wait with it pending: nothing moves, and nobody sends under it. Then the border router has switched, and each
+-- round carries the set one hop further along nodes that wait for it. Where every node had it, that is demand 3.
 use Prim.Native.Nat.{ℕ, _<_}
 use native.Mathlib.Decide.{ℕ-discrete}
 use native.Mathlib.Omega.{arith}
@@ -18,7 +18,7 @@ use Rattle.link_key.specs.declared.Key.{Key}
 use Rattle.node.specs.Node.{activeOf, pendingOf}
 use Rattle.node.specs.Range.{Valid}
 use Rattle.node.specs.Delivery.{deliver}
-use Rattle.node_laws.specs.Laws.{Takes, Unspent, NodeLaws}
+use Rattle.node_laws.specs.Laws.{CanSend, Takes, NodeLaws}
 use Rattle.node_delivery.specs.declared.Delivery.{Delivery}
 use Rattle.node_key_sets.specs.declared.frames.KeyAnswer.{KeyAnswer}
 use Rattle.node.specs.declared.node.Node.{Node}
@@ -26,10 +26,10 @@ use Rattle.network.specs.Network.{Network, nodeAt}
 use Rattle.network.specs.Events.{Event, turning, calling, step, run, Comes, Come, Throughout, answers, Under}
 use Rattle.network.specs.Rounds.{Links, Neighbours, Towards, Hops, here, hop, AllLinked, Rounds}
 use Rattle.network.specs.Demand3.{Supposed, NoneUsedUp, NoneSendsUnder, Rekeyed, handed, Demand3}
-use Rattle.network.specs.Sleepers.{SupposedSome, Followed, SomeLack}
-use Rattle.network.proofs.Receiving.{apart, old, new, Quiet, Carries, IsNew, Is, none-apart, kind-valid, new-can, quiet-sends}
+use Rattle.network.specs.Sleepers.{OneLeft, SupposedSome, Followed, PassesWhile, SomeLack}
+use Rattle.network.proofs.Receiving.{apart, old, new, Quiet, Carries, IsNew, Is, none-apart, kind-valid, quiet-sends}
 use Rattle.network.proofs.Flood.{Kinds, with, flows, far}
-use Rattle.network.proofs.Places.{All, at-other, Are, are-with, size-with, size-run, at-end, run-role, step-quiet, run-quiet, run-flows}
+use Rattle.network.proofs.Places.{All, at-other, Are, are-with, size-with, size-run, throughout-map, at-end, run-role, step-quiet, run-quiet, run-flows}
 use Rattle.network.proofs.Places.{UnmovedFrom, run-unmoved}
 
 -- the kinds at the start, and after the step
@@ -78,9 +78,9 @@ module _ (L : NodeLaws) where
     }
 
   -- ---- after: a node that has switched is as demand 3 says
-  rekeyed : (ks : List Key) (type : ℕ) (n : Node) → Covers ks type → Unspent ks type n → IsNew ks n → Rekeyed ks type n
-  rekeyed ks type n covering unspent w =
-      let s = L .can-send n type (w .valid) (new-can L ks n type covering unspent w) in
+  rekeyed : (ks : List Key) (type : ℕ) (n : Node) → (activeOf n ≡ ks → CanSend n type) → IsNew ks n → Rekeyed ks type n
+  rekeyed ks type n left w =
+      let s = L .can-send n type (w .valid) (left (w .active)) in
       record {
         active = w .active;
         none-pending = w .pending;
@@ -131,12 +131,12 @@ module _ (L : NodeLaws) where
       size = size-with out border (deliver delivery (nodeAt out border) time payload .node) ∙ same
 
       module _ (links : Links) (h : ℕ) (es : List Event) (come : Come next es) (linked : AllLinked links type es)
-          (rounds : Rounds links type h es) (unspent : Throughout (NoneUsedUp ks type) next es) where
+          (rounds : Rounds links type h es) (left : Throughout (OneLeft ks type) next es) where
         reached : (i : ℕ) → i < length net → Hops (Towards links had) h border i → Rekeyed ks type (nodeAt (run next es) i)
         reached i l hops =
             let inside : i < length (run next es) = rw (size-run next es ∙ size) l in
-            rekeyed ks type (nodeAt (run next es) i) (g .covering) (at-end (NoneUsedUp ks type) next es unspent i inside)
-            (rw switched at (run-flows L ks links type (g .covering) (atStep had border) next es come linked unspent step-are i inside))
+            rekeyed ks type (nodeAt (run next es) i) (at-end (OneLeft ks type) next es left i inside)
+            (rw switched at (run-flows L ks links type (atStep had border) next es come linked left step-are i inside))
           where
             switched : flows (atStep had border) es i ≡ new
             switched =
@@ -162,17 +162,31 @@ module _ (L : NodeLaws) where
         followed : Followed had net border ks type links h (run next es)
         followed = record { reached = reached; lacked = lacked }
 
-  pub some-lack : SomeLack
-  unfolding SomeLack
-  some-lack had net border ks type g before come =
+  pub while-one-left : PassesWhile OneLeft
+  unfolding PassesWhile
+  while-one-left had net border ks type g before come =
       let quiet = start-quiet had border in
       let start = start-are had net border ks type g in (
         none-sends ks (atStart had border) quiet net before come start,
-        λ unspent.
+        λ left.
             followed had net border ks type g (run net before) (size-run net before)
             (run-quiet L ks (atStart had border) quiet net before come start)
             (run-role L net before border (g .inside) ∙ g .is-border)
             (run-unmoved L net net before come (λ k l e. record { active = refl; pending = e })),
+      )
+
+  -- where none of the covering keys is used up, one is left
+  none-used-left : (ks : List Key) (type : ℕ) → Covers ks type → (net : Network) → NoneUsedUp ks type net → OneLeft ks type net
+  none-used-left ks type covering net unspent i l e = L .covers-can (nodeAt net i) type (rw e covering) (rw e (unspent i l))
+
+  pub some-lack : PassesWhile OneLeft → SomeLack
+  unfolding PassesWhile
+  some-lack claim had net border ks type g before come =
+      let left = throughout-map (NoneUsedUp ks type) (OneLeft ks type) (none-used-left ks type (g .covering)) in
+      let said = claim had net border ks type g before come in (
+        said .0,
+        λ unspent delivery time payload takes links h after comes linked rounds unspent-after.
+            said .1 (left net before unspent) delivery time payload takes links h after comes linked rounds (left _ after unspent-after),
       )
 
 -- ---- where every ordinary node had the set
@@ -197,7 +211,7 @@ supposed-all g = record {
 }
 
 pub demand3 : SomeLack → Demand3
-unfolding Demand3 SomeLack
+unfolding Demand3 PassesWhile
 demand3 claim net border ks type g before come =
     let said = claim all net border ks type (supposed-all g) before come in (
       said .0,

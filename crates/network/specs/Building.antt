@@ -1,5 +1,5 @@
--- The claim with sleepers speaks of something. Node 0 is the border router, 1 hears it and had the new set. 2 hears it too and missed the keys;
--- 3, which had them, hears 2 alone. 4 and 5 lack the set and hear each other: 5 has a third set active, which 4 has pending.
+-- The claim with sleepers speaks of something. Node 0 is the border router, 1 hears it and had the new set. 2 hears it too and missed the
+-- keys; 3, which had them, hears 2 alone. 4 and 5 lack the set and hear each other: 5 has a third set active, which 4 has pending.
 use Prim.Native.Nat.{ℕ}
 use mathlib.Core.Path.{_≡_}
 use mathlib.Core.Bool.{Bool, not, _||_}
@@ -7,7 +7,6 @@ use mathlib.Core.List.{List, [], _∷_}
 use lib.Dec.{eqb}
 use lib.ListN.{replicate}
 use Rattle.link_key_set.specs.KeySet.{noKeys}
-use Rattle.link_key_set.specs.declared.key_set.KeySet.{KeySet}
 use Rattle.link_key.specs.Key.{keyOf}
 use Rattle.link_key.specs.declared.Key.{Key}
 use Rattle.link_key_counters.specs.Counters.{arrived}

@@ -1,5 +1,5 @@
--- Buildings where some unit missed the keys (document 02, request 14): demand 3 where only some of the ordinary nodes had the new set at the
--- start. Beside each clause stand the words that it is for. Demand 3 itself is the case where all had it.
+-- Buildings where some unit missed the keys (document 02, request 14): demand 3 where only some of the ordinary nodes had the new set at
+-- the start. Beside each clause stand the words that it is for. Demand 3 itself is the case where all had it.
 use Prim.Native.Nat.{ℕ, _<_}
 use mathlib.Core.Path.{_≡_}
 use mathlib.Core.Bool.{Bool, true, false}
@@ -9,7 +9,7 @@ use Rattle.link_key_set.specs.KeySet.{Apart, Covers}
 use Rattle.link_key.specs.declared.Key.{Key}
 use Rattle.node.specs.Node.{activeOf, pendingOf}
 use Rattle.node.specs.Range.{Valid}
-use Rattle.node_laws.specs.Laws.{Takes}
+use Rattle.node_laws.specs.Laws.{CanSend, Takes}
 use Rattle.node_delivery.specs.declared.Delivery.{Delivery}
 use Rattle.node.specs.declared.node.Node.{Node}
 use Rattle.network.specs.Network.{Network, nodeAt}
@@ -39,25 +39,34 @@ pub record SupposedSome (had : ℕ → Bool) (net : Network) (border : ℕ) (new
 
 -- what the two lists leave, where the nodes were as in the network `start`
 pub record Followed (had : ℕ → Bool) (start : Network) (border : ℕ) (new : List Key) (type : ℕ) (links : Links) (h : ℕ) (net : Network) : Type 0 where
-  -- "count hops only along paths whose nodes after the border router all had it pending at the start. then after h rounds each node within h
-  -- such hops is as demand 3 says"
+  -- "count hops only along paths whose nodes after the border router all had it pending at the start. then after h rounds each node
+  -- within h such hops is as demand 3 says"
   pub reached : (i : ℕ) → i < length start → Hops (Towards links had) h border i → Rekeyed new type (nodeAt net i)
   -- "and the nodes that lacked it are unchanged in active set, save for their counters, if they had none pending"
   pub lacked :
       (i : ℕ) → i < length start → nodeAt start i .role ≡ 0 → had i ≡ false → pendingOf (nodeAt start i) ≡ [] →
       activeOf (nodeAt net i) ≡ activeOf (nodeAt start i)
 
--- "the start is the moment from which the border router's acceptance of the new set is the only update or join answer accepted at any node":
--- the events of both lists are demand 3's, which have none
-unfoldable pub SomeLack : Type 0
-SomeLack =
+-- what is supposed of the counters, at every moment of the lists: that none of the set's covering keys is used up (Demand3), or less, that
+-- one is left to each node that has the set active
+abbrev pub OneLeft : List Key → ℕ → Network → Type 0
+OneLeft new type net = (i : ℕ) → i < length net → activeOf (nodeAt net i) ≡ new → CanSend (nodeAt net i) type
+
+-- "the start is the moment from which the border router's acceptance of the new set is the only update or join answer accepted at any
+-- node": the events of both lists are demand 3's, which have none
+unfoldable pub PassesWhile : (List Key → ℕ → Network → Type 0) → Type 0
+PassesWhile Unused =
     (had : ℕ → Bool) (net : Network) (border : ℕ) (new : List Key) (type : ℕ) → SupposedSome had net border new type →
     (before : List Event) → Come net before →
     -- before the step nobody sends under the set, whoever had it
     NoneSendsUnder new net before
-    × (Throughout (NoneUsedUp new type) net before →
+    × (Throughout (Unused new type) net before →
     (delivery : Delivery) (time : ℕ) (payload : List ℕ) → Takes delivery (nodeAt (run net before) border) time payload new →
     (links : Links) (h : ℕ) (after : List Event) → Come (handed (run net before) border delivery time payload) after →
     AllLinked links type after → Rounds links type h after →
-    Throughout (NoneUsedUp new type) (handed (run net before) border delivery time payload) after →
+    Throughout (Unused new type) (handed (run net before) border delivery time payload) after →
     Followed had net border new type links h (run (handed (run net before) border delivery time payload) after))
+
+-- the claim, with 02's premise on counters
+abbrev pub SomeLack : Type 0
+SomeLack = PassesWhile NoneUsedUp

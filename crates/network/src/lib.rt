@@ -6,7 +6,7 @@ pub use turn::Turned;
 ghost use Rattle.network.specs.Answers.{EveryTurnSays};
 ghost use Rattle.network.specs.Demand1.{TurnDemand1};
 ghost use Rattle.network.specs.Demand3.{Demand3};
-ghost use Rattle.network.specs.Sleepers.{SomeLack};
+ghost use Rattle.network.specs.Sleepers.{OneLeft, PassesWhile, SomeLack};
 ghost use Rattle.network.specs.Building.{BuildingWitness};
 ghost use Rattle.network.specs.Witness.{Witness};
 
@@ -17,12 +17,20 @@ pub fn demand1()
     node_laws::laws();
 }
 
-// Buildings where some unit missed the keys: the rekey reaches the nodes that had the new set along nodes that had it, and a node that lacked it,
-// with none pending, keeps its active set.
+// The same claim with less supposed: one covering key of the new set, not used up, is enough for each node that has the set active.
+pub fn rekey_while_one_key_is_left()
+    ensures { λ r. ⌜ PassesWhile OneLeft ⌝ }
+{
+    node_laws::laws();
+}
+
+// Buildings where some unit missed the keys: the rekey reaches the nodes that had the new set along nodes that had it, and a node that
+// lacked it, with none pending, keeps its active set.
 pub fn rekey_passes_sleepers()
     ensures { λ r. ⌜ SomeLack ⌝ }
 {
     node_laws::laws();
+    rekey_while_one_key_is_left();
 }
 
 // Demand 3: before the border router accepts a new key set that waits at all other nodes, nobody sends under it;

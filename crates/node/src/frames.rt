@@ -7,7 +7,8 @@ use refusal::Refusal;
 ghost use mathlib.Core.Path.{_≡_};
 ghost use Rattle.node.specs.Frames.{sending, receive, verified};
 
-// What a frame is sent with: the key and its counter, and the node with that counter one higher. Beside a refusal stand 0 and the node as it was.
+// What a frame is sent with: the key and its counter, and the node with that counter one higher. Beside a refusal stand 0 and the node as
+// it was.
 pub struct Sent {
     pub answer: KeyAnswer,
     pub counter: u32,

@@ -1,4 +1,5 @@
--- What a call may make of a node's key sets: it leaves them, counts one sending, installs a set, or switches. Each call's definition says which.
+-- What a call may make of a node's key sets: it leaves them, counts one sending, installs a set, or switches. Each call's definition says
+-- which.
 use Prim.Native.Nat.{ℕ}
 use mathlib.Core.Path.{_≡_, refl, ap}
 use mathlib.Core.Bool.{Bool, true, false, cond}

@@ -1,5 +1,5 @@
--- A border router joins with one key and sends with it; then an update brings another key before it and the key again. The key stays, and its
--- next frame has counter 1. Where an update takes the key away and another brings it back, it counts from 0 again.
+-- A border router joins with one key and sends with it; then an update brings another key before it and the key again. The key stays, and
+-- its next frame has counter 1. Where an update takes the key away and another brings it back, it counts from 0 again.
 use Prim.Native.Nat.{ℕ, _<_}
 use mathlib.Core.Bool.{true}
 use mathlib.Core.List.{List, [], _∷_, _++_}

@@ -1,6 +1,6 @@
--- No counter is used twice with one key (document 02, request 9), said of calls and answers: from a fresh node on, whatever calls come, each
--- sending under a key answers a higher counter than every one before it, while a key with its identifier and value stays active. A key that
--- left the active set and comes back counts from 0 again, which 02 asks for ("0 on arrival") and no node can tell: Example has one.
+-- No counter is used twice with one key (document 02, request 9), said of calls and answers: from a fresh node on, whatever calls come,
+-- each sending under a key answers a higher counter than every one before it, while a key with its identifier and value stays active. A key
+-- that left the active set and comes back counts from 0 again, which 02 asks for ("0 on arrival") and no node can tell: Example has one.
 use Prim.Native.Nat.{ℕ, _<_}
 use mathlib.Core.Path.{_≡_}
 use mathlib.Core.Bool.{true}

@@ -1,6 +1,5 @@
 -- A refusal leaves the key sets, and stands beside the key that is all zero.
 use Prim.Native.Nat.{ℕ}
-use native.Mathlib.Omega.{arith}
 use mathlib.Core.Path.{_≡_, refl, ap}
 use mathlib.Core.Bool.{Bool, true, false, cond, not, _&&_}
 use mathlib.Core.Option.{Option, none, some}
@@ -21,7 +20,6 @@ use Rattle.node_key_sets.specs.Sets.{activeIn, install}
 use Rattle.node_key_sets.specs.Frames.{withKey, withoutKey, unsent, sentWith, sending, heldKey, ifCovers, receivingKey, effectBy, verifiedIn, changeVerdict}
 use Rattle.node_key_sets.specs.declared.frames.Change.the-variants as change
 use Rattle.node_key_sets.specs.declared.frames.KeyAnswer.{KeyAnswer}
-use Rattle.node_key_sets.specs.declared.frames.Sending.{Sending}
 use Rattle.node_key_sets.specs.declared.sets.KeySets.{KeySets}
 use Rattle.node_key_sets.specs.Demand1.{Unsent}
 use Rattle.node_key_sets.proofs.Valid.{placeBy}

@@ -14,7 +14,7 @@ use Rattle.link_key.specs.Key.{covers}
 use Rattle.link_key_set.specs.KeySet.{keysOf, Covers}
 use Rattle.link_key.specs.declared.Key.{Key}
 use Rattle.link_key_counters.specs.CounterLaws.{CounterLaws}
-use Rattle.link_key_counters.specs.Counters.{Slot, slotsOf, lastCounter, isUsedUp, serves, firstServing, raised}
+use Rattle.link_key_counters.specs.Counters.{Slot, slotsOf, lastCounter, isUsedUp, firstServing, raised}
 use Rattle.link_key_counters.specs.declared.CountedSet.{CountedSet}
 use Rattle.logic_facts.specs.Tests.{both-right}
 use Rattle.node_key_sets.specs.Sets.{twoSets}

@@ -129,7 +129,7 @@ fn put_sending(out: Output, sent: Sent, buffer: &mut Buffer) -> Output {
     let verdict = answer.verdict;
     let out = put_key_answer(out, answer, buffer);
     match verdict {
-        Verdict::Accepted => put_counter(out, b" counter=", sent.counter, buffer),
+        Verdict::Accepted => put_counter(out.text(b" counter=", buffer), sent.counter, buffer),
         Verdict::Refused(_) => out,
     }
 }

@@ -75,15 +75,15 @@ fn put_counted(
             out = out.byte(b',', buffer);
         }
         out = tool_notation::put_key(out, keys[i], buffer);
-        out = put_counter(out, b"#", counters[i], buffer);
+        out = out.byte(b'#', buffer);
+        out = put_counter(out, counters[i], buffer);
         i += 1;
     }
     out
 }
 
-// A frame counter, after what stands before it.
-pub fn put_counter(out: Output, name: &[u8], counter: u32, buffer: &mut Buffer) -> Output {
-    put_number(out, name, counter as u64, buffer)
+pub fn put_counter(out: Output, counter: u32, buffer: &mut Buffer) -> Output {
+    out.number(counter as u64, buffer)
 }
 
 // The short address, its lease and its time of receipt.

@@ -1,5 +1,5 @@
 // Runs the crate tool_text over lines of standard input, and writes what it makes of each: how many words, the command's letters, the
-// numbers, and HEX from word 3 on. It is run with --echo. tools/test_text.py makes the input and what is to be written, by itself.
+// four numbers, and HEX from word 3 on. It is run with --echo. tools/test_text.py makes the input and what is to be written, by itself.
 use tool_text::decimal::Decimal;
 use tool_text::hex::Hex;
 use tool_text::hex::Payload;
@@ -53,7 +53,10 @@ fn put_head(out: Output, head: Head, buffer: &mut Buffer) -> Output {
 
 fn put_tail(out: Output, tail: Tail, payload: &[u8], buffer: &mut Buffer) -> Output {
     let number = tail.number;
+    let next = tail.next;
+    let after = next.number;
     let out = put_number(out, number, buffer);
+    let out = put_number(out, after, buffer);
     let out = put_word(out, tail.word, buffer);
     put_hex(out, tail.hex, payload, buffer)
 }

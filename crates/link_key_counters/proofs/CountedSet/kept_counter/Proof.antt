@@ -46,11 +46,17 @@ array-read-result c = omega (arith, c .before .before .before .before .before .b
 
 returns : tie.Need-returns Inv-loop μ-loop
 returns c =
-    let set = c .before .before .before .before .before .before .before .before .args .self .set in
-    let loop = c .before .before .before .before .loop in
-    let n = c .before .before .before .before .before .before .before .len .result in
-    let size : n ≡ length (keysOf set) = c .before .before .before .before .before .before .before .len .ensures .0 in
-    rw (← firsts set n size, loop .inv, turn (set .keys) (c .before .before .before .before .before .before .before .before .args .self .counters) (asked (c .before .before .before .before .before .before .before .before .args .key)) n (loop .i) (within set n size) (c .before .before .before .loop-test .taken), sym (c .before .same-secret .ensures) ∙ c .if1 .taken)
+    let turned = c .before .before .before in
+    let loop = turned .before .loop in
+    let start = turned .before .before .before .before in
+    let args = start .before .args in
+    let set = args .self .set in
+    let counters = args .self .counters in
+    let n = start .len .result in
+    let size : n ≡ length (keysOf set) = start .len .ensures .0 in
+    let same = sym (c .before .same-secret .ensures) ∙ c .if1 .taken in
+    let next = turn (set .keys) counters (asked (args .key)) n (loop .i) (within set n size) (turned .loop-test .taken) in
+    rw (← firsts set n size, loop .inv, next, same)
 
 add-i : tie.Need-add-i Inv-loop μ-loop
 add-i c = search needs
@@ -60,19 +66,27 @@ loop-less c = search needs
 
 loop-again : tie.Need-loop-again Inv-loop μ-loop
 loop-again c =
-    let set = c .before .before .before .before .before .before .before .before .args .self .set in
-    let loop = c .before .before .before .before .loop in
-    let n = c .before .before .before .before .before .before .before .len .result in
-    let size : n ≡ length (keysOf set) = c .before .before .before .before .before .before .before .len .ensures .0 in
-    rw (loop .inv, turn (set .keys) (c .before .before .before .before .before .before .before .before .args .self .counters) (asked (c .before .before .before .before .before .before .before .before .args .key)) n (loop .i) (within set n size) (c .before .before .before .loop-test .taken), sym (c .before .same-secret .ensures) ∙ c .if1 .left)
+    let turned = c .before .before .before in
+    let loop = turned .before .loop in
+    let start = turned .before .before .before .before in
+    let args = start .before .args in
+    let set = args .self .set in
+    let counters = args .self .counters in
+    let n = start .len .result in
+    let size : n ≡ length (keysOf set) = start .len .ensures .0 in
+    let other = sym (c .before .same-secret .ensures) ∙ c .if1 .left in
+    rw (loop .inv, turn (set .keys) counters (asked (args .key)) n (loop .i) (within set n size) (turned .loop-test .taken), other)
 
 returns-2 : tie.Need-returns-2 Inv-loop μ-loop
 returns-2 c =
-    let set = c .before .before .before .before .before .args .self .set in
     let loop = c .before .loop in
-    let n = c .before .before .before .before .len .result in
-    let size : n ≡ length (keysOf set) = c .before .before .before .before .len .ensures .0 in
-    rw (← firsts set n size, loop .inv, stop (set .keys) (c .before .before .before .before .before .args .self .counters) (asked (c .before .before .before .before .before .args .key)) n (loop .i) (c .loop-test .left))
+    let start = c .before .before .before .before in
+    let args = start .before .args in
+    let set = args .self .set in
+    let counters = args .self .counters in
+    let n = start .len .result in
+    let size : n ≡ length (keysOf set) = start .len .ensures .0 in
+    rw (← firsts set n size, loop .inv, stop (set .keys) counters (asked (args .key)) n (loop .i) (c .loop-test .left))
 
 pub kept-counter-spec : {M : Type 1} → statement M
 kept-counter-spec =

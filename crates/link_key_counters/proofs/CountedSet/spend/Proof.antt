@@ -42,19 +42,29 @@ covers-requires : tie.Need-covers-requires Inv-loop μ-loop
 covers-requires c κs = search needs
 
 used-requires : tie.Need-used-requires Inv-loop μ-loop
-used-requires c κs = (omega (arith, c .before .before .before .before .before .before .before .before .len .ensures), c .before .before .if1 .taken)
+used-requires c κs =
+    let unused = c .before .before in
+    (omega (arith, unused .before .before .before .before .before .before .len .ensures), unused .if1 .taken)
 
 returns : tie.Need-returns Inv-loop μ-loop
 unfolding spend
 returns c =
-    let set = c .before .before .before .before .before .before .before .before .before .before .args .self .set in
-    let loop = c .before .before .before .before .before .before .loop in
-    let n = c .before .before .before .before .before .before .before .before .before .len .result in
-    let size : n ≡ length (keysOf set) = c .before .before .before .before .before .before .before .before .before .len .ensures .0 in
+    let unused = c .before .before .before in
+    let turned = unused .before .before in
+    let loop = turned .before .loop in
+    let start = turned .before .before .before .before in
+    let args = start .before .args in
+    let set = args .self .set in
+    let counters = args .self .counters in
+    let n = start .len .result in
+    let size : n ≡ length (keysOf set) = start .len .ensures .0 in
+    let question = firstOf (serves (args .frame-type)) in
     let key = getD (set .keys) (loop .i) past in
-    let counter = getD (c .before .before .before .before .before .before .before .before .before .before .args .self .counters) (loop .i) 0 in
-    let serving = does-serve (c .before .before .before .before .before .before .before .before .before .before .args .frame-type) (loop .i) key counter (sym (c .before .before .covers .ensures) ∙ c .before .if2 .taken) (c .before .before .before .if1 .taken) in
-    rw (← firsts set n size, loop .inv, turn (set .keys) (c .before .before .before .before .before .before .before .before .before .before .args .self .counters) (firstOf (serves (c .before .before .before .before .before .before .before .before .before .before .args .frame-type))) n (loop .i) (within set n size) (c .before .before .before .before .before .loop-test .taken), serving) (c .used .ensures)
+    let counter = getD counters (loop .i) 0 in
+    let covering = sym (c .before .before .covers .ensures) ∙ c .before .if2 .taken in
+    let serving = does-serve (args .frame-type) (loop .i) key counter covering (unused .if1 .taken) in
+    let next = turn (set .keys) counters question n (loop .i) (within set n size) (turned .loop-test .taken) in
+    rw (← firsts set n size, loop .inv, next, serving) (c .used .ensures)
 
 add-i : tie.Need-add-i Inv-loop μ-loop
 add-i c = search needs
@@ -64,16 +74,21 @@ loop-less c = search needs
 
 loop-again : tie.Need-loop-again Inv-loop μ-loop
 loop-again c =
-    let set = c .before .before .before .before .before .before .before .args .self .set in
-    let loop = c .before .before .before .loop in
-    let n = c .before .before .before .before .before .before .len .result in
-    let size : n ≡ length (keysOf set) = c .before .before .before .before .before .before .len .ensures .0 in
+    let turned = c .before .before in
+    let loop = turned .before .loop in
+    let start = turned .before .before .before .before in
+    let args = start .before .args in
+    let set = args .self .set in
+    let counters = args .self .counters in
+    let n = start .len .result in
+    let size : n ≡ length (keysOf set) = start .len .ensures .0 in
+    let question = firstOf (serves (args .frame-type)) in
     let key = getD (set .keys) (loop .i) past in
-    let counter = getD (c .before .before .before .before .before .before .before .args .self .counters) (loop .i) 0 in
-    let passed : serves (c .before .before .before .before .before .before .before .args .frame-type) (slot (loop .i) key counter) ≡ false =
-    ⊎-elim (λ w. not-covering (c .before .before .before .before .before .before .before .args .frame-type) (loop .i) key counter (sym (w .1 .ensures) ∙ w .2 .left))
-    (λ w. used-up (c .before .before .before .before .before .before .before .args .frame-type) (loop .i) key counter (w .left)) (c .if1 .came) in
-    rw (loop .inv, turn (set .keys) (c .before .before .before .before .before .before .before .args .self .counters) (firstOf (serves (c .before .before .before .before .before .before .before .args .frame-type))) n (loop .i) (within set n size) (c .before .before .loop-test .taken), passed)
+    let counter = getD counters (loop .i) 0 in
+    let passed : serves (args .frame-type) (slot (loop .i) key counter) ≡ false =
+    ⊎-elim (λ w. not-covering (args .frame-type) (loop .i) key counter (sym (w .1 .ensures) ∙ w .2 .left))
+    (λ w. used-up (args .frame-type) (loop .i) key counter (w .left)) (c .if1 .came) in
+    rw (loop .inv, turn (set .keys) counters question n (loop .i) (within set n size) (turned .loop-test .taken), passed)
 
 no-key-requires : tie.Need-no-key-requires Inv-loop μ-loop
 no-key-requires c κs = search needs
@@ -81,11 +96,16 @@ no-key-requires c κs = search needs
 returns-2 : tie.Need-returns-2 Inv-loop μ-loop
 unfolding spend
 returns-2 c =
-    let set = c .before .before .before .before .before .before .args .self .set in
-    let loop = c .before .before .loop in
-    let n = c .before .before .before .before .before .len .result in
-    let size : n ≡ length (keysOf set) = c .before .before .before .before .before .len .ensures .0 in
-    rw (← firsts set n size, loop .inv, stop (set .keys) (c .before .before .before .before .before .before .args .self .counters) (firstOf (serves (c .before .before .before .before .before .before .args .frame-type))) n (loop .i) (c .before .loop-test .left), c .no-key .ensures)
+    let ended = c .before in
+    let loop = ended .before .loop in
+    let start = ended .before .before .before .before in
+    let args = start .before .args in
+    let set = args .self .set in
+    let counters = args .self .counters in
+    let n = start .len .result in
+    let size : n ≡ length (keysOf set) = start .len .ensures .0 in
+    let question = firstOf (serves (args .frame-type)) in
+    rw (← firsts set n size, loop .inv, stop (set .keys) counters question n (loop .i) (ended .loop-test .left), c .no-key .ensures)
 
 pub spend-spec : {M : Type 1} → statement M
 spend-spec =

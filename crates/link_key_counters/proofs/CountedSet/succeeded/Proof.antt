@@ -1,5 +1,5 @@
 -- `succeeded` meets its contract: the counters of the keys so far are written, and the others are 0.
-use Prim.Native.Nat.{_-_, _≤_}
+use Prim.Native.Nat.{_-_, _≤_, _<_}
 use native.Mathlib.Omega.{arith}
 use mathlib.Core.Path.{_≡_, refl, _∙_, ap}
 use borrow.Author.Needs.{needs}
@@ -45,14 +45,17 @@ loop-less c = search needs
 
 loop-again : tie.Need-loop-again Inv-loop μ-loop
 loop-again c =
-    let args = c .before .before .before .before .before .before .args in
-    let loop = c .before .before .before .loop in
-    let n = c .before .before .before .before .before .len .result in
-    let size : n ≡ length (keysOf (args .set)) = c .before .before .before .before .before .len .ensures .0 in
-    let places = within (args .set) n size in (
-      omega (arith, c .before .before .loop-test .taken),
-      write (args .self) (args .set .keys) (loop .i) (omega (arith, c .before .before .loop-test .taken)) (omega (arith, c .before .before .loop-test .taken, c .before .before .before .before .before .len .ensures)) (loop .counters)
-          (c .kept-counter .result) (loop .inv .1) (c .kept-counter .ensures),
+    let turned = c .before .before in
+    let loop = turned .before .loop in
+    let start = turned .before .before .before in
+    let args = start .before .args in
+    let n = start .len .result in
+    let size : n ≡ length (keysOf (args .set)) = start .len .ensures .0 in
+    let places = within (args .set) n size in
+    let held : loop .i < length (args .set .keys) = omega (arith, turned .loop-test .taken, places) in
+    let few : loop .i < 8 = omega (arith, turned .loop-test .taken, start .len .ensures) in (
+      omega (arith, turned .loop-test .taken),
+      write (args .self) (args .set .keys) (loop .i) held few (loop .counters) (c .kept-counter .result) (loop .inv .1) (c .kept-counter .ensures),
     )
 
 returns : tie.Need-returns Inv-loop μ-loop

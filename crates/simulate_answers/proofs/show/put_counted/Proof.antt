@@ -7,10 +7,10 @@ use Rattle.simulate_answers.proofs.show.put_counted.Statement.{statemen
 use Rattle.simulate_answers.proofs.show.put_counted.Tie as tie
 
 abbrev Inv-loop : tie.InvT-loop
-Inv-loop count buffer₀ keys counters out₀ i₀ t10 buffer out i = (i ≤ count) × (length keys ≡ 8) × (length counters ≡ 8)
+Inv-loop count buffer₀ keys counters out₀ i₀ buffer out i = (i ≤ count) × (length keys ≡ 8) × (length counters ≡ 8)
 
 abbrev μ-loop : tie.MeasureT-loop
-μ-loop count buffer₀ keys counters out₀ i₀ t10 buffer out i = count - i
+μ-loop count buffer₀ keys counters out₀ i₀ buffer out i = count - i
 
 pub put-counted-spec : {M : Type 1} → statement M
 put-counted-spec =
@@ -24,7 +24,7 @@ put-counted-spec =
     (λ c. search needs)
     (λ c. search needs)
     (λ c κs. search needs)
-    (λ c. search needs)
+    (λ c κs. search needs)
     (λ c. search needs)
     (λ c. search needs)
     (λ c κs. search needs)

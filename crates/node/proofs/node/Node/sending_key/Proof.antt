@@ -20,7 +20,9 @@ sending-key-requires c κs = search needs
 
 returns-2 : tie.Need-returns-2
 unfolding sending
-returns-2 c = rw (granted (c .before .before .before .before .valid .ensures) (c .before .before .before .if1 .left), c .before .before .sending-key .ensures)
+returns-2 c =
+    let sent = c .before .before in
+    rw (granted (sent .before .before .valid .ensures) (sent .before .if1 .left), sent .sending-key .ensures)
 
 pub sending-key-spec : {M : Type 1} → statement M
 sending-key-spec =

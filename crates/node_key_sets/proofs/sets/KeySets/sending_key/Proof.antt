@@ -18,14 +18,21 @@ spend-requires : tie.Need-spend-requires
 spend-requires c κs = search needs
 
 returns-2 : tie.Need-returns-2
-returns-2 c = sent-found (c .before .before .before .before .before .before .args .self) (c .before .before .before .before .before .before .args .frame-type) (le-leb _ _ (c .before .before .before .before .before .if1 .left)) _ (c .before .before .before .before .spend .ensures) (c .before .before .before .if2 .taken)
+returns-2 c =
+    let found = c .before .before .before in
+    let spent = found .before in
+    let args = spent .before .before .args in
+    sent-found (args .self) (args .frame-type) (le-leb _ _ (spent .before .if1 .left)) _ (spent .spend .ensures) (found .if2 .taken)
 
 unsent-requires-2 : tie.Need-unsent-requires-2
 unsent-requires-2 c κs = search needs
 
 returns-3 : tie.Need-returns-3
 returns-3 c =
-    c .unsent2 .ensures ∙ sent-silent (c .before .before .before .before .args .self) (c .before .before .before .before .args .frame-type) (le-leb _ _ (c .before .before .before .if1 .left)) _ (c .before .before .spend .ensures) (c .before .if2 .left)
+    let spent = c .before .before in
+    let args = spent .before .before .args in
+    c .unsent2 .ensures
+    ∙ sent-silent (args .self) (args .frame-type) (le-leb _ _ (spent .before .if1 .left)) _ (spent .spend .ensures) (c .before .if2 .left)
 
 pub sending-key-spec : {M : Type 1} → statement M
 sending-key-spec =
