@@ -1,14 +1,14 @@
--- A group is read member by member; the keys are gathered one after the other, and a set that no eight places hold is never allowed.
+-- A group is read member by member; the keys are gathered one after the other, each told by its flag, and a set that no eight places hold is never allowed.
 use Prim.Native.Nat.{ℕ, suc, _+_, _-_, _≤_, _<_}
 use mathlib.Core.Path.{_≡_, refl, ap, sym, _∙_}
-use mathlib.Core.Bool.{Bool, true, false, cond, _&&_, and-false}
+use mathlib.Core.Bool.{Bool, true, false, cond, _&&_, and-true, and-false, and-assoc}
 use mathlib.Core.List.{List, [], _∷_, _++_, append-assoc, append-nil}
 use mathlib.Core.Logic.{⊎-elim}
 use native.Mathlib.Omega.{arith}
 use lib.Dec.{leb, ltb, eqb}
 use lib.ListN.{length, take, drop, set, replicate, length-append, length-drop}
 use lib.Seq.{set-at, take-append-seam, append-snoc, take-all, drop-drop, length-take-le}
-use borrow.Author.Tests.{lt-leb, le-leb, ltb-true, ltb-false, leb-true, leb-false, eqb-true}
+use borrow.Author.Tests.{lt-leb, ltb-false, leb-true, leb-false, eqb-true}
 use types.Run.{OneOf}
 use denote.Enum.Declared.{tagOf}
 use Rattle.refusal.specs.declared.Refusal.the-variants as refusal
@@ -17,10 +17,11 @@ use Rattle.cbor.specs.declared.value.Value.{Value}
 use Rattle.cbor.specs.declared.value.Value.the-variants as vv
 use Rattle.cbor.proofs.value.Value as value
 use Rattle.link_key.specs.Key.{keyOf, noKey, inLimits}
-use Rattle.link_key_set.specs.KeySet.{noKeys, allInLimits, allowed, allowedSet}
+use Rattle.link_key_set.specs.KeySet.{noKeys, allInLimits, noneTwice, eachOnce, allowed}
+use Rattle.link_key_set.specs.Seen.{joins, Exactly, OneMore, WithOneMore}
 use Rattle.link_key.specs.declared.Key.{Key}
 use Rattle.link_key_set.specs.declared.key_set.KeySet.{KeySet}
-use Rattle.cojp_key_set_read.specs.Groups.{GroupAt, GroupRest, storable, addKey}
+use Rattle.cojp_key_set_read.specs.Groups.{GroupAt, GroupRest, storable, someFew}
 use Rattle.cojp.specs.Bytes.{valueView, membersAt, afterMembers, Neither, MemberAt, MemberSays}
 use Rattle.cojp.specs.KeySet.{keySetOf, Groups, notGroups, groupsOf, group, groups, keysIn, keysConcluded, keysRead}
 use Rattle.cojp.specs.Octets.{padded, copiedFrom}
@@ -148,13 +149,19 @@ unfolding allowed
 one-not-allowed ks k js e =
     rw (some-outside ks k js e, and-false (leb 1 (length (ks ++ k ∷ js)) && leb (length (ks ++ k ∷ js)) 8))
 
--- ---- the keys so far, and the set that holds them or is past holding them
-pub data Holds (ks : List Key) (s : KeySet) : Type 0 where
-  held : length ks ≤ 8 → s ≡ keySetOf ks → Holds ks s
-  lost : ((js : List Key) → allowed (ks ++ js) ≡ false) → s .count ≡ 9 → Holds ks s
+pub once-not-allowed : (ks : List Key) → eachOnce ks ≡ false → allowed ks ≡ false
+unfolding allowed
+once-not-allowed ks e =
+    let few = (leb 1 (length ks) && leb (length ks) 8) in
+    and-assoc few (allInLimits ks) (noneTwice ks) ∙ rw e (and-false few)
 
-pub holds-none : (s : KeySet) → s ≡ noKeys → Holds [] s
-holds-none s e = held (omega arith) e
+-- ---- the keys so far, and the set that holds them, exactly their flags being set, or is past holding them
+pub data Holds (ks : List Key) (seen : List ℕ) (s : KeySet) : Type 0 where
+  held : length ks ≤ 8 → eachOnce ks ≡ true → Exactly seen ks → s ≡ keySetOf ks → Holds ks seen s
+  lost : ((js : List Key) → allowed (ks ++ js) ≡ false) → s .count ≡ 9 → Holds ks seen s
+
+pub holds-none : (seen : List ℕ) (s : KeySet) → Exactly seen [] → s ≡ noKeys → Holds [] seen s
+holds-none seen s clear e = held (omega arith) refl clear e
 
 same-set : (m n : ℕ) (xs ys : List Key) → m ≡ n → xs ≡ ys
     → _≡_ {A = KeySet} (record { count = m; keys = xs }) (record { count = n; keys = ys })
@@ -176,31 +183,39 @@ module _ (ks : List Key) (k : Key) where
       let c : length ks + 1 ≡ length (ks ++ (k ∷ [])) = omega (arith, length-append ks (k ∷ [])) in
       same-set (length ks + 1) (length (ks ++ (k ∷ []))) _ _ c (stored h)
 
-  add-held : length ks ≤ 8 → Holds (ks ++ (k ∷ [])) (addKey (keySetOf ks) k)
-  unfolding addKey
-  add-held l = go (ltb (length ks) 8) refl (storable (k .identifier) (k .usage) (length (k .value))) refl
-    where
-      go : (b : Bool) → ltb (length ks) 8 ≡ b → (d : Bool) → storable (k .identifier) (k .usage) (length (k .value)) ≡ d
-          → Holds (ks ++ (k ∷ [])) (addKey (keySetOf ks) k)
-      go true f true g =
-          let h : length ks < 8 = ltb-true (length ks) 8 f in
-          held (omega (arith, length-append ks (k ∷ []))) (rw (f, g) (one-more h))
-      go true f false g = lost (more-lost (λ js. one-not-allowed ks k js (not-storable k g))) (rw (f, g))
-      go false f d g =
-          lost
-          (more-lost (λ js. long-not-allowed (ks ++ (k ∷ js)) (omega (arith, ltb-false (length ks) 8 f, length-append ks (k ∷ js)))))
-          (rw f)
+  -- the key has a place: its flag tells whether the set holds it
+  stored-more : (joined : Bool) (after : List ℕ) → length ks < 8 → eachOnce ks ≡ true → OneMore ks k joined after
+      → Holds (ks ++ (k ∷ [])) after (record { count = cond joined (length ks + 1) 9; keys = set (keySetOf ks .keys) (length ks) k })
+  stored-more true after h once m = held (omega (arith, length-append ks (k ∷ []))) (m .good refl once) (m .next refl) (one-more h)
+  stored-more false after h once m = lost (more-lost (λ js. once-not-allowed (ks ++ (k ∷ js)) (m .bad refl js))) refl
 
-  pub holds-more : (s : KeySet) → Holds ks s → Holds (ks ++ (k ∷ [])) (addKey s k)
-  unfolding addKey
-  holds-more s (held l e) = rw e (add-held l)
-  holds-more s (lost f e) = lost (more-lost (λ js. f (k ∷ js))) (rw e)
+  pub holds-stored : (seen : List ℕ) (s : KeySet) → Holds ks seen s → s .count < 8 → (joined : Bool) (after : List ℕ)
+      → (Exactly seen ks → OneMore ks k joined after) → Holds (ks ++ (k ∷ [])) after (record { count = cond joined (s .count + 1) 9; keys = set (s .keys) (s .count) k })
+  holds-stored seen s (held l once clear e) h joined after m =
+      rw e (stored-more joined after (let few : keySetOf ks .count < 8 = rw e at h in few) once (m clear))
+  holds-stored seen s (lost f e) h joined after m = absurd (omega arith)
+
+  -- no place can hold it
+  pub holds-nine : (seen : List ℕ) (s : KeySet) → Holds ks seen s → (ltb (s .count) 8 && storable (k .identifier) (k .usage) (length (k .value))) ≡ false
+      → Holds (ks ++ (k ∷ [])) seen (record { count = 9; keys = s .keys })
+  holds-nine seen s (held l once clear e) none = lost (more-lost (go (ltb (length ks) 8) refl)) refl
+    where
+      unfit-key : (ltb (length ks) 8 && storable (k .identifier) (k .usage) (length (k .value))) ≡ false
+      unfit-key = rw e at none
+
+      go : (b : Bool) → ltb (length ks) 8 ≡ b → (js : List Key) → allowed (ks ++ (k ∷ js)) ≡ false
+      go true f js = one-not-allowed ks k js (not-storable k (rw f at unfit-key))
+      go false f js = long-not-allowed (ks ++ (k ∷ js)) (omega (arith, ltb-false (length ks) 8 f, length-append ks (k ∷ js)))
+  holds-nine seen s (lost f e) none = lost (more-lost (λ js. f (k ∷ js))) refl
 
 -- ---- the end
-pub holds-all : (ks : List Key) (s : KeySet) → Holds ks s → cond (allowedSet s) (good s) unfit ≡ keysIn (groupsOf ks)
-unfolding allowedSet
-holds-all ks s (held l e) = rw (e, le-leb (length ks) 8 l, take-append-seam ks (replicate (8 - length ks) noKey))
-holds-all ks s (lost f e) = let g : allowed ks ≡ false = rw append-nil at (f []) in rw (e, g)
+pub holds-all : (ks : List Key) (seen : List ℕ) (s : KeySet) → Holds ks seen s → cond (someFew s) (good s) unfit ≡ keysIn (groupsOf ks)
+unfolding allowed
+holds-all ks seen s (held l once clear e) =
+    let all = both-left (allInLimits ks) (noneTwice ks) once in
+    let two = both-right (allInLimits ks) (noneTwice ks) once in
+    rw (e, all, two, and-true (leb 1 (length ks) && leb (length ks) 8), and-true (leb 1 (length ks) && leb (length ks) 8))
+holds-all ks seen s (lost f e) = let g : allowed ks ≡ false = rw append-nil at (f []) in rw (e, g)
 
 -- ---- the groups, one after the other
 -- keys in front of groups
@@ -229,45 +244,34 @@ unpadded : (v : List ℕ) → length v ≡ 16 → padded 16 v ≡ v
 unfolding padded
 unpadded v e = let z : 16 - length v ≡ 0 = omega arith in rw z (append-nil v)
 
-module _ (s : KeySet) (i u n : ℕ) (l : List ℕ) (p : ℕ) (h : p + n ≤ length l) where
-  abbrev content : List ℕ
-  content = take n (drop p l)
+whole : (l : List ℕ) (p n : ℕ) → p + n ≤ length l → length (take n (drop p l)) ≡ n
+whole l p n h = length-take-le n (drop p l) (omega (arith, length-drop p l))
 
-  whole : length content ≡ n
-  whole = length-take-le n (drop p l) (omega (arith, length-drop p l))
-
-  pub add-none : (ltb (s .count) 8 && storable i u n) ≡ false → _≡_ {A = KeySet} (record { count = 9; keys = s .keys }) (addKey s (keyOf i u content))
-  unfolding addKey
-  add-none f = rw (whole, f)
-
-  pub add-stored : (ltb (s .count) 8 && storable i u n) ≡ true → (b : List ℕ) → b ≡ copiedFrom l p n
-      → _≡_ {A = KeySet} (record { count = s .count + 1; keys = set (s .keys) (s .count) (keyOf i u b) }) (addKey s (keyOf i u content))
-  unfolding addKey
-  add-stored g b e =
-      let z : n ≡ 16 = storable-parts i u n (both-right (ltb (s .count) 8) (storable i u n) g) .2 in
-      let w : b ≡ content = e ∙ copied-inside l p n (omega arith) h ∙ unpadded content (whole ∙ z) in
-      rw (w, whole, g)
+pub value-copied : (l : List ℕ) (p n : ℕ) (b : List ℕ) → p + n ≤ length l → n ≡ 16 → b ≡ copiedFrom l p n → b ≡ take n (drop p l)
+value-copied l p n b h z e = e ∙ copied-inside l p n (omega arith) h ∙ unpadded (take n (drop p l)) (whole l p n h ∙ z)
 
 -- ---- the loop over the groups: the keys so far, the set that holds them, and the groups that are left
-pub record Gathering (s : List ℕ) (from count at left : ℕ) (k : KeySet) : Type 0 where
+pub record Gathering (s : List ℕ) (from count at left : ℕ) (k : KeySet) (seen : List ℕ) : Type 0 where
   pub keys : List Key
-  pub holds : Holds keys k
+  pub holds : Holds keys seen k
   pub so-far : groups (membersAt count (drop from s)) ≡ after keys (groups (membersAt left (drop at s)))
   pub inside : at ≤ length s
   pub rest : afterMembers count (drop from s) ≡ afterMembers left (drop at s)
 
-pub gathering-none : (s : List ℕ) (from count : ℕ) (k : KeySet) → from ≤ length s → k ≡ noKeys → Gathering s from count from count k
-gathering-none s from count k h e = record { keys = []; holds = holds-none k e; so-far = after-none _; inside = h; rest = refl }
+pub gathering-none : (s : List ℕ) (from count : ℕ) (k : KeySet) (seen : List ℕ) → from ≤ length s → k ≡ noKeys → Exactly seen []
+    → Gathering s from count from count k seen
+gathering-none s from count k seen h e clear =
+    record { keys = []; holds = holds-none seen k clear e; so-far = after-none _; inside = h; rest = refl }
 
-module _ (s : List ℕ) (from count at n : ℕ) (k : KeySet) (w : Gathering s from count at n k) where
-  pub gathering-done : n ≤ 0 → (r : Reading KeysParameter) → r ≡ keysConcluded (cond (allowedSet k) (good k) unfit)
+module _ (s : List ℕ) (from count at n : ℕ) (k : KeySet) (seen : List ℕ) (w : Gathering s from count at n k seen) where
+  pub gathering-done : n ≤ 0 → (r : Reading KeysParameter) → r ≡ keysConcluded (cond (someFew k) (good k) unfit)
       → r ≡ keysConcluded (keysIn (groups (membersAt count (drop from s))))
   unfolding groups
   gathering-done h r e =
       let z : n ≡ 0 = omega arith in
       let f : groups (membersAt count (drop from s)) ≡ groupsOf (w .keys) =
       w .so-far ∙ rw (members-none n (drop at s) z, append-nil) in
-      e ∙ ap keysConcluded (holds-all (w .keys) k (w .holds) ∙ ap keysIn (sym f))
+      e ∙ ap keysConcluded (holds-all (w .keys) seen k (w .holds) ∙ ap keysIn (sym f))
 
   pub gathering-end : n ≤ 0 → drop at s ≡ afterMembers count (drop from s)
   gathering-end h = sym (w .rest ∙ nothing-left n (drop at s) (omega arith))
@@ -295,18 +299,35 @@ module _ (s : List ℕ) (from count at n : ℕ) (k : KeySet) (w : Gathering s fr
       pub group-inside : (at + (p + a) ≤ length s) × (m < n)
       group-inside = (omega (arith, closed .0, length-drop at s, w .inside), closed .1)
 
-      pub gathering-more : GroupRest (take (length s - at) (drop at s)) 0 n r → (x : KeySet) → x ≡ addKey k (keyOf i u (take a (drop p (take (length s - at) (drop at s)))))
-          → Gathering s from count (at + (p + a)) m x
-      gathering-more y x f =
-          let v : List ℕ = take a (drop p (drop at s)) in
-          let z : GroupRest (drop at s) 0 n (gv.Closed i u p a m) = rw e at (rw part at y) in
-          record {
-            keys = w .keys ++ (keyOf i u v ∷ []);
-            holds = rw (f, part) (holds-more (w .keys) (keyOf i u v) k (w .holds));
-            so-far = w .so-far ∙ rw (closed .2, drop-drop (p + a) at s) (after-more (w .keys) i u v (groups (membersAt m (drop (at + (p + a)) s))));
-            inside = group-inside .0;
-            rest = w .rest ∙ z ∙ ap (afterMembers m) (drop-drop (p + a) at s);
-          }
+      module _ (y : GroupRest (take (length s - at) (drop at s)) 0 n r) where
+        abbrev read : Key
+        read = keyOf i u (take a (drop p (take (length s - at) (drop at s))))
+
+        gathering-more : (x : KeySet) (seen' : List ℕ) → Holds (w .keys ++ (read ∷ [])) seen' x → Gathering s from count (at + (p + a)) m x seen'
+        gathering-more x seen' h =
+            let v : List ℕ = take a (drop p (drop at s)) in
+            let z : GroupRest (drop at s) 0 n (gv.Closed i u p a m) = rw e at (rw part at y) in
+            record {
+              keys = w .keys ++ (keyOf i u v ∷ []);
+              holds = rw part at h;
+              so-far = w .so-far ∙ rw (closed .2, drop-drop (p + a) at s) (after-more (w .keys) i u v (groups (membersAt m (drop (at + (p + a)) s))));
+              inside = group-inside .0;
+              rest = w .rest ∙ z ∙ ap (afterMembers m) (drop-drop (p + a) at s);
+            }
+
+        pub gathering-stored : k .count < 8 → (j : Key) → j ≡ read → (seen' : List ℕ) → WithOneMore seen j (joins seen j) seen'
+            → (c : ℕ) → c ≡ cond (joins seen j) (k .count + 1) 9
+            → Gathering s from count (at + (p + a)) m (record { count = c; keys = set (k .keys) (k .count) j }) seen'
+        gathering-stored h j f seen' more c q =
+            rw q
+            (gathering-more (record { count = cond (joins seen j) (k .count + 1) 9; keys = set (k .keys) (k .count) j }) seen'
+            (rw (← f) (holds-stored (w .keys) j seen k (w .holds) h (joins seen j) seen' (more (w .keys)))))
+
+        pub gathering-nine : (ltb (k .count) 8 && storable i u a) ≡ false
+            → Gathering s from count (at + (p + a)) m (record { count = 9; keys = k .keys }) seen
+        gathering-nine f =
+            gathering-more (record { count = 9; keys = k .keys }) seen
+            (holds-nine (w .keys) read seen k (w .holds) (rw (whole (take (length s - at) (drop at s)) p a group-within) f))
 
 -- ---- the value
 module _ (s : List ℕ) (at : ℕ) (v : Value) (e : ValueSays s at v) (r : Reading KeysParameter) where

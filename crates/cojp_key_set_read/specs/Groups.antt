@@ -1,12 +1,11 @@
--- For the contracts of the functions that read a key set: its groups as they stand in the bytes, and the set that is gathered of them.
+-- For the contracts of the functions that read a key set: its groups as they stand in the bytes, and what a place and a set can hold.
 use Prim.Native.Nat.{ℕ, _+_, _≤_, _<_}
 use mathlib.Core.Path.{_≡_}
-use mathlib.Core.Bool.{Bool, cond, _&&_}
+use mathlib.Core.Bool.{Bool, _&&_}
 use mathlib.Core.List.{List, _++_}
-use lib.Dec.{leb, ltb, eqb}
-use lib.ListN.{length, take, drop, set}
+use lib.Dec.{leb, eqb}
+use lib.ListN.{length, take, drop}
 use Rattle.cbor.specs.View.{Plain}
-use Rattle.link_key.specs.declared.Key.{Key}
 use Rattle.link_key_set.specs.declared.key_set.KeySet.{KeySet}
 use Rattle.cojp.specs.Bytes.{membersAt, afterMembers}
 use Rattle.cojp.specs.KeySet.{Groups, notGroups, group, groups}
@@ -32,9 +31,6 @@ GroupRest s at n (gv.Closed i u p a m) = afterMembers n (drop at s) ≡ afterMem
 abbrev pub storable : ℕ → ℕ → ℕ → Bool
 storable identifier usage len = (leb identifier 255 && leb usage 255 && eqb len 16)
 
--- the set with one key more; one of nine keys, which is outside the limits whatever comes after, where no place can hold it
-unfoldable pub addKey : KeySet → Key → KeySet
-addKey s k =
-    cond (ltb (s .count) 8 && storable (k .identifier) (k .usage) (length (k .value)))
-    (record { count = s .count + 1; keys = set (s .keys) (s .count) k })
-    (record { count = 9; keys = s .keys })
+-- a set has 1 to 8 keys
+abbrev pub someFew : KeySet → Bool
+someFew set = (leb 1 (set .count) && leb (set .count) 8)

@@ -9,22 +9,26 @@ use cojp::copied;
 use cojp::member_at;
 use cojp::no_key_set;
 use link_key::Key;
+use link_key::key_of;
 use link_key::no_key;
 use link_key_set::KeySet;
+use link_key_set::seen::join;
+use link_key_set::seen::none_seen;
 use refusal::Refusal;
 use refusal::Verdict;
 ghost use mathlib.Core.Path.{_≡_};
-ghost use mathlib.Core.Bool.{cond, _&&_};
+ghost use mathlib.Core.Bool.{true, cond, _&&_};
 ghost use lib.Dec.{ltb};
 ghost use mathlib.Core.List.{[], _∷_};
-ghost use Prim.Native.Nat.{_≤_, _<_};
-ghost use lib.ListN.{length, drop};
+ghost use Prim.Native.Nat.{_+_, _≤_, _<_};
+ghost use lib.ListN.{length, take, drop};
 ghost use Rattle.cbor.specs.View.{number};
-ghost use Rattle.link_key_set.specs.KeySet.{allowedSet};
+ghost use Rattle.link_key.specs.Key.{keyOf};
+ghost use Rattle.link_key_set.specs.Seen.{joins, WithOneMore};
 ghost use Rattle.cojp.specs.Bytes.{valueView, membersAt, afterValue, afterMembers};
 ghost use Rattle.cojp.specs.KeySet.{groups, keysIn, keysConcluded, keysRead, keysAnswer};
 ghost use Rattle.cojp.specs.Reading.{refused, unfit, good, Accepting};
-ghost use Rattle.cojp_key_set_read.specs.Groups.{GroupAt, GroupAfter, GroupRest, storable};
+ghost use Rattle.cojp_key_set_read.specs.Groups.{GroupAt, GroupAfter, GroupRest, storable, someFew};
 
 // A group: where its value stands in the part, and how many members are left after it.
 enum Group {
@@ -115,12 +119,34 @@ fn is_storable(n: usize, identifier: u64, usage: u64, len: usize) -> bool
     len == 16
 }
 
-// The parameter that a gathered set is, if it is within the limits; the set ends at `next`.
+// The key of a group that a place can hold.
+fn group_key(part: &[u8], identifier: u64, usage: u64, start: usize, len: usize) -> Key
+    requires { ⌜ storable identifier usage len ≡ true ⌝ }
+    requires { ⌜ start + len ≤ length (now part) ⌝ }
+    ensures { λ r. ⌜ r ≡ keyOf identifier usage (take len (drop start (now (part .entry)))) ⌝ }
+{
+    let value = copied(part, start, len);
+    key_of(identifier as u8, usage as u8, value)
+}
+
+// How many keys a set of `n` has with the key: one more if it joins them, else nine, which no set has.
+fn count_with(seen: &mut [u32; 8], n: usize, key: Key) -> usize
+    requires { ⌜ n < 8 ⌝ }
+    ensures { λ r. ⌜ r ≡ cond (joins (now (seen .entry)) key) (n + 1) 9 ⌝ }
+    ensures so_far { λ r. ⌜ WithOneMore (now (seen .entry)) key (joins (now (seen .entry)) key) (now (seen .exit)) ⌝ }
+{
+    if join(seen, key) {
+        return n + 1;
+    }
+    9
+}
+
+// The parameter that a gathered set is, if it has 1 to 8 keys; the set ends at `next`.
 fn close_set(set: KeySet, next: usize) -> KeysRead
-    ensures { λ r. ⌜ r ≡ keysAnswer (keysConcluded (cond (allowedSet set) (good set) unfit)) (r .next) ⌝ }
+    ensures { λ r. ⌜ r ≡ keysAnswer (keysConcluded (cond (someFew set) (good set) unfit)) (r .next) ⌝ }
     ensures rest { λ r. ⌜ Accepting (r .verdict) (r .next ≡ next) ⌝ }
 {
-    if !set.allowed() {
+    if set.count == 0 || 8 < set.count {
         return refused_keys(Refusal::Keys);
     }
     let parameter = KeysParameter {
@@ -134,7 +160,7 @@ fn close_set(set: KeySet, next: usize) -> KeysRead
     }
 }
 
-// The key set whose `count` members begin at a place: the pattern to its end, and then the limits.
+// The key set whose `count` members begin at a place: the pattern to its end, and then the limits, which each key has met or not as it came.
 fn gather_keys(s: &[u8], from: usize, count: u64) -> KeysRead
     requires { ⌜ from ≤ length (now s) ⌝ }
     ensures { λ r. ⌜ r ≡ keysAnswer (keysConcluded (keysIn (groups (membersAt count (drop from (now (s .entry))))))) (r .next) ⌝ }
@@ -145,6 +171,7 @@ fn gather_keys(s: &[u8], from: usize, count: u64) -> KeysRead
     let none = no_key();
     let mut n: usize = 0;
     let mut keys = [none; 8];
+    let mut seen = none_seen();
     while 0 < remaining {
         let part = &s[at..];
         let g = read_group(part, remaining);
@@ -158,14 +185,9 @@ fn gather_keys(s: &[u8], from: usize, count: u64) -> KeysRead
                 left,
             } => {
                 if is_storable(n, identifier, usage, len) {
-                    let value = copied(part, start, len);
-                    let key = Key {
-                        identifier: identifier as u8,
-                        usage: usage as u8,
-                        value: value,
-                    };
+                    let key = group_key(part, identifier, usage, start, len);
                     keys[n] = key;
-                    n += 1;
+                    n = count_with(&mut seen, n, key);
                 } else {
                     n = 9;
                 }
@@ -174,10 +196,7 @@ fn gather_keys(s: &[u8], from: usize, count: u64) -> KeysRead
             }
         }
     }
-    let set = KeySet {
-        count: n,
-        keys: keys,
-    };
+    let set = KeySet { count: n, keys };
     close_set(set, at)
 }
 

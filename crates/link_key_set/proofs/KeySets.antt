@@ -2,18 +2,18 @@
 use Prim.Native.Nat.{ℕ, _≤_, _<_}
 use native.Mathlib.Omega.{arith}
 use mathlib.Core.Path.{_≡_, refl, sym}
-use mathlib.Core.Bool.{Bool, true, false, not, _&&_, _||_, and-false}
+use mathlib.Core.Bool.{Bool, true, false, not, _&&_, _||_, and-false, or-true}
 use mathlib.Core.List.{List, [], _∷_, _++_, List·Memᴰ, List·Memᴰ·head, List·Memᴰ·tail}
 use mathlib.Core.Option.{none, some}
 use borrow.Author.Tests.{leb-true, eqb-true, eqb-false, eq-eqb, ne-eqb, le-leb, lt-leb, not-true}
 use lib.Dec.{leb, eqb}
 use lib.ListN.{length, length-take}
 use Rattle.link_key.specs.Key.{inLimits, sameKey, covers}
-use Rattle.link_key_set.specs.KeySet.{keysOf, noKeys, named, has, allowed, allowedSet, allInLimits, noneTwice, sameKeys, shares, Apart}
+use Rattle.link_key_set.specs.KeySet.{keysOf, noKeys, named, has, allowed, allowedSet, allInLimits, noneTwice, eachOnce, sameKeys, shares, Apart}
 use Rattle.link_key_set.specs.KeySet.{Covers, firstCover, findKey}
 use Rattle.link_key.specs.declared.Key.{Key}
 use Rattle.link_key_set.specs.declared.key_set.KeySet.{KeySet}
-use Rattle.logic_facts.specs.Tests.{both-left, both-right}
+use Rattle.logic_facts.specs.Tests.{both-left, both-right, never}
 use Rattle.link_key.proofs.Same.{same-self, same-equal}
 use Rattle.link_key_set.proofs.Lists.{any-one, any-none, any-never, any-append, all-each, all-append, first-is, first-none, none-first, first-finds}
 use Rattle.link_key.proofs.Keys.{same-key-self, same-key-equal}
@@ -78,6 +78,33 @@ has-append identifier xs ys = any-append (named identifier) xs ys
 pub limits-append : (xs ys : List Key) → allInLimits (xs ++ ys) ≡ (allInLimits xs && allInLimits ys)
 limits-append xs ys = all-append inLimits xs ys
 
+-- an identifier that came before comes twice, whatever follows
+twice-step :
+    (l k : Key) (ks js : List Key) → has (k .identifier) (l ∷ ks) ≡ true →
+    (has (k .identifier) ks ≡ true → noneTwice (ks ++ (k ∷ js)) ≡ false) → noneTwice (l ∷ (ks ++ (k ∷ js))) ≡ false
+twice-step l k ks js h below = go (eqb (l .identifier) (k .identifier)) refl
+  where
+    go : (b : Bool) → eqb (l .identifier) (k .identifier) ≡ b → noneTwice (l ∷ (ks ++ (k ∷ js))) ≡ false
+    go true e =
+        rw (any-append (named (l .identifier)) ks (k ∷ js), same-number (k .identifier) (l .identifier), e, or-true (has (l .identifier) ks))
+    go false e = let before = rw e at h in rw (below before) (and-false (not (has (l .identifier) (ks ++ (k ∷ js)))))
+
+some-twice : (ks : List Key) (k : Key) (js : List Key) → has (k .identifier) ks ≡ true → noneTwice (ks ++ (k ∷ js)) ≡ false
+some-twice [] k js h = never false h refl
+some-twice (l ∷ ks) k js h = twice-step l k ks js h (some-twice ks k js)
+
+pub once-more : (ks : List Key) (k : Key) → eachOnce ks ≡ true → inLimits k ≡ true → has (k .identifier) ks ≡ false → eachOnce (ks ++ (k ∷ [])) ≡ true
+once-more ks k e ok new =
+    rw (limits-append ks (k ∷ []), none-twice-append ks k, both-left (allInLimits ks) (noneTwice ks) e, both-right (allInLimits ks) (noneTwice ks) e, ok, new)
+
+pub not-once : (ks : List Key) (k : Key) (js : List Key) → (inLimits k && not (has (k .identifier) ks)) ≡ false → eachOnce (ks ++ (k ∷ js)) ≡ false
+not-once ks k js e = go (inLimits k) refl (has (k .identifier) ks) refl
+  where
+    go : (b : Bool) → inLimits k ≡ b → (c : Bool) → has (k .identifier) ks ≡ c → eachOnce (ks ++ (k ∷ js)) ≡ false
+    go false p c q = rw (limits-append ks (k ∷ js), p, and-false (allInLimits ks))
+    go true p true q = rw (some-twice ks k js q) (and-false (allInLimits (ks ++ (k ∷ js))))
+    go true p false q = never true refl (rw (p, q) at e)
+
 -- ---- searches
 pub cover-found : (type : ℕ) (ks : List Key) (k : Key) → firstCover type ks ≡ some k → List·Memᴰ k ks × (covers k type ≡ true)
 cover-found type ks k e = first-is (λ (l : Key). covers l type) ks k e
@@ -112,13 +139,6 @@ one-of-a-name ks k l e m n p =
     cc
 
 -- ---- limits
--- every key is in its limits, and no identifier comes twice
-abbrev pub keysAllowed : List Key → Bool
-keysAllowed ks = (allInLimits ks && noneTwice ks)
-
-pub not-twice : (k : Key) (ks : List Key) → has (k .identifier) ks ≡ true → keysAllowed (k ∷ ks) ≡ false
-not-twice k ks h = rw h (and-false (inLimits k && allInLimits ks))
-
 module _ (ks : List Key) (ok : allowed ks ≡ true) where
   pub allowed-none-twice : noneTwice ks ≡ true
   unfolding allowed
@@ -163,7 +183,7 @@ unfolding allowedSet allowed
 set-none set e = rw e
 
 pub set-limits :
-    (set : KeySet) → length (set .keys) ≡ 8 → (set .count ≡ 0 → ⊥) → set .count ≤ 8 → allowedSet set ≡ keysAllowed (keysOf set)
+    (set : KeySet) → length (set .keys) ≡ 8 → (set .count ≡ 0 → ⊥) → set .count ≤ 8 → allowedSet set ≡ eachOnce (keysOf set)
 unfolding allowedSet allowed
 set-limits set places held few =
     let size = length-take (set .count) (set .keys) in

@@ -39,6 +39,10 @@ noneTwice (k ∷ ks) = (not (has (k .identifier) ks) && noneTwice ks)
 abbrev pub allInLimits : List Key → Bool
 allInLimits ks = allOf inLimits ks
 
+-- every key is in its limits, and no identifier comes twice
+abbrev pub eachOnce : List Key → Bool
+eachOnce ks = (allInLimits ks && noneTwice ks)
+
 -- the limits of KEYS: 1 to 8 keys, each in its limits, no identifier twice
 unfoldable pub allowed : List Key → Bool
 allowed ks = (leb 1 (length ks) && leb (length ks) 8 && allInLimits ks && noneTwice ks)

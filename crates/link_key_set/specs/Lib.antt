@@ -1,3 +1,4 @@
 pub mod Lists
 pub mod KeySet
+pub mod Seen
 pub mod KeyLaws

@@ -1,16 +1,17 @@
 // A set of link-layer keys: the first `count` keys of eight places, in the order of the payload that held them.
+use crate::seen::join;
+use crate::seen::none_seen;
 use link_key::FoundKey;
 use link_key::Key;
 use link_key::no_key;
 ghost use mathlib.Core.Path.{_≡_};
 ghost use Prim.Native.Nat.{ℕ, _≤_};
-ghost use mathlib.Core.Bool.{_&&_};
 ghost use mathlib.Core.Option.{none};
 ghost use lib.Dec.{eqb};
 ghost use mathlib.Core.List.{map};
 ghost use lib.ListN.{length, take, drop};
 ghost use Rattle.link_key_set.specs.Lists.{anyOf};
-ghost use Rattle.link_key_set.specs.KeySet.{keysOf, identifierOf, noKeys, has, allInLimits, noneTwice, allowedSet, sameKeys, shares, findKey, firstCover};
+ghost use Rattle.link_key_set.specs.KeySet.{keysOf, identifierOf, noKeys, has, eachOnce, allowedSet, sameKeys, shares, findKey, firstCover};
 ghost use Rattle.link_key.specs.Key.{foundKey};
 
 pub struct KeySet {
@@ -94,20 +95,21 @@ impl KeySet {
         self.keys_allowed()
     }
 
-    // Whether every key is in its limits, and no identifier comes twice.
+    // Whether every key is in its limits, and no identifier comes twice: each key is looked at once.
     fn keys_allowed(self) -> bool
-        ensures { λ r. ⌜ r ≡ (allInLimits (keysOf self) && noneTwice (keysOf self)) ⌝ }
+        ensures { λ r. ⌜ r ≡ eachOnce (keysOf self) ⌝ }
     {
         let n = self.len();
         let keys = self.keys;
-        let ids = self.identifiers();
+        let mut seen = none_seen();
         let mut i: usize = 0;
         while i < n {
             let key = keys[i];
-            if !key.in_limits() || among(ids, i + 1, n, key.identifier) {
+            if join(&mut seen, key) {
+                i += 1;
+            } else {
                 return false;
             }
-            i += 1;
         }
         true
     }

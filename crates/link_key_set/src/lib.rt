@@ -1,5 +1,6 @@
 // Sets of link-layer keys, which the objects and the node share.
 pub mod key_set;
+pub mod seen;
 
 pub use key_set::KeySet;
 ghost use Rattle.link_key_set.specs.KeyLaws.{KeyLaws};

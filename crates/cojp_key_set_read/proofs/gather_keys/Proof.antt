@@ -1,31 +1,37 @@
 -- The keys so far stand before the groups that are left, and the set holds them or is overfull.
 use Prim.Native.Nat.{_≤_, _-_}
 use native.Mathlib.Omega.{arith}
-use mathlib.Core.Path.{refl, sym, _∙_}
+use mathlib.Core.Path.{refl}
 use mathlib.Core.Logic.{⊎-elim}
 use lib.Dec.{ltb}
 use lib.ListN.{length, take, drop}
 use borrow.Author.Tests.{ltb-true}
-use Rattle.logic_facts.specs.Tests.{both-left, both-right}
+use Rattle.logic_facts.specs.Tests.{both-left, both-right, is-true, is-false}
 use Rattle.link_key_set.specs.declared.key_set.KeySet.{KeySet}
 use Rattle.cojp_key_set_read.specs.Groups.{storable}
 use Rattle.cojp.proofs.Nexts.{keys-settled, accepting-on}
-use Rattle.cojp_key_set_read.proofs.KeySets.{Gathering, gathering-none, gathering-done, gathering-end, gathering-broken, group-within, group-inside, gathering-more, storable-parts, add-none, add-stored}
+use Rattle.cojp_key_set_read.proofs.KeySets.{Gathering, gathering-none, gathering-done, gathering-end, gathering-broken, group-within, group-inside, gathering-stored, gathering-nine}
 use borrow.Author.Needs.{needs}
 use Rattle.cojp_key_set_read.proofs.gather_keys.Statement.{statement}
 use Rattle.cojp_key_set_read.proofs.gather_keys.Tie as tie
 
 abbrev Inv-loop : tie.InvT-loop
-Inv-loop s from count at₀ remaining₀ n₀ keys₀ at remaining n keys = Gathering s from count at remaining (record { count = n; keys = keys })
+Inv-loop s from count at₀ remaining₀ n₀ keys₀ seen₀ at remaining n keys seen = Gathering s from count at remaining (record { count = n; keys = keys }) seen
 
 abbrev μ-loop : tie.MeasureT-loop
-μ-loop s from count at₀ remaining₀ n₀ keys₀ at remaining n keys = remaining
+μ-loop s from count at₀ remaining₀ n₀ keys₀ seen₀ at remaining n keys seen = remaining
 
 no-key-requires : tie.Need-no-key-requires Inv-loop μ-loop
 no-key-requires c κs = search needs
 
+none-seen-requires : tie.Need-none-seen-requires Inv-loop μ-loop
+none-seen-requires c κs = search needs
+
 loop-holds : tie.Need-loop-holds Inv-loop μ-loop
-loop-holds c = let a = c .before .before .args in gathering-none (a .s .now) (a .from) (a .count) _ (c .before .before .pre) (rw (c .no-key .ensures))
+loop-holds c =
+    let start = c .before .before .before in
+    let a = start .args in
+    gathering-none (a .s .now) (a .from) (a .count) _ (c .none-seen .result) (start .pre) (rw (c .before .no-key .ensures)) (c .none-seen .ensures)
 
 sub-part : tie.Need-sub-part Inv-loop μ-loop
 sub-part c = omega (arith, c .before .loop .inv .inside)
@@ -47,11 +53,14 @@ refused-keys-requires c κs = search needs
 
 returns : tie.Need-returns Inv-loop μ-loop
 returns c =
-    let a = c .before .before .before .before .before .before .before .before .before .args in
-    let l = c .before .before .before .before .before .before .loop in
+    let turn = c .before .before .before .before .before .before in
+    let start = turn .before .before .before .before in
+    let a = start .args in
+    let l = turn .loop in
     let k : KeySet = record { count = l .n; keys = l .keys } in
     let r = c .before .before .before .read-group in
-    (keys-settled (c .refused-keys .result) _ _ (c .refused-keys .ensures) _ (gathering-broken (a .s .now) (a .from) (a .count) (l .at) (l .remaining) k (l .inv) (r .result) (r .ensures .0) (c .before .enum-told .given .1) _ refl), rw (c .refused-keys .ensures) tt)
+    let broken = gathering-broken (a .s .now) (a .from) (a .count) (l .at) (l .remaining) k (l .seen) (l .inv) (r .result) (r .ensures .0) (c .before .enum-told .given .1) _ refl in
+    (keys-settled (c .refused-keys .result) _ _ (c .refused-keys .ensures) _ broken, rw (c .refused-keys .ensures) tt)
 
 enum-known-g : tie.Need-enum-known-g Inv-loop μ-loop
 enum-known-g c = search needs
@@ -59,111 +68,117 @@ enum-known-g c = search needs
 is-storable-requires : tie.Need-is-storable-requires Inv-loop μ-loop
 is-storable-requires c κs = search needs
 
-copied-requires : tie.Need-copied-requires Inv-loop μ-loop
-copied-requires c κs = search needs
-
-cast-t25 : tie.Need-cast-t25 Inv-loop μ-loop
-cast-t25 c =
-    let a = c .before .before .before .before .before .before .before .before .before .before .before .before .args in
-    let l = c .before .before .before .before .before .before .before .before .before .loop in
+group-key-requires : tie.Need-group-key-requires Inv-loop μ-loop
+group-key-requires c κs =
+    let turn = c .before .before .before .before .before .before .before .before in
+    let start = turn .before .before .before .before in
+    let a = start .args in
+    let l = turn .loop in
     let k : KeySet = record { count = l .n; keys = l .keys } in
-    let g = c .before .before .before .before .g .given in
-    let fit = sym (c .before .before .is-storable .ensures) ∙ c .before .if1 .taken in
-    omega (arith, storable-parts (g .0 .0) (g .0 .1 .0) (g .0 .1 .1 .1 .0) (both-right (ltb (l .n) 8) (storable (g .0 .0) (g .0 .1 .0) (g .0 .1 .1 .1 .0)) fit) .0)
-
-cast-t26 : tie.Need-cast-t26 Inv-loop μ-loop
-cast-t26 c =
-    let a = c .before .before .before .before .before .before .before .before .before .before .before .before .args in
-    let l = c .before .before .before .before .before .before .before .before .before .loop in
-    let k : KeySet = record { count = l .n; keys = l .keys } in
-    let g = c .before .before .before .before .g .given in
-    let fit = sym (c .before .before .is-storable .ensures) ∙ c .before .if1 .taken in
-    omega (arith, storable-parts (g .0 .0) (g .0 .1 .0) (g .0 .1 .1 .1 .0) (both-right (ltb (l .n) 8) (storable (g .0 .0) (g .0 .1 .0) (g .0 .1 .1 .1 .0)) fit) .1)
+    let r = c .before .before .before .before .before .read-group in
+    let g = c .before .before .before .g .given in
+    let fit = is-true (c .before .is-storable .ensures) (c .if1 .taken) in (
+      both-right (ltb (l .n) 8) (storable (g .0 .0) (g .0 .1 .0) (g .0 .1 .1 .1 .0)) fit,
+      group-within (a .s .now) (a .from) (a .count) (l .at) (l .remaining) k (l .seen) (l .inv) (r .result) (r .ensures .0) (g .0 .0) (g .0 .1 .0) (g .0 .1 .1 .0) (g .0 .1 .1 .1 .0) (g .0 .1 .1 .1 .1 .0) (g .1),
+    )
 
 mul-keys : tie.Need-mul-keys Inv-loop μ-loop
 mul-keys c =
-    let a = c .before .before .before .before .before .before .before .before .before .before .before .before .args in
-    let l = c .before .before .before .before .before .before .before .before .before .loop in
-    let k : KeySet = record { count = l .n; keys = l .keys } in
+    let turn = c .before .before .before .before .before .before .before .before .before in
+    let l = turn .loop in
     let g = c .before .before .before .before .g .given in
-    let fit = sym (c .before .before .is-storable .ensures) ∙ c .before .if1 .taken in
-    omega (arith, ltb-true (l .n) 8 (both-left (ltb (l .n) 8) (storable (g .0 .0) (g .0 .1 .0) (g .0 .1 .1 .1 .0)) fit))
+    let fit = is-true (c .before .before .is-storable .ensures) (c .before .if1 .taken) in
+    let few = ltb-true (l .n) 8 (both-left (ltb (l .n) 8) (storable (g .0 .0) (g .0 .1 .0) (g .0 .1 .1 .1 .0)) fit) in
+    omega (arith, few)
 
 array-set-from-keys : tie.Need-array-set-from-keys Inv-loop μ-loop
 array-set-from-keys c =
-    let a = c .before .before .before .before .before .before .before .before .before .before .before .before .args in
-    let l = c .before .before .before .before .before .before .before .before .before .loop in
-    let k : KeySet = record { count = l .n; keys = l .keys } in
+    let turn = c .before .before .before .before .before .before .before .before .before in
+    let l = turn .loop in
     let g = c .before .before .before .before .g .given in
-    let fit = sym (c .before .before .is-storable .ensures) ∙ c .before .if1 .taken in
-    omega (arith, ltb-true (l .n) 8 (both-left (ltb (l .n) 8) (storable (g .0 .0) (g .0 .1 .0) (g .0 .1 .1 .1 .0)) fit))
+    let fit = is-true (c .before .before .is-storable .ensures) (c .before .if1 .taken) in
+    let few = ltb-true (l .n) 8 (both-left (ltb (l .n) 8) (storable (g .0 .0) (g .0 .1 .0) (g .0 .1 .1 .1 .0)) fit) in
+    omega (arith, few)
 
-add-n : tie.Need-add-n Inv-loop μ-loop
-add-n c =
-    let a = c .before .before .before .before .before .before .before .before .before .before .before .before .args in
-    let l = c .before .before .before .before .before .before .before .before .before .loop in
-    let k : KeySet = record { count = l .n; keys = l .keys } in
-    let g = c .before .before .before .before .g .given in
-    let fit = sym (c .before .before .is-storable .ensures) ∙ c .before .if1 .taken in
-    omega (arith, ltb-true (l .n) 8 (both-left (ltb (l .n) 8) (storable (g .0 .0) (g .0 .1 .0) (g .0 .1 .1 .1 .0)) fit))
+count-with-requires : tie.Need-count-with-requires Inv-loop μ-loop
+count-with-requires c κs =
+    let turn = c .before .before .before .before .before .before .before .before .before .before in
+    let l = turn .loop in
+    let g = c .before .before .before .before .before .g .given in
+    let fit = is-true (c .before .before .before .is-storable .ensures) (c .before .before .if1 .taken) in
+    let few = ltb-true (l .n) 8 (both-left (ltb (l .n) 8) (storable (g .0 .0) (g .0 .1 .0) (g .0 .1 .1 .1 .0)) fit) in
+    few
 
 add-at : tie.Need-add-at Inv-loop μ-loop
 add-at c =
-    let a = c .before .before .before .before .before .before .before .before .before .before .before .args in
-    let l = c .before .before .before .before .before .before .before .before .loop in
+    let turn = c .before .before .before .before .before .before .before .before in
+    let start = turn .before .before .before .before in
+    let a = start .args in
+    let l = turn .loop in
     let k : KeySet = record { count = l .n; keys = l .keys } in
     let r = c .before .before .before .before .before .read-group in
     let g = c .before .before .before .g .given in
-    let i = group-inside (a .s .now) (a .from) (a .count) (l .at) (l .remaining) k (l .inv) (r .result) (r .ensures .0) (g .0 .0) (g .0 .1 .0) (g .0 .1 .1 .0) (g .0 .1 .1 .1 .0) (g .0 .1 .1 .1 .1 .0) (g .1) in
-    omega (arith, i .0, c .before .before .before .before .before .before .before .before .before .before .before .good)
+    let inside = group-inside (a .s .now) (a .from) (a .count) (l .at) (l .remaining) k (l .seen) (l .inv) (r .result) (r .ensures .0) (g .0 .0) (g .0 .1 .0) (g .0 .1 .1 .0) (g .0 .1 .1 .1 .0) (g .0 .1 .1 .1 .1 .0) (g .1) in
+    omega (arith, inside .0, start .good)
 
 add-at-2 : tie.Need-add-at-2 Inv-loop μ-loop
 add-at-2 c =
-    let a = c .before .before .before .before .before .before .before .before .before .before .before .args in
-    let l = c .before .before .before .before .before .before .before .before .loop in
+    let turn = c .before .before .before .before .before .before .before .before in
+    let start = turn .before .before .before .before in
+    let a = start .args in
+    let l = turn .loop in
     let k : KeySet = record { count = l .n; keys = l .keys } in
     let r = c .before .before .before .before .before .read-group in
     let g = c .before .before .before .g .given in
-    let i = group-inside (a .s .now) (a .from) (a .count) (l .at) (l .remaining) k (l .inv) (r .result) (r .ensures .0) (g .0 .0) (g .0 .1 .0) (g .0 .1 .1 .0) (g .0 .1 .1 .1 .0) (g .0 .1 .1 .1 .1 .0) (g .1) in
-    omega (arith, i .0, c .before .before .before .before .before .before .before .before .before .before .before .good)
+    let inside = group-inside (a .s .now) (a .from) (a .count) (l .at) (l .remaining) k (l .seen) (l .inv) (r .result) (r .ensures .0) (g .0 .0) (g .0 .1 .0) (g .0 .1 .1 .0) (g .0 .1 .1 .1 .0) (g .0 .1 .1 .1 .1 .0) (g .1) in
+    omega (arith, inside .0, start .good)
 
 loop-less : tie.Need-loop-less Inv-loop μ-loop
 loop-less c =
-    let a = c .before .before .before .before .before .before .before .before .before .before .before .args in
-    let l = c .before .before .before .before .before .before .before .before .loop in
+    let turn = c .before .before .before .before .before .before .before .before in
+    let start = turn .before .before .before .before in
+    let a = start .args in
+    let l = turn .loop in
     let k : KeySet = record { count = l .n; keys = l .keys } in
     let r = c .before .before .before .before .before .read-group in
     let g = c .before .before .before .g .given in
-    let i = group-inside (a .s .now) (a .from) (a .count) (l .at) (l .remaining) k (l .inv) (r .result) (r .ensures .0) (g .0 .0) (g .0 .1 .0) (g .0 .1 .1 .0) (g .0 .1 .1 .1 .0) (g .0 .1 .1 .1 .1 .0) (g .1) in
-    i .1
+    let inside = group-inside (a .s .now) (a .from) (a .count) (l .at) (l .remaining) k (l .seen) (l .inv) (r .result) (r .ensures .0) (g .0 .0) (g .0 .1 .0) (g .0 .1 .1 .0) (g .0 .1 .1 .1 .0) (g .0 .1 .1 .1 .1 .0) (g .1) in
+    inside .1
 
 loop-again : tie.Need-loop-again Inv-loop μ-loop
 loop-again c =
-    let a = c .before .before .before .before .before .before .before .before .before .before .before .args in
-    let l = c .before .before .before .before .before .before .before .before .loop in
+    let turn = c .before .before .before .before .before .before .before .before in
+    let start = turn .before .before .before .before in
+    let a = start .args in
+    let l = turn .loop in
     let k : KeySet = record { count = l .n; keys = l .keys } in
     let r = c .before .before .before .before .before .read-group in
     let g = c .before .before .before .g .given in
-    let told = sym (c .before .is-storable .ensures) in
-    let part = take (length (a .s .now) - l .at) (drop (l .at) (a .s .now)) in
-    let h = group-within (a .s .now) (a .from) (a .count) (l .at) (l .remaining) k (l .inv) (r .result) (r .ensures .0) (g .0 .0) (g .0 .1 .0) (g .0 .1 .1 .0) (g .0 .1 .1 .1 .0) (g .0 .1 .1 .1 .1 .0) (g .1) in
-    gathering-more (a .s .now) (a .from) (a .count) (l .at) (l .remaining) k (l .inv) (r .result) (r .ensures .0) (g .0 .0) (g .0 .1 .0) (g .0 .1 .1 .0) (g .0 .1 .1 .1 .0) (g .0 .1 .1 .1 .1 .0) (g .1) (r .ensures .1) _
-    (⊎-elim
-    (λ w. rw (w .2, w .3) (add-stored k (g .0 .0) (g .0 .1 .0) (g .0 .1 .1 .1 .0) part (g .0 .1 .1 .0) h (told ∙ w .0 .taken) (w .1 .result) (w .1 .ensures)))
-    (λ w. rw (w .1, w .2) (add-none k (g .0 .0) (g .0 .1 .0) (g .0 .1 .1 .1 .0) part (g .0 .1 .1 .0) h (told ∙ w .0 .left)))
-    (c .if1 .came))
+    let told = c .before .is-storable .ensures in
+    let storing = storable (g .0 .0) (g .0 .1 .0) (g .0 .1 .1 .1 .0) in
+    ⊎-elim
+    (λ w.
+    rw (w .4, w .5, w .6)
+    (gathering-stored (a .s .now) (a .from) (a .count) (l .at) (l .remaining) k (l .seen) (l .inv) (r .result) (r .ensures .0) (g .0 .0) (g .0 .1 .0) (g .0 .1 .1 .0) (g .0 .1 .1 .1 .0) (g .0 .1 .1 .1 .1 .0) (g .1) (r .ensures .1)
+    (ltb-true (l .n) 8 (both-left (ltb (l .n) 8) storing (is-true told (w .0 .taken))))
+    (w .1 .result) (w .1 .ensures) (w .3 .last .0) (w .3 .ensures .1) (w .3 .result) (w .3 .ensures .0)))
+    (λ w. rw (w .1, w .2, w .3) (gathering-nine (a .s .now) (a .from) (a .count) (l .at) (l .remaining) k (l .seen) (l .inv) (r .result) (r .ensures .0) (g .0 .0) (g .0 .1 .0) (g .0 .1 .1 .0) (g .0 .1 .1 .1 .0) (g .0 .1 .1 .1 .1 .0) (g .1) (r .ensures .1) (is-false told (w .0 .left))))
+    (c .if1 .came)
 
 close-set-requires : tie.Need-close-set-requires Inv-loop μ-loop
 close-set-requires c κs = search needs
 
 returns-2 : tie.Need-returns-2 Inv-loop μ-loop
 returns-2 c =
-    let a = c .before .before .before .before .before .args in
-    let l = c .before .before .loop in
+    let turn = c .before .before in
+    let start = turn .before .before .before .before in
+    let a = start .args in
+    let l = turn .loop in
     let k : KeySet = record { count = l .n; keys = l .keys } in
-    let none : l .remaining ≤ 0 = omega (arith, c .before .loop-test .left) in (
-      keys-settled (c .close-set .result) _ _ (c .close-set .ensures .0) _ (gathering-done (a .s .now) (a .from) (a .count) (l .at) (l .remaining) k (l .inv) none _ refl),
-      accepting-on (c .close-set .result .verdict) (λ e. rw e (gathering-end (a .s .now) (a .from) (a .count) (l .at) (l .remaining) k (l .inv) none)) (c .close-set .ensures .1),
+    let none : l .remaining ≤ 0 = omega (arith, c .before .loop-test .left) in
+    let done = gathering-done (a .s .now) (a .from) (a .count) (l .at) (l .remaining) k (l .seen) (l .inv) none _ refl in (
+      keys-settled (c .close-set .result) _ _ (c .close-set .ensures .0) _ done,
+      accepting-on (c .close-set .result .verdict) (λ e. rw e (gathering-end (a .s .now) (a .from) (a .count) (l .at) (l .remaining) k (l .seen) (l .inv) none)) (c .close-set .ensures .1),
     )
 
 pub gather-keys-spec : {M : Type 1} → statement M
@@ -173,6 +188,7 @@ gather-keys-spec =
     Inv-loop
     μ-loop
     no-key-requires
+    none-seen-requires
     loop-holds
     sub-part
     part-part-start
@@ -183,12 +199,10 @@ gather-keys-spec =
     returns
     enum-known-g
     is-storable-requires
-    copied-requires
-    cast-t25
-    cast-t26
+    group-key-requires
     mul-keys
     array-set-from-keys
-    add-n
+    count-with-requires
     add-at
     add-at-2
     loop-less

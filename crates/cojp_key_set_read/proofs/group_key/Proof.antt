@@ -1,0 +1,37 @@
+-- The value has 16 bytes, so that it is copied whole.
+use mathlib.Core.Path.{ap, _∙_}
+use native.Mathlib.Omega.{arith}
+use borrow.Author.Needs.{needs}
+use Rattle.link_key.specs.Key.{keyOf}
+use Rattle.cojp_key_set_read.proofs.KeySets.{storable-parts, value-copied}
+use Rattle.cojp_key_set_read.proofs.group_key.Statement.{statement}
+use Rattle.cojp_key_set_read.proofs.group_key.Tie as tie
+
+copied-requires : tie.Need-copied-requires
+copied-requires c κs = search needs
+
+cast-key-of : tie.Need-cast-key-of
+cast-key-of c =
+    let start = c .before .before in
+    let a = start .args in
+    omega (arith, storable-parts (a .identifier) (a .usage) (a .len) (start .pre .0) .0)
+
+cast-key-of-2 : tie.Need-cast-key-of-2
+cast-key-of-2 c =
+    let start = c .before .before in
+    let a = start .args in
+    omega (arith, storable-parts (a .identifier) (a .usage) (a .len) (start .pre .0) .1)
+
+key-of-requires : tie.Need-key-of-requires
+key-of-requires c κs = search needs
+
+returns : tie.Need-returns
+returns c =
+    let start = c .before .before .before in
+    let a = start .args in
+    let long = storable-parts (a .identifier) (a .usage) (a .len) (start .pre .0) .2 in
+    c .key-of .ensures
+    ∙ ap (keyOf (a .identifier) (a .usage)) (value-copied (a .part .now) (a .start) (a .len) _ (start .pre .1) long (c .before .copied .ensures))
+
+pub group-key-spec : {M : Type 1} → statement M
+group-key-spec = tie.close (tie.spec copied-requires cast-key-of cast-key-of-2 key-of-requires returns)

@@ -1,0 +1,10 @@
+-- No word has a bit.
+use Rattle.link_key_set.proofs.Flags.{exactly-none}
+use Rattle.link_key_set.proofs.seen.none_seen.Statement.{statement}
+use Rattle.link_key_set.proofs.seen.none_seen.Tie as tie
+
+returns : tie.Need-returns
+returns c = exactly-none
+
+pub none-seen-spec : {M : Type 1} → statement M
+none-seen-spec = tie.close (tie.spec returns)

@@ -1,0 +1,28 @@
+// Identifiers seen in a key set: 256 flags, one for each byte value, which tell a repeat without a look at the other keys.
+use link_key::Key;
+ghost use mathlib.Core.Path.{_≡_};
+ghost use mathlib.Core.List.{[]};
+ghost use Rattle.link_key_set.specs.Seen.{joins, noted, Exactly, WithOneMore};
+
+// The flags at the start of a set: none is set.
+pub fn none_seen() -> [u32; 8]
+    ensures { λ r. ⌜ Exactly r [] ⌝ }
+{
+    [0u32; 8]
+}
+
+// One key more of a set: whether it is in its limits and its flag was clear. A key in its limits sets its flag.
+pub fn join(seen: &mut [u32; 8], key: Key) -> bool
+    ensures told { λ r. ⌜ r ≡ joins (now (seen .entry)) key ⌝ }
+    ensures after { λ r. ⌜ now (seen .exit) ≡ noted (now (seen .entry)) key ⌝ }
+    ensures so_far { λ r. ⌜ WithOneMore (now (seen .entry)) key r (now (seen .exit)) ⌝ }
+{
+    if key.in_limits() {
+        let place = (key.identifier / 32) as usize;
+        let bit = (key.identifier % 32) as u32;
+        let word = seen[place];
+        seen[place] = word | (1u32 << bit);
+        return (word >> bit) % 2 == 0;
+    }
+    false
+}
