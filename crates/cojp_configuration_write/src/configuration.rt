@@ -21,7 +21,7 @@ ghost use Rattle.cbor.specs.Answer.{Did, Wrote, emit};
 ghost use Rattle.cbor.specs.Encode.{encode};
 ghost use Rattle.cbor.specs.Item.{map, countPairs};
 ghost use Rattle.cojp.specs.Writing.{configurationPairs, configurationInRange, configurationPlan};
-ghost use Rattle.cojp_configuration_write.specs.Room.{configurationLength, stringsLength, stringsBytes};
+ghost use Rattle.cojp_configuration_write.specs.Room.{StringsFit, configurationLength, stringsLength, stringsBytes};
 ghost use Rattle.cojp_octets_write.specs.Size.{PairsSize};
 
 fn configuration_size(c: Configuration) -> Size
@@ -42,7 +42,7 @@ fn put_strings(
     network: OctetsParameter,
     prefix: OctetsParameter,
 ) -> usize
-    requires { ⌜ stringsLength jrc network prefix ≤ length (now dst) ⌝ }
+    requires { ⌜ StringsFit jrc network prefix × (stringsLength jrc network prefix ≤ length (now dst)) ⌝ }
     ensures { λ r. ⌜ Wrote (stringsBytes jrc network prefix) (now (dst .entry)) r (now (dst .exit)) ⌝ }
 {
     let n1 = put_octets(dst, 4, jrc);
@@ -52,7 +52,7 @@ fn put_strings(
 
 // The map, with `members` pairs: each parameter in the part after those before it.
 fn put_configuration(dst: &mut [u8], c: Configuration, members: u64) -> usize
-    requires { ⌜ (members ≡ countPairs (configurationPairs c)) × (configurationLength c members ≤ length (now dst)) ⌝ }
+    requires { ⌜ (configurationInRange c ≡ true) × (members ≡ countPairs (configurationPairs c)) × (configurationLength c members ≤ length (now dst)) ⌝ }
     ensures { λ r. ⌜ Wrote (encode (map (configurationPairs c))) (now (dst .entry)) r (now (dst .exit)) ⌝ }
 {
     let n1 = put_head(dst, 5, members);

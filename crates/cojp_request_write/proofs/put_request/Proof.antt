@@ -3,6 +3,7 @@ use mathlib.Core.Path.{refl}
 use native.Mathlib.Omega.{arith}
 use borrow.Author.Needs.{needs}
 use Rattle.cojp_octets_write.proofs.Limits.{request-fits}
+use Rattle.cojp_octets_write.proofs.Plans.{string-did}
 use Rattle.cojp_request_write.proofs.Requests.{head-part, role-room, network-part, request-wrote}
 use Rattle.cojp_request_write.proofs.put_request.Statement.{statement}
 use Rattle.cojp_request_write.proofs.put_request.Tie as tie
@@ -57,8 +58,10 @@ returns c =
     let role = network .before .before .before .before in
     let head = role .before .before .before .before in
     let start = head .before .before .before in
-    request-wrote (start .args .q) (start .args .dst .now) (start .pre .0) (start .pre .2) (start .pre .1) (head .write-head .ensures) (role .put-role .ensures) _ refl
-    (network .write-octets .ensures)
+    let q = start .args .q in
+    let string = string-did 5 (q .network) (request-fits q (start .pre .0) .network) (network .write-octets .ensures) in
+    request-wrote q (start .args .dst .now) (start .pre .0) (start .pre .2) (start .pre .1) (head .write-head .ensures) (role .put-role .ensures) _ refl
+    string
 
 pub put-request-spec : {M : Type 1} → statement M
 put-request-spec =
