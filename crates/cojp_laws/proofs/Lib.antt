@@ -1,3 +1,5 @@
 mod Demand1
+mod Computed
 mod ReadBack
 mod RoundTrip
+mod InPlace

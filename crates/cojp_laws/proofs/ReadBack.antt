@@ -21,7 +21,7 @@ use Rattle.short_address.specs.Address.{isAddress}
 use Rattle.cojp.specs.Address.{addressOf, addressParameter, noAddressParameter, addressIn, addressRead}
 use Rattle.link_key.specs.Key.{keyOf}
 use Rattle.cojp.specs.KeySet.{keySetOf, keysParameter, noKeysParameter, groups, groupsOf, keysRead}
-use Rattle.cojp.specs.Laws.{Kept}
+use Rattle.cojp_laws.specs.RoundTrip.{Kept}
 use Rattle.cojp.specs.Octets.{bytesIn, padded, octetsOf, octetsParameter, noOctetsParameter, octetsJudged, octetsRead}
 use Rattle.cojp.specs.Reading.{Reading, refused, read, onward, put, ifTaken}
 use Rattle.cojp.specs.Same.{octetsTaken, leaseOf, addressTaken, keysTaken}

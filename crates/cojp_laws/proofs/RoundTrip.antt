@@ -17,7 +17,8 @@ use Rattle.cbor.specs.Strict.{headBy}
 use Rattle.cojp.specs.Address.{noAddressParameter, addressRead}
 use Rattle.cojp.specs.Configuration.{emptyConfiguration, withKeys, withAddress, withJrc, withNetwork, withPrefix, configurationForm, configurationStanding, configurationTaking, acceptConfiguration, readConfigurationBy}
 use Rattle.cojp.specs.KeySet.{noKeysParameter, keysRead}
-use Rattle.cojp.specs.Laws.{RequestRoundTrip, ConfigurationRoundTrip, LargestConfiguration}
+use Rattle.cojp_laws.specs.Largest.{LargestConfiguration}
+use Rattle.cojp_laws.specs.RoundTrip.{RequestRoundTrip, ConfigurationRoundTrip}
 use Rattle.cojp.specs.Octets.{bytesIn, noOctetsParameter, octetsRead}
 use Rattle.cojp.specs.Reading.{read, ifTaken}
 use Rattle.cojp.specs.Request.{roleJudged, gathered, nothingGathered, withNetwork as withIdentifier, requestStanding, requestTaking, requestForm, owing, acceptRequest, readRequestBy}

@@ -2,8 +2,8 @@
 use Prim.Native.Nat.{_^_, _<_}
 use borrow.Author.Needs.{needs}
 use Rattle.cojp_laws.proofs.RoundTrip.{largest-configuration}
-use Rattle.cojp_laws.proofs.largest_configuration.Statement.{statement}
-use Rattle.cojp_laws.proofs.largest_configuration.Tie as tie
+use Rattle.cojp_laws.proofs.largest.largest_configuration.Statement.{statement}
+use Rattle.cojp_laws.proofs.largest.largest_configuration.Tie as tie
 
 returns : tie.Need-returns
 returns c =

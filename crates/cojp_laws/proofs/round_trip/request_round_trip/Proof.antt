@@ -1,8 +1,8 @@
 -- Role and network identifier are read one after the other as they were written.
 use borrow.Author.Needs.{needs}
 use Rattle.cojp_laws.proofs.RoundTrip.{request-round-trip}
-use Rattle.cojp_laws.proofs.request_round_trip.Statement.{statement}
-use Rattle.cojp_laws.proofs.request_round_trip.Tie as tie
+use Rattle.cojp_laws.proofs.round_trip.request_round_trip.Statement.{statement}
+use Rattle.cojp_laws.proofs.round_trip.request_round_trip.Tie as tie
 
 laws-requires : tie.Need-laws-requires
 laws-requires c κs = search needs

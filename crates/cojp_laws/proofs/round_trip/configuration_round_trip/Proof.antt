@@ -4,8 +4,8 @@ use mathlib.Core.Path.{_≡_}
 use borrow.Author.Needs.{needs}
 use lib.ListN.{length}
 use Rattle.cojp_laws.proofs.RoundTrip.{configuration-round-trip}
-use Rattle.cojp_laws.proofs.configuration_round_trip.Statement.{statement}
-use Rattle.cojp_laws.proofs.configuration_round_trip.Tie as tie
+use Rattle.cojp_laws.proofs.round_trip.configuration_round_trip.Statement.{statement}
+use Rattle.cojp_laws.proofs.round_trip.configuration_round_trip.Tie as tie
 
 laws-requires : tie.Need-laws-requires
 laws-requires c κs = search needs

@@ -1,0 +1,4 @@
+pub mod Demand1
+pub mod RoundTrip
+pub mod Largest
+pub mod Written
