@@ -4,5 +4,7 @@ pub mod Encode
 pub mod Strict
 pub mod Written
 pub mod Answer
+pub mod Writing
+pub mod HeadLaws
 pub mod View
 pub mod Laws

@@ -25,8 +25,7 @@ ghost use Rattle.cojp_configuration_write.specs.Room.{StringsFit, config
 ghost use Rattle.cojp_octets_write.specs.Size.{PairsSize};
 
 fn configuration_size(c: Configuration) -> Size
-    requires { ⌜ configurationInRange c ≡ true ⌝ }
-    ensures { λ r. ⌜ PairsSize (configurationPairs c) 5 255 r ⌝ }
+    ensures { λ r. ⌜ PairsSize (configurationPairs c) 5 319 r ⌝ }
 {
     let size = keys_size(c.keys);
     let size = plus(size, address_size(c.address));
@@ -66,6 +65,7 @@ fn emit_configuration(dst: &mut [u8], c: Configuration) -> Written
     requires { ⌜ configurationInRange c ≡ true ⌝ }
     ensures { λ r. ⌜ Did (emit (encode (map (configurationPairs c)))) (now (dst .entry)) r (now (dst .exit)) ⌝ }
 {
+    cbor::head_laws();
     let size = configuration_size(c);
     let members = size.members;
     if dst.len() < 1 + size.bytes {

@@ -10,7 +10,7 @@ use lib.ListN.{length, drop}
 use Rattle.refusal.specs.Order.{refusedIf, inOrder}
 use Rattle.refusal.specs.declared.Refusal.{Refusal}
 use Rattle.refusal.specs.declared.Refusal.the-variants.{Room, Range, Owed}
-use Rattle.cbor.specs.Answer.{Plan, refuse, emit, answer, headPlan}
+use Rattle.cbor.specs.Answer.{Plan, refuse, emit, answer}
 use Rattle.cbor.specs.Encode.{shortest, encode, encodePairs}
 use Rattle.cbor.specs.Item.{map}
 use Rattle.cbor.specs.Written.{writtenSays}

@@ -1,5 +1,6 @@
 mod Demand1
 mod Computed
+mod Fine
 mod ReadBack
 mod RoundTrip
 mod InPlace

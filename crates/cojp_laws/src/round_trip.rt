@@ -8,6 +8,7 @@ pub fn request_round_trip(q: JoinRequest)
     ensures { λ r. ⌜ RequestRoundTrip q ⌝ }
 {
     cbor::laws();
+    cbor::head_laws();
 }
 
 // What is written of a configuration reads back as the same configuration, read strictly or not.
@@ -15,6 +16,8 @@ pub fn configuration_round_trip(c: Configuration)
     ensures { λ r. ⌜ ConfigurationRoundTrip c ⌝ }
 {
     cbor::laws();
+    cbor::head_laws();
+    link_key_set::laws();
 }
 
 // The same of the first bytes of the destination, as many as were written, whatever stood in it.

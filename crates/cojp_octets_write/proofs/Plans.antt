@@ -8,7 +8,7 @@ use Rattle.cbor.specs.Answer.{Did, emit}
 use Rattle.cbor.specs.Encode.{encodePairs}
 use Rattle.cbor.specs.declared.write.Written.{Written}
 use Rattle.cbor.specs.declared.write.Written.the-variants.{Refused}
-use Rattle.cbor.proofs.Writing.{did-refuse}
+use Rattle.cbor.specs.Writing.{did-refuse}
 use Rattle.cojp.specs.Writing.{octetsPairs}
 use Rattle.cojp.specs.declared.octets.OctetsParameter.{OctetsParameter}
 use Rattle.cojp_octets_write.specs.Plan.{stringInRange, octetsPlan}

@@ -37,6 +37,7 @@ fn known_len(value: Octets) -> usize
 pub fn octets_size(label: u64, p: OctetsParameter) -> Size
     ensures { λ r. ⌜ PairsSize (octetsPairs label p) 1 26 r ⌝ }
 {
+    cbor::head_laws();
     let report = p.report;
     if is_taken(report) {
         return Size {
@@ -51,6 +52,7 @@ pub fn octets_size(label: u64, p: OctetsParameter) -> Size
 fn write_string(dst: &mut [u8], label: u64, s: &[u8]) -> Written
     ensures { λ r. ⌜ Did (emit (encodePairs (labelled label (bytes (now (s .entry)))))) (now (dst .entry)) r (now (dst .exit)) ⌝ }
 {
+    cbor::head_laws();
     let n = s.len();
     let l = head_len(label);
     let whole = l + head_len(n as u64) + n;

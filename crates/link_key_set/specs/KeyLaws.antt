@@ -57,5 +57,6 @@ pub record KeyLaws : Type 0 where
   pub allowed-few : (ks : List Key) → allowed ks ≡ true → length ks ≤ 8
   pub set-allowed : (set : KeySet) → allowedSet set ≡ true → (set .count ≤ 8) × (allowed (keysOf set) ≡ true)
   pub limits-identifier : (k : Key) → inLimits k ≡ true → 1 ≤ k .identifier
+  pub limits-fit : (k : Key) → inLimits k ≡ true → (k .identifier ≤ 255) × (k .usage ≤ 14) × (length (k .value) ≡ 16)
   pub keys-of-none : keysOf noKeys ≡ []
   pub keys-of-count-0 : (set : KeySet) → set .count ≡ 0 → keysOf set ≡ []

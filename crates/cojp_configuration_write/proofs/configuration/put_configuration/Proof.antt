@@ -5,7 +5,7 @@ use mathlib.Core.List.{_++_}
 use borrow.Author.Needs.{needs}
 use lib.ListN.{length, length-append}
 use Rattle.cbor.specs.Encode.{shortest, encodePairs}
-use Rattle.cbor.proofs.Writing.{seam, wrote-length}
+use Rattle.cbor.specs.Writing.{seam, wrote-length}
 use Rattle.cojp.specs.Writing.{keysPairs, addressPairs, configurationPairs}
 use Rattle.cojp_octets_write.proofs.Limits.{configuration-fits}
 use Rattle.cojp_octets_write.proofs.Maps.{map-fitting}

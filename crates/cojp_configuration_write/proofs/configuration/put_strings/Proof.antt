@@ -2,7 +2,7 @@
 use native.Mathlib.Omega.{arith}
 use lib.ListN.{length-append}
 use Rattle.cbor.specs.Encode.{encodePairs}
-use Rattle.cbor.proofs.Writing.{seam, wrote-length}
+use Rattle.cbor.specs.Writing.{seam, wrote-length}
 use Rattle.cojp.specs.Writing.{octetsPairs}
 use Rattle.cojp_configuration_write.proofs.Configurations.{strings-length}
 use Rattle.cojp_configuration_write.proofs.configuration.put_strings.Statement.{statement}

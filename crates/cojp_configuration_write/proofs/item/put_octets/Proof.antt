@@ -1,6 +1,6 @@
 -- A parameter that is in range and has room is written.
 use borrow.Author.Needs.{needs}
-use Rattle.cbor.proofs.Writing.{did-done, did-never}
+use Rattle.cbor.specs.Writing.{did-done, did-never}
 use Rattle.cojp_octets_write.proofs.Plans.{string-did}
 use Rattle.cojp_configuration_write.proofs.item.put_octets.Statement.{statement}
 use Rattle.cojp_configuration_write.proofs.item.put_octets.Tie as tie

@@ -5,7 +5,7 @@ use borrow.Author.Needs.{needs}
 use lib.ListN.{length}
 use lib.Seq.{length-take-le}
 use Rattle.cbor.specs.Item.{bytes, empty}
-use Rattle.cbor.proofs.Writing.{did-emit, wrote-none}
+use Rattle.cbor.specs.Writing.{did-emit, wrote-none}
 use Rattle.cojp.specs.Octets.{bytesIn}
 use Rattle.cojp.specs.Writing.{labelled}
 use Rattle.cojp_octets_write.proofs.Joined.{did-same}
