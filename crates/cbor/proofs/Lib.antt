@@ -8,5 +8,5 @@ pub mod Views
 pub mod Strict
 pub mod Payloads
 pub mod RoundTrip
-pub mod Writing
+pub mod HeadLengths
 mod Shortest

@@ -18,7 +18,7 @@ use Rattle.cbor.specs.Laws.{Suffix, Bytes}
 use Rattle.cbor.proofs.Heads.{next-got, next-cut, argument-direct, argument-form, argument-wide}
 use Rattle.cbor.proofs.Numbers.{grows}
 use Rattle.cbor.proofs.Outcomes.{never, then-got, same-value, same-rest}
-use Rattle.cbor.proofs.Writing.{length-head}
+use Rattle.cbor.proofs.HeadLengths.{length-head}
 
 digits-below : (w i v : ℕ) (s : List ℕ) → Bytes s → v < 256 ^ i → w ≤ length s → digits v (take w s) < 256 ^ (i + w)
 unfolding digits

@@ -2,7 +2,10 @@ pub mod Item
 pub mod Decode
 pub mod Encode
 pub mod Strict
+pub mod Written
 pub mod Answer
+pub mod Writing
+pub mod HeadLaws
 pub mod View
 pub mod Says
 pub mod Laws

@@ -15,6 +15,7 @@ pub use value::Label;
 pub use value::Value;
 pub use value::value_at;
 pub use write::Written;
+pub use write::head_laws;
 ghost use Rattle.cbor.specs.Laws.{ItemLaws};
 
 // What is promised of items to the layers above: the round trip, what is left after an item, the shortest head.

@@ -13,7 +13,8 @@ use Rattle.refusal.specs.declared.Refusal.the-variants.{Room, Range}
 use Rattle.cbor.specs.Answer.{Did, Wrote, headPlan}
 use Rattle.cbor.specs.Encode.{bytesOf, infoOf, extraOf, shortest}
 use Rattle.cbor.specs.declared.write.Written.the-variants as wv
-use Rattle.cbor.proofs.Writing.{length-head, did-refuse, did-emit, did-room}
+use Rattle.cbor.specs.Writing.{did-refuse, did-emit, did-room}
+use Rattle.cbor.proofs.HeadLengths.{length-head}
 
 -- ---- the length information, by the head's length
 abbrev infoBy : ℕ → ℕ → ℕ

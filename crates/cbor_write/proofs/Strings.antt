@@ -10,7 +10,8 @@ use Rattle.cbor.specs.Answer.{Did, Wrote, emit}
 use Rattle.cbor.specs.Encode.{encode, extraOf, shortest}
 use Rattle.cbor.specs.Item.{bytes}
 use Rattle.cbor.specs.declared.write.Written.the-variants as wv
-use Rattle.cbor.proofs.Writing.{did-emit, did-room, extra-most, length-string, seam, wrote-length}
+use Rattle.cbor.specs.Writing.{did-emit, did-room, seam, wrote-length}
+use Rattle.cbor.proofs.HeadLengths.{extra-most, length-string}
 
 module _ (s d : List ℕ) (h : ℕ) (e : h ≡ extraOf (length s) + 1) where
   -- a head takes at most nine bytes

@@ -7,8 +7,9 @@ use native.Mathlib.Omega.{arith}
 use lib.ListN.{length, take, drop, length-append}
 use Rattle.cbor.specs.Answer.{Wrote}
 use Rattle.cbor.specs.Encode.{shortest, encode, encodes, encodePairs}
+use Rattle.cbor.specs.HeadLaws.{HeadLaws}
 use Rattle.cbor.specs.Item.{bytes, array, empty, count}
-use Rattle.cbor.proofs.Writing.{seam, short-head}
+use Rattle.cbor.specs.Writing.{seam}
 use Rattle.cojp.specs.Reading.{ifTaken}
 use Rattle.cojp.specs.Writing.{labelled, leaseItems, addressPairs}
 use Rattle.cojp.specs.declared.address.AddressParameter.{AddressParameter}
@@ -17,7 +18,7 @@ use Rattle.cojp_configuration_write.specs.Room.{addressItems, addressLen
 use Rattle.cojp_octets_write.specs.Size.{ItemsSize, PairsSize}
 use Rattle.cojp_octets_write.specs.declared.size.Size.{Size}
 use Rattle.cojp_octets_write.proofs.Joined.{array-bytes}
-use Rattle.cojp_octets_write.proofs.Limits.{string-length}
+use Rattle.cojp_octets_write.proofs.Strings.{string-length}
 use Rattle.cojp_range.proofs.Taken.{taken-is}
 
 -- ---- its members: the bytes, and perhaps a lease
@@ -41,9 +42,9 @@ module _ (p : AddressParameter) (t : Bool) (e : t ≡ ifTaken (p .report) true f
   pub address-taken : addressPairs p ≡ labelled 3 (array (addressItems (p .value)))
   address-taken = taken-is (p .report) (labelled 3 (array (addressItems (p .value)))) empty t e h
 
-  pub address-size : {r : Size} → length (p .value .bytes) ≡ 2 → ItemsSize (leaseItems (p .value .leased) (p .value .lease)) 1 9 r
+  pub address-size : HeadLaws → {r : Size} → length (p .value .bytes) ≡ 2 → ItemsSize (leaseItems (p .value .leased) (p .value .lease)) 1 9 r
       → PairsSize (addressPairs p) 1 14 (record { members = 1; bytes = 5 + r .bytes })
-  address-size two z =
+  address-size heads two z =
       let m = count (addressItems (p .value)) in
       rw address-taken (record {
         members = refl;
@@ -51,9 +52,9 @@ module _ (p : AddressParameter) (t : Bool) (e : t ≡ ifTaken (p .report) true f
           arith,
           place-length (p .value) m refl,
           length-append (shortest 0 3) (shortest 4 m),
-          short-head 0 3 (omega arith),
-          short-head 4 m (omega (arith, z .members, z .few)),
-          string-length (p .value .bytes) (omega arith),
+          heads .short-head 0 3 (omega arith),
+          heads .short-head 4 m (omega (arith, z .members, z .few)),
+          string-length heads (p .value .bytes) (omega arith),
           z .bytes,
         );
         few = omega arith;

@@ -10,19 +10,20 @@ use lib.ListN.{length, take, drop, getD, length-append, length-take, take-append
 use lib.Seq.{take-suc, take-all, getD-take}
 use Rattle.cbor.specs.Answer.{Wrote}
 use Rattle.cbor.specs.Encode.{shortest, encode, encodes, encodePairs, extraOf}
-use Rattle.cbor.specs.Item.{Items, Pairs, unsigned, bytes, array, none, more, empty, count}
-use Rattle.cbor.proofs.Writing.{seam, length-head, short-head, byte-head}
+use Rattle.cbor.specs.HeadLaws.{HeadLaws}
+use Rattle.cbor.specs.Item.{Items, unsigned, bytes, array, none, more, empty, count}
+use Rattle.cbor.specs.Writing.{seam}
 use Rattle.link_key_set.specs.KeySet.{keysOf}
 use Rattle.link_key.specs.declared.Key.{Key}
 use Rattle.link_key_set.specs.declared.key_set.KeySet.{KeySet}
 use Rattle.cojp.specs.Reading.{ifTaken}
-use Rattle.cojp.specs.Writing.{labelled, chain, leaseItems, usageItems, groupItems, groupsItems, keysPairs, keysInRange}
+use Rattle.cojp.specs.Writing.{labelled, chain, leaseItems, usageItems, groupItems, groupsItems, keysPairs}
 use Rattle.cojp.specs.declared.key_set.KeysParameter.{KeysParameter}
 use Rattle.cojp_configuration_write.specs.Room.{usedItems, keyLength, setLength}
 use Rattle.cojp_octets_write.specs.Size.{ItemsSize, PairsSize, Sum}
 use Rattle.cojp_octets_write.specs.declared.size.Size.{Size}
 use Rattle.cojp_octets_write.proofs.Joined.{chain-bytes, chain-count, chain-length, chain-assoc, chain-none, array-bytes}
-use Rattle.cojp_octets_write.proofs.Limits.{string-length, fine-keys}
+use Rattle.cojp_octets_write.proofs.Strings.{string-length}
 use Rattle.cojp_octets_write.proofs.Sizes.{sizes-chain}
 use Rattle.cojp_range.proofs.Taken.{taken-is}
 
@@ -57,13 +58,13 @@ module _ (k : Key) where
       → Wrote (encodes (groupItems k)) d (n + m) (take n d′ ++ (e ++ drop (length d′ - n) (drop n d′)))
   group-seam h w v = rw group-bytes (seam (omega (arith, length-append (shortest 0 (k .identifier)) (encodes (usedItems (k .usage))))) w v)
 
-  pub group-size : {n : ℕ} {r : Size} → n ≡ extraOf (k .identifier) + 1 → k .identifier ≤ 255 → length (k .value) ≡ 16
+  pub group-size : HeadLaws → {n : ℕ} {r : Size} → n ≡ extraOf (k .identifier) + 1 → k .identifier ≤ 255 → length (k .value) ≡ 16
       → ItemsSize (usedItems (k .usage)) 1 9 r → ItemsSize (groupItems k) 3 28 (record { members = 2 + r .members; bytes = n + r .bytes + 17 })
-  group-size e i v z = record {
+  group-size heads e i v z = record {
     members = omega (arith, group-count, z .members);
-    bytes = omega (arith, group-length, length-head 0 (k .identifier), string-length (k .value) (omega arith), z .bytes);
+    bytes = omega (arith, group-length, heads .length-head 0 (k .identifier), string-length heads (k .value) (omega arith), z .bytes);
     few = omega (arith, z .few);
-    small = omega (arith, z .small, byte-head (k .identifier) i);
+    small = omega (arith, z .small, heads .byte-head (k .identifier) i);
   }
 
 -- ---- the groups of the first keys
@@ -135,22 +136,21 @@ module _ (p : KeysParameter) (t : Bool) (e : t ≡ ifTaken (p .report) true fals
   pub keys-taken : keysPairs p ≡ labelled 2 (array (groupsItems (keysOf (p .value))))
   keys-taken = taken-is (p .report) (labelled 2 (array (groupsItems (keysOf (p .value))))) empty t e h
 
-  pub keys-size : {n : ℕ} {r : Size} → keysInRange p ≡ true → n ≡ extraOf (r .members) + 1 → ItemsSize (groupsItems (keysOf (p .value))) 24 224 r
-      → PairsSize (keysPairs p) 1 163 (record { members = 1; bytes = 1 + n + r .bytes })
-  keys-size {n} {r} ok l z =
+  pub keys-size : HeadLaws → {n : ℕ} {r : Size} → n ≡ extraOf (r .members) + 1 → ItemsSize (groupsItems (keysOf (p .value))) 24 224 r
+      → PairsSize (keysPairs p) 1 227 (record { members = 1; bytes = 1 + n + r .bytes })
+  keys-size heads {n} {r} l z =
       let ks = keysOf (p .value) in
       let b : 1 + n + r .bytes ≡ length (encodePairs (labelled 2 (array (groupsItems ks)))) = omega (
         arith,
         set-length ks (r .members) (z .members),
         length-append (shortest 0 2) (shortest 4 (r .members)),
-        short-head 0 2 (omega arith),
-        length-head 4 (r .members),
+        heads .short-head 0 2 (omega arith),
+        heads .length-head 4 (r .members),
         z .bytes,
       ) in
-      let f = fine-keys p ok in
       record {
         members = rw keys-taken;
         bytes = rw keys-taken b;
         few = omega arith;
-        small = omega (arith, f .small, b, ap (λ (ps : Pairs). length (encodePairs ps)) keys-taken);
+        small = omega (arith, z .small, heads .byte-head (r .members) (omega (arith, z .few)));
       }

@@ -9,7 +9,7 @@ use Rattle.cbor.specs.Encode.{encode}
 use Rattle.cbor.specs.Item.{map}
 use Rattle.cbor.specs.declared.write.Written.{Written}
 use Rattle.cbor.specs.declared.write.Written.the-variants.{Refused}
-use Rattle.cbor.proofs.Writing.{did-refuse}
+use Rattle.cbor.specs.Writing.{did-refuse}
 use Rattle.cojp.specs.Writing.{configurationPairs, configurationInRange, configurationPlan}
 use Rattle.cojp.specs.declared.configuration.Configuration.{Configuration}
 

@@ -1,12 +1,13 @@
 -- For the contracts of private functions alone: the room that an array or a configuration with so many members takes, as the sum of its parts.
 use Prim.Native.Nat.{ℕ, _+_}
-use mathlib.Core.Bool.{not}
+use mathlib.Core.Bool.{true, not}
 use mathlib.Core.List.{List, _++_}
+use mathlib.Core.Path.{_≡_}
 use lib.Dec.{eqb}
 use lib.ListN.{length}
 use Rattle.cbor.specs.Encode.{shortest, encode, encodes, encodePairs}
 use Rattle.cbor.specs.Item.{Items, Pairs, bytes, more}
-use Rattle.cojp.specs.Writing.{leaseItems, groupsItems, keysPairs, addressPairs, octetsPairs}
+use Rattle.cojp.specs.Writing.{leaseItems, groupsItems, keysPairs, addressPairs, octetsPairs, jrcInRange, octetsInRange}
 use Rattle.cojp.specs.declared.address.ShortAddress.{ShortAddress}
 use Rattle.cojp.specs.declared.configuration.Configuration.{Configuration}
 use Rattle.cojp.specs.declared.octets.OctetsParameter.{OctetsParameter}
@@ -38,7 +39,10 @@ setLength ks members = arrayLength 2 members + length (encodes (groupsItems ks))
 abbrev pub pairsLength : Pairs → ℕ
 pairsLength ps = length (encodePairs ps)
 
--- the byte strings of a configuration
+-- the byte strings of a configuration: their limits, their bytes, how many these are
+abbrev pub StringsFit : OctetsParameter → OctetsParameter → OctetsParameter → Type 0
+StringsFit jrc network prefix = (jrcInRange jrc ≡ true) × (octetsInRange network ≡ true) × (octetsInRange prefix ≡ true)
+
 abbrev pub stringsBytes : OctetsParameter → OctetsParameter → OctetsParameter → List ℕ
 stringsBytes jrc network prefix = (encodePairs (octetsPairs 4 jrc) ++ encodePairs (octetsPairs 5 network)) ++ encodePairs (octetsPairs 6 prefix)
 

@@ -21,6 +21,7 @@ ghost use Rattle.cojp_configuration_write.specs.Room.{addressItems, addr
 pub(crate) fn address_size(p: AddressParameter) -> Size
     ensures { λ r. ⌜ PairsSize (addressPairs p) 1 14 r ⌝ }
 {
+    cbor::head_laws();
     let report = p.report;
     if is_taken(report) {
         let lease = optional_size(p.value.leased, p.value.lease);

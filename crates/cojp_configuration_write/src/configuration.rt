@@ -21,12 +21,11 @@ ghost use Rattle.cbor.specs.Answer.{Did, Wrote, emit};
 ghost use Rattle.cbor.specs.Encode.{encode};
 ghost use Rattle.cbor.specs.Item.{map, countPairs};
 ghost use Rattle.cojp.specs.Writing.{configurationPairs, configurationInRange, configurationPlan};
-ghost use Rattle.cojp_configuration_write.specs.Room.{configurationLength, stringsLength, stringsBytes};
+ghost use Rattle.cojp_configuration_write.specs.Room.{StringsFit, configurationLength, stringsLength, stringsBytes};
 ghost use Rattle.cojp_octets_write.specs.Size.{PairsSize};
 
 fn configuration_size(c: Configuration) -> Size
-    requires { ⌜ configurationInRange c ≡ true ⌝ }
-    ensures { λ r. ⌜ PairsSize (configurationPairs c) 5 255 r ⌝ }
+    ensures { λ r. ⌜ PairsSize (configurationPairs c) 5 319 r ⌝ }
 {
     let size = keys_size(c.keys);
     let size = plus(size, address_size(c.address));
@@ -42,7 +41,7 @@ fn put_strings(
     network: OctetsParameter,
     prefix: OctetsParameter,
 ) -> usize
-    requires { ⌜ stringsLength jrc network prefix ≤ length (now dst) ⌝ }
+    requires { ⌜ StringsFit jrc network prefix × (stringsLength jrc network prefix ≤ length (now dst)) ⌝ }
     ensures { λ r. ⌜ Wrote (stringsBytes jrc network prefix) (now (dst .entry)) r (now (dst .exit)) ⌝ }
 {
     let n1 = put_octets(dst, 4, jrc);
@@ -52,7 +51,7 @@ fn put_strings(
 
 // The map, with `members` pairs: each parameter in the part after those before it.
 fn put_configuration(dst: &mut [u8], c: Configuration, members: u64) -> usize
-    requires { ⌜ (members ≡ countPairs (configurationPairs c)) × (configurationLength c members ≤ length (now dst)) ⌝ }
+    requires { ⌜ (configurationInRange c ≡ true) × (members ≡ countPairs (configurationPairs c)) × (configurationLength c members ≤ length (now dst)) ⌝ }
     ensures { λ r. ⌜ Wrote (encode (map (configurationPairs c))) (now (dst .entry)) r (now (dst .exit)) ⌝ }
 {
     let n1 = put_head(dst, 5, members);
@@ -66,6 +65,7 @@ fn emit_configuration(dst: &mut [u8], c: Configuration) -> Written
     requires { ⌜ configurationInRange c ≡ true ⌝ }
     ensures { λ r. ⌜ Did (emit (encode (map (configurationPairs c)))) (now (dst .entry)) r (now (dst .exit)) ⌝ }
 {
+    cbor::head_laws();
     let size = configuration_size(c);
     let members = size.members;
     if dst.len() < 1 + size.bytes {

@@ -4,13 +4,16 @@ use cbor_write::write_bytes;
 use cbor_write::write_head;
 use cojp::OctetsParameter;
 use cojp_octets_write::write_octets;
+ghost use mathlib.Core.Bool.{true};
 ghost use mathlib.Core.List.{_++_};
+ghost use mathlib.Core.Path.{_≡_};
 ghost use Prim.Native.Nat.{_+_, _≤_};
 ghost use lib.ListN.{length};
 ghost use Rattle.cbor.specs.Answer.{Wrote};
 ghost use Rattle.cbor.specs.Encode.{shortest, encode, encodes, encodePairs};
 ghost use Rattle.cbor.specs.Item.{bytes};
 ghost use Rattle.cojp.specs.Writing.{leaseItems, octetsPairs};
+ghost use Rattle.cojp_octets_write.specs.Plan.{stringInRange};
 
 // A head.
 pub(crate) fn put_head(dst: &mut [u8], major: u8, argument: u64) -> usize
@@ -47,9 +50,9 @@ pub(crate) fn put_optional(dst: &mut [u8], given: bool, number: u64) -> usize
     0
 }
 
-// A parameter that is a byte string, where it is taken.
+// A parameter that is a byte string, in range, where it is taken.
 pub(crate) fn put_octets(dst: &mut [u8], label: u64, p: OctetsParameter) -> usize
-    requires { ⌜ length (encodePairs (octetsPairs label p)) ≤ length (now dst) ⌝ }
+    requires { ⌜ (stringInRange label p ≡ true) × (length (encodePairs (octetsPairs label p)) ≤ length (now dst)) ⌝ }
     ensures { λ r. ⌜ Wrote (encodePairs (octetsPairs label p)) (now (dst .entry)) r (now (dst .exit)) ⌝ }
 {
     let w = write_octets(dst, label, p);

@@ -12,14 +12,13 @@ use cojp_octets_write::no_size;
 use cojp_range::is_taken;
 use link_key::Key;
 use link_key_set::KeySet;
-ghost use mathlib.Core.Bool.{true};
 ghost use mathlib.Core.Path.{_≡_};
 ghost use Prim.Native.Nat.{_+_, _≤_};
 ghost use lib.ListN.{length};
 ghost use Rattle.cbor.specs.Answer.{Wrote};
 ghost use Rattle.cbor.specs.Encode.{encodes, encodePairs};
 ghost use Rattle.cbor.specs.Item.{array, count};
-ghost use Rattle.cojp.specs.Writing.{labelled, keysInRange, keysPairs, groupItems, groupsItems};
+ghost use Rattle.cojp.specs.Writing.{labelled, keysPairs, groupItems, groupsItems};
 ghost use Rattle.link_key_set.specs.KeySet.{keysOf};
 ghost use Rattle.cojp_octets_write.specs.Size.{ItemsSize, PairsSize};
 ghost use Rattle.cojp_configuration_write.specs.Room.{keyLength, setLength};
@@ -28,6 +27,7 @@ ghost use Rattle.cojp_configuration_write.specs.Room.{keyLength, setLeng
 fn key_size(k: Key) -> Size
     ensures { λ r. ⌜ ItemsSize (groupItems k) 3 28 r ⌝ }
 {
+    cbor::head_laws();
     let name = head_len(k.identifier as u64);
     let usage = k.usage;
     let used = optional_size(usage != 0, usage as u64);
@@ -52,9 +52,9 @@ fn groups_size(set: KeySet) -> Size
 }
 
 pub(crate) fn keys_size(p: KeysParameter) -> Size
-    requires { ⌜ keysInRange p ≡ true ⌝ }
-    ensures { λ r. ⌜ PairsSize (keysPairs p) 1 163 r ⌝ }
+    ensures { λ r. ⌜ PairsSize (keysPairs p) 1 227 r ⌝ }
 {
+    cbor::head_laws();
     let report = p.report;
     if is_taken(report) {
         let groups = groups_size(p.value);

@@ -21,6 +21,7 @@ pub(crate) fn plus(a: Size, b: Size) -> Size
 pub(crate) fn optional_size(given: bool, number: u64) -> Size
     ensures { λ r. ⌜ ItemsSize (leaseItems given number) 1 9 r ⌝ }
 {
+    cbor::head_laws();
     if given {
         return Size {
             members: 1,

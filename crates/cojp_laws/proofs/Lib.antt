@@ -1,4 +1,7 @@
 mod Demand1
+mod Computed
+mod Fine
 mod ReadBack
 mod RoundTrip
 mod Reserved
+mod InPlace

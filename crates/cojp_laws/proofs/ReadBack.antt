@@ -5,37 +5,38 @@ use mathlib.Core.Bool.{Bool, true, false, cond}
 use mathlib.Core.List.{List, [], _∷_}
 use mathlib.Core.Option.{Option, none, some}
 use native.Mathlib.Omega.{arith}
-use borrow.Author.Tests.{le-ltb, le-leb, eq-eqb, eqb-true}
+use borrow.Author.Tests.{le-ltb, le-leb, eqb-true}
 use lib.Dec.{eqb}
 use lib.ListN.{length, length-take}
 use lib.Seq.{take-append-seam, length-take-le}
 use Rattle.cbor.specs.Encode.{encode}
-use Rattle.cbor.specs.Item.{Item, Pairs, bytes, array, map, more, empty, pair}
+use Rattle.cbor.specs.Item.{Item, Items, Pairs, bytes, array, map, more, empty, pair}
 use Rattle.cbor.specs.View.{string, View, plain, labelOf, viewOf, plainsOf}
+use Rattle.cbor.specs.HeadLaws.{HeadLaws}
 use Rattle.cbor.specs.Laws.{ItemLaws}
 use Rattle.cbor.specs.Strict.{headBy}
 use Rattle.link_key_set.specs.KeySet.{keysOf}
 use Rattle.link_key.specs.declared.Key.{Key}
-use Rattle.link_key_set.proofs.KeySets.{set-allowed}
+use Rattle.link_key_set.specs.KeyLaws.{KeyLaws}
 use Rattle.short_address.specs.Address.{isAddress}
 use Rattle.cojp.specs.Address.{addressOf, addressParameter, noAddressParameter, addressIn, addressRead}
 use Rattle.link_key.specs.Key.{keyOf}
 use Rattle.cojp.specs.KeySet.{keySetOf, keysParameter, noKeysParameter, groups, groupsOf, keysRead}
-use Rattle.cojp.specs.Laws.{Kept}
+use Rattle.cojp_laws.specs.RoundTrip.{Kept}
 use Rattle.cojp.specs.Octets.{bytesIn, padded, octetsOf, octetsParameter, noOctetsParameter, octetsJudged, octetsRead}
 use Rattle.cojp.specs.Reading.{Reading, refused, read, onward, put, ifTaken}
 use Rattle.cojp.specs.Same.{octetsTaken, leaseOf, addressTaken, keysTaken}
 use Rattle.cojp.specs.Walk.{Form, pairRead, pairsRead, payloadReadBy}
 use Rattle.cojp.specs.Writing.{join, labelled, leaseItems, groupsItems, octetsInRange, jrcInRange, addressInRange, keysInRange}
 use Rattle.cojp.specs.declared.address.AddressParameter.{AddressParameter}
+use Rattle.cojp.specs.declared.address.ShortAddress.{ShortAddress}
 use Rattle.cojp.specs.declared.key_set.KeysParameter.{KeysParameter}
 use Rattle.cojp.specs.declared.octets.OctetsParameter.{OctetsParameter}
 use Rattle.cojp.specs.declared.report.Report.{Report}
 use Rattle.cojp.specs.declared.report.Report.the-variants.{Absent, Taken, Discarded}
 use Rattle.cojp.specs.declared.walk.Standing.the-variants.{Fresh}
-use Rattle.cojp_configuration_write.specs.Room.{addressItems}
-use Rattle.cojp_octets_write.proofs.Limits.{Fine, octets-few}
 use Rattle.cojp_octets_write.proofs.Maps.{map-length}
+use Rattle.cojp_laws.proofs.Fine.{Fine, octets-few}
 
 -- ---- pairs one after the other
 module _ {S : Type 0} (F : Form S) where
@@ -60,11 +61,11 @@ module _ {S : Type 0} (F : Form S) where
   parameter-read s n Discarded v rd set back left f t e g = ap read e
 
   -- the payload
-  pub payload-read : ItemLaws → (b : Bool) (ps : Pairs) (s : S) {k m : ℕ} → Fine ps k m → k ≤ 23 → m ≤ 255
+  pub payload-read : ItemLaws → HeadLaws → (b : Bool) (ps : Pairs) (s : S) {k m : ℕ} → Fine ps k m → k ≤ 23 → m ≤ 255
       → payloadReadBy F (headBy b) s (encode (map ps)) ≡ pairsRead F s ps
   unfolding payloadReadBy
-  payload-read laws b ps s f h l =
-      let n : length (encode (map ps)) ≤ 256 = omega (arith, map-length ps (omega (arith, f .few)), f .small) in
+  payload-read laws heads b ps s f h l =
+      let n : length (encode (map ps)) ≤ 256 = omega (arith, map-length heads ps (omega (arith, f .few)), f .small) in
       rw (le-ltb 256 (length (encode (map ps))) n, laws .payload-round-trip b (map ps) (omega (arith, f .level)) (omega (arith, f .few), f .fit))
 
 -- ---- what a taken parameter reads back as, and that it is the same and not discarded
@@ -108,6 +109,10 @@ pub octets-same : (p : OctetsParameter) → octetsTaken (octetsBack p) ≡ octet
 octets-same p = same-if octetsTaken (octetsGood p) (noOctetsParameter Absent) (bytesIn (p .value)) (p .report) (ap some (padded-bytes (bytesIn (p .value)))) refl
 
 -- ---- short addresses
+-- the members of its array
+abbrev pub addressItems : ShortAddress → Items
+addressItems a = more (bytes (a .bytes)) (leaseItems (a .leased) (a .lease))
+
 -- a lease that is not written reads back as 0
 abbrev pub addressGood : AddressParameter → AddressParameter
 addressGood p = addressParameter Taken (addressOf (p .value .bytes) (p .value .leased) (cond (p .value .leased) (p .value .lease) 0))
@@ -144,7 +149,8 @@ keysBack p = ifTaken (p .report) (keysGood p) (noKeysParameter Absent)
 same-key : (k : Key) (u : ℕ) → k .usage ≡ u → keyOf (k .identifier) u (k .value) ≡ k
 same-key k u e = rw (← e)
 
-group-read : (k : Key) (ks : List Key) (b : Bool) → eqb (k .usage) 0 ≡ b → groups (plainsOf (groupsItems ks)) ≡ groupsOf ks → groups (plainsOf (groupsItems (k ∷ ks))) ≡ groupsOf (k ∷ ks)
+group-read : (k : Key) (ks : List Key) (b : Bool) → eqb (k .usage) 0 ≡ b → groups (plainsOf (groupsItems ks)) ≡ groupsOf ks
+    → groups (plainsOf (groupsItems (k ∷ ks))) ≡ groupsOf (k ∷ ks)
 unfolding groups
 group-read k ks true e h = simp (e, h) (ap (λ (l : Key). groupsOf (l ∷ ks)) (same-key k 0 (eqb-true (k .usage) 0 e)))
 group-read k ks false e h = simp (e, h)
@@ -154,8 +160,9 @@ unfolding groups
 groups-read [] = refl
 groups-read (k ∷ ks) = group-read k ks (eqb (k .usage) 0) refl (groups-read ks)
 
-pub keys-back : (p : KeysParameter) → keysInRange p ≡ true → p .report ≡ Taken → keysRead (viewOf (array (groupsItems (keysOf (p .value))))) ≡ read (keysGood p)
-keys-back p h e = rw (groups-read (keysOf (p .value)), set-allowed (p .value) (simp e at h) .1)
+pub keys-back : KeyLaws → (p : KeysParameter) → keysInRange p ≡ true → p .report ≡ Taken
+    → keysRead (viewOf (array (groupsItems (keysOf (p .value))))) ≡ read (keysGood p)
+keys-back keys p h e = rw (groups-read (keysOf (p .value)), keys .set-allowed (p .value) (simp e at h) .1)
 
 pub keys-same : (p : KeysParameter) → keysTaken (keysBack p) ≡ keysTaken p
 keys-same p = same-if keysTaken (keysGood p) (noKeysParameter Absent) (keysOf (p .value)) (p .report) (ap some (take-append-seam (keysOf (p .value)) _)) refl

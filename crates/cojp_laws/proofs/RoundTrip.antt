@@ -11,18 +11,24 @@ use Rattle.refusal.specs.declared.Refusal.the-variants.{Range, Owed}
 use Rattle.cbor.specs.Answer.{Plan, refuse, emit}
 use Rattle.cbor.specs.Encode.{encode}
 use Rattle.cbor.specs.Item.{bytes, array, map}
+use Rattle.link_key_set.specs.KeyLaws.{KeyLaws}
 use Rattle.link_key_set.specs.KeySet.{keysOf}
+use Rattle.cbor.specs.HeadLaws.{HeadLaws}
 use Rattle.cbor.specs.Laws.{ItemLaws}
 use Rattle.cbor.specs.Strict.{headBy}
 use Rattle.cojp.specs.Address.{noAddressParameter, addressRead}
-use Rattle.cojp.specs.Configuration.{emptyConfiguration, withKeys, withAddress, withJrc, withNetwork, withPrefix, configurationForm, configurationStanding, configurationTaking, acceptConfiguration, readConfigurationBy}
+use Rattle.cojp.specs.Configuration.{emptyConfiguration, withKeys, withAddress, withJrc, withNetwork, withPrefix}
+use Rattle.cojp.specs.Configuration.{configurationForm, configurationStanding, configurationTaking, acceptConfiguration, readConfigurationBy}
+use Rattle.cojp.specs.InRange.{InRange}
 use Rattle.cojp.specs.KeySet.{noKeysParameter, keysRead}
-use Rattle.cojp.specs.Laws.{RequestRoundTrip, ConfigurationRoundTrip, LargestConfiguration}
+use Rattle.cojp_laws.specs.Largest.{LargestConfiguration}
+use Rattle.cojp_laws.specs.RoundTrip.{RequestRoundTrip, ConfigurationRoundTrip}
 use Rattle.cojp.specs.Octets.{bytesIn, noOctetsParameter, octetsRead}
 use Rattle.cojp.specs.Reading.{read, ifTaken}
 use Rattle.cojp.specs.Request.{roleJudged, gathered, nothingGathered, withNetwork as withIdentifier, requestStanding, requestTaking, requestForm, owing, acceptRequest, readRequestBy}
 use Rattle.cojp.specs.Walk.{pairsRead}
-use Rattle.cojp.specs.Writing.{join, rolePairs, octetsPairs, addressPairs, keysPairs, groupsItems, requestPairs, requestInRange, requestPlan, configurationPairs, configurationInRange, configurationPlan}
+use Rattle.cojp.specs.Writing.{join, rolePairs, octetsPairs, addressPairs, keysPairs, groupsItems}
+use Rattle.cojp.specs.Writing.{requestPairs, requestInRange, requestPlan, configurationPairs, configurationInRange, configurationPlan}
 use Rattle.cojp.specs.declared.address.AddressParameter.{AddressParameter}
 use Rattle.cojp.specs.declared.configuration.Configuration.{Configuration}
 use Rattle.cojp.specs.declared.key_set.KeysParameter.{KeysParameter}
@@ -30,10 +36,12 @@ use Rattle.cojp.specs.declared.octets.OctetsParameter.{OctetsParameter}
 use Rattle.cojp.specs.declared.report.Report.{Report}
 use Rattle.cojp.specs.declared.report.Report.the-variants.{Absent, Taken, Discarded}
 use Rattle.cojp.specs.declared.request.JoinRequest.{JoinRequest}
-use Rattle.cojp_configuration_write.specs.Room.{addressItems}
-use Rattle.cojp_octets_write.proofs.Limits.{RequestFits, request-fits, fine-request, ConfigurationFits, configuration-fits, fine-configuration}
+use Rattle.cojp_octets_write.proofs.Limits.{RequestFits, request-fits, configuration-fits}
 use Rattle.cojp_octets_write.proofs.Maps.{map-length}
-use Rattle.cojp_laws.proofs.ReadBack.{then, parameter-read, payload-read, kept-if, octetsGood, octetsBack, octets-back, jrc-back, octets-same, addressGood, addressBack, address-back, address-same, keysGood, keysBack, keys-back, keys-same}
+use Rattle.cojp_laws.proofs.Fine.{fine-request, fine-configuration}
+use Rattle.cojp_laws.proofs.ReadBack.{then, parameter-read, payload-read, kept-if}
+use Rattle.cojp_laws.proofs.ReadBack.{octetsGood, octetsBack, octets-back, jrc-back, octets-same}
+use Rattle.cojp_laws.proofs.ReadBack.{addressItems, addressGood, addressBack, address-back, address-same, keysGood, keysBack, keys-back, keys-same}
 
 -- ---- a plan that is no refusal
 emits : (b : Bool) (k : Refusal) (plan : Plan) (p : List ℕ) → cond b (refuse k) plan ≡ emit p → (b ≡ false) × (plan ≡ emit p)
@@ -76,15 +84,20 @@ owing-back role Absent p e = refl
 owing-back role Taken p e = rw e
 owing-back role Discarded p e = refl
 
-pub request-round-trip : ItemLaws → (q : JoinRequest) → RequestRoundTrip q
+pub request-round-trip : ItemLaws → HeadLaws → (q : JoinRequest) → RequestRoundTrip q
 unfolding requestPlan
-request-round-trip laws q p e b =
+request-round-trip laws heads q p e b =
     let (a, f) = emits (not (requestInRange q)) Range _ p e in
     let (o, x) = emits (owing (q .role) (q .network .report)) Owed (emit (encode (map (requestPairs q)))) p f in
     let h = in-range (requestInRange q) a in
     let owed = owing-back (q .role) (q .network .report) (octetsGood (q .network)) refl ∙ o in
     let back : readRequestBy (headBy b) p ≡ acceptRequest (requested (q .role) (octetsBack (q .network))) =
-    rw (← emitted x, payload-read requestForm laws b (requestPairs q) nothingGathered (fine-request q h) (omega arith) (omega arith), request-read q (request-fits q h), owed) in
+    rw (
+      ← emitted x,
+      payload-read requestForm laws heads b (requestPairs q) nothingGathered (fine-request heads q h) (omega arith) (omega arith),
+      request-read q (request-fits q h),
+      owed,
+    ) in
     rw back (record {
       accepted = refl;
       same = record { role = refl; network = octets-same (q .network) };
@@ -99,26 +112,42 @@ configured keys address jrc network prefix = record { keys = keys; address = add
 abbrev read-back : Configuration → Configuration
 read-back c = configured (keysBack (c .keys)) (addressBack (c .address)) (octetsBack (c .jrc)) (octetsBack (c .network)) (octetsBack (c .prefix))
 
-configuration-read : (c : Configuration) → ConfigurationFits c → length (c .jrc .value .bytes) ≡ 16
+configuration-read : KeyLaws → (c : Configuration) → InRange c → length (c .jrc .value .bytes) ≡ 16
     → pairsRead configurationForm emptyConfiguration (configurationPairs c) ≡ read (read-back c)
 unfolding configurationStanding configurationTaking
-configuration-read c f l =
+configuration-read keys c f l =
     let F = configurationForm in
     let none = noOctetsParameter Absent in
+    let no-address = noAddressParameter Absent in
     let k = keysBack (c .keys) in
     let a = addressBack (c .address) in
     let j = octetsBack (c .jrc) in
     let n = octetsBack (c .network) in
     let s0 = emptyConfiguration in
-    let s1 = configured k (noAddressParameter Absent) none none none in
+    let s1 = configured k no-address none none none in
     let s2 = configured k a none none none in
     let s3 = configured k a j none none in
     let s4 = configured k a j n none in
-    let e1 = parameter-read F s0 2 (c .keys .report) (array (groupsItems (keysOf (c .keys .value)))) keysRead (withKeys s0) (keysGood (c .keys)) (noKeysParameter Absent) refl refl refl (keys-back (c .keys) (f .keys)) in
-    let e2 = parameter-read F s1 3 (c .address .report) (array (addressItems (c .address .value))) addressRead (withAddress s1) (addressGood (c .address)) (noAddressParameter Absent) refl refl refl (address-back (c .address) (f .address)) in
-    let e3 = parameter-read F s2 4 (c .jrc .report) (bytes (bytesIn (c .jrc .value))) (octetsRead 16) (withJrc s2) (octetsGood (c .jrc)) none refl refl refl (jrc-back (c .jrc) (f .jrc) l) in
-    let e4 = parameter-read F s3 5 (c .network .report) (bytes (bytesIn (c .network .value))) (octetsRead 0) (withNetwork s3) (octetsGood (c .network)) none refl refl refl (octets-back (c .network) (f .network)) in
-    let e5 = parameter-read F s4 6 (c .prefix .report) (bytes (bytesIn (c .prefix .value))) (octetsRead 0) (withPrefix s4) (octetsGood (c .prefix)) none refl refl refl (octets-back (c .prefix) (f .prefix)) in
+    let groups = array (groupsItems (keysOf (c .keys .value))) in
+    let place = array (addressItems (c .address .value)) in
+    let jrc = bytes (bytesIn (c .jrc .value)) in
+    let network = bytes (bytesIn (c .network .value)) in
+    let prefix = bytes (bytesIn (c .prefix .value)) in
+    let e1 =
+    parameter-read F s0 2 (c .keys .report) groups keysRead (withKeys s0) (keysGood (c .keys)) (noKeysParameter Absent) refl refl refl
+    (keys-back keys (c .keys) (f .keys)) in
+    let e2 =
+    parameter-read F s1 3 (c .address .report) place addressRead (withAddress s1) (addressGood (c .address)) no-address refl refl refl
+    (address-back (c .address) (f .address)) in
+    let e3 =
+    parameter-read F s2 4 (c .jrc .report) jrc (octetsRead 16) (withJrc s2) (octetsGood (c .jrc)) none refl refl refl
+    (jrc-back (c .jrc) (f .jrc) l) in
+    let e4 =
+    parameter-read F s3 5 (c .network .report) network (octetsRead 0) (withNetwork s3) (octetsGood (c .network)) none refl refl refl
+    (octets-back (c .network) (f .network)) in
+    let e5 =
+    parameter-read F s4 6 (c .prefix .report) prefix (octetsRead 0) (withPrefix s4) (octetsGood (c .prefix)) none refl refl refl
+    (octets-back (c .prefix) (f .prefix)) in
     let ka = join (keysPairs (c .keys)) (addressPairs (c .address)) in
     let kaj = join ka (octetsPairs 4 (c .jrc)) in
     let kajn = join kaj (octetsPairs 5 (c .network)) in
@@ -128,13 +157,13 @@ configuration-read c f l =
     e4)
     e5
 
-module _ (c : Configuration) (lease : c .address .value .lease < 2 ^ 64) where
+module _ (heads : HeadLaws) (keys : KeyLaws) (c : Configuration) (two : length (c .address .value .bytes) ≡ 2) (lease : c .address .value .lease < 2 ^ 64) where
   pub largest-configuration : LargestConfiguration c
   unfolding configurationPlan
   largest-configuration p e =
       let (a, x) = emits (not (configurationInRange c)) Range (emit (encode (map (configurationPairs c)))) p e in
-      let f = fine-configuration c (in-range (configurationInRange c) a) lease in
-      rw (← emitted x) (omega (arith, map-length (configurationPairs c) (omega (arith, f .few)), f .small))
+      let f = fine-configuration heads keys c (in-range (configurationInRange c) a) two lease in
+      rw (← emitted x) (omega (arith, map-length heads (configurationPairs c) (omega (arith, f .few)), f .small))
 
   pub configuration-round-trip : ItemLaws → length (c .jrc .value .bytes) ≡ 16 → ConfigurationRoundTrip c
   unfolding configurationPlan
@@ -144,7 +173,11 @@ module _ (c : Configuration) (lease : c .address .value .lease < 2 ^ 64) where
       let none = noOctetsParameter Absent in
       let report : OctetsParameter → Report = λ o. o .report in
       let back : readConfigurationBy (headBy b) p ≡ acceptConfiguration (read-back c) =
-      rw (← emitted x, payload-read configurationForm laws b (configurationPairs c) emptyConfiguration (fine-configuration c h lease) (omega arith) (omega arith), configuration-read c (configuration-fits c h) l) in
+      rw (
+        ← emitted x,
+        payload-read configurationForm laws heads b (configurationPairs c) emptyConfiguration (fine-configuration heads keys c h two lease) (omega arith) (omega arith),
+        configuration-read keys c (configuration-fits c h) l,
+      ) in
       rw back (record {
         accepted = refl;
         same = record {

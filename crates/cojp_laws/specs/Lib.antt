@@ -1,1 +1,5 @@
 pub mod Addresses
+pub mod Demand1
+pub mod RoundTrip
+pub mod Largest
+pub mod Written

@@ -13,7 +13,7 @@ use octets::later_octets;
 use refusal::Refusal;
 use refusal::Verdict;
 ghost use mathlib.Core.Path.{_≡_};
-ghost use Rattle.cojp.specs.Laws.{LargestConfiguration};
+ghost use Rattle.cojp_laws.specs.Largest.{LargestConfiguration};
 ghost use Rattle.cojp_merge.specs.Merge.{merged, mergeAnswer, outsideLimits};
 ghost use Rattle.cojp_merge.specs.Laws.{MergeLaws};
 

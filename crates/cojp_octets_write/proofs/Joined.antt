@@ -9,7 +9,7 @@ use Rattle.cbor.specs.Answer.{Did, Wrote, emit}
 use Rattle.cbor.specs.declared.write.Written.{Written}
 use Rattle.cbor.specs.Encode.{shortest, encode, encodes, encodePairs}
 use Rattle.cbor.specs.Item.{Item, Items, Pairs, none, more, empty, pair, array, count, countPairs}
-use Rattle.cbor.proofs.Writing.{seam}
+use Rattle.cbor.specs.Writing.{seam}
 use Rattle.cojp.specs.Writing.{join, chain, labelled}
 
 -- ---- pairs

@@ -3,3 +3,4 @@ pub mod Sizes
 pub mod Limits
 pub mod Strings
 pub mod Maps
+pub mod Plans

@@ -6,8 +6,8 @@ use mathlib.Core.List.{List, [], _++_, append-nil}
 use native.Mathlib.Omega.{arith}
 use lib.ListN.{length, length-append}
 use Rattle.cbor.specs.Encode.{encodes, extraOf, shortest}
+use Rattle.cbor.specs.HeadLaws.{HeadLaws}
 use Rattle.cbor.specs.Item.{Items, Pairs, empty}
-use Rattle.cbor.proofs.Writing.{length-head, extra-most}
 use Rattle.cojp.specs.Writing.{join, chain, leaseItems}
 use Rattle.cojp_octets_write.specs.Size.{Sizes, ItemsSize, PairsSize, Sum}
 use Rattle.cojp_octets_write.specs.declared.size.Size.{Size}
@@ -39,12 +39,12 @@ size-none k m e z = rw e (sizes-most k m (omega arith) (omega arith) z)
 pub optional-bytes : (t : Bool) (n : ℕ) → t ≡ true → encodes (leaseItems t n) ≡ shortest 0 n
 optional-bytes t n e = rw e (append-nil (shortest 0 n))
 
-pub optional-given : (t : Bool) (n h : ℕ) → t ≡ true → h ≡ extraOf n + 1 → ItemsSize (leaseItems t n) 1 9 (record { members = 1; bytes = h })
-optional-given t n h e f = rw e (record {
+pub optional-given : HeadLaws → (t : Bool) (n h : ℕ) → t ≡ true → h ≡ extraOf n + 1 → ItemsSize (leaseItems t n) 1 9 (record { members = 1; bytes = h })
+optional-given heads t n h e f = rw e (record {
   members = refl;
-  bytes = omega (arith, ap length (append-nil (shortest 0 n)), length-head 0 n);
+  bytes = omega (arith, ap length (append-nil (shortest 0 n)), heads .length-head 0 n);
   few = omega arith;
-  small = omega (arith, extra-most n);
+  small = omega (arith, heads .extra-most n);
 })
 
 pub optional-missing : (t : Bool) (n : ℕ) {r : Size} → t ≡ false → Sizes 0 [] 0 0 r → ItemsSize (leaseItems t n) 1 9 r

@@ -8,6 +8,8 @@ use cbor_write::write_head;
 use cojp::Octets;
 use cojp::OctetsParameter;
 use cojp_range::is_taken;
+use cojp_range::jrc_in_range;
+use cojp_range::octets_in_range;
 use refusal::Refusal;
 ghost use mathlib.Core.Path.{_≡_};
 ghost use Prim.Native.Nat.{_≤_};
@@ -17,6 +19,7 @@ ghost use Rattle.cbor.specs.Encode.{encodePairs};
 ghost use Rattle.cbor.specs.Item.{bytes};
 ghost use Rattle.cojp.specs.Octets.{bytesIn};
 ghost use Rattle.cojp.specs.Writing.{labelled, octetsPairs};
+ghost use Rattle.cojp_octets_write.specs.Plan.{stringInRange, octetsPlan};
 ghost use Rattle.cojp_octets_write.specs.Size.{PairsSize};
 
 // How many bytes a byte string has: its length, and 16 where that is over 16.
@@ -34,6 +37,7 @@ fn known_len(value: Octets) -> usize
 pub fn octets_size(label: u64, p: OctetsParameter) -> Size
     ensures { λ r. ⌜ PairsSize (octetsPairs label p) 1 26 r ⌝ }
 {
+    cbor::head_laws();
     let report = p.report;
     if is_taken(report) {
         return Size {
@@ -48,6 +52,7 @@ pub fn octets_size(label: u64, p: OctetsParameter) -> Size
 fn write_string(dst: &mut [u8], label: u64, s: &[u8]) -> Written
     ensures { λ r. ⌜ Did (emit (encodePairs (labelled label (bytes (now (s .entry)))))) (now (dst .entry)) r (now (dst .exit)) ⌝ }
 {
+    cbor::head_laws();
     let n = s.len();
     let l = head_len(label);
     let whole = l + head_len(n as u64) + n;
@@ -59,8 +64,8 @@ fn write_string(dst: &mut [u8], label: u64, s: &[u8]) -> Written
     Written::Length(whole)
 }
 
-// Writes a parameter under a label, where it is taken: ROOM, or the length written.
-pub fn write_octets(dst: &mut [u8], label: u64, p: OctetsParameter) -> Written
+// What is in range, where it is taken: ROOM, or the length written.
+fn emit_octets(dst: &mut [u8], label: u64, p: OctetsParameter) -> Written
     ensures { λ r. ⌜ Did (emit (encodePairs (octetsPairs label p))) (now (dst .entry)) r (now (dst .exit)) ⌝ }
 {
     let len = known_len(p.value);
@@ -70,4 +75,24 @@ pub fn write_octets(dst: &mut [u8], label: u64, p: OctetsParameter) -> Written
         return write_string(dst, label, &bytes[..len]);
     }
     Written::Length(0)
+}
+
+// A JRC address, label 4, has 16 bytes; any other byte string at most 16.
+fn string_in_range(label: u64, p: OctetsParameter) -> bool
+    ensures { λ r. ⌜ r ≡ stringInRange label p ⌝ }
+{
+    if label == 4 {
+        return jrc_in_range(p);
+    }
+    octets_in_range(p)
+}
+
+// Writes a parameter under a label, where it is taken: RANGE, ROOM, or the length written.
+pub fn write_octets(dst: &mut [u8], label: u64, p: OctetsParameter) -> Written
+    ensures { λ r. ⌜ Did (octetsPlan label p) (now (dst .entry)) r (now (dst .exit)) ⌝ }
+{
+    if string_in_range(label, p) {
+        return emit_octets(dst, label, p);
+    }
+    Written::Refused(Refusal::Range)
 }

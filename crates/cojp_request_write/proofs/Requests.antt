@@ -1,36 +1,55 @@
 -- A join request's map: its head, the role, and the network identifier, each in the part after those before it.
 use Prim.Native.Nat.{ℕ, _+_, _-_, _≤_, _<_}
 use mathlib.Core.Path.{_≡_, refl, sym, _∙_}
-use mathlib.Core.Bool.{true}
+use mathlib.Core.Bool.{Bool, true, false, cond}
 use mathlib.Core.List.{List, _++_}
 use native.Mathlib.Omega.{arith}
+use lib.Dec.{eqb}
 use lib.ListN.{length, take, drop, length-take, length-drop}
 use Rattle.cbor.specs.Answer.{Did, Wrote, emit, headPlan}
 use Rattle.cbor.specs.Encode.{shortest, encode, encodePairs}
-use Rattle.cbor.specs.Item.{map, countPairs}
+use Rattle.cbor.specs.HeadLaws.{HeadLaws}
+use Rattle.cbor.specs.Item.{Item, unsigned, bytes, map, empty, countPairs}
 use Rattle.refusal.specs.declared.Refusal.the-variants.{Room}
 use Rattle.cbor.specs.declared.write.Written.{Written}
 use Rattle.cbor.specs.declared.write.Written.the-variants as written
-use Rattle.cbor.proofs.Writing.{did-emit, did-kept, did-room, seam, wrote-as, wrote-length}
-use Rattle.cojp.specs.Writing.{rolePairs, octetsPairs, requestPairs, requestInRange}
+use Rattle.cbor.specs.Writing.{did-emit, did-kept, did-room, seam, wrote-as, wrote-length}
+use Rattle.cojp.specs.Octets.{bytesIn}
+use Rattle.cojp.specs.Reading.{ifTaken}
+use Rattle.cojp.specs.Writing.{labelled, rolePairs, octetsPairs, requestPairs}
+use Rattle.cojp.specs.declared.report.Report.{Report}
+use Rattle.cojp.specs.declared.report.Report.the-variants.{Absent, Taken, Discarded}
 use Rattle.cojp.specs.declared.request.JoinRequest.{JoinRequest}
 use Rattle.cojp_octets_write.proofs.Joined.{join-count, join-length, join-seam}
 use Rattle.cojp_octets_write.specs.Size.{PairsSize}
 use Rattle.cojp_octets_write.specs.declared.size.Size.{Size}
-use Rattle.cojp_octets_write.proofs.Limits.{fine-request}
 use Rattle.cojp_octets_write.proofs.Maps.{map-head, map-length, short-wrote}
 
-module _ (q : JoinRequest) (d : List ℕ) (ok : requestInRange q ≡ true) (fits : length (encode (map (requestPairs q))) ≤ length d) where
-  few : countPairs (requestPairs q) ≤ 2
-  few = fine-request q ok .few
+-- at most two pairs
+role-few : (b : Bool) (n : ℕ) → countPairs (cond b empty (labelled 1 (unsigned n))) ≤ 1
+role-few true n = omega arith
+role-few false n = omega arith
 
+network-few : (r : Report) (i : Item) → countPairs (ifTaken r (labelled 5 i) empty) ≤ 1
+network-few Absent i = omega arith
+network-few Taken i = omega arith
+network-few Discarded i = omega arith
+
+request-few : (q : JoinRequest) → countPairs (requestPairs q) ≤ 2
+request-few q =
+    let o = q .network in
+    let role = role-few (eqb (q .role) 0) (q .role) in
+    let network = network-few (o .report) (bytes (bytesIn (o .value))) in
+    omega (arith, join-count (rolePairs (q .role)) (octetsPairs 5 o))
+
+module _ (heads : HeadLaws) (q : JoinRequest) (d : List ℕ) (fits : length (encode (map (requestPairs q))) ≤ length d) where
   room : 1 + (length (encodePairs (rolePairs (q .role))) + length (encodePairs (octetsPairs 5 (q .network)))) ≤ length d
-  room = omega (arith, map-length (requestPairs q) (omega (arith, few)), join-length (rolePairs (q .role)) (octetsPairs 5 (q .network)))
+  room = omega (arith, map-length heads (requestPairs q) (omega (arith, request-few q)), join-length (rolePairs (q .role)) (octetsPairs 5 (q .network)))
 
   -- the head was written, and the destination is d′
   module _ {m : ℕ} (e : m ≡ countPairs (requestPairs q)) {r : Written} {d′ : List ℕ} (w : Did (headPlan 5 m) d r d′) where
     head-wrote : Wrote (shortest 5 (countPairs (requestPairs q))) d 1 d′
-    head-wrote = map-head (countPairs (requestPairs q)) e (short-wrote 5 m (omega arith) (omega (arith, few)) (omega (arith, room)) w)
+    head-wrote = map-head (countPairs (requestPairs q)) e (short-wrote heads 5 m (omega arith) (omega (arith, request-few q)) (omega (arith, room)) w)
 
     pub head-part : 1 ≤ length d′
     head-part = omega (arith, wrote-length head-wrote (omega (arith, head-wrote .many, room)), room)
@@ -63,13 +82,14 @@ module _ (q : JoinRequest) (d : List ℕ) (ok : requestInRange q ≡ true) (fits
           (join-seam h (rolePairs (q .role)) (octetsPairs 5 (q .network)) d fits front-wrote n)
 
 -- ---- the room for it, by the sizes of its parameters
-module _ (q : JoinRequest) (d : List ℕ) {a b : Size} (x : PairsSize (rolePairs (q .role)) 1 2 a) (y : PairsSize (octetsPairs 5 (q .network)) 1 26 b) where
+module _ (heads : HeadLaws) (q : JoinRequest) (d : List ℕ) {a b : Size} (x : PairsSize (rolePairs (q .role)) 1 2 a)
+    (y : PairsSize (octetsPairs 5 (q .network)) 1 26 b) where
   pub request-members : a .members + b .members ≡ countPairs (requestPairs q)
   request-members = omega (arith, join-count (rolePairs (q .role)) (octetsPairs 5 (q .network)), x .members, y .members)
 
   whole : length (encode (map (requestPairs q))) ≡ 1 + a .bytes + b .bytes
   whole =
-      map-length (requestPairs q) (omega (arith, request-members, x .few, y .few))
+      map-length heads (requestPairs q) (omega (arith, request-members, x .few, y .few))
       ∙ omega (arith, join-length (rolePairs (q .role)) (octetsPairs 5 (q .network)), x .bytes, y .bytes)
 
   pub request-refused : length d < 1 + a .bytes + b .bytes → Did (emit (encode (map (requestPairs q)))) d (written.Refused Room) d

@@ -24,6 +24,7 @@ fn role_size(role: u8) -> Size
     requires { ⌜ role ≤ 1 ⌝ }
     ensures { λ r. ⌜ PairsSize (rolePairs role) 1 2 r ⌝ }
 {
+    cbor::head_laws();
     if role == 0 {
         return no_size();
     }
@@ -37,6 +38,7 @@ fn put_role(dst: &mut [u8], role: u8) -> usize
     requires { ⌜ (role ≤ 1) × (length (encodePairs (rolePairs role)) ≤ length (now dst)) ⌝ }
     ensures { λ r. ⌜ Wrote (encodePairs (rolePairs role)) (now (dst .entry)) r (now (dst .exit)) ⌝ }
 {
+    cbor::head_laws();
     if role != 0 {
         write_head(dst, 0, 1);
         write_head(&mut dst[1..], 0, role as u64);
@@ -50,6 +52,7 @@ fn put_request(dst: &mut [u8], q: JoinRequest, members: u64)
     requires { ⌜ (requestInRange q ≡ true) × (members ≡ countPairs (requestPairs q)) × (length (encode (map (requestPairs q))) ≤ length (now dst)) ⌝ }
     ensures { λ r. ⌜ Wrote (encode (map (requestPairs q))) (now (dst .entry)) (length (encode (map (requestPairs q)))) (now (dst .exit)) ⌝ }
 {
+    cbor::head_laws();
     write_head(dst, 5, members);
     let n = 1 + put_role(&mut dst[1..], q.role);
     write_octets(&mut dst[n..], 5, q.network);
@@ -60,6 +63,7 @@ fn emit_request(dst: &mut [u8], q: JoinRequest) -> Written
     requires { ⌜ requestInRange q ≡ true ⌝ }
     ensures { λ r. ⌜ Did (emit (encode (map (requestPairs q)))) (now (dst .entry)) r (now (dst .exit)) ⌝ }
 {
+    cbor::head_laws();
     let role = role_size(q.role);
     let network = octets_size(5, q.network);
     let whole = 1 + role.bytes + network.bytes;

@@ -57,6 +57,16 @@ unfolding inLimits
 limits-identifier k e =
     leb-true 1 (k .identifier) (first (leb 1 (k .identifier)) (leb (k .identifier) 255) (listed (k .usage)) (eqb (length (k .value)) 16) e)
 
+pub limits-fit : (k : Key) → inLimits k ≡ true → (k .identifier ≤ 255) × (k .usage ≤ 14) × (length (k .value) ≡ 16)
+unfolding inLimits
+limits-fit k e =
+    let least = leb 1 (k .identifier) in
+    let most = leb (k .identifier) 255 in
+    let usage = listed (k .usage) in
+    let value = eqb (length (k .value)) 16 in
+    let front = both-left (least && most && usage) value e in
+    (leb-true _ _ (both-right least most (both-left (least && most) usage front)), leb-true _ _ (both-right (least && most) usage front), eqb-true _ _ (both-right (least && most && usage) value e))
+
 known-type : (f : Family) (type : ℕ) → familyCovers f type ≡ true → type ≤ 1
 known-type K1K2Encrypted type e = leb-true type 1 e
 known-type K1K2 type e = leb-true type 1 e

@@ -58,5 +58,6 @@ pub record KeyLaws : Type 0 where
   pub set-allowed : (set : KeySet) → allowedSet set ≡ true → (set .count ≤ 8) × (allowed (keysOf set) ≡ true)
   pub allowed-set : (set : KeySet) → set .count ≤ 8 → allowed (keysOf set) ≡ true → allowedSet set ≡ true
   pub limits-identifier : (k : Key) → inLimits k ≡ true → 1 ≤ k .identifier
+  pub limits-fit : (k : Key) → inLimits k ≡ true → (k .identifier ≤ 255) × (k .usage ≤ 14) × (length (k .value) ≡ 16)
   pub keys-of-none : keysOf noKeys ≡ []
   pub keys-of-count-0 : (set : KeySet) → set .count ≡ 0 → keysOf set ≡ []

@@ -15,7 +15,8 @@ use Rattle.cbor.specs.Answer.{emit}
 use Rattle.cbor.specs.Encode.{encode}
 use Rattle.cbor.specs.Item.{map}
 use Rattle.cojp.specs.Configuration.{readConfiguration}
-use Rattle.cojp.specs.Laws.{ConfigurationRoundTrip, LargestConfiguration}
+use Rattle.cojp_laws.specs.Largest.{LargestConfiguration}
+use Rattle.cojp_laws.specs.RoundTrip.{ConfigurationRoundTrip}
 use Rattle.cojp.specs.Same.{SameConfiguration}
 use Rattle.cojp.specs.InRange.{InRange, ReadsInRange}
 use Rattle.cojp.specs.Writing.{configurationInRange, configurationPairs, configurationPlan}

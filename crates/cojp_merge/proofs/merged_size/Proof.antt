@@ -1,7 +1,7 @@
 -- A configuration is a configuration, merged or not.
 use mathlib.Core.Path.{subst}
 use borrow.Author.Needs.{needs}
-use Rattle.cojp.specs.Laws.{LargestConfiguration}
+use Rattle.cojp_laws.specs.Largest.{LargestConfiguration}
 use Rattle.cojp.specs.declared.configuration.Configuration.{Configuration}
 use Rattle.cojp_merge.proofs.merged_size.Statement.{statement}
 use Rattle.cojp_merge.proofs.merged_size.Tie as tie

@@ -5,8 +5,13 @@ use Rattle.cojp_request_write.proofs.Requests.{request-members, request
 use Rattle.cojp_request_write.proofs.emit_request.Statement.{statement}
 use Rattle.cojp_request_write.proofs.emit_request.Tie as tie
 
+head-laws-requires : tie.Need-head-laws-requires
+head-laws-requires c κs = search needs
+
 role-size-requires : tie.Need-role-size-requires
-role-size-requires c κs = request-fits (c .before .args .q) (c .before .pre) .role
+role-size-requires c κs =
+    let start = c .before .before in
+    request-fits (start .args .q) (start .pre) .role
 
 octets-size-requires : tie.Need-octets-size-requires
 octets-size-requires c κs = search needs
@@ -21,8 +26,9 @@ returns : tie.Need-returns
 returns c =
     let network = c .before .before .before in
     let role = network .before in
-    let start = role .before .before in
-    request-refused (start .args .q) (start .args .dst .now) (role .role-size .ensures) (network .octets-size .ensures) (c .if1 .taken)
+    let laws = role .before in
+    let start = laws .before .before in
+    request-refused (laws .head-laws .ensures) (start .args .q) (start .args .dst .now) (role .role-size .ensures) (network .octets-size .ensures) (c .if1 .taken)
 
 add-members : tie.Need-add-members
 add-members c = search needs
@@ -32,10 +38,13 @@ put-request-requires c κs =
     let test = c .before .before .before in
     let network = test .before .before .before in
     let role = network .before in
-    let start = role .before .before in
+    let laws = role .before in
+    let start = laws .before .before in
     let q = start .args .q in
     let d = start .args .dst .now in
-    (start .pre, request-members q d (role .role-size .ensures) (network .octets-size .ensures), request-fits-in q d (role .role-size .ensures) (network .octets-size .ensures) (test .if1 .left))
+    let heads = laws .head-laws .ensures in
+    let members = request-members heads q d (role .role-size .ensures) (network .octets-size .ensures) in
+    (start .pre, members, request-fits-in heads q d (role .role-size .ensures) (network .octets-size .ensures) (test .if1 .left))
 
 same-length : tie.Need-same-length
 same-length c = search needs
@@ -46,13 +55,15 @@ returns-2 c =
     let test = put .before .before .before .before in
     let network = test .before .before .before in
     let role = network .before in
-    let start = role .before .before in
-    request-done (start .args .q) (start .args .dst .now) (role .role-size .ensures) (network .octets-size .ensures) (test .if1 .left) (put .put-request .ensures)
+    let laws = role .before in
+    let start = laws .before .before in
+    request-done (laws .head-laws .ensures) (start .args .q) (start .args .dst .now) (role .role-size .ensures) (network .octets-size .ensures) (test .if1 .left) (put .put-request .ensures)
 
 pub emit-request-spec : {M : Type 1} → statement M
 emit-request-spec =
     tie.close
     (tie.spec
+    head-laws-requires
     role-size-requires
     octets-size-requires
     add-whole

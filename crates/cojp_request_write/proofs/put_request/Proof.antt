@@ -3,9 +3,13 @@ use mathlib.Core.Path.{refl}
 use native.Mathlib.Omega.{arith}
 use borrow.Author.Needs.{needs}
 use Rattle.cojp_octets_write.proofs.Limits.{request-fits}
+use Rattle.cojp_octets_write.proofs.Plans.{string-did}
 use Rattle.cojp_request_write.proofs.Requests.{head-part, role-room, network-part, request-wrote}
 use Rattle.cojp_request_write.proofs.put_request.Statement.{statement}
 use Rattle.cojp_request_write.proofs.put_request.Tie as tie
+
+head-laws-requires : tie.Need-head-laws-requires
+head-laws-requires c κs = search needs
 
 write-head-requires : tie.Need-write-head-requires
 write-head-requires c κs = search needs
@@ -13,8 +17,9 @@ write-head-requires c κs = search needs
 sub-put-role : tie.Need-sub-put-role
 sub-put-role c =
     let head = c .before .before in
-    let start = head .before .before .before in
-    head-part (start .args .q) (start .args .dst .now) (start .pre .0) (start .pre .2) (start .pre .1) (head .write-head .ensures)
+    let laws = head .before .before in
+    let start = laws .before .before in
+    head-part (laws .head-laws .ensures) (start .args .q) (start .args .dst .now) (start .pre .2) (start .pre .1) (head .write-head .ensures)
 
 part-put-role-start : tie.Need-part-put-role-start
 part-put-role-start c = sub-put-role c
@@ -25,16 +30,18 @@ part-put-role-end c = search needs
 put-role-requires : tie.Need-put-role-requires
 put-role-requires c κs =
     let head = c .before .before .before in
-    let start = head .before .before .before in
-    let room = role-room (start .args .q) (start .args .dst .now) (start .pre .0) (start .pre .2) (start .pre .1) (head .write-head .ensures) in
+    let laws = head .before .before in
+    let start = laws .before .before in
+    let room = role-room (laws .head-laws .ensures) (start .args .q) (start .args .dst .now) (start .pre .2) (start .pre .1) (head .write-head .ensures) in
     (request-fits (start .args .q) (start .pre .0) .role, room)
 
 sub-write-octets : tie.Need-sub-write-octets
 sub-write-octets c =
     let role = c .before .before in
     let head = role .before .before .before .before in
-    let start = head .before .before .before in
-    network-part (start .args .q) (start .args .dst .now) (start .pre .0) (start .pre .2) (start .pre .1) (head .write-head .ensures) (role .put-role .ensures) _ refl
+    let laws = head .before .before in
+    let start = laws .before .before in
+    network-part (laws .head-laws .ensures) (start .args .q) (start .args .dst .now) (start .pre .2) (start .pre .1) (head .write-head .ensures) (role .put-role .ensures) _ refl
 
 add-n : tie.Need-add-n
 add-n c = omega (arith, sub-write-octets c)
@@ -56,14 +63,18 @@ returns c =
     let network = c .before .before in
     let role = network .before .before .before .before in
     let head = role .before .before .before .before in
-    let start = head .before .before .before in
-    request-wrote (start .args .q) (start .args .dst .now) (start .pre .0) (start .pre .2) (start .pre .1) (head .write-head .ensures) (role .put-role .ensures) _ refl
-    (network .write-octets .ensures)
+    let laws = head .before .before in
+    let start = laws .before .before in
+    let q = start .args .q in
+    let string = string-did 5 (q .network) (request-fits q (start .pre .0) .network) (network .write-octets .ensures) in
+    request-wrote (laws .head-laws .ensures) q (start .args .dst .now) (start .pre .2) (start .pre .1) (head .write-head .ensures) (role .put-role .ensures) _ refl
+    string
 
 pub put-request-spec : {M : Type 1} → statement M
 put-request-spec =
     tie.close
     (tie.spec
+    head-laws-requires
     write-head-requires
     sub-put-role
     part-put-role-start

@@ -1,10 +1,13 @@
 -- The label and the role, or nothing.
 use borrow.Author.Needs.{needs}
-use Rattle.cbor.proofs.Writing.{wrote-none}
+use Rattle.cbor.specs.Writing.{wrote-none}
 use Rattle.cojp_octets_write.proofs.Joined.{wrote-same}
 use Rattle.cojp_request_write.proofs.Roles.{role-none, role-part, role-wrote}
 use Rattle.cojp_request_write.proofs.put_role.Statement.{statement}
 use Rattle.cojp_request_write.proofs.put_role.Tie as tie
+
+head-laws-requires : tie.Need-head-laws-requires
+head-laws-requires c κs = search needs
 
 write-head-requires : tie.Need-write-head-requires
 write-head-requires c κs = search needs
@@ -13,8 +16,9 @@ sub-write-head : tie.Need-sub-write-head
 sub-write-head c =
     let head = c .before .before in
     let test = head .before .before in
-    let start = test .before .before in
-    role-part (start .args .role) (test .if1 .taken) (start .pre .0) (start .pre .1) (head .write-head .ensures)
+    let laws = test .before in
+    let start = laws .before .before in
+    role-part (laws .head-laws .ensures) (start .args .role) (test .if1 .taken) (start .pre .0) (start .pre .1) (head .write-head .ensures)
 
 part-write-head-start : tie.Need-part-write-head-start
 part-write-head-start c = sub-write-head c
@@ -33,16 +37,20 @@ returns c =
     let second = c .before .before in
     let first = second .before .before .before .before in
     let test = first .before .before in
-    let start = test .before .before in
-    role-wrote (start .args .role) (test .if1 .taken) (start .pre .0) (start .pre .1) (first .write-head .ensures) (second .write-head2 .ensures)
+    let laws = test .before in
+    let start = laws .before .before in
+    role-wrote (laws .head-laws .ensures) (start .args .role) (test .if1 .taken) (start .pre .0) (start .pre .1) (first .write-head .ensures) (second .write-head2 .ensures)
 
 returns-2 : tie.Need-returns-2
-returns-2 c = wrote-same (role-none (c .before .before .args .role) (c .if1 .left)) (wrote-none (c .before .before .args .dst .now))
+returns-2 c =
+    let a = c .before .before .before .args in
+    wrote-same (role-none (a .role) (c .if1 .left)) (wrote-none (a .dst .now))
 
 pub put-role-spec : {M : Type 1} → statement M
 put-role-spec =
     tie.close
     (tie.spec
+    head-laws-requires
     write-head-requires
     sub-write-head
     part-write-head-start

@@ -5,14 +5,22 @@ use Rattle.cojp_octets_write.proofs.Sizes.{size-none}
 use Rattle.cojp_request_write.proofs.role_size.Statement.{statement}
 use Rattle.cojp_request_write.proofs.role_size.Tie as tie
 
+head-laws-requires : tie.Need-head-laws-requires
+head-laws-requires c κs = search needs
+
 no-size-requires : tie.Need-no-size-requires
 no-size-requires c κs = search needs
 
 returns : tie.Need-returns
-returns c = size-none 1 2 (role-none (c .before .before .args .role) (c .before .if1 .taken)) (c .no-size .ensures)
+returns c =
+    let test = c .before in
+    size-none 1 2 (role-none (test .before .before .args .role) (test .if1 .taken)) (c .no-size .ensures)
 
 returns-2 : tie.Need-returns-2
-returns-2 c = role-size (c .before .args .role) (c .if1 .left) (c .before .pre)
+returns-2 c =
+    let laws = c .before in
+    let start = laws .before in
+    role-size (laws .head-laws .ensures) (start .args .role) (c .if1 .left) (start .pre)
 
 pub role-size-spec : {M : Type 1} → statement M
-role-size-spec = tie.close (tie.spec no-size-requires returns returns-2)
+role-size-spec = tie.close (tie.spec head-laws-requires no-size-requires returns returns-2)

@@ -1,6 +1,6 @@
 -- `laws` meets its contract: each law is one of the law files'.
 use Rattle.link_key.proofs.Keys.{entry-says, coverage-says, found-some, found-none, coverage-covered, covers-known-type, covers-listed, same-key-self}
-use Rattle.link_key.proofs.Keys.{same-key-equal, limits-identifier}
+use Rattle.link_key.proofs.Keys.{same-key-equal, limits-identifier, limits-fit}
 use Rattle.link_key_set.proofs.KeySets.{same-keys-self, same-keys-equal, has-none, none-has, shares-apart, apart-shares, shares-turned}
 use Rattle.link_key_set.proofs.KeySets.{has-append, limits-append, none-twice-append, one-of-a-name, cover-found, cover-finds, find-found}
 use Rattle.link_key_set.proofs.KeySets.{find-own, find-none, none-find, allowed-none-twice, allowed-in-limits, allowed-some, allowed-few}
@@ -44,6 +44,7 @@ returns c =
       set-allowed = set-allowed;
       allowed-set = allowed-set;
       limits-identifier = limits-identifier;
+      limits-fit = limits-fit;
       keys-of-none = keys-of-none;
       keys-of-count-0 = λ set e. rw e;
     }

@@ -1,7 +1,8 @@
 -- What is merged is written and reads back; it does to the node what the two did.
 use mathlib.Core.Path.{subst}
 use borrow.Author.Needs.{needs}
-use Rattle.cojp.specs.Laws.{LargestConfiguration, ConfigurationRoundTrip}
+use Rattle.cojp_laws.specs.Largest.{LargestConfiguration}
+use Rattle.cojp_laws.specs.RoundTrip.{ConfigurationRoundTrip}
 use Rattle.cojp_merge.specs.declared.Merged.{Merged}
 use Rattle.node_merge_laws.proofs.Delivered.{merged-delivers}
 use Rattle.node_merge_laws.proofs.merged_delivers.Statement.{statement}

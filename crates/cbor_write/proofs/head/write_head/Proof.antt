@@ -1,6 +1,7 @@
 -- RANGE, then ROOM, then the head.
 use native.Mathlib.Omega.{arith}
-use Rattle.cbor.proofs.Writing.{length-head, wrote-length}
+use Rattle.cbor.specs.Writing.{wrote-length}
+use Rattle.cbor.proofs.HeadLengths.{length-head}
 use Rattle.cbor_write.proofs.Heads.{head-range, head-room, head-done}
 use Rattle.cbor_write.proofs.head.write_head.Statement.{statement}
 use Rattle.cbor_write.proofs.head.write_head.Tie as tie

@@ -5,7 +5,7 @@ use native.Mathlib.Omega.{arith}
 use borrow.Author.Needs.{needs}
 use lib.ListN.{length}
 use Rattle.cbor.specs.Item.{array, empty, count}
-use Rattle.cbor.proofs.Writing.{wrote-none}
+use Rattle.cbor.specs.Writing.{wrote-none}
 use Rattle.cojp.specs.Writing.{labelled}
 use Rattle.cojp_configuration_write.specs.Room.{addressItems}
 use Rattle.cojp_configuration_write.proofs.Addresses.{address-taken, place-length}
@@ -25,10 +25,14 @@ add-members c = omega arith
 
 put-place-requires : tie.Need-put-place-requires
 put-place-requires c κs =
-    let p = (c .before .before .before .before .before .before .args .p) in
-    let m : 1 + (c .before .before .optional-size .result .members) ≡ count (addressItems (p .value)) = omega (arith, (c .before .before .optional-size .ensures .members)) in
-    let e = address-taken p _ (c .before .before .before .before .is-taken .ensures) (c .before .before .before .if1 .taken) in
-    (m, omega (arith, same-room (length (c .before .before .before .before .before .before .args .dst .now)) e (c .before .before .before .before .before .before .pre), place-length (p .value) _ m))
+    let size = c .before .before in
+    let test = size .before in
+    let taken = test .before in
+    let start = taken .before .before in
+    let p = start .args .p in
+    let m : 1 + size .optional-size .result .members ≡ count (addressItems (p .value)) = omega (arith, size .optional-size .ensures .members) in
+    let e = address-taken p _ (taken .is-taken .ensures) (test .if1 .taken) in
+    (m, omega (arith, same-room (length (start .args .dst .now)) e (start .pre), place-length (p .value) _ m))
 
 same-length : tie.Need-same-length
 same-length c = search needs
@@ -43,9 +47,10 @@ returns c =
 
 returns-2 : tie.Need-returns-2
 returns-2 c =
-    let p = (c .before .before .before .args .p) in
-    let i = labelled 3 (array (addressItems (p .value))) in
-    wrote-same (taken-not (p .report) i empty _ (c .before .is-taken .ensures) (c .if1 .left)) (wrote-none (c .before .before .before .args .dst .now))
+    let taken = c .before in
+    let a = taken .before .before .args in
+    let i = labelled 3 (array (addressItems (a .p .value))) in
+    wrote-same (taken-not (a .p .report) i empty _ (taken .is-taken .ensures) (c .if1 .left)) (wrote-none (a .dst .now))
 
 pub put-address-spec : {M : Type 1} → statement M
 put-address-spec =

@@ -3,13 +3,15 @@ use native.Mathlib.Omega.{arith}
 use borrow.Author.Needs.{needs}
 use lib.ListN.{length-append}
 use Rattle.cbor.specs.Encode.{shortest}
-use Rattle.cbor.proofs.Writing.{seam, wrote-length}
+use Rattle.cbor.specs.Writing.{seam, wrote-length}
 use Rattle.cojp_configuration_write.proofs.Addresses.{place-length, place-seam}
 use Rattle.cojp_configuration_write.proofs.address.put_place.Statement.{statement}
 use Rattle.cojp_configuration_write.proofs.address.put_place.Tie as tie
 
 put-array-requires : tie.Need-put-array-requires
-put-array-requires c κs = omega (arith, length-append (shortest 0 3) (shortest 4 (c .before .before .before .args .members)), (c .before .before .before .pre .1))
+put-array-requires c κs =
+    let start = c .before .before .before in
+    omega (arith, length-append (shortest 0 3) (shortest 4 (start .args .members)), start .pre .1)
 
 sub-put-bytes : tie.Need-sub-put-bytes
 sub-put-bytes c = omega arith
@@ -45,10 +47,21 @@ add-result : tie.Need-add-result
 add-result c = omega arith
 
 returns : tie.Need-returns
-returns c = place-seam (c .before .before .before .before .before .before .before .before .before .before .before .before .before .before .before .args .a) (c .before .before .before .before .before .before .before .before .before .before .before .before .before .before .before .args .members) (c .before .before .before .before .before .before .before .before .before .before .before .before .before .before .before .pre .0) (c .before .before .before .before .before .before .before .before .before .before .before .before .before .before .before .pre .1) (seam (omega (arith, (c .before .before .before .before .before .before .before .before .before .before .before .before .before .before .before .pre .1))) (c .before .before .before .before .before .before .before .before .before .before .before .put-array .ensures) (c .before .before .before .before .before .before .put-bytes .ensures)) (c .before .before .put-optional .ensures)
+returns c =
+    let lease = c .before .before in
+    let bytes = lease .before .before .before .before in
+    let array = bytes .before .before .before .before .before in
+    let start = array .before .before .before .before in
+    let front = seam (omega (arith, start .pre .1)) (array .put-array .ensures) (bytes .put-bytes .ensures) in
+    place-seam (start .args .a) (start .args .members) (start .pre .0) (start .pre .1) front (lease .put-optional .ensures)
 
 same-length : tie.Need-same-length
-same-length c = wrote-length (returns c) (omega (arith, c .before .before .before .before .before .before .before .before .before .before .before .before .before .before .before .pre .1, place-length (c .before .before .before .before .before .before .before .before .before .before .before .before .before .before .before .args .a) (c .before .before .before .before .before .before .before .before .before .before .before .before .before .before .before .args .members) (c .before .before .before .before .before .before .before .before .before .before .before .before .before .before .before .pre .0)))
+same-length c =
+    let lease = c .before .before in
+    let bytes = lease .before .before .before .before in
+    let array = bytes .before .before .before .before .before in
+    let start = array .before .before .before .before in
+    wrote-length (returns c) (omega (arith, start .pre .1, place-length (start .args .a) (start .args .members) (start .pre .0)))
 
 pub put-place-spec : {M : Type 1} → statement M
 put-place-spec =

@@ -7,6 +7,9 @@ use Rattle.cojp_configuration_write.proofs.Configurations.{configuratio
 use Rattle.cojp_configuration_write.proofs.configuration.emit_configuration.Statement.{statement}
 use Rattle.cojp_configuration_write.proofs.configuration.emit_configuration.Tie as tie
 
+head-laws-requires : tie.Need-head-laws-requires
+head-laws-requires c κs = search needs
+
 configuration-size-requires : tie.Need-configuration-size-requires
 configuration-size-requires c κs = search needs
 
@@ -14,24 +17,41 @@ add-if1 : tie.Need-add-if1
 add-if1 c = search needs
 
 returns : tie.Need-returns
-returns c = map-room (configurationPairs (c .before .before .before .before .args .c)) (c .before .before .configuration-size .ensures) (omega arith) _ (c .if1 .taken)
+returns c =
+    let size = c .before .before in
+    let laws = size .before in
+    let start = laws .before .before in
+    map-room (laws .head-laws .ensures) (configurationPairs (start .args .c)) (size .configuration-size .ensures) (omega arith) _ (c .if1 .taken)
 
 put-configuration-requires : tie.Need-put-configuration-requires
 put-configuration-requires c κs =
-    let z = (c .before .before .before .configuration-size .ensures) in
-    let f = map-fits (configurationPairs (c .before .before .before .before .before .args .c)) z (omega arith) (c .before .before .before .before .before .args .dst .now) (c .before .if1 .left) in
-    (z .members, omega (arith, f, configuration-length (c .before .before .before .before .before .args .c) (c .before .before .before .configuration-size .result .members)))
+    let test = c .before in
+    let size = test .before .before in
+    let laws = size .before in
+    let start = laws .before .before in
+    let q = start .args .c in
+    let z = size .configuration-size .ensures in
+    let f = map-fits (laws .head-laws .ensures) (configurationPairs q) z (omega arith) (start .args .dst .now) (test .if1 .left) in
+    (start .pre, z .members, omega (arith, f, configuration-length q (size .configuration-size .result .members)))
 
 same-length : tie.Need-same-length
 same-length c = search needs
 
 returns-2 : tie.Need-returns-2
-returns-2 c = map-emit (configurationPairs (c .before .before .before .before .before .before .before .before .args .c)) (c .before .before .before .before .before .before .configuration-size .ensures) (omega arith) _ (c .before .before .before .before .if1 .left) (c .before .before .put-configuration .ensures)
+returns-2 c =
+    let put = c .before .before in
+    let test = put .before .before in
+    let size = test .before .before in
+    let laws = size .before in
+    let start = laws .before .before in
+    map-emit (laws .head-laws .ensures) (configurationPairs (start .args .c)) (size .configuration-size .ensures) (omega arith) _ (test .if1 .left)
+    (put .put-configuration .ensures)
 
 pub emit-configuration-spec : {M : Type 1} → statement M
 emit-configuration-spec =
     tie.close
     (tie.spec
+    head-laws-requires
     configuration-size-requires
     add-if1
     returns

@@ -1,12 +1,15 @@
 -- The map's head, and then each parameter in the part after what is written.
+use Prim.Native.Nat.{_+_, _≤_}
 use native.Mathlib.Omega.{arith}
 use mathlib.Core.List.{_++_}
 use borrow.Author.Needs.{needs}
-use lib.ListN.{length-append}
+use lib.ListN.{length, length-append}
 use Rattle.cbor.specs.Encode.{shortest, encodePairs}
-use Rattle.cbor.proofs.Writing.{seam, wrote-length}
+use Rattle.cbor.specs.Writing.{seam, wrote-length}
 use Rattle.cojp.specs.Writing.{keysPairs, addressPairs, configurationPairs}
+use Rattle.cojp_octets_write.proofs.Limits.{configuration-fits}
 use Rattle.cojp_octets_write.proofs.Maps.{map-fitting}
+use Rattle.cojp_configuration_write.specs.Room.{stringsBytes}
 use Rattle.cojp_configuration_write.proofs.Configurations.{strings-length, configuration-length, configuration-wrote}
 use Rattle.cojp_configuration_write.proofs.configuration.put_configuration.Statement.{statement}
 use Rattle.cojp_configuration_write.proofs.configuration.put_configuration.Tie as tie
@@ -24,7 +27,10 @@ part-put-keys-end : tie.Need-part-put-keys-end
 part-put-keys-end c = omega arith
 
 put-keys-requires : tie.Need-put-keys-requires
-put-keys-requires c κs = omega (arith, c .before .before .before .before .before .before .pre .1)
+put-keys-requires c κs =
+    let head = c .before .before .before in
+    let start = head .before .before .before in
+    omega (arith, start .pre .2)
 
 add-n2 : tie.Need-add-n2
 add-n2 c = omega arith
@@ -39,7 +45,11 @@ part-put-address-end : tie.Need-part-put-address-end
 part-put-address-end c = omega arith
 
 put-address-requires : tie.Need-put-address-requires
-put-address-requires c κs = omega (arith, c .before .before .before .before .before .before .before .before .before .before .pre .1)
+put-address-requires c κs =
+    let keys = c .before .before .before in
+    let head = keys .before .before .before .before in
+    let start = head .before .before .before in
+    omega (arith, start .pre .2)
 
 add-n3 : tie.Need-add-n3
 add-n3 c = omega arith
@@ -54,29 +64,61 @@ part-put-strings-end : tie.Need-part-put-strings-end
 part-put-strings-end c = omega arith
 
 put-strings-requires : tie.Need-put-strings-requires
-put-strings-requires c κs = omega (arith, c .before .before .before .before .before .before .before .before .before .before .before .before .before .before .pre .1)
+put-strings-requires c κs =
+    let address = c .before .before .before in
+    let keys = address .before .before .before .before in
+    let head = keys .before .before .before .before in
+    let start = head .before .before .before in
+    let f = configuration-fits (start .args .c) (start .pre .0) in
+    ((f .jrc, f .network, f .prefix), omega (arith, start .pre .2))
 
 add-result : tie.Need-add-result
 add-result c =
-    let q = c .before .before .before .before .before .before .before .before .before .before .before .before .before .before .before .before .before .args .c in
-    omega (arith, c .before .before .before .before .before .before .before .before .before .before .before .before .before .before .before .before .before .pre .1, c .before .before .before .before .before .before .before .before .before .before .before .before .before .before .put-head .ensures .many, c .before .before .before .before .before .before .before .before .before .before .put-keys .ensures .many, c .before .before .before .before .before .before .put-address .ensures .many, c .before .before .put-strings .ensures .many, strings-length (q .jrc) (q .network) (q .prefix))
+    let strings = c .before .before in
+    let address = strings .before .before .before .before in
+    let keys = address .before .before .before .before in
+    let head = keys .before .before .before .before in
+    let start = head .before .before .before in
+    let q = start .args .c in
+    omega (
+      arith,
+      start .pre .2,
+      head .put-head .ensures .many,
+      keys .put-keys .ensures .many,
+      address .put-address .ensures .many,
+      strings .put-strings .ensures .many,
+      strings-length (q .jrc) (q .network) (q .prefix),
+    )
 
 returns : tie.Need-returns
 returns c =
-    let a = c .before .before .before .before .before .before .before .before .before .before .before .before .before .before .before .before .before .args in
-    let room = c .before .before .before .before .before .before .before .before .before .before .before .before .before .before .before .before .before .pre .1 in
-    let h = shortest 5 (a .members) in
-    let k = encodePairs (keysPairs (a .c .keys)) in
-    let b = encodePairs (addressPairs (a .c .address)) in
-    let w1 = seam (omega (arith, room)) (c .before .before .before .before .before .before .before .before .before .before .before .before .before .before .put-head .ensures) (c .before .before .before .before .before .before .before .before .before .before .put-keys .ensures) in
-    let w2 = seam (omega (arith, room, length-append h k)) w1 (c .before .before .before .before .before .before .put-address .ensures) in
-    configuration-wrote (a .c) (a .members) (c .before .before .before .before .before .before .before .before .before .before .before .before .before .before .before .before .before .pre .0)
-    (seam (omega (arith, room, length-append h k, length-append (h ++ k) b, strings-length (a .c .jrc) (a .c .network) (a .c .prefix))) w2 (c .before .before .put-strings .ensures))
+    let strings = c .before .before in
+    let address = strings .before .before .before .before in
+    let keys = address .before .before .before .before in
+    let head = keys .before .before .before .before in
+    let start = head .before .before .before in
+    let q = start .args .c in
+    let room = start .pre .2 in
+    let h = shortest 5 (start .args .members) in
+    let k = encodePairs (keysPairs (q .keys)) in
+    let a = encodePairs (addressPairs (q .address)) in
+    let w1 = seam (omega (arith, room)) (head .put-head .ensures) (keys .put-keys .ensures) in
+    let w2 = seam (omega (arith, room, length-append h k)) w1 (address .put-address .ensures) in
+    let sums : length ((h ++ k) ++ a) + length (stringsBytes (q .jrc) (q .network) (q .prefix)) ≤ length (start .args .dst .now) =
+    omega (arith, room, length-append h k, length-append (h ++ k) a, strings-length (q .jrc) (q .network) (q .prefix)) in
+    configuration-wrote q (start .args .members) (start .pre .1) (seam sums w2 (strings .put-strings .ensures))
 
 same-length : tie.Need-same-length
 same-length c =
-    let a = c .before .before .before .before .before .before .before .before .before .before .before .before .before .before .before .before .before .args in
-    wrote-length (returns c) (map-fitting (configurationPairs (a .c)) (a .members) (a .dst .now) (c .before .before .before .before .before .before .before .before .before .before .before .before .before .before .before .before .before .pre .0) (omega (arith, c .before .before .before .before .before .before .before .before .before .before .before .before .before .before .before .before .before .pre .1, configuration-length (a .c) (a .members))))
+    let strings = c .before .before in
+    let address = strings .before .before .before .before in
+    let keys = address .before .before .before .before in
+    let head = keys .before .before .before .before in
+    let start = head .before .before .before in
+    let a = start .args in
+    wrote-length (returns c)
+    (map-fitting (configurationPairs (a .c)) (a .members) (a .dst .now) (start .pre .1)
+    (omega (arith, start .pre .2, configuration-length (a .c) (a .members))))
 
 pub put-configuration-spec : {M : Type 1} → statement M
 put-configuration-spec =

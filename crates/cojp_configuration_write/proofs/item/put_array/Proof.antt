@@ -1,7 +1,7 @@
 -- The label's head, and then the array's in the part after it.
 use native.Mathlib.Omega.{arith}
 use borrow.Author.Needs.{needs}
-use Rattle.cbor.proofs.Writing.{seam}
+use Rattle.cbor.specs.Writing.{seam}
 use Rattle.cojp_configuration_write.proofs.item.put_array.Statement.{statement}
 use Rattle.cojp_configuration_write.proofs.item.put_array.Tie as tie
 

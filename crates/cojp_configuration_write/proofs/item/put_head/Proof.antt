@@ -1,6 +1,6 @@
 -- A head that has room is written.
 use borrow.Author.Needs.{needs}
-use Rattle.cbor.proofs.Writing.{head-did, did-done, did-never}
+use Rattle.cbor.specs.Writing.{head-did, did-done, did-never}
 use Rattle.cojp_configuration_write.proofs.item.put_head.Statement.{statement}
 use Rattle.cojp_configuration_write.proofs.item.put_head.Tie as tie
 

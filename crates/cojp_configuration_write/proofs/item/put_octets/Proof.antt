@@ -1,6 +1,7 @@
--- A parameter that has room is written.
+-- A parameter that is in range and has room is written.
 use borrow.Author.Needs.{needs}
-use Rattle.cbor.proofs.Writing.{did-done, did-never}
+use Rattle.cbor.specs.Writing.{did-done, did-never}
+use Rattle.cojp_octets_write.proofs.Plans.{string-did}
 use Rattle.cojp_configuration_write.proofs.item.put_octets.Statement.{statement}
 use Rattle.cojp_configuration_write.proofs.item.put_octets.Tie as tie
 
@@ -20,7 +21,8 @@ returns : tie.Need-returns
 returns c =
     let octets = c .before .before .before .before in
     let start = octets .before .before .before in
-    absurd (did-never _ _ _ _ _ (start .pre) (octets .write-octets .ensures) (c .enum-told .given .1))
+    let did = string-did (start .args .label) (start .args .p) (start .pre .0) (octets .write-octets .ensures) in
+    absurd (did-never _ _ _ _ _ (start .pre .1) did (c .enum-told .given .1))
 
 same-length-2 : tie.Need-same-length-2
 same-length-2 c = search needs
@@ -30,7 +32,8 @@ returns-2 c =
     let at-w = c .before in
     let octets = at-w .before .before .before .before in
     let start = octets .before .before .before in
-    did-done _ _ _ _ _ (start .pre) (octets .write-octets .ensures) (at-w .w .given .1)
+    let did = string-did (start .args .label) (start .args .p) (start .pre .0) (octets .write-octets .ensures) in
+    did-done _ _ _ _ _ (start .pre .1) did (at-w .w .given .1)
 
 pub put-octets-spec : {M : Type 1} → statement M
 put-octets-spec =

@@ -8,7 +8,11 @@ use Rattle.cojp_configuration_write.proofs.item.put_optional.Statement.
 use Rattle.cojp_configuration_write.proofs.item.put_optional.Tie as tie
 
 put-head-requires : tie.Need-put-head-requires
-put-head-requires c κs = let a = (c .before .before .before .args) in (omega arith, omega (arith, ap length (optional-bytes (a .given) (a .number) (c .before .if1 .taken)), (c .before .before .before .pre)))
+put-head-requires c κs =
+    let test = c .before in
+    let start = test .before .before in
+    let a = start .args in
+    (omega arith, omega (arith, ap length (optional-bytes (a .given) (a .number) (test .if1 .taken)), start .pre))
 
 same-length : tie.Need-same-length
 same-length c = search needs
@@ -18,7 +22,8 @@ returns c =
     let head = c .before .before in
     let test = head .before .before in
     let start = test .before .before in
-    let a = (start .args) in rw (optional-bytes (a .given) (a .number) (test .if1 .taken)) (head .put-head .ensures)
+    let a = start .args in
+    rw (optional-bytes (a .given) (a .number) (test .if1 .taken)) (head .put-head .ensures)
 
 returns-2 : tie.Need-returns-2
 returns-2 c = search needs

@@ -1,8 +1,8 @@
 -- The invariant: the size of the groups of the keys passed.
-use Prim.Native.Nat.{_*_, _-_, _≤_}
+use Prim.Native.Nat.{_*_, _-_, _≤_, _<_}
 use native.Mathlib.Omega.{arith}
 use borrow.Author.Needs.{needs}
-use lib.ListN.{take}
+use lib.ListN.{length, take}
 use Rattle.link_key_set.specs.KeySet.{keysOf}
 use Rattle.cojp.specs.Writing.{groupsItems}
 use Rattle.cojp_octets_write.specs.Size.{ItemsSize}
@@ -37,9 +37,11 @@ key-size-requires c κs = search needs
 
 plus-requires : tie.Need-plus-requires Inv-loop μ-loop
 plus-requires c κs =
-    let l = (c .before .before .before .loop) in
-    let k = (c .key-size .ensures) in
-    (omega (arith, l .inv .1 .few, k .few, (c .before .before .before .before .before .len .ensures .1)), omega (arith, l .inv .1 .small, k .small, (c .before .before .before .before .before .len .ensures .1)))
+    let turn = c .before .before .before in
+    let sizes = turn .loop .inv .1 in
+    let k = c .key-size .ensures in
+    let eight = turn .before .before .len .ensures .1 in
+    (omega (arith, sizes .few, k .few), omega (arith, sizes .small, k .small))
 
 add-i : tie.Need-add-i Inv-loop μ-loop
 add-i c = search needs
@@ -49,14 +51,20 @@ loop-less c = search needs
 
 loop-again : tie.Need-loop-again Inv-loop μ-loop
 loop-again c =
-    let l = (c .before .before .before .before .loop) in
-    (omega arith, sizes-step (c .before .before .before .before .before .before .before .args .t1) (l .i) past (omega (arith, (c .before .before .before .before .before .before .len .ensures .0))) (l .inv .1) (c .before .key-size .ensures) (c .plus .ensures))
+    let key = c .before in
+    let turn = key .before .before .before in
+    let len = turn .before .before in
+    let i = turn .loop .i in
+    let more : i < length (keysOf (len .before .args .t1)) = omega (arith, len .len .ensures .0) in
+    (omega arith, sizes-step (len .before .args .t1) i past more (turn .loop .inv .1) (key .key-size .ensures) (c .plus .ensures))
 
 returns : tie.Need-returns Inv-loop μ-loop
 returns c =
-    let l = (c .before .loop) in
-    let z = rw (all-keys (keysOf (c .before .before .before .before .args .t1)) (l .i) (omega (arith, (c .before .before .before .len .ensures .0)))) at (l .inv .1) in
-    sizes-most 24 224 (omega (arith, (c .before .before .before .len .ensures .1))) (omega (arith, (c .before .before .before .len .ensures .1))) z
+    let turn = c .before in
+    let len = turn .before .before in
+    let eight = len .len .ensures .1 in
+    let z = rw (all-keys (keysOf (len .before .args .t1)) (turn .loop .i) (omega (arith, len .len .ensures .0))) at (turn .loop .inv .1) in
+    sizes-most 24 224 (omega arith) (omega arith) z
 
 pub groups-size-spec : {M : Type 1} → statement M
 groups-size-spec =

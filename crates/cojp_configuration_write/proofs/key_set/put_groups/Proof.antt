@@ -1,12 +1,12 @@
 -- The invariant: the groups of the keys passed stand in front.
-use Prim.Native.Nat.{_+_, _-_, _≤_}
+use Prim.Native.Nat.{_+_, _-_, _≤_, _<_}
 use mathlib.Core.Path.{_≡_, refl}
 use native.Mathlib.Omega.{arith}
 use borrow.Author.Needs.{needs}
 use lib.ListN.{length, take, getD}
 use Rattle.cbor.specs.Answer.{Wrote}
 use Rattle.cbor.specs.Encode.{encodes}
-use Rattle.cbor.proofs.Writing.{wrote-none, wrote-length}
+use Rattle.cbor.specs.Writing.{wrote-none, wrote-length}
 use Rattle.link_key_set.specs.KeySet.{keysOf}
 use Rattle.cojp.specs.Writing.{groupsItems}
 use Rattle.cojp_configuration_write.specs.Room.{keyLength}
@@ -54,8 +54,10 @@ put-key-requires c κs = omega (arith, room (c .before))
 
 add-at : tie.Need-add-at Inv-loop μ-loop
 add-at c =
-    let k = c .before .before .before .before in
-    omega (arith, room k, group-length (getD (c .before .before .before .before .before .before .before .before .before .args .t2 .keys) (c .before .before .before .before .before .before .loop .i) past))
+    let key = c .before .before .before .before in
+    let turn = key .before .before in
+    let start = turn .before .before .before in
+    omega (arith, room key, group-length (getD (start .args .t2 .keys) (turn .loop .i) past))
 
 add-i : tie.Need-add-i Inv-loop μ-loop
 add-i c = omega arith
@@ -65,10 +67,15 @@ loop-less c = search needs
 
 loop-again : tie.Need-loop-again Inv-loop μ-loop
 loop-again c =
-    let l = (c .before .before .before .before .before .before .loop) in
-    let a = (c .before .before .before .before .before .before .before .before .before .args) in
-    let w = groups-seam (a .t2) (l .i) past (omega (arith, (c .before .before .before .before .before .before .before .len .ensures .0))) (c .before .before .before .before .before .before .before .before .before .pre) (l .inv .2) (c .before .before .put-key .ensures) in
-    (omega arith, wrote-length w (omega (arith, groups-less (keysOf (a .t2)) (l .i + 1), (c .before .before .before .before .before .before .before .before .before .pre))), w)
+    let key = c .before .before in
+    let turn = key .before .before .before .before in
+    let len = turn .before in
+    let start = len .before .before in
+    let set = start .args .t2 in
+    let i = turn .loop .i in
+    let more : i < length (keysOf set) = omega (arith, len .len .ensures .0) in
+    let w = groups-seam set i past more (start .pre) (turn .loop .inv .2) (key .put-key .ensures) in
+    (omega arith, wrote-length w (omega (arith, groups-less (keysOf set) (i + 1), start .pre)), w)
 
 same-length : tie.Need-same-length Inv-loop μ-loop
 same-length c = (c .before .loop .inv .1)

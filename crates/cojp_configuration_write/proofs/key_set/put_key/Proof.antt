@@ -1,7 +1,7 @@
 -- Identifier, perhaps usage, value, each in the part after what is written.
 use native.Mathlib.Omega.{arith}
 use borrow.Author.Needs.{needs}
-use Rattle.cbor.proofs.Writing.{seam, wrote-length}
+use Rattle.cbor.specs.Writing.{seam, wrote-length}
 use Rattle.cojp_configuration_write.proofs.KeySets.{group-length, group-seam}
 use Rattle.cojp_configuration_write.proofs.key_set.put_key.Statement.{statement}
 use Rattle.cojp_configuration_write.proofs.key_set.put_key.Tie as tie
@@ -49,10 +49,21 @@ add-result : tie.Need-add-result
 add-result c = omega arith
 
 returns : tie.Need-returns
-returns c = group-seam (c .before .before .before .before .before .before .before .before .before .before .before .before .before .before .before .before .args .k) (c .before .before .before .before .before .before .before .before .before .before .before .before .before .before .before .before .pre) (seam (omega (arith, (c .before .before .before .before .before .before .before .before .before .before .before .before .before .before .before .before .pre))) (c .before .before .before .before .before .before .before .before .before .before .before .put-head .ensures) (c .before .before .before .before .before .before .before .put-optional .ensures)) (c .before .before .put-bytes .ensures)
+returns c =
+    let value = c .before .before in
+    let usage = value .before .before .before .before .before in
+    let name = usage .before .before .before .before in
+    let start = name .before .before .before .before .before in
+    let front = seam (omega (arith, start .pre)) (name .put-head .ensures) (usage .put-optional .ensures) in
+    group-seam (start .args .k) (start .pre) front (value .put-bytes .ensures)
 
 same-length : tie.Need-same-length
-same-length c = wrote-length (returns c) (omega (arith, c .before .before .before .before .before .before .before .before .before .before .before .before .before .before .before .before .pre, group-length (c .before .before .before .before .before .before .before .before .before .before .before .before .before .before .before .before .args .k)))
+same-length c =
+    let value = c .before .before in
+    let usage = value .before .before .before .before .before in
+    let name = usage .before .before .before .before in
+    let start = name .before .before .before .before .before in
+    wrote-length (returns c) (omega (arith, start .pre, group-length (start .args .k)))
 
 pub put-key-spec : {M : Type 1} → statement M
 put-key-spec =

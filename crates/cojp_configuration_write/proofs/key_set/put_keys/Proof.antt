@@ -3,7 +3,7 @@ use native.Mathlib.Omega.{arith}
 use borrow.Author.Needs.{needs}
 use lib.ListN.{length}
 use Rattle.cbor.specs.Item.{array, empty}
-use Rattle.cbor.proofs.Writing.{wrote-none}
+use Rattle.cbor.specs.Writing.{wrote-none}
 use Rattle.link_key_set.specs.KeySet.{keysOf}
 use Rattle.cojp.specs.Writing.{labelled, groupsItems}
 use Rattle.cojp_octets_write.proofs.Joined.{wrote-same, same-room}
@@ -20,10 +20,14 @@ groups-size-requires c κs = search needs
 
 put-set-requires : tie.Need-put-set-requires
 put-set-requires c κs =
-    let p = (c .before .before .before .before .before .args .p) in
-    let m = (c .before .groups-size .ensures .members) in
-    let e = keys-taken p _ (c .before .before .before .is-taken .ensures) (c .before .before .if1 .taken) in
-    (m, omega (arith, same-room (length (c .before .before .before .before .before .args .dst .now)) e (c .before .before .before .before .before .pre), set-length (keysOf (p .value)) _ m))
+    let size = c .before in
+    let test = size .before in
+    let taken = test .before in
+    let start = taken .before .before in
+    let p = start .args .p in
+    let m = size .groups-size .ensures .members in
+    let e = keys-taken p _ (taken .is-taken .ensures) (test .if1 .taken) in
+    (m, omega (arith, same-room (length (start .args .dst .now)) e (start .pre), set-length (keysOf (p .value)) _ m))
 
 same-length : tie.Need-same-length
 same-length c = search needs
@@ -38,9 +42,10 @@ returns c =
 
 returns-2 : tie.Need-returns-2
 returns-2 c =
-    let p = (c .before .before .before .args .p) in
-    let i = labelled 2 (array (groupsItems (keysOf (p .value)))) in
-    wrote-same (taken-not (p .report) i empty _ (c .before .is-taken .ensures) (c .if1 .left)) (wrote-none (c .before .before .before .args .dst .now))
+    let taken = c .before in
+    let a = taken .before .before .args in
+    let i = labelled 2 (array (groupsItems (keysOf (a .p .value)))) in
+    wrote-same (taken-not (a .p .report) i empty _ (taken .is-taken .ensures) (c .if1 .left)) (wrote-none (a .dst .now))
 
 pub put-keys-spec : {M : Type 1} → statement M
 put-keys-spec =

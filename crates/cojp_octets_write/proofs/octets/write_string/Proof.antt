@@ -5,6 +5,9 @@ use Rattle.cojp_octets_write.proofs.Strings.{heads-most, string-refused
 use Rattle.cojp_octets_write.proofs.octets.write_string.Statement.{statement}
 use Rattle.cojp_octets_write.proofs.octets.write_string.Tie as tie
 
+head-laws-requires : tie.Need-head-laws-requires
+head-laws-requires c κs = search needs
+
 head-len-requires : tie.Need-head-len-requires
 head-len-requires c κs = search needs
 
@@ -13,20 +16,25 @@ head-len-requires-2 c κs = search needs
 
 add-whole : tie.Need-add-whole
 add-whole c =
-    let a = c .before .before .before .before .args in
-    omega (arith, heads-most (a .label) (a .s .now) (a .dst .now) (c .before .head-len .ensures) (c .head-len2 .ensures))
+    let label = c .before in
+    let laws = label .before in
+    let a = laws .before .before .before .args in
+    omega (arith, heads-most (laws .head-laws .ensures) (a .label) (a .s .now) (a .dst .now) (label .head-len .ensures) (c .head-len2 .ensures))
 
 add-whole-2 : tie.Need-add-whole-2
 add-whole-2 c =
-    let a = c .before .before .before .before .args in
-    omega (arith, heads-most (a .label) (a .s .now) (a .dst .now) (c .before .head-len .ensures) (c .head-len2 .ensures))
+    let label = c .before in
+    let laws = label .before in
+    let a = laws .before .before .before .args in
+    omega (arith, heads-most (laws .head-laws .ensures) (a .label) (a .s .now) (a .dst .now) (label .head-len .ensures) (c .head-len2 .ensures))
 
 returns : tie.Need-returns
 returns c =
     let head = c .before in
     let label = head .before in
-    let a = label .before .before .before .args in
-    string-refused (a .label) (a .s .now) (a .dst .now) (label .head-len .ensures) (head .head-len2 .ensures) (c .if1 .taken)
+    let laws = label .before in
+    let a = laws .before .before .before .args in
+    string-refused (laws .head-laws .ensures) (a .label) (a .s .now) (a .dst .now) (label .head-len .ensures) (head .head-len2 .ensures) (c .if1 .taken)
 
 write-head-requires : tie.Need-write-head-requires
 write-head-requires c κs = search needs
@@ -53,14 +61,16 @@ returns-2 c =
     let test = first .before .before in
     let head = test .before in
     let label = head .before in
-    let a = label .before .before .before .args in
-    string-done (a .label) (a .s .now) (a .dst .now) (label .head-len .ensures) (head .head-len2 .ensures) (test .if1 .left) (first .write-head .ensures) _
-    (string .write-bytes .ensures)
+    let laws = label .before in
+    let a = laws .before .before .before .args in
+    string-done (laws .head-laws .ensures) (a .label) (a .s .now) (a .dst .now) (label .head-len .ensures) (head .head-len2 .ensures) (test .if1 .left)
+    (first .write-head .ensures) _ (string .write-bytes .ensures)
 
 pub write-string-spec : {M : Type 1} → statement M
 write-string-spec =
     tie.close
     (tie.spec
+    head-laws-requires
     head-len-requires
     head-len-requires-2
     add-whole

@@ -19,9 +19,9 @@ returns-2 : tie.Need-returns-2
 returns-2 c =
     let range = c .before in
     let test = range .before in
-    let at-keys-in-range = test .before in
-    let start = at-keys-in-range .before in
-    in-range-2 (start .args .c) (sym (at-keys-in-range .keys-in-range .ensures) ∙ not-false _ (test .if1 .left)) (sym (range .address-in-range .ensures) ∙ not-true _ (c .if2 .taken))
+    let keys = test .before in
+    let start = keys .before in
+    in-range-2 (start .args .c) (sym (keys .keys-in-range .ensures) ∙ not-false _ (test .if1 .left)) (sym (range .address-in-range .ensures) ∙ not-true _ (c .if2 .taken))
 
 jrc-in-range-requires : tie.Need-jrc-in-range-requires
 jrc-in-range-requires c κs = search needs
@@ -30,11 +30,13 @@ returns-3 : tie.Need-returns-3
 returns-3 c =
     let range = c .before in
     let test = range .before in
-    let at-address-in-range = test .before in
-    let test-if1 = at-address-in-range .before in
-    let at-keys-in-range = test-if1 .before in
-    let start = at-keys-in-range .before in
-    in-range-3 (start .args .c) (sym (at-keys-in-range .keys-in-range .ensures) ∙ not-false _ (test-if1 .if1 .left)) (sym (at-address-in-range .address-in-range .ensures) ∙ not-false _ (test .if2 .left)) (sym (range .jrc-in-range .ensures) ∙ not-true _ (c .if3 .taken))
+    let address = test .before in
+    let test-if1 = address .before in
+    let keys = test-if1 .before in
+    let start = keys .before in
+    let keys-in = sym (keys .keys-in-range .ensures) ∙ not-false _ (test-if1 .if1 .left) in
+    let address-in = sym (address .address-in-range .ensures) ∙ not-false _ (test .if2 .left) in
+    in-range-3 (start .args .c) keys-in address-in (sym (range .jrc-in-range .ensures) ∙ not-true _ (c .if3 .taken))
 
 octets-in-range-requires : tie.Need-octets-in-range-requires
 octets-in-range-requires c κs = search needs
@@ -43,13 +45,16 @@ returns-4 : tie.Need-returns-4
 returns-4 c =
     let range = c .before in
     let test = range .before in
-    let at-jrc-in-range = test .before in
-    let test-if2 = at-jrc-in-range .before in
-    let at-address-in-range = test-if2 .before in
-    let test-if1 = at-address-in-range .before in
-    let at-keys-in-range = test-if1 .before in
-    let start = at-keys-in-range .before in
-    in-range-4 (start .args .c) (sym (at-keys-in-range .keys-in-range .ensures) ∙ not-false _ (test-if1 .if1 .left)) (sym (at-address-in-range .address-in-range .ensures) ∙ not-false _ (test-if2 .if2 .left)) (sym (at-jrc-in-range .jrc-in-range .ensures) ∙ not-false _ (test .if3 .left)) (sym (range .octets-in-range .ensures) ∙ not-true _ (c .if4 .taken))
+    let jrc = test .before in
+    let test-if2 = jrc .before in
+    let address = test-if2 .before in
+    let test-if1 = address .before in
+    let keys = test-if1 .before in
+    let start = keys .before in
+    let keys-in = sym (keys .keys-in-range .ensures) ∙ not-false _ (test-if1 .if1 .left) in
+    let address-in = sym (address .address-in-range .ensures) ∙ not-false _ (test-if2 .if2 .left) in
+    let jrc-in = sym (jrc .jrc-in-range .ensures) ∙ not-false _ (test .if3 .left) in
+    in-range-4 (start .args .c) keys-in address-in jrc-in (sym (range .octets-in-range .ensures) ∙ not-true _ (c .if4 .taken))
 
 octets-in-range-requires-2 : tie.Need-octets-in-range-requires-2
 octets-in-range-requires-2 c κs = search needs
@@ -59,13 +64,17 @@ returns-5 c =
     let test = c .before in
     let range = test .before in
     let test-if3 = range .before in
-    let at-jrc-in-range = test-if3 .before in
-    let test-if2 = at-jrc-in-range .before in
-    let at-address-in-range = test-if2 .before in
-    let test-if1 = at-address-in-range .before in
-    let at-keys-in-range = test-if1 .before in
-    let start = at-keys-in-range .before in
-    (c .octets-in-range2 .ensures) ∙ in-range-5 (start .args .c) (sym (at-keys-in-range .keys-in-range .ensures) ∙ not-false _ (test-if1 .if1 .left)) (sym (at-address-in-range .address-in-range .ensures) ∙ not-false _ (test-if2 .if2 .left)) (sym (at-jrc-in-range .jrc-in-range .ensures) ∙ not-false _ (test-if3 .if3 .left)) (sym (range .octets-in-range .ensures) ∙ not-false _ (test .if4 .left))
+    let jrc = test-if3 .before in
+    let test-if2 = jrc .before in
+    let address = test-if2 .before in
+    let test-if1 = address .before in
+    let keys = test-if1 .before in
+    let start = keys .before in
+    let keys-in = sym (keys .keys-in-range .ensures) ∙ not-false _ (test-if1 .if1 .left) in
+    let address-in = sym (address .address-in-range .ensures) ∙ not-false _ (test-if2 .if2 .left) in
+    let jrc-in = sym (jrc .jrc-in-range .ensures) ∙ not-false _ (test-if3 .if3 .left) in
+    let network-in = sym (range .octets-in-range .ensures) ∙ not-false _ (test .if4 .left) in
+    (c .octets-in-range2 .ensures) ∙ in-range-5 (start .args .c) keys-in address-in jrc-in network-in
 
 pub configuration-in-range-spec : {M : Type 1} → statement M
 configuration-in-range-spec =

@@ -14,10 +14,17 @@ allowed-requires : tie.Need-allowed-requires
 allowed-requires c κs = search needs
 
 returns : tie.Need-returns
-returns c = let p = (c .before .before .before .args .p) in (c .allowed .ensures) ∙ sym (taken-is (p .report) (allowedSet (p .value)) true _ (c .before .before .is-taken .ensures) (c .before .if1 .taken))
+returns c =
+    let test = c .before in
+    let taken = test .before in
+    let p = taken .before .args .p in
+    (c .allowed .ensures) ∙ sym (taken-is (p .report) (allowedSet (p .value)) true _ (taken .is-taken .ensures) (test .if1 .taken))
 
 returns-2 : tie.Need-returns-2
-returns-2 c = let p = (c .before .before .args .p) in sym (taken-not (p .report) (allowedSet (p .value)) true _ (c .before .is-taken .ensures) (c .if1 .left))
+returns-2 c =
+    let taken = c .before in
+    let p = taken .before .args .p in
+    sym (taken-not (p .report) (allowedSet (p .value)) true _ (taken .is-taken .ensures) (c .if1 .left))
 
 pub keys-in-range-spec : {M : Type 1} → statement M
 keys-in-range-spec = tie.close (tie.spec is-taken-requires allowed-requires returns returns-2)

@@ -1,0 +1,46 @@
+-- The largest configuration is 232 bytes: none takes more, and one takes as many.
+use Prim.Native.Nat.{ℕ, _≤_}
+use mathlib.Core.Path.{_≡_}
+use mathlib.Core.Bool.{true}
+use mathlib.Core.List.{List, [], _∷_}
+use lib.ListN.{length, replicate}
+use Rattle.cbor.specs.Answer.{emit, answer}
+use Rattle.cbor.specs.Written.{writtenSays}
+use Rattle.link_key.specs.Key.{keyOf}
+use Rattle.link_key.specs.declared.Key.{Key}
+use Rattle.cojp.specs.Address.{addressOf, addressParameter}
+use Rattle.cojp.specs.KeySet.{keySetOf, keysParameter}
+use Rattle.cojp.specs.Octets.{octetsOf, octetsParameter}
+use Rattle.cojp.specs.Writing.{configurationPlan}
+use Rattle.cojp.specs.declared.configuration.Configuration.{Configuration}
+use Rattle.cojp.specs.declared.octets.OctetsParameter.{OctetsParameter}
+use Rattle.cojp.specs.declared.report.Report.the-variants.{Taken}
+
+-- what is written of a configuration has at most 232 bytes
+abbrev pub LargestConfiguration : Configuration → Type 0
+LargestConfiguration c = (p : List ℕ) → configurationPlan c ≡ emit p → length p ≤ 232
+
+-- ---- the witness: eight keys, each with an identifier of two bytes and a usage; a lease of nine bytes; three byte strings of sixteen
+abbrev longKey : ℕ → Key
+longKey identifier = keyOf identifier 14 (replicate 16 identifier)
+
+abbrev longKeys : List Key
+longKeys = longKey 248 ∷ longKey 249 ∷ longKey 250 ∷ longKey 251 ∷ longKey 252 ∷ longKey 253 ∷ longKey 254 ∷ longKey 255 ∷ []
+
+abbrev longString : OctetsParameter
+longString = octetsParameter Taken (octetsOf (replicate 16 0x50))
+
+abbrev pub fullConfiguration : Configuration
+fullConfiguration = record {
+  keys = keysParameter Taken (keySetOf longKeys);
+  address = addressParameter Taken (addressOf (0x12 ∷ 0x34 ∷ []) true 0xffffffffffffffff);
+  jrc = longString;
+  network = longString;
+  prefix = longString;
+  passed = 0;
+}
+
+-- 232 bytes are written where there is room for them, and one byte less has no ROOM (12)
+pub record LargestAttained : Type 0 where
+  pub written : writtenSays (answer (configurationPlan fullConfiguration) (replicate 232 0)) ≡ (0, 232)
+  pub no-less : writtenSays (answer (configurationPlan fullConfiguration) (replicate 231 0)) ≡ (12, 0)

@@ -1,0 +1,59 @@
+-- The round trip: what is written, read strictly or not, reads back as the same object, nothing discarded and none passed over.
+use Prim.Native.Nat.{ℕ}
+use mathlib.Core.Path.{_≡_}
+use mathlib.Core.List.{List}
+use mathlib.Core.Bool.{Bool}
+use lib.ListN.{take}
+use Rattle.refusal.specs.declared.Verdict.the-variants.{Accepted}
+use Rattle.cbor.specs.Strict.{headBy}
+use Rattle.cbor.specs.Answer.{emit, answer, after}
+use Rattle.cbor.specs.declared.write.Written.the-variants.{Length}
+use Rattle.cojp.specs.Request.{readRequestBy}
+use Rattle.cojp.specs.Configuration.{readConfigurationBy}
+use Rattle.cojp.specs.Writing.{requestPlan, configurationPlan}
+use Rattle.cojp.specs.Same.{SameRequest, SameConfiguration}
+use Rattle.cojp.specs.declared.configuration.Configuration.{Configuration}
+use Rattle.cojp.specs.declared.configuration.ConfigurationRead.{ConfigurationRead}
+use Rattle.cojp.specs.declared.report.Report.{Report}
+use Rattle.cojp.specs.declared.report.Report.the-variants.{Discarded}
+use Rattle.cojp.specs.declared.request.JoinRequest.{JoinRequest}
+use Rattle.cojp.specs.declared.request.RequestRead.{RequestRead}
+
+abbrev pub Kept : Report → Type 0
+Kept r = r ≡ Discarded → ⊥
+
+-- ---- what reading answers, the object being the one that was written
+pub record RequestBack (q : JoinRequest) (r : RequestRead) : Type 0 where
+  pub accepted : r .verdict ≡ Accepted
+  pub same : SameRequest (r .request) q
+  pub kept : Kept (r .request .network .report)
+  pub passed : r .request .passed ≡ 0
+
+pub record ConfigurationBack (c : Configuration) (r : ConfigurationRead) : Type 0 where
+  pub accepted : r .verdict ≡ Accepted
+  pub same : SameConfiguration (r .configuration) c
+  pub keys-kept : Kept (r .configuration .keys .report)
+  pub address-kept : Kept (r .configuration .address .report)
+  pub jrc-kept : Kept (r .configuration .jrc .report)
+  pub network-kept : Kept (r .configuration .network .report)
+  pub prefix-kept : Kept (r .configuration .prefix .report)
+  pub passed : r .configuration .passed ≡ 0
+
+-- ---- the bytes of the plan
+abbrev pub RequestRoundTrip : JoinRequest → Type 0
+RequestRoundTrip q = (p : List ℕ) → requestPlan q ≡ emit p → (b : Bool) → RequestBack q (readRequestBy (headBy b) p)
+
+abbrev pub ConfigurationRoundTrip : Configuration → Type 0
+ConfigurationRoundTrip c =
+    (p : List ℕ) → configurationPlan c ≡ emit p → (b : Bool) → ConfigurationBack c (readConfigurationBy (headBy b) p)
+
+-- ---- any destination: where n bytes were written, its first n bytes afterwards
+abbrev pub RequestInPlace : JoinRequest → Type 0
+RequestInPlace q =
+    (d : List ℕ) (n : ℕ) → answer (requestPlan q) d ≡ Length n → (b : Bool) →
+    RequestBack q (readRequestBy (headBy b) (take n (after (requestPlan q) d)))
+
+abbrev pub ConfigurationInPlace : Configuration → Type 0
+ConfigurationInPlace c =
+    (d : List ℕ) (n : ℕ) → answer (configurationPlan c) d ≡ Length n → (b : Bool) →
+    ConfigurationBack c (readConfigurationBy (headBy b) (take n (after (configurationPlan c) d)))
