@@ -14,7 +14,7 @@ use Rattle.refusal.specs.declared.Verdict.the-variants.{Accepted}
 use Rattle.cbor.specs.Decode.{heading}
 use Rattle.cbor.specs.View.{Plain, number, minus, string, other, View, plain, list}
 use Rattle.link_key.specs.Key.{noKey}
-use Rattle.link_key_set.specs.KeySet.{allowed, allowedSet}
+use Rattle.link_key_set.specs.KeySet.{validKeys, validSet}
 use Rattle.link_key.specs.declared.Key.{Key}
 use Rattle.link_key_set.specs.declared.key_set.KeySet.{KeySet}
 use Rattle.link_key_set.specs.KeyLaws.{KeyLaws}
@@ -47,18 +47,18 @@ good-if P true a f = f refl
 good-if P false a f = tt
 
 module _ (K : KeyLaws) where
-  set-of : (ks : List Key) → allowed ks ≡ true → allowedSet (keySetOf ks) ≡ true
+  set-of : (ks : List Key) → validKeys ks ≡ true → validSet (keySetOf ks) ≡ true
   set-of ks e =
-      K .allowed-set (keySetOf ks) (K .allowed-few ks e) (rw (take-at ks (replicate (8 - length ks) noKey) (length ks) refl) e)
+      K .set-valid (keySetOf ks) (K .valid-few ks e) (rw (take-at ks (replicate (8 - length ks) noKey) (length ks) refl) e)
 
-  keys-good : (v : View) → Good (λ (s : KeySet). allowedSet s ≡ true) (keysJudged v)
+  keys-good : (v : View) → Good (λ (s : KeySet). validSet s ≡ true) (keysJudged v)
   unfolding Good
   keys-good (plain p) = tt
   keys-good (list ps) = go (groups ps)
     where
-      go : (g : Groups) → Good (λ (s : KeySet). allowedSet s ≡ true) (keysIn g)
+      go : (g : Groups) → Good (λ (s : KeySet). validSet s ≡ true) (keysIn g)
       go notGroups = tt
-      go (groupsOf ks) = good-if (λ (s : KeySet). allowedSet s ≡ true) (allowed ks) (keySetOf ks) (set-of ks)
+      go (groupsOf ks) = good-if (λ (s : KeySet). validSet s ≡ true) (validKeys ks) (keySetOf ks) (set-of ks)
 
 address-by : (s : List ℕ) (leased : Bool) (lease : ℕ) → Good (λ (a : ShortAddress). isAddress (a .bytes) ≡ true) (addressBy s leased lease)
 address-by s leased lease = good-if (λ (a : ShortAddress). isAddress (a .bytes) ≡ true) (isAddress s) (addressOf s leased lease) (λ e. e)
@@ -134,7 +134,7 @@ module _ (K : KeyLaws) (c : Configuration) (h : InRange c) where
   unfolding configurationTaking sized
   taking-fits n v =
       either-fits (eqb n 2) _ _
-      (put-fits (λ (s : KeySet). allowedSet s ≡ true) (keysParameter Taken) (refused refusal.Keys) (keysJudged v) (withKeys c) (keys-good K v) tt
+      (put-fits (λ (s : KeySet). validSet s ≡ true) (keysParameter Taken) (refused refusal.Keys) (keysJudged v) (withKeys c) (keys-good K v) tt
       (λ s e. keys-put (keysParameter Taken s) e))
       (either-fits (eqb n 3) _ _
       (put-fits (λ (a : ShortAddress). isAddress (a .bytes) ≡ true) (addressParameter Taken) (read (noAddressParameter Discarded))

@@ -11,7 +11,7 @@ use Rattle.cbor.specs.Encode.{extraOf, shortest, encode, encodes, encodePairs}
 use Rattle.cbor.specs.HeadLaws.{HeadLaws}
 use Rattle.cbor.specs.Item.{Item, Items, Pairs, unsigned, bytes, array, none, more, empty, pair, count, countPairs, depth, depths, depthPairs}
 use Rattle.cbor.specs.Item.{Fit, Fits, FitPairs}
-use Rattle.link_key.specs.Key.{inLimits}
+use Rattle.link_key.specs.Key.{validKey}
 use Rattle.link_key_set.specs.KeyLaws.{KeyLaws}
 use Rattle.link_key_set.specs.KeySet.{keysOf}
 use Rattle.link_key.specs.declared.Key.{Key}
@@ -163,7 +163,7 @@ module _ (heads : HeadLaws) where
       fine-join (fine-role (q .role) (f .role)) (fine-octets 5 (q .network) (omega arith) (f .network))
 
   module _ (keys : KeyLaws) where
-    fine-group : (k : Key) → inLimits k ≡ true → FineItems (groupItems k) 3 20
+    fine-group : (k : Key) → validKey k ≡ true → FineItems (groupItems k) 3 20
     fine-group k h =
         let (i, u, v) = keys .limits-fit k h in
         let head : extraOf (k .identifier) ≤ 1 = heads .byte-head (k .identifier) i in
@@ -171,7 +171,7 @@ module _ (heads : HeadLaws) where
         let value = fine-item (bytes (k .value)) 17 (omega (arith, string-length heads (k .value) (omega arith))) (omega arith) (omega arith) in
         fine-chain (fine-chain name (fine-usage (k .usage) u)) value
 
-    fine-groups : (ks : List Key) → ((k : Key) → List·Memᴰ k ks → inLimits k ≡ true) → FineItems (groupsItems ks) (3 * length ks) (20 * length ks)
+    fine-groups : (ks : List Key) → ((k : Key) → List·Memᴰ k ks → validKey k ≡ true) → FineItems (groupsItems ks) (3 * length ks) (20 * length ks)
     fine-groups [] h = record { few = omega arith; small = omega arith; level = omega arith; fit = tt }
     fine-groups (k ∷ ks) h =
         let f = fine-chain (fine-group k (h k (List·Memᴰ·head refl))) (fine-groups ks (λ l m. h l (List·Memᴰ·tail m))) in
@@ -182,9 +182,9 @@ module _ (heads : HeadLaws) where
         let ks = keysOf (p .value) in
         let is = groupsItems ks in
         fine-if (p .report) (labelled 2 (array is)) 163 (λ e.
-        let ok = keys .set-allowed (p .value) (simp e at h) .1 in
-        let f = fine-groups ks (keys .allowed-in-limits ks ok) in
-        let eight = keys .allowed-few ks ok in
+        let ok = keys .valid-set (p .value) (simp e at h) .1 in
+        let f = fine-groups ks (keys .valid-each ks ok) in
+        let eight = keys .valid-few ks ok in
         let g : FineItems is 24 160 = record { few = omega (arith, f .few); small = omega (arith, f .small); level = f .level; fit = f .fit } in
         let head = heads .byte-head (count is) (omega (arith, g .few)) in
         fine-array 2 is 24 160 2 (omega arith) (omega arith) (omega (arith, heads .length-head 4 (count is))) g)

@@ -162,7 +162,7 @@ groups-read (k ∷ ks) = group-read k ks (eqb (k .usage) 0) refl (groups-read ks
 
 pub keys-back : KeyLaws → (p : KeysParameter) → keysInRange p ≡ true → p .report ≡ Taken
     → keysRead (viewOf (array (groupsItems (keysOf (p .value))))) ≡ read (keysGood p)
-keys-back keys p h e = rw (groups-read (keysOf (p .value)), keys .set-allowed (p .value) (simp e at h) .1)
+keys-back keys p h e = rw (groups-read (keysOf (p .value)), keys .valid-set (p .value) (simp e at h) .1)
 
 pub keys-same : (p : KeysParameter) → keysTaken (keysBack p) ≡ keysTaken p
 keys-same p = same-if keysTaken (keysGood p) (noKeysParameter Absent) (keysOf (p .value)) (p .report) (ap some (take-append-seam (keysOf (p .value)) _)) refl

@@ -11,7 +11,7 @@ use Rattle.cbor.specs.Decode.{heading}
 use Rattle.cbor.specs.View.{Plain, number, string, other, View, plain, list}
 use Rattle.short_address.specs.Address.{isAddress}
 use Rattle.link_key.specs.Key.{noKey}
-use Rattle.link_key_set.specs.KeySet.{keysOf, allowed}
+use Rattle.link_key_set.specs.KeySet.{keysOf, validKeys}
 use Rattle.link_key.specs.declared.Key.{Key}
 use Rattle.cojp.specs.Address.{addressIn, addressOf, addressConcluded, addressRead}
 use Rattle.cojp.specs.Configuration.{emptyConfiguration, withKeys, withAddress, withJrc, withNetwork, withPrefix, withPassed}
@@ -65,7 +65,7 @@ keys-told (list ps) = by-groups (groups ps)
 
     by-groups : (g : Groups) → Gives SetTold (keysConcluded (keysIn g))
     by-groups notGroups = tt
-    by-groups (groupsOf ks) = by-limits (allowed ks) ks
+    by-groups (groupsOf ks) = by-limits (validKeys ks) ks
 
 address-by : (b : Bool) (s : List ℕ) (l : Bool) (n : ℕ) → addressOf s l n ≡ leased s (leaseOf (addressOf s l n))
     → Gives AddressTold (addressConcluded (cond b (good (addressOf s l n)) unfit))

@@ -10,7 +10,7 @@ use lib.Dec.{leb, eqb}
 use lib.ListN.{length}
 use Rattle.refusal.specs.declared.Refusal.the-variants.{Range}
 use Rattle.link_key_usage.specs.Usage.{usageOf, familyOf, familyCovers, listed, knownType, entryAt, entrySays}
-use Rattle.link_key.specs.Key.{keyOf, inLimits, sameKey, sameSecret, sameValue, covers, coverageOf, coverageSays, foundKey}
+use Rattle.link_key.specs.Key.{keyOf, validKey, sameKey, sameSecret, sameValue, covers, coverageOf, coverageSays, foundKey}
 use Rattle.link_key.specs.declared.Key.{Key}
 use Rattle.link_key_usage.specs.declared.Coverage.the-variants.{Covered, Refused}
 use Rattle.link_key_usage.specs.declared.Entry.the-variants as entry
@@ -52,13 +52,13 @@ unfolding sameSecret
 same-secret-made k l p q =
     rw (eq-eqb (k .identifier) (l .identifier) p, q, same-self eqb (λ n. eq-eqb n n refl) (l .value))
 
-pub limits-identifier : (k : Key) → inLimits k ≡ true → 1 ≤ k .identifier
-unfolding inLimits
-limits-identifier k e =
+pub valid-identifier : (k : Key) → validKey k ≡ true → 1 ≤ k .identifier
+unfolding validKey
+valid-identifier k e =
     leb-true 1 (k .identifier) (first (leb 1 (k .identifier)) (leb (k .identifier) 255) (listed (k .usage)) (eqb (length (k .value)) 16) e)
 
-pub limits-fit : (k : Key) → inLimits k ≡ true → (k .identifier ≤ 255) × (k .usage ≤ 14) × (length (k .value) ≡ 16)
-unfolding inLimits
+pub limits-fit : (k : Key) → validKey k ≡ true → (k .identifier ≤ 255) × (k .usage ≤ 14) × (length (k .value) ≡ 16)
+unfolding validKey
 limits-fit k e =
     let least = leb 1 (k .identifier) in
     let most = leb (k .identifier) 255 in

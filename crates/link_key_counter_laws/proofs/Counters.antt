@@ -14,11 +14,11 @@ use Rattle.logic_facts.specs.Tests.{both, both-left, both-right}
 use Rattle.link_key.specs.Key.{sameSecret, sameValue}
 use Rattle.link_key.specs.declared.Key.{Key}
 use Rattle.link_key.proofs.Same.{same-self, same-equal}
-use Rattle.link_key_set.specs.KeySet.{keysOf, allowedSet, has, noneTwice}
+use Rattle.link_key_set.specs.KeySet.{keysOf, validSet, has, noneTwice}
 use Rattle.link_key_set.specs.Lists.{firstOf}
 use Rattle.link_key_set.specs.declared.key_set.KeySet.{KeySet}
 use Rattle.link_key_set.proofs.Lists.{first-is}
-use Rattle.link_key_set.proofs.KeySets.{has-none, set-allowed, allowed-few}
+use Rattle.link_key_set.proofs.KeySets.{has-none, valid-set, valid-few}
 use Rattle.link_key_counters.specs.Counters.{Slot, slot, slotsFrom, slotsOf, serves, firstServing, raised, counterIn, keptCounter, keptCounters, succeeded}
 use Rattle.link_key_counters.specs.declared.CountedSet.{CountedSet}
 use Rattle.link_key_counter_laws.specs.Kept.{Holds, Sound, KeptLaws}
@@ -236,11 +236,11 @@ succeeded-keeps s keys k h =
     ∙ at-place (keptCounter s) k (keptCounter s k) (λ l e. kept-same s l k e) zeros 0 (found .0) [] ks refl (found .1)
 
 -- ---- sizes
-succeeded-size : (s : CountedSet) (keys : KeySet) → allowedSet keys ≡ true → length (succeeded s keys .counters) ≡ 8
+succeeded-size : (s : CountedSet) (keys : KeySet) → validSet keys ≡ true → length (succeeded s keys .counters) ≡ 8
 unfolding succeeded
 succeeded-size s keys ok =
     let ks = keysOf keys in
-    let few : length ks ≤ 8 = allowed-few ks (set-allowed keys ok .1) in
+    let few : length ks ≤ 8 = valid-few ks (valid-set keys ok .1) in
     let written : length (map (keptCounter s) ks) ≡ length ks = length-map ks (keptCounter s) in
     let others : length (replicate {A = ℕ} (8 - length ks) 0) ≡ 8 - length ks = length-replicate {A = ℕ} (8 - length ks) 0 in
     let all = length-append (map (keptCounter s) ks) (replicate {A = ℕ} (8 - length ks) 0) in

@@ -8,7 +8,7 @@ use mathlib.Core.Option.{some}
 use lib.ListN.{length}
 use Rattle.link_key.specs.Key.{sameSecret}
 use Rattle.link_key.specs.declared.Key.{Key}
-use Rattle.link_key_set.specs.KeySet.{keysOf, allowedSet, noneTwice}
+use Rattle.link_key_set.specs.KeySet.{keysOf, validSet, noneTwice}
 use Rattle.link_key_set.specs.declared.key_set.KeySet.{KeySet}
 use Rattle.link_key_counters.specs.Counters.{Slot, firstServing, raised, arrived, keptCounter, succeeded}
 use Rattle.link_key_counters.specs.declared.CountedSet.{CountedSet}
@@ -44,4 +44,4 @@ pub record KeptLaws : Type 0 where
   -- there are eight counters always
   pub raised-size : (s : CountedSet) (x : Slot) → length (s .counters) ≡ 8 → length (raised s x .counters) ≡ 8
   pub arrived-size : (keys : KeySet) → length (arrived keys .counters) ≡ 8
-  pub succeeded-size : (s : CountedSet) (keys : KeySet) → allowedSet keys ≡ true → length (succeeded s keys .counters) ≡ 8
+  pub succeeded-size : (s : CountedSet) (keys : KeySet) → validSet keys ≡ true → length (succeeded s keys .counters) ≡ 8

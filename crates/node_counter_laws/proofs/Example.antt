@@ -2,8 +2,8 @@
 use mathlib.Core.Path.{_≡_, refl}
 use mathlib.Core.Bool.{true}
 use mathlib.Core.List.{List·Memᴰ·head as at, List·Memᴰ·tail as past}
-use Rattle.link_key.specs.Key.{inLimits, sameKey, sameSecret, covers}
-use Rattle.link_key_set.specs.KeySet.{allowed, allowedSet}
+use Rattle.link_key.specs.Key.{validKey, sameKey, sameSecret, covers}
+use Rattle.link_key_set.specs.KeySet.{validKeys, validSet}
 use Rattle.link_key_counters.specs.Counters.{spend, succeeded}
 use Rattle.cbor.specs.Decode.{payloadBy, decodeBy, heading, argument, next, digits, members, pairs, majorOf}
 use Rattle.cbor.specs.Encode.{bytesOf, infoOf, extraOf, shortest}
@@ -34,7 +34,7 @@ use Rattle.node_counter_laws.specs.Example.{cafe, key, joining, joined, 
 -- what computing unfolds: items, keys, objects and the node's calls
 computing : Unit {0}
 unfolding payloadBy decodeBy heading argument next digits members pairs majorOf bytesOf infoOf extraOf shortest
-    inLimits sameKey sameSecret covers allowed allowedSet spend succeeded
+    validKey sameKey sameSecret covers validKeys validSet spend succeeded
     padded octetsJudged addressIn groups owing payloadReadBy configurationStanding configurationTaking requestInRange requestPlan
     sets.valid install frames.sending attempt.valid mayStart
     made valid requestOf startVerdict startPlan start reportsOf configured apply mayCome deliverVerdict deliver

@@ -13,7 +13,7 @@ use Rattle.logic_facts.specs.Tests.{first}
 use Rattle.link_key.specs.Key.{sameSecret}
 use Rattle.link_key.specs.declared.Key.{Key}
 use Rattle.link_key_set.specs.KeyLaws.{KeyLaws}
-use Rattle.link_key_set.specs.KeySet.{keysOf, noKeys, allowedSet, sameKeys, shares}
+use Rattle.link_key_set.specs.KeySet.{keysOf, noKeys, validSet, sameKeys, shares}
 use Rattle.link_key_set.specs.declared.key_set.KeySet.{KeySet}
 use Rattle.link_key_counters.specs.CounterLaws.{CounterLaws}
 use Rattle.link_key_counters.specs.Counters.{Slot, firstServing, raised, keptCounter}
@@ -22,7 +22,7 @@ use Rattle.link_key_counter_laws.specs.Kept.{Holds, Sound, KeptLaws}
 use Rattle.node_key_sets.specs.Sets as sets
 use Rattle.node_key_sets.specs.Sets.{activeIn, twoSets, unplaced, place, install}
 use Rattle.node_key_sets.specs.declared.sets.KeySets.{KeySets}
-use Rattle.node_key_sets.proofs.Valid.{active-valid, member-allowed}
+use Rattle.node_key_sets.proofs.Valid.{active-valid, member-valid}
 use Rattle.node_parameters.specs.declared.octets.HeldOctets.{HeldOctets}
 use Rattle.node_attempt.specs.Attempt as attempt
 use Rattle.node_parameters.specs.Lease.{validAddress}
@@ -64,7 +64,7 @@ placeBy s set ok border equals shared = cond ok (place s set border equals share
 
 module _ (P : KeptLaws) where
   place-sized :
-      (s : KeySets) (set : KeySet) → Sized s → (ok border equals shared : Bool) → allowedSet set ≡ ok →
+      (s : KeySets) (set : KeySet) → Sized s → (ok border equals shared : Bool) → validSet set ≡ ok →
       Sized (placeBy s set ok border equals shared)
   place-sized s set z false border equals shared e = z
   place-sized s set z true true equals shared e =
@@ -76,7 +76,7 @@ module _ (P : KeptLaws) where
   install-sized : (border : Bool) (s : KeySets) (set : KeySet) → Sized s → Sized (install border s set .sets)
   unfolding install
   install-sized border s set z =
-      place-sized s set z (allowedSet set) border (sameKeys (keysOf set) (activeIn s)) (shares (keysOf set) (activeIn s)) refl
+      place-sized s set z (validSet set) border (sameKeys (keysOf set) (activeIn s)) (shares (keysOf set) (activeIn s)) refl
 
   move-sized : (border : Bool) (s t : KeySets) → Sized s → Move border s t → Sized t
   move-sized border s t z (stays e) = rw e z
@@ -98,8 +98,8 @@ module _ (K : KeyLaws) (C : CounterLaws) (P : KeptLaws) (L : NodeLaws) (A : Answ
   -- an active set with a key in it is within its limits
   sound : (n : Node) → Valid n → Sized (n .sets) → (l : Key) → List·Memᴰ l (activeOf n) → Sound (n .sets .active)
   sound n v z l m =
-      let ok = member-allowed K (n .sets .active .set) l (active-valid (isBorder n) (n .sets) (keys-valid n v)) m in
-      record { none-twice = K .allowed-none-twice (activeOf n) ok; few = K .allowed-few (activeOf n) ok; counters = z .active }
+      let ok = member-valid K (n .sets .active .set) l (active-valid (isBorder n) (n .sets) (keys-valid n v)) m in
+      record { none-twice = K .valid-none-twice (activeOf n) ok; few = K .valid-few (activeOf n) ok; counters = z .active }
 
   module _ (k : Key) where
     abbrev counterOf : KeySets → ℕ
@@ -118,7 +118,7 @@ module _ (K : KeyLaws) (C : CounterLaws) (P : KeptLaws) (L : NodeLaws) (A : Answ
     install-keeps : (border : Bool) (s : KeySets) (set : KeySet) → Holds k (activeIn (install border s set .sets)) → counterOf (install border s set .sets) ≡ counterOf s
     unfolding install
     install-keeps border s set h =
-        place-keeps s set (allowedSet set) border (sameKeys (keysOf set) (activeIn s)) (shares (keysOf set) (activeIn s)) h
+        place-keeps s set (validSet set) border (sameKeys (keysOf set) (activeIn s)) (shares (keysOf set) (activeIn s)) h
 
     count-rises :
         (s : CountedSet) (type : ℕ) (x : Slot) → Sound s → firstServing type s ≡ some x → (b : Bool) → sameSecret (x .key) k ≡ b →

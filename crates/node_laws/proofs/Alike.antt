@@ -8,7 +8,7 @@ use mathlib.Core.Option.{Option, none, some}
 use Rattle.refusal.specs.declared.Refusal.the-variants as refusal
 use Rattle.refusal.specs.declared.Verdict.{Verdict}
 use Rattle.refusal.specs.declared.Verdict.the-variants as verdict
-use Rattle.link_key_set.specs.KeySet.{keysOf, allowedSet}
+use Rattle.link_key_set.specs.KeySet.{keysOf, validSet}
 use Rattle.link_key_set.specs.declared.key_set.KeySet.{KeySet}
 use Rattle.link_key_counters.specs.CounterLaws.{CounterLaws}
 use Rattle.link_key_counters.specs.Counters.{slotsOf}
@@ -60,7 +60,7 @@ record SamePlace (p q : Placement) : Type 0 where
   pending-slots : slotsOf (p .sets .pending) ≡ slotsOf (q .sets .pending)
 
 install-same :
-    CounterLaws → (n : Node) (u v : KeySet) → allowedSet u ≡ true → allowedSet v ≡ true → keysOf u ≡ keysOf v →
+    CounterLaws → (n : Node) (u v : KeySet) → validSet u ≡ true → validSet v ≡ true → keysOf u ≡ keysOf v →
     SamePlace (install (isBorder n) (n .sets) u) (install (isBorder n) (n .sets) v)
 install-same C n u v p q e =
     let a = install-alike C (isBorder n) (n .sets) u v (p ∙ sym q) e in

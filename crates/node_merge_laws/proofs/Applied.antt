@@ -8,7 +8,7 @@ use native.Mathlib.Omega.{arith}
 use Rattle.refusal.specs.declared.Refusal.the-variants as refusal
 use Rattle.refusal.specs.declared.Verdict.{Verdict}
 use Rattle.refusal.specs.declared.Verdict.the-variants.{Accepted, Refused}
-use Rattle.link_key_set.specs.KeySet.{keysOf, allowedSet, sameKeys, shares}
+use Rattle.link_key_set.specs.KeySet.{keysOf, validSet, sameKeys, shares}
 use Rattle.link_key_set.specs.declared.key_set.KeySet.{KeySet}
 use Rattle.link_key_counters.specs.CounterLaws.{CounterLaws}
 use Rattle.link_key_counters.specs.Counters.{arrived, noCounted, succeeded}
@@ -107,7 +107,7 @@ ordinary-stays sets set true false false e = refl
 active-stays : (sets : KeySets) (set : KeySet) → install false sets set .verdict ≡ Accepted → install false sets set .sets .active ≡ sets .active
 unfolding install
 active-stays sets set e =
-    ordinary-stays sets set (allowedSet set) (sameKeys (keysOf set) (activeIn sets)) (shares (keysOf set) (activeIn sets)) e
+    ordinary-stays sets set (validSet set) (sameKeys (keysOf set) (activeIn sets)) (shares (keysOf set) (activeIn sets)) e
 
 -- two pairs of sets with the same active one take an accepted set alike
 alike-by :
@@ -123,7 +123,7 @@ install-alike :
 unfolding install
 install-alike a b set h e =
     let keys : activeIn b ≡ activeIn a = ap (λ (s : CountedSet). keysOf (s .set)) h in
-    let t = alike-by a b set (allowedSet set) (sameKeys (keysOf set) (activeIn a)) (shares (keysOf set) (activeIn a)) h
+    let t = alike-by a b set (validSet set) (sameKeys (keysOf set) (activeIn a)) (shares (keysOf set) (activeIn a)) h
     in t (rw keys at e) ∙ rw keys
 
 accepted-placement : (p : Placement) → p .verdict ≡ Accepted → p ≡ placed (p .sets)
@@ -149,7 +149,7 @@ module _ (C : CounterLaws) where
 
   border-alike : (a b : KeySets) (set : KeySet) → install true b set .verdict ≡ Accepted → SamePlace true (install true a set) (install true b set)
   unfolding install
-  border-alike a b set e = border-by a b set (allowedSet set) e
+  border-alike a b set e = border-by a b set (validSet set) e
 
   -- the second's set, installed after the first's or at once
   both-taken :

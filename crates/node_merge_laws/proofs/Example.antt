@@ -3,8 +3,8 @@ use mathlib.Core.Path.{refl}
 use Rattle.cbor.specs.Decode.{payloadBy, decodeBy, heading, argument, next, digits, members, pairs, majorOf}
 use Rattle.cbor.specs.Encode.{bytesOf, infoOf, extraOf, shortest}
 use Rattle.short_address.specs.Address.{isAddress}
-use Rattle.link_key.specs.Key.{inLimits, sameKey}
-use Rattle.link_key_set.specs.KeySet.{allowed, allowedSet}
+use Rattle.link_key.specs.Key.{validKey, sameKey}
+use Rattle.link_key_set.specs.KeySet.{validKeys, validSet}
 use Rattle.cojp.specs.Address.{addressIn}
 use Rattle.cojp.specs.Configuration.{configurationStanding, configurationTaking}
 use Rattle.cojp.specs.KeySet.{groups}
@@ -21,12 +21,12 @@ use Rattle.node_merge_laws.specs.Example.{AcceptedPair, RefusedPair}
 
 pub accepted-pair : AcceptedPair
 unfolding payloadBy decodeBy heading argument next digits members pairs majorOf bytesOf infoOf extraOf shortest
-    inLimits sameKey allowed allowedSet padded octetsJudged isAddress addressIn groups payloadReadBy configurationStanding configurationTaking
+    validKey sameKey validKeys validSet padded octetsJudged isAddress addressIn groups payloadReadBy configurationStanding configurationTaking
     sets.valid install attempt.valid valid reportsOf configured apply mayCome deliverVerdict deliver
 accepted-pair = record { first = refl; second = refl; written = refl }
 
 pub refused-pair : RefusedPair
 unfolding payloadBy decodeBy heading argument next digits members pairs majorOf bytesOf infoOf extraOf shortest
-    inLimits sameKey allowed allowedSet padded octetsJudged isAddress addressIn groups payloadReadBy configurationStanding configurationTaking
+    validKey sameKey validKeys validSet padded octetsJudged isAddress addressIn groups payloadReadBy configurationStanding configurationTaking
     sets.valid install attempt.valid valid reportsOf configured apply mayCome deliverVerdict deliver
 refused-pair = record { first = refl; merged-all-the-same = refl }

@@ -1,6 +1,6 @@
 -- Computed.
 use mathlib.Core.Path.{refl}
-use Rattle.link_key_set.specs.KeySet.{allowed, allowedSet}
+use Rattle.link_key_set.specs.KeySet.{validKeys, validSet}
 use Rattle.short_address.specs.Address.{isAddress}
 use Rattle.cbor.specs.Decode.{payloadBy, decodeBy, heading, argument, next, digits, members, pairs, majorOf}
 use Rattle.cbor.specs.Encode.{bytesOf, infoOf, extraOf, shortest}
@@ -26,7 +26,7 @@ use Rattle.node_laws.proofs.addresses.addresses_seen.Tie as tie
 
 seen : AddressesSeen
 unfolding payloadBy decodeBy heading argument next digits members pairs majorOf bytesOf infoOf extraOf shortest
-    allowed allowedSet isAddress padded octetsJudged addressIn owing payloadReadBy configurationStanding configurationTaking
+    validKeys validSet isAddress padded octetsJudged addressIn owing payloadReadBy configurationStanding configurationTaking
     requestInRange requestPlan sets.valid attempt.valid mayStart mayCome reportsOf configured apply deliverVerdict deliver
     made valid requestOf startVerdict startPlan start perform
 seen = record { valid = refl; taken = refl; bytes = refl; accepted = refl; discarded = refl; kept = refl; received = refl }

@@ -6,15 +6,15 @@ use Rattle.logic_facts.specs.Tests.{denied, granted, is-false, is-true}
 use Rattle.node_key_sets.proofs.sets.KeySets.install.Statement.{statement}
 use Rattle.node_key_sets.proofs.sets.KeySets.install.Tie as tie
 
-allowed-requires : tie.Need-allowed-requires
-allowed-requires c κs = search needs
+valid-requires : tie.Need-valid-requires
+valid-requires c κs = search needs
 
 unplaced-requires : tie.Need-unplaced-requires
 unplaced-requires c κs = search needs
 
 returns : tie.Need-returns
 unfolding install
-returns c = c .unplaced .ensures ∙ rw (denied (c .before .before .allowed .ensures) (c .before .if1 .taken))
+returns c = c .unplaced .ensures ∙ rw (denied (c .before .before .valid .ensures) (c .before .if1 .taken))
 
 succeeded-requires : tie.Need-succeeded-requires
 succeeded-requires c κs = search needs
@@ -35,7 +35,7 @@ returns-2 c =
     ∙ rw (
       c .before .none-counted .ensures,
       kept .succeeded .ensures,
-      granted (judged .before .allowed .ensures) (judged .if1 .left),
+      granted (judged .before .valid .ensures) (judged .if1 .left),
       border .if2 .taken,
     )
 
@@ -56,7 +56,7 @@ returns-3 c =
     c .placed2 .ensures
     ∙ rw (
       c .before .none-counted2 .ensures,
-      granted (judged .before .allowed .ensures) (judged .if1 .left),
+      granted (judged .before .valid .ensures) (judged .if1 .left),
       asked .before .if2 .left,
       is-true (asked .same-keys .ensures) (c .before .before .if3 .taken),
     )
@@ -75,7 +75,7 @@ returns-4 c =
     let judged = other .before .before .before in
     c .unplaced2 .ensures
     ∙ rw (
-      granted (judged .before .allowed .ensures) (judged .if1 .left),
+      granted (judged .before .valid .ensures) (judged .if1 .left),
       other .before .before .if2 .left,
       is-false (other .before .same-keys .ensures) (other .if3 .left),
       is-true (asked .shares .ensures) (c .before .if4 .taken),
@@ -96,7 +96,7 @@ returns-5 c =
     c .placed3 .ensures
     ∙ rw (
       c .before .arrived .ensures,
-      granted (judged .before .allowed .ensures) (judged .if1 .left),
+      granted (judged .before .valid .ensures) (judged .if1 .left),
       other .before .before .if2 .left,
       is-false (other .before .same-keys .ensures) (other .if3 .left),
       is-false (asked .shares .ensures) (c .before .before .if4 .left),
@@ -106,7 +106,7 @@ pub install-spec : {M : Type 1} → statement M
 install-spec =
     tie.close
     (tie.spec
-    allowed-requires
+    valid-requires
     unplaced-requires
     returns
     succeeded-requires

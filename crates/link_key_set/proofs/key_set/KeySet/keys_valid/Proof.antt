@@ -6,8 +6,8 @@ use lib.ListN.{length, take}
 use Rattle.link_key_set.specs.KeySet.{keysOf}
 use Rattle.link_key_set.proofs.Flags.{Judging, judged-all, judged-bad, judged-more}
 use Rattle.link_key_set.proofs.Places.{firsts, within, past}
-use Rattle.link_key_set.proofs.key_set.KeySet.keys_allowed.Statement.{statement}
-use Rattle.link_key_set.proofs.key_set.KeySet.keys_allowed.Tie as tie
+use Rattle.link_key_set.proofs.key_set.KeySet.keys_valid.Statement.{statement}
+use Rattle.link_key_set.proofs.key_set.KeySet.keys_valid.Tie as tie
 
 abbrev Inv-loop : tie.InvT-loop
 Inv-loop n keys seen₀ i₀ seen i = Judging (take n keys) i seen
@@ -71,8 +71,8 @@ returns-2 c =
     let size : n ≡ length (keysOf set) = sized .len .ensures .0 in
     rw (← firsts set n size) (sym (judged-all (set .keys) n (turn .i) (turn .seen) (turn .inv) (within set n size) (c .loop-test .left)))
 
-pub keys-allowed-spec : {M : Type 1} → statement M
-keys-allowed-spec =
+pub keys-valid-spec : {M : Type 1} → statement M
+keys-valid-spec =
     tie.close
     (tie.spec
     Inv-loop
