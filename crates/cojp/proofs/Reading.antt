@@ -14,10 +14,10 @@ use Rattle.refusal.specs.declared.Verdict.the-variants.{Accepted}
 use Rattle.cbor.specs.Decode.{heading}
 use Rattle.cbor.specs.View.{Plain, number, string, other, View, plain, list}
 use Rattle.link_key.specs.Key.{noKey}
-use Rattle.link_key_set.specs.KeySet.{keysOf, allowed, allowedSet}
+use Rattle.link_key_set.specs.KeySet.{keysOf, validKeys, validSet}
 use Rattle.link_key.specs.declared.Key.{Key}
 use Rattle.link_key_set.specs.declared.key_set.KeySet.{KeySet}
-use Rattle.link_key_set.proofs.KeySets.{allowed-few}
+use Rattle.link_key_set.proofs.KeySets.{valid-few}
 use Rattle.cojp.specs.Reading.{Reading, refused, read, put, Judgement, broken, unfit, good, concluded}
 use Rattle.cojp.specs.Octets.{octetsJudged, octetsOf, octetsParameter, noOctetsParameter}
 use Rattle.short_address.specs.Address.{isAddress}
@@ -45,20 +45,20 @@ unfolding Good
 good-if P true a f = f refl
 good-if P false a f = tt
 
-set-of : (ks : List Key) → allowed ks ≡ true → allowedSet (keySetOf ks) ≡ true
-unfolding allowedSet
+set-of : (ks : List Key) → validKeys ks ≡ true → validSet (keySetOf ks) ≡ true
+unfolding validSet
 set-of ks e =
-    let few = allowed-few ks e in
-    both (leb (length ks) 8) (allowed (keysOf (keySetOf ks))) (le-leb _ _ few) (rw (take-at ks (replicate (8 - length ks) noKey) (length ks) refl) e)
+    let few = valid-few ks e in
+    both (leb (length ks) 8) (validKeys (keysOf (keySetOf ks))) (le-leb _ _ few) (rw (take-at ks (replicate (8 - length ks) noKey) (length ks) refl) e)
 
-keys-good : (v : View) → Good (λ (s : KeySet). allowedSet s ≡ true) (keysJudged v)
+keys-good : (v : View) → Good (λ (s : KeySet). validSet s ≡ true) (keysJudged v)
 unfolding Good
 keys-good (plain p) = tt
 keys-good (list ps) = go (groups ps)
   where
-    go : (g : Groups) → Good (λ (s : KeySet). allowedSet s ≡ true) (keysIn g)
+    go : (g : Groups) → Good (λ (s : KeySet). validSet s ≡ true) (keysIn g)
     go notGroups = tt
-    go (groupsOf ks) = good-if (λ (s : KeySet). allowedSet s ≡ true) (allowed ks) (keySetOf ks) (set-of ks)
+    go (groupsOf ks) = good-if (λ (s : KeySet). validSet s ≡ true) (validKeys ks) (keySetOf ks) (set-of ks)
 
 address-by : (s : List ℕ) (leased : Bool) (lease : ℕ) → Good (λ (a : ShortAddress). isAddress (a .bytes) ≡ true) (addressBy s leased lease)
 address-by s leased lease = good-if (λ (a : ShortAddress). isAddress (a .bytes) ≡ true) (isAddress s) (addressOf s leased lease) (λ e. e)
@@ -131,7 +131,7 @@ module _ (c : Configuration) (h : InRange c) where
   unfolding configurationTaking sized
   taking-fits n v =
       either-fits (eqb n 2) _ _
-      (put-fits (λ (s : KeySet). allowedSet s ≡ true) (keysParameter Taken) (refused refusal.Keys) (keysJudged v) (withKeys c) (keys-good v) tt
+      (put-fits (λ (s : KeySet). validSet s ≡ true) (keysParameter Taken) (refused refusal.Keys) (keysJudged v) (withKeys c) (keys-good v) tt
       (λ s e. keys-put (keysParameter Taken s) e))
       (either-fits (eqb n 3) _ _
       (put-fits (λ (a : ShortAddress). isAddress (a .bytes) ≡ true) (addressParameter Taken) (read (noAddressParameter Discarded))

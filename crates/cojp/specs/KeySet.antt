@@ -7,7 +7,7 @@ use lib.ListN.{length, replicate}
 use Rattle.refusal.specs.declared.Refusal.the-variants.{Keys}
 use Rattle.cbor.specs.View.{Plain, number, string, other, View, plain, list}
 use Rattle.link_key.specs.Key.{keyOf, noKey}
-use Rattle.link_key_set.specs.KeySet.{noKeys, allowed}
+use Rattle.link_key_set.specs.KeySet.{noKeys, validKeys}
 use Rattle.link_key.specs.declared.Key.{Key}
 use Rattle.link_key_set.specs.declared.key_set.KeySet.{KeySet}
 use Rattle.refusal.specs.declared.Verdict.the-variants as verdict
@@ -54,7 +54,7 @@ groups (number i ∷ number u ∷ other ∷ r) = notGroups
 -- the whole pattern comes before the limits
 abbrev pub keysIn : Groups → Judgement KeySet
 keysIn notGroups = broken
-keysIn (groupsOf ks) = cond (allowed ks) (good (keySetOf ks)) unfit
+keysIn (groupsOf ks) = cond (validKeys ks) (good (keySetOf ks)) unfit
 
 abbrev pub keysJudged : View → Judgement KeySet
 keysJudged (plain p) = broken

@@ -8,7 +8,7 @@ use Rattle.refusal.specs.declared.Refusal.the-variants.{Range, Owed}
 use Rattle.cbor.specs.Answer.{Plan, refuse, emit}
 use Rattle.cbor.specs.Encode.{encode}
 use Rattle.cbor.specs.Item.{Item, Items, Pairs, unsigned, bytes, array, map, none, more, empty, pair}
-use Rattle.link_key_set.specs.KeySet.{keysOf, allowedSet}
+use Rattle.link_key_set.specs.KeySet.{keysOf, validSet}
 use Rattle.link_key.specs.declared.Key.{Key}
 use Rattle.cojp.specs.Reading.{ifTaken}
 use Rattle.cojp.specs.Octets.{bytesIn}
@@ -73,7 +73,7 @@ abbrev pub addressInRange : AddressParameter → Bool
 addressInRange p = ifTaken (p .report) (isAddress (p .value .bytes)) true
 
 abbrev pub keysInRange : KeysParameter → Bool
-keysInRange p = ifTaken (p .report) (allowedSet (p .value)) true
+keysInRange p = ifTaken (p .report) (validSet (p .value)) true
 
 -- ---- the join request
 abbrev pub requestPairs : JoinRequest → Pairs

@@ -1,4 +1,4 @@
--- A group is read member by member; the keys are gathered one after the other, each told by its flag, and a set that no eight places hold is never allowed.
+-- A group is read member by member; the keys are gathered one after the other, each told by its flag, and more than eight are never valid.
 use Prim.Native.Nat.{ℕ, suc, _+_, _-_, _≤_, _<_}
 use mathlib.Core.Path.{_≡_, refl, ap, sym, _∙_}
 use mathlib.Core.Bool.{Bool, true, false, cond, _&&_, and-true, and-false, and-assoc}
@@ -7,7 +7,7 @@ use mathlib.Core.Logic.{⊎-elim}
 use native.Mathlib.Omega.{arith}
 use lib.Dec.{leb, ltb, eqb}
 use lib.ListN.{length, take, drop, set, replicate, length-append, length-drop}
-use lib.Seq.{set-at, take-append-seam, append-snoc, take-all, drop-drop, length-take-le}
+use lib.Seq.{set-at, append-snoc, take-all, drop-drop, length-take-le}
 use borrow.Author.Tests.{lt-leb, ltb-false, leb-true, leb-false, eqb-true}
 use types.Run.{OneOf}
 use denote.Enum.Declared.{tagOf}
@@ -16,8 +16,8 @@ use Rattle.cbor.specs.View.{Plain, number, string, other, ValueSays}
 use Rattle.cbor.specs.declared.value.Value.{Value}
 use Rattle.cbor.specs.declared.value.Value.the-variants as vv
 use Rattle.cbor.proofs.value.Value as value
-use Rattle.link_key.specs.Key.{keyOf, noKey, inLimits}
-use Rattle.link_key_set.specs.KeySet.{noKeys, allInLimits, noneTwice, eachOnce, allowed}
+use Rattle.link_key.specs.Key.{keyOf, noKey, validKey}
+use Rattle.link_key_set.specs.KeySet.{noKeys, allValid, noneTwice, eachOnce, validKeys}
 use Rattle.link_key_set.specs.Seen.{joins, Exactly, OneMore, WithOneMore}
 use Rattle.link_key.specs.declared.Key.{Key}
 use Rattle.link_key_set.specs.declared.key_set.KeySet.{KeySet}
@@ -123,34 +123,34 @@ outside true false c d f k e = refl
 outside true true false d f k e = rw (k refl)
 outside true true true d f k e = rw e (and-false d)
 
-pub not-storable : (k : Key) → storable (k .identifier) (k .usage) (length (k .value)) ≡ false → inLimits k ≡ false
-unfolding inLimits
+pub not-storable : (k : Key) → storable (k .identifier) (k .usage) (length (k .value)) ≡ false → validKey k ≡ false
+unfolding validKey
 not-storable k e = outside (leb 1 (k .identifier)) (leb (k .identifier) 255) (leb (k .usage) 255) (leb (k .usage) 14) (eqb (length (k .value)) 16) (wide (k .usage)) e
 
--- neither a set of nine keys nor one with a key outside the limits is allowed
-long-not-allowed : (ks : List Key) → 8 < length ks → allowed ks ≡ false
-unfolding allowed
-long-not-allowed ks h = rw (lt-leb (length ks) 8 h, and-false (leb 1 (length ks)))
+-- neither a set of nine keys nor one with a key outside the limits is valid
+long-not-valid : (ks : List Key) → 8 < length ks → validKeys ks ≡ false
+unfolding validKeys
+long-not-valid ks h = rw (lt-leb (length ks) 8 h, and-false (leb 1 (length ks)))
 
-some-outside : (ks : List Key) (k : Key) (js : List Key) → inLimits k ≡ false → allInLimits (ks ++ k ∷ js) ≡ false
+some-outside : (ks : List Key) (k : Key) (js : List Key) → validKey k ≡ false → allValid (ks ++ k ∷ js) ≡ false
 some-outside [] k js e = rw e
-some-outside (j ∷ ks) k js e = rw (some-outside ks k js e) (and-false (inLimits j))
+some-outside (j ∷ ks) k js e = rw (some-outside ks k js e) (and-false (validKey j))
 
-one-not-allowed : (ks : List Key) (k : Key) (js : List Key) → inLimits k ≡ false → allowed (ks ++ k ∷ js) ≡ false
-unfolding allowed
-one-not-allowed ks k js e =
+one-not-valid : (ks : List Key) (k : Key) (js : List Key) → validKey k ≡ false → validKeys (ks ++ k ∷ js) ≡ false
+unfolding validKeys
+one-not-valid ks k js e =
     rw (some-outside ks k js e, and-false (leb 1 (length (ks ++ k ∷ js)) && leb (length (ks ++ k ∷ js)) 8))
 
-pub once-not-allowed : (ks : List Key) → eachOnce ks ≡ false → allowed ks ≡ false
-unfolding allowed
-once-not-allowed ks e =
+pub once-not-valid : (ks : List Key) → eachOnce ks ≡ false → validKeys ks ≡ false
+unfolding validKeys
+once-not-valid ks e =
     let few = (leb 1 (length ks) && leb (length ks) 8) in
-    and-assoc few (allInLimits ks) (noneTwice ks) ∙ rw e (and-false few)
+    and-assoc few (allValid ks) (noneTwice ks) ∙ rw e (and-false few)
 
 -- ---- the keys so far, and the set that holds them, exactly their flags being set, or is past holding them
 pub data Holds (ks : List Key) (seen : List ℕ) (s : KeySet) : Type 0 where
   held : length ks ≤ 8 → eachOnce ks ≡ true → Exactly seen ks → s ≡ keySetOf ks → Holds ks seen s
-  lost : ((js : List Key) → allowed (ks ++ js) ≡ false) → s .count ≡ 9 → Holds ks seen s
+  lost : ((js : List Key) → validKeys (ks ++ js) ≡ false) → s .count ≡ 9 → Holds ks seen s
 
 pub holds-none : (seen : List ℕ) (s : KeySet) → Exactly seen [] → s ≡ noKeys → Holds [] seen s
 holds-none seen s clear e = held (omega arith) refl clear e
@@ -160,7 +160,7 @@ same-set : (m n : ℕ) (xs ys : List Key) → m ≡ n → xs ≡ ys
 same-set m n xs ys e f = rw (e, f)
 
 module _ (ks : List Key) (k : Key) where
-  more-lost : ((js : List Key) → allowed (ks ++ (k ∷ js)) ≡ false) → (js : List Key) → allowed ((ks ++ (k ∷ [])) ++ js) ≡ false
+  more-lost : ((js : List Key) → validKeys (ks ++ (k ∷ js)) ≡ false) → (js : List Key) → validKeys ((ks ++ (k ∷ [])) ++ js) ≡ false
   more-lost f js = rw (append-assoc ks (k ∷ []) js) (f js)
 
   stored : length ks < 8 → set (keySetOf ks .keys) (length ks) k ≡ keySetOf (ks ++ (k ∷ [])) .keys
@@ -170,7 +170,8 @@ module _ (ks : List Key) (k : Key) where
       (set-at ks noKey (replicate (8 - length (ks ++ (k ∷ []))) noKey) k (length ks) refl
       ∙ sym (append-snoc ks k (replicate (8 - length (ks ++ (k ∷ []))) noKey)))
 
-  one-more : length ks < 8 → _≡_ {A = KeySet} (record { count = length ks + 1; keys = set (keySetOf ks .keys) (length ks) k }) (keySetOf (ks ++ (k ∷ [])))
+  one-more : length ks < 8
+      → _≡_ {A = KeySet} (record { count = length ks + 1; keys = set (keySetOf ks .keys) (length ks) k }) (keySetOf (ks ++ (k ∷ [])))
   one-more h =
       let c : length ks + 1 ≡ length (ks ++ (k ∷ [])) = omega (arith, length-append ks (k ∷ [])) in
       same-set (length ks + 1) (length (ks ++ (k ∷ []))) _ _ c (stored h)
@@ -179,35 +180,37 @@ module _ (ks : List Key) (k : Key) where
   stored-more : (joined : Bool) (after : List ℕ) → length ks < 8 → eachOnce ks ≡ true → OneMore ks k joined after
       → Holds (ks ++ (k ∷ [])) after (record { count = cond joined (length ks + 1) 9; keys = set (keySetOf ks .keys) (length ks) k })
   stored-more true after h once m = held (omega (arith, length-append ks (k ∷ []))) (m .good refl once) (m .next refl) (one-more h)
-  stored-more false after h once m = lost (more-lost (λ js. once-not-allowed (ks ++ (k ∷ js)) (m .bad refl js))) refl
+  stored-more false after h once m = lost (more-lost (λ js. once-not-valid (ks ++ (k ∷ js)) (m .bad refl js))) refl
 
   pub holds-stored : (seen : List ℕ) (s : KeySet) → Holds ks seen s → s .count < 8 → (joined : Bool) (after : List ℕ)
-      → (Exactly seen ks → OneMore ks k joined after) → Holds (ks ++ (k ∷ [])) after (record { count = cond joined (s .count + 1) 9; keys = set (s .keys) (s .count) k })
+      → (Exactly seen ks → OneMore ks k joined after)
+      → Holds (ks ++ (k ∷ [])) after (record { count = cond joined (s .count + 1) 9; keys = set (s .keys) (s .count) k })
   holds-stored seen s (held l once clear e) h joined after m =
       rw e (stored-more joined after (let few : keySetOf ks .count < 8 = rw e at h in few) once (m clear))
   holds-stored seen s (lost f e) h joined after m = absurd (omega arith)
 
   -- no place can hold it
-  pub holds-nine : (seen : List ℕ) (s : KeySet) → Holds ks seen s → (ltb (s .count) 8 && storable (k .identifier) (k .usage) (length (k .value))) ≡ false
+  pub holds-nine : (seen : List ℕ) (s : KeySet) → Holds ks seen s
+      → (ltb (s .count) 8 && storable (k .identifier) (k .usage) (length (k .value))) ≡ false
       → Holds (ks ++ (k ∷ [])) seen (record { count = 9; keys = s .keys })
   holds-nine seen s (held l once clear e) none = lost (more-lost (go (ltb (length ks) 8) refl)) refl
     where
       unfit-key : (ltb (length ks) 8 && storable (k .identifier) (k .usage) (length (k .value))) ≡ false
       unfit-key = rw e at none
 
-      go : (b : Bool) → ltb (length ks) 8 ≡ b → (js : List Key) → allowed (ks ++ (k ∷ js)) ≡ false
-      go true f js = one-not-allowed ks k js (not-storable k (rw f at unfit-key))
-      go false f js = long-not-allowed (ks ++ (k ∷ js)) (omega (arith, ltb-false (length ks) 8 f, length-append ks (k ∷ js)))
+      go : (b : Bool) → ltb (length ks) 8 ≡ b → (js : List Key) → validKeys (ks ++ (k ∷ js)) ≡ false
+      go true f js = one-not-valid ks k js (not-storable k (rw f at unfit-key))
+      go false f js = long-not-valid (ks ++ (k ∷ js)) (omega (arith, ltb-false (length ks) 8 f, length-append ks (k ∷ js)))
   holds-nine seen s (lost f e) none = lost (more-lost (λ js. f (k ∷ js))) refl
 
 -- ---- the end
 pub holds-all : (ks : List Key) (seen : List ℕ) (s : KeySet) → Holds ks seen s → cond (someFew s) (good s) unfit ≡ keysIn (groupsOf ks)
-unfolding allowed
+unfolding validKeys
 holds-all ks seen s (held l once clear e) =
-    let all = both-left (allInLimits ks) (noneTwice ks) once in
-    let two = both-right (allInLimits ks) (noneTwice ks) once in
+    let all = both-left (allValid ks) (noneTwice ks) once in
+    let two = both-right (allValid ks) (noneTwice ks) once in
     rw (e, all, two, and-true (leb 1 (length ks) && leb (length ks) 8), and-true (leb 1 (length ks) && leb (length ks) 8))
-holds-all ks seen s (lost f e) = let g : allowed ks ≡ false = rw append-nil at (f []) in rw (e, g)
+holds-all ks seen s (lost f e) = let g : validKeys ks ≡ false = rw append-nil at (f []) in rw (e, g)
 
 -- ---- the groups, one after the other
 -- keys in front of groups
@@ -295,7 +298,8 @@ module _ (s : List ℕ) (from count at n : ℕ) (k : KeySet) (seen : List ℕ) (
         abbrev read : Key
         read = keyOf i u (take a (drop p (take (length s - at) (drop at s))))
 
-        gathering-more : (x : KeySet) (seen' : List ℕ) → Holds (w .keys ++ (read ∷ [])) seen' x → Gathering s from count (at + (p + a)) m x seen'
+        gathering-more : (x : KeySet) (seen' : List ℕ) → Holds (w .keys ++ (read ∷ [])) seen' x
+            → Gathering s from count (at + (p + a)) m x seen'
         gathering-more x seen' h =
             let v : List ℕ = take a (drop p (drop at s)) in
             let z : GroupRest (drop at s) 0 n (gv.Closed i u p a m) = rw e at (rw part at y) in

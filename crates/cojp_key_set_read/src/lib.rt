@@ -160,7 +160,7 @@ fn close_set(set: KeySet, next: usize) -> KeysRead
     }
 }
 
-// The key set whose `count` members begin at a place: the pattern to its end, and then the limits, which each key has met or not as it came.
+// The key set whose `count` members begin at a place: the pattern to its end, and then the limits, told key by key.
 fn gather_keys(s: &[u8], from: usize, count: u64) -> KeysRead
     requires { ⌜ from ≤ length (now s) ⌝ }
     ensures { λ r. ⌜ r ≡ keysAnswer (keysConcluded (keysIn (groups (membersAt count (drop from (now (s .entry))))))) (r .next) ⌝ }

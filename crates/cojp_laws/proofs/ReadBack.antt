@@ -16,7 +16,7 @@ use Rattle.cbor.specs.Laws.{ItemLaws}
 use Rattle.cbor.specs.Strict.{headBy}
 use Rattle.link_key_set.specs.KeySet.{keysOf}
 use Rattle.link_key.specs.declared.Key.{Key}
-use Rattle.link_key_set.proofs.KeySets.{set-allowed}
+use Rattle.link_key_set.proofs.KeySets.{valid-set}
 use Rattle.short_address.specs.Address.{isAddress}
 use Rattle.cojp.specs.Address.{addressOf, addressParameter, noAddressParameter, addressIn, addressRead}
 use Rattle.link_key.specs.Key.{keyOf}
@@ -155,7 +155,7 @@ groups-read [] = refl
 groups-read (k ∷ ks) = group-read k ks (eqb (k .usage) 0) refl (groups-read ks)
 
 pub keys-back : (p : KeysParameter) → keysInRange p ≡ true → p .report ≡ Taken → keysRead (viewOf (array (groupsItems (keysOf (p .value))))) ≡ read (keysGood p)
-keys-back p h e = rw (groups-read (keysOf (p .value)), set-allowed (p .value) (simp e at h) .1)
+keys-back p h e = rw (groups-read (keysOf (p .value)), valid-set (p .value) (simp e at h) .1)
 
 pub keys-same : (p : KeysParameter) → keysTaken (keysBack p) ≡ keysTaken p
 keys-same p = same-if keysTaken (keysGood p) (noKeysParameter Absent) (keysOf (p .value)) (p .report) (ap some (take-append-seam (keysOf (p .value)) _)) refl

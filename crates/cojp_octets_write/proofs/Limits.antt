@@ -10,13 +10,13 @@ use lib.ListN.{length, length-append, length-take}
 use Rattle.cbor.specs.Encode.{shortest, encode, encodes, encodePairs}
 use Rattle.cbor.specs.Item.{Item, Items, Pairs, unsigned, bytes, array, none, more, empty, pair, count, countPairs, depth, depths, depthPairs, Fit, Fits, FitPairs}
 use Rattle.cbor.proofs.Writing.{length-head, short-head, byte-head, extra-most}
-use Rattle.link_key.specs.Key.{inLimits}
+use Rattle.link_key.specs.Key.{validKey}
 use Rattle.link_key_set.specs.KeySet.{keysOf}
 use Rattle.link_key_usage.specs.Usage.{listed}
 use Rattle.link_key.specs.declared.Key.{Key}
 use Rattle.short_address.specs.Address.{isReserved, isAddress}
 use Rattle.logic_facts.specs.Tests.{both-left, both-right}
-use Rattle.link_key_set.proofs.KeySets.{set-allowed, allowed-few, allowed-in-limits}
+use Rattle.link_key_set.proofs.KeySets.{valid-set, valid-few, valid-each}
 use Rattle.cojp.specs.Octets.{bytesIn}
 use Rattle.cojp.specs.Reading.{ifTaken}
 use Rattle.cojp.specs.Writing.{join, chain, labelled, rolePairs, octetsPairs, leaseItems, addressPairs, usageItems, groupItems, groupsItems, keysPairs, octetsInRange, jrcInRange, addressInRange, keysInRange, requestPairs, configurationPairs, requestInRange, configurationInRange}
@@ -157,8 +157,8 @@ pub record KeyFits (k : Key) : Type 0 where
   pub usage : k .usage ≤ 14
   pub value : length (k .value) ≡ 16
 
-key-fits : (k : Key) → inLimits k ≡ true → KeyFits k
-unfolding inLimits
+key-fits : (k : Key) → validKey k ≡ true → KeyFits k
+unfolding validKey
 key-fits k h =
     let i = leb (k .identifier) 255 in
     let u = listed (k .usage) in
@@ -177,14 +177,14 @@ fine-usage u h = go (eqb u 0)
     go true = fine-missing 1
     go false = fine-item (unsigned u) 1 (omega (arith, short-head 0 u (omega arith))) (omega arith) (omega arith)
 
-fine-group : (k : Key) → inLimits k ≡ true → FineItems (groupItems k) 3 20
+fine-group : (k : Key) → validKey k ≡ true → FineItems (groupItems k) 3 20
 fine-group k h =
     let g = key-fits k h in
     let name = fine-item (unsigned (k .identifier)) 2 (omega (arith, length-head 0 (k .identifier), byte-head (k .identifier) (g .identifier))) (omega arith) (omega (arith, g .identifier)) in
     fine-chain (fine-chain name (fine-usage (k .usage) (g .usage)))
     (fine-item (bytes (k .value)) 17 (omega (arith, string-length (k .value) (omega (arith, g .value)), g .value)) (omega arith) (omega (arith, g .value)))
 
-fine-groups : (ks : List Key) → ((k : Key) → List·Memᴰ k ks → inLimits k ≡ true) → FineItems (groupsItems ks) (3 * length ks) (20 * length ks)
+fine-groups : (ks : List Key) → ((k : Key) → List·Memᴰ k ks → validKey k ≡ true) → FineItems (groupsItems ks) (3 * length ks) (20 * length ks)
 fine-groups [] h = record { few = omega arith; small = omega arith; level = omega arith; fit = tt }
 fine-groups (k ∷ ks) h =
     let f = fine-chain (fine-group k (h k (List·Memᴰ·head refl))) (fine-groups ks (λ l m. h l (List·Memᴰ·tail m))) in
@@ -195,9 +195,9 @@ fine-keys p h =
     let ks = keysOf (p .value) in
     let is = groupsItems ks in
     fine-if (p .report) (labelled 2 (array is)) 163 (λ e.
-    let ok = set-allowed (p .value) (simp e at h) .1 in
-    let f = fine-groups ks (allowed-in-limits ks ok) in
-    let g : FineItems is 24 160 = record { few = omega (arith, f .few, allowed-few ks ok); small = omega (arith, f .small, allowed-few ks ok); level = f .level; fit = f .fit } in
+    let ok = valid-set (p .value) (simp e at h) .1 in
+    let f = fine-groups ks (valid-each ks ok) in
+    let g : FineItems is 24 160 = record { few = omega (arith, f .few, valid-few ks ok); small = omega (arith, f .small, valid-few ks ok); level = f .level; fit = f .fit } in
     fine-array 2 is 24 160 2 (omega arith) (omega arith) (omega (arith, length-head 4 (count is), byte-head (count is) (omega (arith, g .few)))) g)
 
 -- ---- the objects, each limit by itself

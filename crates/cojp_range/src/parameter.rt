@@ -45,7 +45,7 @@ pub fn keys_in_range(p: KeysParameter) -> bool
 {
     let report = p.report;
     if is_taken(report) {
-        return p.value.allowed();
+        return p.value.valid();
     }
     true
 }

@@ -10,7 +10,7 @@ use lib.Dec.{leb, eqb}
 use lib.ListN.{length}
 use Rattle.refusal.specs.declared.Refusal.the-variants.{Range}
 use Rattle.link_key_usage.specs.Usage.{usageOf, familyOf, familyCovers, listed, knownType, entryAt, entrySays}
-use Rattle.link_key.specs.Key.{keyOf, inLimits, sameKey, sameValue, covers, coverageOf, coverageSays, foundKey}
+use Rattle.link_key.specs.Key.{keyOf, validKey, sameKey, sameValue, covers, coverageOf, coverageSays, foundKey}
 use Rattle.link_key.specs.declared.Key.{Key}
 use Rattle.link_key_usage.specs.declared.Coverage.the-variants.{Covered, Refused}
 use Rattle.link_key_usage.specs.declared.Entry.the-variants as entry
@@ -40,9 +40,9 @@ same-key-equal k l e =
     let v : k .value ≡ l .value = same-equal eqb eqb-true (k .value) (l .value) values in
     alike i u v
 
-pub limits-identifier : (k : Key) → inLimits k ≡ true → 1 ≤ k .identifier
-unfolding inLimits
-limits-identifier k e =
+pub valid-identifier : (k : Key) → validKey k ≡ true → 1 ≤ k .identifier
+unfolding validKey
+valid-identifier k e =
     leb-true 1 (k .identifier) (first (leb 1 (k .identifier)) (leb (k .identifier) 255) (listed (k .usage)) (eqb (length (k .value)) 16) e)
 
 known-type : (f : Family) (type : ℕ) → familyCovers f type ≡ true → type ≤ 1

@@ -28,8 +28,8 @@ foundKey none = record { found = false; key = noKey }
 foundKey (some k) = record { found = true; key = k }
 
 -- identifier 1 to 255, usage 0 to 14, value 16 bytes
-unfoldable pub inLimits : Key → Bool
-inLimits k = (leb 1 (k .identifier) && leb (k .identifier) 255 && listed (k .usage) && eqb (length (k .value)) 16)
+unfoldable pub validKey : Key → Bool
+validKey k = (leb 1 (k .identifier) && leb (k .identifier) 255 && listed (k .usage) && eqb (length (k .value)) 16)
 
 -- two keys are equal when identifier, usage and value are
 abbrev pub sameValue : List ℕ → List ℕ → Bool

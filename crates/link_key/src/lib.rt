@@ -4,7 +4,7 @@ use link_key_usage::Entry;
 use link_key_usage::entry_at;
 use refusal::Refusal;
 ghost use mathlib.Core.Path.{_≡_};
-ghost use Rattle.link_key.specs.Key.{keyOf, noKey, inLimits, sameKey, sameValue, covers, coverageOf};
+ghost use Rattle.link_key.specs.Key.{keyOf, noKey, validKey, sameKey, sameValue, covers, coverageOf};
 ghost use Rattle.link_key.specs.Laws.{SameKeyLaws};
 
 pub struct Key {
@@ -41,8 +41,8 @@ pub fn no_key() -> Key
 
 impl Key {
     // Whether identifier and usage are within document 01's limits; the value has 16 bytes by its type.
-    pub fn in_limits(self) -> bool
-        ensures { λ r. ⌜ r ≡ inLimits self ⌝ }
+    pub fn valid(self) -> bool
+        ensures { λ r. ⌜ r ≡ validKey self ⌝ }
     {
         if self.identifier == 0 {
             return false;

@@ -14,7 +14,7 @@ use lib.Pow.{pow-lt, pow-add, pow-pos, shl-shr, shl-exact}
 use lib.Seq.{getD-set-same, getD-set-other, getD-take, take-all, take-suc, split-at}
 use Rattle.logic_facts.specs.Tests.{both-left, both-right}
 use Rattle.link_key_usage.specs.Usage.{listed}
-use Rattle.link_key.specs.Key.{inLimits}
+use Rattle.link_key.specs.Key.{validKey}
 use Rattle.link_key.specs.declared.Key.{Key}
 use Rattle.link_key_set.specs.KeySet.{has, eachOnce}
 use Rattle.link_key_set.specs.Seen.{flagged, flag, joins, noted, Exactly, OneMore}
@@ -68,7 +68,8 @@ module _ (seen : List ℕ) (d i : ℕ) (room : d / 32 < length seen) where
   flag-set : flagged (flag seen d) i ≡ (flagged seen i || eqb d i)
   flag-set = go (eqb (i / 32) (d / 32)) refl (eqb (i % 32) (d % 32)) refl
     where
-      go : (p : Bool) → eqb (i / 32) (d / 32) ≡ p → (q : Bool) → eqb (i % 32) (d % 32) ≡ q → flagged (flag seen d) i ≡ (flagged seen i || eqb d i)
+      go : (p : Bool) → eqb (i / 32) (d / 32) ≡ p → (q : Bool) → eqb (i % 32) (d % 32) ≡ q
+          → flagged (flag seen d) i ≡ (flagged seen i || eqb d i)
       go false e q f =
           let apart = eqb-false (i / 32) (d / 32) e in
           rw (getD-set-other seen (d / 32) (i / 32) more 0 apart, ne-eqb d i (λ z. apart (ap (λ (n : ℕ). n / 32) (sym z))))
@@ -98,8 +99,8 @@ bit-clear zero h = refl
 bit-clear (suc zero) h = refl
 bit-clear (suc (suc x)) h = absurd (omega arith)
 
-byte-high : (k : Key) → inLimits k ≡ true → k .identifier ≤ 255
-unfolding inLimits
+byte-high : (k : Key) → validKey k ≡ true → k .identifier ≤ 255
+unfolding validKey
 byte-high k ok =
     let least = leb 1 (k .identifier) in
     let most = leb (k .identifier) 255 in
@@ -109,39 +110,40 @@ byte-high k ok =
 
 module _ (seen : List ℕ) (k : Key) where
   -- what the code asks and sets
-  pub asked : inLimits k ≡ true → eqb ((getD seen (k .identifier / 32) 0 / 2 ^ (k .identifier % 32)) % 2) 0 ≡ joins seen k
+  pub asked : validKey k ≡ true → eqb ((getD seen (k .identifier / 32) 0 / 2 ^ (k .identifier % 32)) % 2) 0 ≡ joins seen k
   unfolding joins
   asked ok = rw ok (bit-clear ((getD seen (k .identifier / 32) 0 / 2 ^ (k .identifier % 32)) % 2) (omega arith))
 
   pub set-in :
-      inLimits k ≡ true →
+      validKey k ≡ true →
       set seen (k .identifier / 32) (bitOr (getD seen (k .identifier / 32) 0) ((1 * 2 ^ (k .identifier % 32)) % 2 ^ 32)) ≡ noted seen k
   unfolding noted
   set-in ok = rw (ok, shl-exact {a = 1} 1 (k .identifier % 32) 32 (omega arith) (omega arith), one-mul (2 ^ (k .identifier % 32)))
 
-  pub outside-none : inLimits k ≡ false → (joins seen k ≡ false) × (noted seen k ≡ seen)
+  pub outside-none : validKey k ≡ false → (joins seen k ≡ false) × (noted seen k ≡ seen)
   unfolding joins noted
   outside-none out = (rw out, rw out)
 
   module _ (ks : List Key) (so-far : Exactly seen ks) where
-    own : inLimits k ≡ true → Exactly (flag seen (k .identifier)) (ks ++ (k ∷ []))
+    own : validKey k ≡ true → Exactly (flag seen (k .identifier)) (ks ++ (k ∷ []))
     own ok =
         let high = byte-high k ok in
         record {
           words = length-set seen (k .identifier / 32) _ ∙ so-far .words;
           flags = λ i.
-              flag-set seen (k .identifier) i (omega (arith, so-far .words)) ∙ rw (so-far .flags i, has-append i ks (k ∷ []), or-false (eqb (k .identifier) i));
+              flag-set seen (k .identifier) i (omega (arith, so-far .words))
+              ∙ rw (so-far .flags i, has-append i ks (k ∷ []), or-false (eqb (k .identifier) i));
         }
 
-    noted-exact : Exactly (noted seen k) (cond (inLimits k) (ks ++ (k ∷ [])) ks)
+    noted-exact : Exactly (noted seen k) (cond (validKey k) (ks ++ (k ∷ [])) ks)
     unfolding noted
-    noted-exact = go (inLimits k) refl
+    noted-exact = go (validKey k) refl
       where
-        go : (b : Bool) → inLimits k ≡ b → Exactly (noted seen k) (cond (inLimits k) (ks ++ (k ∷ [])) ks)
+        go : (b : Bool) → validKey k ≡ b → Exactly (noted seen k) (cond (validKey k) (ks ++ (k ∷ [])) ks)
         go true e = rw e (own e)
         go false e = rw e so-far
 
-    told-by : joins seen k ≡ (inLimits k && not (has (k .identifier) ks))
+    told-by : joins seen k ≡ (validKey k && not (has (k .identifier) ks))
     unfolding joins
     told-by = rw (so-far .flags (k .identifier))
 
@@ -152,10 +154,10 @@ module _ (seen : List ℕ) (k : Key) where
         record {
           exact = rw f noted-exact;
           told = told;
-          next = λ in-set. rw f (rw (both-left (inLimits k) new (sym told ∙ in-set)) at noted-exact);
+          next = λ in-set. rw f (rw (both-left (validKey k) new (sym told ∙ in-set)) at noted-exact);
           good = λ in-set ok.
               let both = sym told ∙ in-set in
-              once-more ks k ok (both-left (inLimits k) new both) (not-true (has (k .identifier) ks) (both-right (inLimits k) new both));
+              once-more ks k ok (both-left (validKey k) new both) (not-true (has (k .identifier) ks) (both-right (validKey k) new both));
           bad = λ out js. not-once ks k js (sym told ∙ out);
         }
 

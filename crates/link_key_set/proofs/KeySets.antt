@@ -8,9 +8,9 @@ use mathlib.Core.Option.{none, some}
 use borrow.Author.Tests.{leb-true, eqb-true, eqb-false, eq-eqb, ne-eqb, le-leb, lt-leb, not-true}
 use lib.Dec.{leb, eqb}
 use lib.ListN.{length, length-take}
-use Rattle.link_key.specs.Key.{inLimits, sameKey, covers}
-use Rattle.link_key_set.specs.KeySet.{keysOf, noKeys, named, has, allowed, allowedSet, allInLimits, noneTwice, eachOnce, sameKeys, shares, Apart}
-use Rattle.link_key_set.specs.KeySet.{Covers, firstCover, findKey}
+use Rattle.link_key.specs.Key.{validKey, sameKey, covers}
+use Rattle.link_key_set.specs.KeySet.{keysOf, noKeys, named, has, validKeys, validSet, allValid, noneTwice, eachOnce, sameKeys, shares}
+use Rattle.link_key_set.specs.KeySet.{Apart, Covers, firstCover, findKey}
 use Rattle.link_key.specs.declared.Key.{Key}
 use Rattle.link_key_set.specs.declared.key_set.KeySet.{KeySet}
 use Rattle.logic_facts.specs.Tests.{both-left, both-right, never}
@@ -75,8 +75,8 @@ none-twice-append (l ∷ ks) k =
 pub has-append : (identifier : ℕ) (xs ys : List Key) → has identifier (xs ++ ys) ≡ (has identifier xs || has identifier ys)
 has-append identifier xs ys = any-append (named identifier) xs ys
 
-pub limits-append : (xs ys : List Key) → allInLimits (xs ++ ys) ≡ (allInLimits xs && allInLimits ys)
-limits-append xs ys = all-append inLimits xs ys
+pub valid-append : (xs ys : List Key) → allValid (xs ++ ys) ≡ (allValid xs && allValid ys)
+valid-append xs ys = all-append validKey xs ys
 
 -- an identifier that came before comes twice, whatever follows
 twice-step :
@@ -93,16 +93,20 @@ some-twice : (ks : List Key) (k : Key) (js : List Key) → has (k .identifier) k
 some-twice [] k js h = never false h refl
 some-twice (l ∷ ks) k js h = twice-step l k ks js h (some-twice ks k js)
 
-pub once-more : (ks : List Key) (k : Key) → eachOnce ks ≡ true → inLimits k ≡ true → has (k .identifier) ks ≡ false → eachOnce (ks ++ (k ∷ [])) ≡ true
+pub once-more :
+    (ks : List Key) (k : Key) → eachOnce ks ≡ true → validKey k ≡ true → has (k .identifier) ks ≡ false → eachOnce (ks ++ (k ∷ [])) ≡ true
 once-more ks k e ok new =
-    rw (limits-append ks (k ∷ []), none-twice-append ks k, both-left (allInLimits ks) (noneTwice ks) e, both-right (allInLimits ks) (noneTwice ks) e, ok, new)
+    let all = both-left (allValid ks) (noneTwice ks) e in
+    let once = both-right (allValid ks) (noneTwice ks) e in
+    rw (valid-append ks (k ∷ []), none-twice-append ks k, all, once, ok, new)
 
-pub not-once : (ks : List Key) (k : Key) (js : List Key) → (inLimits k && not (has (k .identifier) ks)) ≡ false → eachOnce (ks ++ (k ∷ js)) ≡ false
-not-once ks k js e = go (inLimits k) refl (has (k .identifier) ks) refl
+pub not-once :
+    (ks : List Key) (k : Key) (js : List Key) → (validKey k && not (has (k .identifier) ks)) ≡ false → eachOnce (ks ++ (k ∷ js)) ≡ false
+not-once ks k js e = go (validKey k) refl (has (k .identifier) ks) refl
   where
-    go : (b : Bool) → inLimits k ≡ b → (c : Bool) → has (k .identifier) ks ≡ c → eachOnce (ks ++ (k ∷ js)) ≡ false
-    go false p c q = rw (limits-append ks (k ∷ js), p, and-false (allInLimits ks))
-    go true p true q = rw (some-twice ks k js q) (and-false (allInLimits (ks ++ (k ∷ js))))
+    go : (b : Bool) → validKey k ≡ b → (c : Bool) → has (k .identifier) ks ≡ c → eachOnce (ks ++ (k ∷ js)) ≡ false
+    go false p c q = rw (valid-append ks (k ∷ js), p, and-false (allValid ks))
+    go true p true q = rw (some-twice ks k js q) (and-false (allValid (ks ++ (k ∷ js))))
     go true p false q = never true refl (rw (p, q) at e)
 
 -- ---- searches
@@ -139,48 +143,48 @@ one-of-a-name ks k l e m n p =
     cc
 
 -- ---- limits
-module _ (ks : List Key) (ok : allowed ks ≡ true) where
-  pub allowed-none-twice : noneTwice ks ≡ true
-  unfolding allowed
-  allowed-none-twice = both-right (leb 1 (length ks) && leb (length ks) 8 && allInLimits ks) (noneTwice ks) ok
+module _ (ks : List Key) (ok : validKeys ks ≡ true) where
+  pub valid-none-twice : noneTwice ks ≡ true
+  unfolding validKeys
+  valid-none-twice = both-right (leb 1 (length ks) && leb (length ks) 8 && allValid ks) (noneTwice ks) ok
 
-  front : (leb 1 (length ks) && leb (length ks) 8 && allInLimits ks) ≡ true
-  unfolding allowed
-  front = both-left (leb 1 (length ks) && leb (length ks) 8 && allInLimits ks) (noneTwice ks) ok
+  front : (leb 1 (length ks) && leb (length ks) 8 && allValid ks) ≡ true
+  unfolding validKeys
+  front = both-left (leb 1 (length ks) && leb (length ks) 8 && allValid ks) (noneTwice ks) ok
 
-  pub allowed-in-limits : (k : Key) → List·Memᴰ k ks → inLimits k ≡ true
-  allowed-in-limits k m = all-each inLimits m (both-right (leb 1 (length ks) && leb (length ks) 8) (allInLimits ks) front)
+  pub valid-each : (k : Key) → List·Memᴰ k ks → validKey k ≡ true
+  valid-each k m = all-each validKey m (both-right (leb 1 (length ks) && leb (length ks) 8) (allValid ks) front)
 
   sizes : (leb 1 (length ks) && leb (length ks) 8) ≡ true
-  sizes = both-left (leb 1 (length ks) && leb (length ks) 8) (allInLimits ks) front
+  sizes = both-left (leb 1 (length ks) && leb (length ks) 8) (allValid ks) front
 
-  pub allowed-some : 1 ≤ length ks
-  allowed-some = leb-true 1 (length ks) (both-left (leb 1 (length ks)) (leb (length ks) 8) sizes)
+  pub valid-some : 1 ≤ length ks
+  valid-some = leb-true 1 (length ks) (both-left (leb 1 (length ks)) (leb (length ks) 8) sizes)
 
-  pub allowed-few : length ks ≤ 8
-  allowed-few = leb-true (length ks) 8 (both-right (leb 1 (length ks)) (leb (length ks) 8) sizes)
+  pub valid-few : length ks ≤ 8
+  valid-few = leb-true (length ks) 8 (both-right (leb 1 (length ks)) (leb (length ks) 8) sizes)
 
 pub keys-of-none : keysOf noKeys ≡ []
 keys-of-none = refl
 
-pub set-allowed : (set : KeySet) → allowedSet set ≡ true → (set .count ≤ 8) × (allowed (keysOf set) ≡ true)
-unfolding allowedSet
-set-allowed set e =
+pub valid-set : (set : KeySet) → validSet set ≡ true → (set .count ≤ 8) × (validKeys (keysOf set) ≡ true)
+unfolding validSet
+valid-set set e =
     let few = leb (set .count) 8 in
-    (leb-true (set .count) 8 (both-left few (allowed (keysOf set)) e), both-right few (allowed (keysOf set)) e)
+    (leb-true (set .count) 8 (both-left few (validKeys (keysOf set)) e), both-right few (validKeys (keysOf set)) e)
 
 -- a set is outside its limits, or they are those of its keys
-pub set-over : (set : KeySet) → 8 < set .count → allowedSet set ≡ false
-unfolding allowedSet
+pub set-over : (set : KeySet) → 8 < set .count → validSet set ≡ false
+unfolding validSet
 set-over set h = rw (lt-leb (set .count) 8 h)
 
-pub set-none : (set : KeySet) → set .count ≡ 0 → allowedSet set ≡ false
-unfolding allowedSet allowed
+pub set-none : (set : KeySet) → set .count ≡ 0 → validSet set ≡ false
+unfolding validSet validKeys
 set-none set e = rw e
 
 pub set-limits :
-    (set : KeySet) → length (set .keys) ≡ 8 → (set .count ≡ 0 → ⊥) → set .count ≤ 8 → allowedSet set ≡ eachOnce (keysOf set)
-unfolding allowedSet allowed
+    (set : KeySet) → length (set .keys) ≡ 8 → (set .count ≡ 0 → ⊥) → set .count ≤ 8 → validSet set ≡ eachOnce (keysOf set)
+unfolding validSet validKeys
 set-limits set places held few =
     let size = length-take (set .count) (set .keys) in
     rw (le-leb (set .count) 8 few, le-leb 1 (length (keysOf set)) (omega (arith, held)), le-leb (length (keysOf set)) 8 (omega arith))

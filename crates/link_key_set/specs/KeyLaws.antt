@@ -6,8 +6,8 @@ use mathlib.Core.List.{List, [], _∷_, _++_, List·Memᴰ}
 use mathlib.Core.Option.{Option, none, some}
 use lib.ListN.{length}
 use Rattle.link_key_usage.specs.Usage.{listed, knownType, usageOf, entryAt, entrySays}
-use Rattle.link_key.specs.Key.{inLimits, sameKey, covers, coverageOf, coverageSays, foundKey}
-use Rattle.link_key_set.specs.KeySet.{keysOf, noKeys, has, allowed, allowedSet, noneTwice, allInLimits, sameKeys, shares, Apart, Covers}
+use Rattle.link_key.specs.Key.{validKey, sameKey, covers, coverageOf, coverageSays, foundKey}
+use Rattle.link_key_set.specs.KeySet.{keysOf, noKeys, has, validKeys, validSet, noneTwice, allValid, sameKeys, shares, Apart, Covers}
 use Rattle.link_key_set.specs.KeySet.{firstCover, findKey}
 use Rattle.link_key.specs.declared.Key.{Key}
 use Rattle.link_key_set.specs.declared.key_set.KeySet.{KeySet}
@@ -36,7 +36,7 @@ pub record KeyLaws : Type 0 where
   pub shares-turned : (xs ys : List Key) → shares xs ys ≡ shares ys xs
   -- a list of keys, and more keys after it
   pub has-append : (identifier : ℕ) (xs ys : List Key) → has identifier (xs ++ ys) ≡ (has identifier xs || has identifier ys)
-  pub limits-append : (xs ys : List Key) → allInLimits (xs ++ ys) ≡ (allInLimits xs && allInLimits ys)
+  pub valid-append : (xs ys : List Key) → allValid (xs ++ ys) ≡ (allValid xs && allValid ys)
   pub none-twice-append : (ks : List Key) (k : Key) → noneTwice (ks ++ (k ∷ [])) ≡ (noneTwice ks && not (has (k .identifier) ks))
   -- searches
   pub found-some : (o : Option Key) → foundKey o .found ≡ true → o ≡ some (foundKey o .key)
@@ -51,11 +51,11 @@ pub record KeyLaws : Type 0 where
   pub find-none : (identifier : ℕ) (ks : List Key) → findKey identifier ks ≡ none → has identifier ks ≡ false
   pub none-find : (identifier : ℕ) (ks : List Key) → has identifier ks ≡ false → findKey identifier ks ≡ none
   -- limits
-  pub allowed-none-twice : (ks : List Key) → allowed ks ≡ true → noneTwice ks ≡ true
-  pub allowed-in-limits : (ks : List Key) → allowed ks ≡ true → (k : Key) → List·Memᴰ k ks → inLimits k ≡ true
-  pub allowed-some : (ks : List Key) → allowed ks ≡ true → 1 ≤ length ks
-  pub allowed-few : (ks : List Key) → allowed ks ≡ true → length ks ≤ 8
-  pub set-allowed : (set : KeySet) → allowedSet set ≡ true → (set .count ≤ 8) × (allowed (keysOf set) ≡ true)
-  pub limits-identifier : (k : Key) → inLimits k ≡ true → 1 ≤ k .identifier
+  pub valid-none-twice : (ks : List Key) → validKeys ks ≡ true → noneTwice ks ≡ true
+  pub valid-each : (ks : List Key) → validKeys ks ≡ true → (k : Key) → List·Memᴰ k ks → validKey k ≡ true
+  pub valid-some : (ks : List Key) → validKeys ks ≡ true → 1 ≤ length ks
+  pub valid-few : (ks : List Key) → validKeys ks ≡ true → length ks ≤ 8
+  pub valid-set : (set : KeySet) → validSet set ≡ true → (set .count ≤ 8) × (validKeys (keysOf set) ≡ true)
+  pub valid-identifier : (k : Key) → validKey k ≡ true → 1 ≤ k .identifier
   pub keys-of-none : keysOf noKeys ≡ []
   pub keys-of-count-0 : (set : KeySet) → set .count ≡ 0 → keysOf set ≡ []

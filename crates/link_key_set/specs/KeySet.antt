@@ -8,7 +8,7 @@ use lib.Dec.{leb, eqb}
 use lib.ListN.{length, take, replicate}
 use Rattle.link_key.specs.Same.{sameBy}
 use Rattle.link_key_set.specs.Lists.{anyOf, allOf, firstOf}
-use Rattle.link_key.specs.Key.{noKey, inLimits, sameKey, covers}
+use Rattle.link_key.specs.Key.{noKey, validKey, sameKey, covers}
 use Rattle.link_key.specs.declared.Key.{Key}
 use Rattle.link_key_set.specs.declared.key_set.KeySet.{KeySet}
 
@@ -36,20 +36,20 @@ abbrev pub noneTwice : List Key → Bool
 noneTwice [] = true
 noneTwice (k ∷ ks) = (not (has (k .identifier) ks) && noneTwice ks)
 
-abbrev pub allInLimits : List Key → Bool
-allInLimits ks = allOf inLimits ks
+abbrev pub allValid : List Key → Bool
+allValid ks = allOf validKey ks
 
 -- every key is in its limits, and no identifier comes twice
 abbrev pub eachOnce : List Key → Bool
-eachOnce ks = (allInLimits ks && noneTwice ks)
+eachOnce ks = (allValid ks && noneTwice ks)
 
 -- the limits of KEYS: 1 to 8 keys, each in its limits, no identifier twice
-unfoldable pub allowed : List Key → Bool
-allowed ks = (leb 1 (length ks) && leb (length ks) 8 && allInLimits ks && noneTwice ks)
+unfoldable pub validKeys : List Key → Bool
+validKeys ks = (leb 1 (length ks) && leb (length ks) 8 && allValid ks && noneTwice ks)
 
 -- the same of a set that is handed in: a count over 8, which its eight places cannot hold, is outside the limits too
-unfoldable pub allowedSet : KeySet → Bool
-allowedSet set = (leb (set .count) 8 && allowed (keysOf set))
+unfoldable pub validSet : KeySet → Bool
+validSet set = (leb (set .count) 8 && validKeys (keysOf set))
 
 -- the same keys in the same order
 abbrev pub sameKeys : List Key → List Key → Bool

@@ -7,7 +7,7 @@ use mathlib.Core.List.{List, [], _∷_, _++_}
 use lib.Bits.{bitOr}
 use lib.Dec.{eqb}
 use lib.ListN.{length, getD, set}
-use Rattle.link_key.specs.Key.{inLimits}
+use Rattle.link_key.specs.Key.{validKey}
 use Rattle.link_key.specs.declared.Key.{Key}
 use Rattle.link_key_set.specs.KeySet.{has, eachOnce}
 
@@ -21,11 +21,11 @@ flag seen identifier = set seen (identifier / 32) (bitOr (getD seen (identifier 
 
 -- a key joins the keys so far: it is in its limits, and its flag is not set
 unfoldable pub joins : List ℕ → Key → Bool
-joins seen k = (inLimits k && not (flagged seen (k .identifier)))
+joins seen k = (validKey k && not (flagged seen (k .identifier)))
 
 -- the flags after a key: one outside its limits sets none
 unfoldable pub noted : List ℕ → Key → List ℕ
-noted seen k = cond (inLimits k) (flag seen (k .identifier)) seen
+noted seen k = cond (validKey k) (flag seen (k .identifier)) seen
 
 -- exactly the flags of these keys are set
 pub record Exactly (seen : List ℕ) (ks : List Key) : Type 0 where
@@ -35,9 +35,9 @@ pub record Exactly (seen : List ℕ) (ks : List Key) : Type 0 where
 -- one key more, the flags having been exactly those of the keys so far
 pub record OneMore (ks : List Key) (k : Key) (joined : Bool) (after : List ℕ) : Type 0 where
   -- a key in its limits is one of the keys so far from now on
-  pub exact : Exactly after (cond (inLimits k) (ks ++ (k ∷ [])) ks)
+  pub exact : Exactly after (cond (validKey k) (ks ++ (k ∷ [])) ks)
   -- it joins them if no key so far has its identifier
-  pub told : joined ≡ (inLimits k && not (has (k .identifier) ks))
+  pub told : joined ≡ (validKey k && not (has (k .identifier) ks))
   pub next : joined ≡ true → Exactly after (ks ++ (k ∷ []))
   -- then they are as a set's keys must be, if they were before; if not, no keys after it can make them so
   pub good : joined ≡ true → eachOnce ks ≡ true → eachOnce (ks ++ (k ∷ [])) ≡ true

@@ -11,7 +11,8 @@ ghost use lib.Dec.{eqb};
 ghost use mathlib.Core.List.{map};
 ghost use lib.ListN.{length, take, drop};
 ghost use Rattle.link_key_set.specs.Lists.{anyOf};
-ghost use Rattle.link_key_set.specs.KeySet.{keysOf, identifierOf, noKeys, has, eachOnce, allowedSet, sameKeys, shares, findKey, firstCover};
+ghost use Rattle.link_key_set.specs.KeySet.{keysOf, identifierOf, noKeys, has, eachOnce, validSet};
+ghost use Rattle.link_key_set.specs.KeySet.{sameKeys, shares, findKey, firstCover};
 ghost use Rattle.link_key.specs.Key.{foundKey};
 
 pub struct KeySet {
@@ -86,17 +87,17 @@ impl KeySet {
     }
 
     // Whether the set is within document 01's limits (KEYS): 1 to 8 keys, each in its limits, no identifier twice.
-    pub fn allowed(self) -> bool
-        ensures { λ r. ⌜ r ≡ allowedSet self ⌝ }
+    pub fn valid(self) -> bool
+        ensures { λ r. ⌜ r ≡ validSet self ⌝ }
     {
         if self.count == 0 || 8 < self.count {
             return false;
         }
-        self.keys_allowed()
+        self.keys_valid()
     }
 
     // Whether every key is in its limits, and no identifier comes twice: each key is looked at once.
-    fn keys_allowed(self) -> bool
+    fn keys_valid(self) -> bool
         ensures { λ r. ⌜ r ≡ eachOnce (keysOf self) ⌝ }
     {
         let n = self.len();

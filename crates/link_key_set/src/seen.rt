@@ -17,7 +17,7 @@ pub fn join(seen: &mut [u32; 8], key: Key) -> bool
     ensures after { λ r. ⌜ now (seen .exit) ≡ noted (now (seen .entry)) key ⌝ }
     ensures so_far { λ r. ⌜ WithOneMore (now (seen .entry)) key r (now (seen .exit)) ⌝ }
 {
-    if key.in_limits() {
+    if key.valid() {
         let place = (key.identifier / 32) as usize;
         let bit = (key.identifier % 32) as u32;
         let word = seen[place];

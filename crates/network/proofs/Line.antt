@@ -7,8 +7,8 @@ use mathlib.Core.List.{_++_, List·Memᴰ·not-nil, List·Memᴰ·append-cases}
 use mathlib.Core.Logic.{inl, inr, ⊎-elim}
 use lib.Dec.{lit<}
 use Rattle.refusal.specs.declared.Refusal.the-variants as refusal
-use Rattle.link_key.specs.Key.{inLimits, sameKey, covers}
-use Rattle.link_key_set.specs.KeySet.{allowed, allowedSet, Apart}
+use Rattle.link_key.specs.Key.{validKey, sameKey, covers}
+use Rattle.link_key_set.specs.KeySet.{validKeys, validSet, Apart}
 use Rattle.link_key.specs.declared.Key.{Key}
 use Rattle.cbor.specs.Decode.{payloadBy, decodeBy, heading, argument, next, digits, members, pairs, majorOf}
 use Rattle.cbor.specs.Encode.{bytesOf, infoOf, extraOf, shortest}
@@ -47,7 +47,7 @@ use Rattle.network.specs.Witness.{oldKeys, newKeys, line, lineLinks, fir
 -- what computing unfolds: items, keys, objects, the node's calls, and the network's events
 computing : Unit {0}
 unfolding payloadBy decodeBy heading argument next digits members pairs majorOf bytesOf infoOf extraOf shortest
-    inLimits sameKey covers allowed allowedSet
+    validKey sameKey covers validKeys validSet
     padded octetsJudged addressIn groups owing payloadReadBy configurationStanding configurationTaking requestInRange requestPlan
     sets.valid install sendingKey receivingKey verifiedIn attempt.valid mayStart stepped polling.poll
     valid requestOf startVerdict startPlan start poll reportsOf configured apply mayCome deliverVerdict deliver send afterSend receive verified perform

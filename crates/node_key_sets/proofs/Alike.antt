@@ -2,7 +2,7 @@
 use mathlib.Core.Path.{_≡_, refl, ap}
 use mathlib.Core.Bool.{Bool, true, false}
 use mathlib.Core.List.{List}
-use Rattle.link_key_set.specs.KeySet.{keysOf, allowedSet, sameKeys, shares}
+use Rattle.link_key_set.specs.KeySet.{keysOf, validSet, sameKeys, shares}
 use Rattle.link_key.specs.declared.Key.{Key}
 use Rattle.link_key_set.specs.declared.key_set.KeySet.{KeySet}
 use Rattle.node_key_sets.specs.Sets.{activeIn, pendingIn, install}
@@ -25,11 +25,11 @@ place-alike s a b true false false true e = (refl, refl, refl)
 place-alike s a b true false false false e = (refl, refl, e)
 
 pub install-alike :
-    (border : Bool) (s : KeySets) (a b : KeySet) → allowedSet a ≡ allowedSet b → keysOf a ≡ keysOf b →
+    (border : Bool) (s : KeySets) (a b : KeySet) → validSet a ≡ validSet b → keysOf a ≡ keysOf b →
     (install border s a .verdict ≡ install border s b .verdict)
     × (activeIn (install border s a .sets) ≡ activeIn (install border s b .sets))
     × (pendingIn (install border s a .sets) ≡ pendingIn (install border s b .sets))
 unfolding install
 install-alike border s a b ok e =
     rw (ok, ap (λ (ks : List Key). sameKeys ks (activeIn s)) e, ap (λ (ks : List Key). shares ks (activeIn s)) e)
-    (place-alike s a b (allowedSet b) border (sameKeys (keysOf b) (activeIn s)) (shares (keysOf b) (activeIn s)) e)
+    (place-alike s a b (validSet b) border (sameKeys (keysOf b) (activeIn s)) (shares (keysOf b) (activeIn s)) e)

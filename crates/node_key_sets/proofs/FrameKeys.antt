@@ -13,7 +13,7 @@ use Rattle.refusal.specs.Verdict.{refused-not}
 use Rattle.refusal.specs.declared.Refusal.the-variants as refusal
 use Rattle.refusal.specs.declared.Verdict.{Verdict}
 use Rattle.refusal.specs.declared.Verdict.the-variants as verdict
-use Rattle.link_key.specs.Key.{inLimits, covers}
+use Rattle.link_key.specs.Key.{validKey, covers}
 use Rattle.link_key_set.specs.KeySet.{has, Covers, firstCover, findKey}
 use Rattle.link_key_usage.specs.Usage.{knownType, listed}
 use Rattle.link_key.specs.declared.Key.{Key}
@@ -24,7 +24,7 @@ use Rattle.node_key_sets.specs.declared.frames.Change.the-variants as ch
 use Rattle.node_key_sets.specs.declared.frames.KeyAnswer.{KeyAnswer}
 use Rattle.node_key_sets.specs.declared.sets.KeySets.{KeySets}
 use Rattle.logic_facts.specs.Tests.{first}
-use Rattle.node_key_sets.proofs.Valid.{pending-valid, member-allowed}
+use Rattle.node_key_sets.proofs.Valid.{pending-valid, member-valid}
 
 -- no key of the list has the identifier
 abbrev pub Without : ℕ → List Key → Type 0
@@ -70,22 +70,22 @@ module _ (K : KeyLaws) where
   -- ---- receiving
   module _ (border : Bool) (s : KeySets) (type : ℕ) (k : Key) (ok : valid border s ≡ true) (covering : covers k type ≡ true)
       (absent : Without (k .identifier) (activeIn s)) (member : List·Memᴰ k (pendingIn s)) where
-    limits : inLimits k ≡ true
-    limits = K .allowed-in-limits (pendingIn s) (member-allowed K (s .pending) k (pending-valid border s ok) member) k member
+    limits : validKey k ≡ true
+    limits = K .valid-each (pendingIn s) (member-valid K (s .pending) k (pending-valid border s ok) member) k member
 
     not-zero : eqb (k .identifier) 0 ≡ false
-    not-zero = let least = K .limits-identifier k limits in ne-eqb (k .identifier) 0 (omega arith)
+    not-zero = let least = K .valid-identifier k limits in ne-eqb (k .identifier) 0 (omega arith)
 
     pub receive-pending : receivingKey s type (k .identifier) ≡ withKey k
     unfolding receivingKey
     receive-pending =
         let known : knownType type ≡ true = le-leb type 1 (K .covers-known-type k type covering) in
-        let allowed = member-allowed K (s .pending) k (pending-valid border s ok) member in
+        let valid-keys = member-valid K (s .pending) k (pending-valid border s ok) member in
         rw (
           known,
           not-zero,
           K .none-find (k .identifier) (activeIn s) (K .none-has (k .identifier) (activeIn s) absent),
-          K .find-own (pendingIn s) k member (K .allowed-none-twice (pendingIn s) allowed),
+          K .find-own (pendingIn s) k member (K .valid-none-twice (pendingIn s) valid-keys),
           covering,
         )
 

@@ -11,7 +11,7 @@ use Rattle.refusal.specs.declared.Refusal.the-variants as refusal
 use Rattle.refusal.specs.declared.Verdict.{Verdict}
 use Rattle.refusal.specs.declared.Verdict.the-variants as verdict
 use Rattle.link_key.specs.Key.{noKey, covers}
-use Rattle.link_key_set.specs.KeySet.{keysOf, has, allowedSet, sameKeys, shares, firstCover}
+use Rattle.link_key_set.specs.KeySet.{keysOf, has, validSet, sameKeys, shares, firstCover}
 use Rattle.link_key_set.specs.declared.key_set.KeySet.{KeySet}
 use Rattle.link_key_usage.specs.Usage.{knownType}
 use Rattle.link_key.specs.declared.Key.{Key}
@@ -68,7 +68,7 @@ pub install-untouched :
     (border : Bool) (s : KeySets) (set : KeySet) (k : Refusal) → install border s set .verdict ≡ verdict.Refused k → install border s set .sets ≡ s
 unfolding install
 install-untouched border s set k e =
-    install-untouched-by s set (allowedSet set) border (sameKeys (keysOf set) (activeIn s)) (shares (keysOf set) (activeIn s)) k e
+    install-untouched-by s set (validSet set) border (sameKeys (keysOf set) (activeIn s)) (shares (keysOf set) (activeIn s)) k e
 
 -- ---- the verified report
 report-untouched :

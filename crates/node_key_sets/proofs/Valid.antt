@@ -6,7 +6,7 @@ use borrow.Author.Tests.{eqb-true, not-true}
 use Rattle.refusal.specs.Verdict.{refused-not}
 use Rattle.refusal.specs.declared.Refusal.the-variants as refusal
 use Rattle.refusal.specs.declared.Verdict.the-variants as verdict
-use Rattle.link_key_set.specs.KeySet.{keysOf, noKeys, allowed, allowedSet, sameKeys, shares}
+use Rattle.link_key_set.specs.KeySet.{keysOf, noKeys, validKeys, validSet, sameKeys, shares}
 use Rattle.link_key.specs.declared.Key.{Key}
 use Rattle.link_key_set.specs.declared.key_set.KeySet.{KeySet}
 use Rattle.link_key_set.specs.KeyLaws.{KeyLaws}
@@ -54,7 +54,7 @@ placeBy s set ok border equals shared = cond ok (place s set border equals share
 pub border-installs :
     (s : KeySets) (set : KeySet) → install true s set .verdict ≡ verdict.Accepted → install true s set .sets ≡ twoSets set noKeys
 unfolding install
-border-installs s set = go (allowedSet set)
+border-installs s set = go (validSet set)
   where
     go : (ok : Bool) → placeBy s set ok true false false .verdict ≡ verdict.Accepted → placeBy s set ok true false false .sets ≡ twoSets set noKeys
     go true e = refl
@@ -79,19 +79,19 @@ module _ (K : KeyLaws) where
   switched-valid border s e = alone-valid border (s .pending) (pending-valid border s e)
 
   -- a set with a key in it is within the limits
-  pub member-allowed : (set : KeySet) (k : Key) → noneOrValid set ≡ true → List·Memᴰ k (keysOf set) → allowed (keysOf set) ≡ true
-  member-allowed set k e m = go (isNone set) refl
+  pub member-valid : (set : KeySet) (k : Key) → noneOrValid set ≡ true → List·Memᴰ k (keysOf set) → validKeys (keysOf set) ≡ true
+  member-valid set k e m = go (isNone set) refl
     where
-      go : (b : Bool) → isNone set ≡ b → allowed (keysOf set) ≡ true
+      go : (b : Bool) → isNone set ≡ b → validKeys (keysOf set) ≡ true
       go true p = absurd (List·Memᴰ·not-nil (rw (none-empty set p) at m))
-      go false p = let q : allowedSet set ≡ true = rw p at e in K .set-allowed set q .1
+      go false p = let q : validSet set ≡ true = rw p at e in K .valid-set set q .1
 
   module _ (s : KeySets) (set : KeySet) where
-    set-valid : allowedSet set ≡ true → noneOrValid set ≡ true
+    set-valid : validSet set ≡ true → noneOrValid set ≡ true
     set-valid ok = rw (ok, or-true (isNone set))
 
     place-valid :
-        (ok border same shared : Bool) → valid border s ≡ true → allowedSet set ≡ ok → shares (keysOf set) (activeIn s) ≡ shared →
+        (ok border same shared : Bool) → valid border s ≡ true → validSet set ≡ ok → shares (keysOf set) (activeIn s) ≡ shared →
         valid border (placeBy s set ok border same shared .sets) ≡ true
     place-valid false border same shared e ok h = e
     place-valid true true same shared e ok h = alone-valid true set (set-valid ok)
@@ -104,4 +104,4 @@ module _ (K : KeyLaws) where
       (border : Bool) (s : KeySets) (set : KeySet) → valid border s ≡ true → valid border (install border s set .sets) ≡ true
   unfolding install
   install-valid border s set e =
-      place-valid s set (allowedSet set) border (sameKeys (keysOf set) (activeIn s)) (shares (keysOf set) (activeIn s)) e refl refl
+      place-valid s set (validSet set) border (sameKeys (keysOf set) (activeIn s)) (shares (keysOf set) (activeIn s)) e refl refl

@@ -9,7 +9,7 @@ use Rattle.refusal.specs.declared.Refusal.{Refusal}
 use Rattle.refusal.specs.declared.Verdict.the-variants.{Refused}
 use Rattle.link_key_usage.specs.Usage.{knownType}
 use Rattle.link_key.specs.Key.{noKey}
-use Rattle.link_key_set.specs.KeySet.{allowedSet}
+use Rattle.link_key_set.specs.KeySet.{validSet}
 use Rattle.link_key_set.specs.declared.key_set.KeySet.{KeySet}
 use Rattle.node_key_sets.specs.Sets.{install}
 use Rattle.node_key_sets.specs.Frames.{sendingKey, receivingKey, verifiedIn, changeVerdict, changeNumber}
@@ -20,7 +20,7 @@ pub record KeySetsDemand1 : Type 0 where
       (border : Bool) (s : KeySets) (set : KeySet) (k : Refusal) → install border s set .verdict ≡ Refused k →
       install border s set .sets ≡ s
   pub install-invalid :
-      (border : Bool) (s : KeySets) (set : KeySet) → allowedSet set ≡ false → verdictNumber (install border s set .verdict) ≡ 13
+      (border : Bool) (s : KeySets) (set : KeySet) → validSet set ≡ false → verdictNumber (install border s set .verdict) ≡ 13
   pub send-refused : (s : KeySets) (type : ℕ) (k : Refusal) → sendingKey s type .verdict ≡ Refused k → sendingKey s type .key ≡ noKey
   pub send-unknown : (s : KeySets) (type : ℕ) → knownType type ≡ false → verdictNumber (sendingKey s type .verdict) ≡ 13
   pub receive-refused :

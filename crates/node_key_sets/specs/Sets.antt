@@ -5,7 +5,7 @@ use lib.Dec.{eqb}
 use Rattle.refusal.specs.declared.Refusal.{Refusal}
 use Rattle.refusal.specs.declared.Refusal.the-variants as refusal
 use Rattle.refusal.specs.declared.Verdict.the-variants as verdict
-use Rattle.link_key_set.specs.KeySet.{keysOf, noKeys, allowedSet, sameKeys, shares}
+use Rattle.link_key_set.specs.KeySet.{keysOf, noKeys, validSet, sameKeys, shares}
 use Rattle.link_key.specs.declared.Key.{Key}
 use Rattle.link_key_set.specs.declared.key_set.KeySet.{KeySet}
 use Rattle.node_key_sets.specs.declared.sets.KeySets.{KeySets}
@@ -30,7 +30,7 @@ abbrev pub isNone : KeySet → Bool
 isNone set = eqb (set .count) 0
 
 abbrev pub noneOrValid : KeySet → Bool
-noneOrValid set = (isNone set || allowedSet set)
+noneOrValid set = (isNone set || validSet set)
 
 -- both are in range, they share no identifier, and a border node has no pending one
 unfoldable pub valid : Bool → KeySets → Bool
@@ -58,6 +58,6 @@ place s set border equals shared =
 -- RANGE: the new set; CLASH
 unfoldable pub install : Bool → KeySets → KeySet → Placement
 install border s set =
-    cond (allowedSet set)
+    cond (validSet set)
     (place s set border (sameKeys (keysOf set) (activeIn s)) (shares (keysOf set) (activeIn s)))
     (unplaced refusal.Range s)

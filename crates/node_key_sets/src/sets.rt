@@ -32,7 +32,7 @@ pub fn no_sets() -> KeySets
 fn none_or_valid(set: KeySet) -> bool
     ensures { λ r. ⌜ r ≡ noneOrValid set ⌝ }
 {
-    set.count == 0 || set.allowed()
+    set.count == 0 || set.valid()
 }
 
 // The two sets after a new one that is not refused.
@@ -70,7 +70,7 @@ impl KeySets {
     pub fn install(self, border: bool, set: KeySet) -> Placement
         ensures { λ r. ⌜ r ≡ install border self set ⌝ }
     {
-        if !set.allowed() {
+        if !set.valid() {
             return self.unplaced(Refusal::Range);
         }
         if border {

@@ -8,7 +8,7 @@ use mathlib.Core.Option.{Option, none, some}
 use Rattle.refusal.specs.declared.Refusal.the-variants as refusal
 use Rattle.refusal.specs.declared.Verdict.{Verdict}
 use Rattle.refusal.specs.declared.Verdict.the-variants as verdict
-use Rattle.link_key_set.specs.KeySet.{keysOf, allowedSet}
+use Rattle.link_key_set.specs.KeySet.{keysOf, validSet}
 use Rattle.link_key_set.specs.declared.key_set.KeySet.{KeySet}
 use Rattle.node_key_sets.specs.Sets.{activeIn, pendingIn, placed, install}
 use Rattle.node_key_sets.specs.declared.sets.Placement.{Placement}
@@ -56,7 +56,7 @@ record SamePlace (p q : Placement) : Type 0 where
   pending : pendingIn (p .sets) ≡ pendingIn (q .sets)
 
 install-same :
-    (n : Node) (u v : KeySet) → allowedSet u ≡ true → allowedSet v ≡ true → keysOf u ≡ keysOf v →
+    (n : Node) (u v : KeySet) → validSet u ≡ true → validSet v ≡ true → keysOf u ≡ keysOf v →
     SamePlace (install (isBorder n) (n .sets) u) (install (isBorder n) (n .sets) v)
 install-same n u v p q e =
     let a = install-alike (isBorder n) (n .sets) u v (p ∙ sym q) e in record { verdict = a .0; active = a .1; pending = a .2 }

@@ -18,7 +18,7 @@ use Rattle.logic_facts.specs.Tests.{never}
 use Rattle.link_key_usage.specs.Usage.{knownType}
 use Rattle.link_key.specs.Key.{covers}
 use Rattle.link_key.specs.declared.Key.{Key}
-use Rattle.link_key_set.specs.KeySet.{keysOf, allowedSet, sameKeys, shares, has, firstCover}
+use Rattle.link_key_set.specs.KeySet.{keysOf, validSet, sameKeys, shares, has, firstCover}
 use Rattle.link_key_set.specs.declared.key_set.KeySet.{KeySet}
 use Rattle.cbor.specs.Answer.{Plan, refuse, answer}
 use Rattle.cbor.specs.declared.write.Written.{Written}
@@ -286,7 +286,7 @@ place-by s set false false true = refl
 place-by s set false false false = refl
 
 placed-number :
-    (n : Node) (r : Report) (set : KeySet) → ifTaken r (allowedSet set) true ≡ true →
+    (n : Node) (r : Report) (set : KeySet) → ifTaken r (validSet set) true ≡ true →
     verdictNumber (ifTaken r (install (isBorder n) (n .sets) set) (placed (n .sets)) .verdict)
     ≡ refusedIf
     (ifTaken r (not (isBorder n) && not (sameKeys (keysOf set) (activeOf n)) && shares (keysOf set) (activeOf n)) false) 10

@@ -7,7 +7,7 @@ use native.Mathlib.Omega.{arith}
 use Rattle.refusal.specs.declared.Refusal.the-variants as refusal
 use Rattle.refusal.specs.declared.Verdict.{Verdict}
 use Rattle.refusal.specs.declared.Verdict.the-variants.{Accepted, Refused}
-use Rattle.link_key_set.specs.KeySet.{keysOf, noKeys, allowedSet, sameKeys, shares}
+use Rattle.link_key_set.specs.KeySet.{keysOf, noKeys, validSet, sameKeys, shares}
 use Rattle.link_key_set.specs.declared.key_set.KeySet.{KeySet}
 use Rattle.cojp.specs.Reading.{ifTaken}
 use Rattle.cojp.specs.declared.address.AddressParameter.{AddressParameter}
@@ -63,9 +63,9 @@ jrc-as-one f s old r e = octets-as-one true f s old r e
 
 -- ---- the key set
 -- an accepted set leaves an ordinary node's active set
-ordinary-stays : (sets : KeySets) (set : KeySet) (allowed same shared : Bool)
-    → cond allowed (cond same (placed (twoSets (sets .active) noKeys)) (cond shared (unplaced refusal.Clash sets) (placed (twoSets (sets .active) set)))) (unplaced refusal.Range sets) .verdict ≡ Accepted
-    → cond allowed (cond same (placed (twoSets (sets .active) noKeys)) (cond shared (unplaced refusal.Clash sets) (placed (twoSets (sets .active) set)))) (unplaced refusal.Range sets) .sets .active ≡ sets .active
+ordinary-stays : (sets : KeySets) (set : KeySet) (valid same shared : Bool)
+    → cond valid (cond same (placed (twoSets (sets .active) noKeys)) (cond shared (unplaced refusal.Clash sets) (placed (twoSets (sets .active) set)))) (unplaced refusal.Range sets) .verdict ≡ Accepted
+    → cond valid (cond same (placed (twoSets (sets .active) noKeys)) (cond shared (unplaced refusal.Clash sets) (placed (twoSets (sets .active) set)))) (unplaced refusal.Range sets) .sets .active ≡ sets .active
 ordinary-stays sets set false same shared e = absurd (let z : _≡_ {A = ℕ} 0 1 = cc in omega arith)
 ordinary-stays sets set true true shared e = refl
 ordinary-stays sets set true false true e = absurd (let z : _≡_ {A = ℕ} 0 1 = cc in omega arith)
@@ -74,13 +74,13 @@ ordinary-stays sets set true false false e = refl
 active-stays : (sets : KeySets) (set : KeySet) → install false sets set .verdict ≡ Accepted → install false sets set .sets .active ≡ sets .active
 unfolding install
 active-stays sets set e =
-    ordinary-stays sets set (allowedSet set) (sameKeys (keysOf set) (activeIn sets)) (shares (keysOf set) (activeIn sets)) e
+    ordinary-stays sets set (validSet set) (sameKeys (keysOf set) (activeIn sets)) (shares (keysOf set) (activeIn sets)) e
 
 -- two pairs of sets with the same active one take an accepted set alike
-alike-by : (a b : KeySets) (set : KeySet) (allowed same shared : Bool) → b .active ≡ a .active
-    → cond allowed (cond same (placed (twoSets (b .active) noKeys)) (cond shared (unplaced refusal.Clash b) (placed (twoSets (b .active) set)))) (unplaced refusal.Range b) .verdict ≡ Accepted
-    → cond allowed (cond same (placed (twoSets (a .active) noKeys)) (cond shared (unplaced refusal.Clash a) (placed (twoSets (a .active) set)))) (unplaced refusal.Range a)
-    ≡ cond allowed (cond same (placed (twoSets (b .active) noKeys)) (cond shared (unplaced refusal.Clash b) (placed (twoSets (b .active) set)))) (unplaced refusal.Range b)
+alike-by : (a b : KeySets) (set : KeySet) (valid same shared : Bool) → b .active ≡ a .active
+    → cond valid (cond same (placed (twoSets (b .active) noKeys)) (cond shared (unplaced refusal.Clash b) (placed (twoSets (b .active) set)))) (unplaced refusal.Range b) .verdict ≡ Accepted
+    → cond valid (cond same (placed (twoSets (a .active) noKeys)) (cond shared (unplaced refusal.Clash a) (placed (twoSets (a .active) set)))) (unplaced refusal.Range a)
+    ≡ cond valid (cond same (placed (twoSets (b .active) noKeys)) (cond shared (unplaced refusal.Clash b) (placed (twoSets (b .active) set)))) (unplaced refusal.Range b)
 alike-by a b set false same shared h e = absurd (let z : _≡_ {A = ℕ} 0 1 = cc in omega arith)
 alike-by a b set true true shared h e = rw h
 alike-by a b set true false true h e = absurd (let z : _≡_ {A = ℕ} 0 1 = cc in omega arith)
@@ -89,12 +89,12 @@ alike-by a b set true false false h e = rw h
 install-alike : (a b : KeySets) (set : KeySet) → b .active ≡ a .active → install false b set .verdict ≡ Accepted → install false a set ≡ install false b set
 unfolding install
 install-alike a b set h e =
-    let t = alike-by a b set (allowedSet set) (sameKeys (keysOf set) (activeIn a)) (shares (keysOf set) (activeIn a)) h
+    let t = alike-by a b set (validSet set) (sameKeys (keysOf set) (activeIn a)) (shares (keysOf set) (activeIn a)) h
     in t (rw (ap keysOf h) at e) ∙ rw (ap keysOf h)
 
 border-alike : (a b : KeySets) (set : KeySet) → install true b set .verdict ≡ Accepted → install true a set ≡ install true b set
 unfolding install
-border-alike a b set e = go (allowedSet set) e
+border-alike a b set e = go (validSet set) e
   where
     go : (t : Bool) → cond t (placed (twoSets set noKeys)) (unplaced refusal.Range b) .verdict ≡ Accepted
         → cond t (placed (twoSets set noKeys)) (unplaced refusal.Range a) ≡ cond t (placed (twoSets set noKeys)) (unplaced refusal.Range b)

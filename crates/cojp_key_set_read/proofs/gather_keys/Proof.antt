@@ -1,22 +1,23 @@
 -- The keys so far stand before the groups that are left, and the set holds them or is overfull.
-use Prim.Native.Nat.{_≤_, _-_}
+use Prim.Native.Nat.{_≤_}
 use native.Mathlib.Omega.{arith}
 use mathlib.Core.Path.{refl}
 use mathlib.Core.Logic.{⊎-elim}
 use lib.Dec.{ltb}
-use lib.ListN.{length, take, drop}
 use borrow.Author.Tests.{ltb-true}
 use Rattle.logic_facts.specs.Tests.{both-left, both-right, is-true, is-false}
 use Rattle.link_key_set.specs.declared.key_set.KeySet.{KeySet}
 use Rattle.cojp_key_set_read.specs.Groups.{storable}
 use Rattle.cojp.proofs.Nexts.{keys-settled, accepting-on}
-use Rattle.cojp_key_set_read.proofs.KeySets.{Gathering, gathering-none, gathering-done, gathering-end, gathering-broken, group-within, group-inside, gathering-stored, gathering-nine}
+use Rattle.cojp_key_set_read.proofs.KeySets.{Gathering, gathering-none, gathering-done, gathering-end, gathering-broken}
+use Rattle.cojp_key_set_read.proofs.KeySets.{group-within, group-inside, gathering-stored, gathering-nine}
 use borrow.Author.Needs.{needs}
 use Rattle.cojp_key_set_read.proofs.gather_keys.Statement.{statement}
 use Rattle.cojp_key_set_read.proofs.gather_keys.Tie as tie
 
 abbrev Inv-loop : tie.InvT-loop
-Inv-loop s from count at₀ remaining₀ n₀ keys₀ seen₀ at remaining n keys seen = Gathering s from count at remaining (record { count = n; keys = keys }) seen
+Inv-loop s from count at₀ remaining₀ n₀ keys₀ seen₀ at remaining n keys seen =
+    Gathering s from count at remaining (record { count = n; keys = keys }) seen
 
 abbrev μ-loop : tie.MeasureT-loop
 μ-loop s from count at₀ remaining₀ n₀ keys₀ seen₀ at remaining n keys seen = remaining
@@ -31,7 +32,8 @@ loop-holds : tie.Need-loop-holds Inv-loop μ-loop
 loop-holds c =
     let start = c .before .before .before in
     let a = start .args in
-    gathering-none (a .s .now) (a .from) (a .count) _ (c .none-seen .result) (start .pre) (rw (c .before .no-key .ensures)) (c .none-seen .ensures)
+    gathering-none (a .s .now) (a .from) (a .count) _ (c .none-seen .result) (start .pre) (rw (c .before .no-key .ensures))
+    (c .none-seen .ensures)
 
 sub-part : tie.Need-sub-part Inv-loop μ-loop
 sub-part c = omega (arith, c .before .loop .inv .inside)
@@ -59,7 +61,9 @@ returns c =
     let l = turn .loop in
     let k : KeySet = record { count = l .n; keys = l .keys } in
     let r = c .before .before .before .read-group in
-    let broken = gathering-broken (a .s .now) (a .from) (a .count) (l .at) (l .remaining) k (l .seen) (l .inv) (r .result) (r .ensures .0) (c .before .enum-told .given .1) _ refl in
+    let broken =
+    gathering-broken (a .s .now) (a .from) (a .count) (l .at) (l .remaining) k (l .seen) (l .inv) (r .result) (r .ensures .0)
+    (c .before .enum-told .given .1) _ refl in
     (keys-settled (c .refused-keys .result) _ _ (c .refused-keys .ensures) _ broken, rw (c .refused-keys .ensures) tt)
 
 enum-known-g : tie.Need-enum-known-g Inv-loop μ-loop
@@ -79,7 +83,8 @@ group-key-requires c κs =
     let g = c .before .before .before .g .given in
     let fit = is-true (c .before .is-storable .ensures) (c .if1 .taken) in (
       both-right (ltb (l .n) 8) (storable (g .0 .0) (g .0 .1 .0) (g .0 .1 .1 .1 .0)) fit,
-      group-within (a .s .now) (a .from) (a .count) (l .at) (l .remaining) k (l .seen) (l .inv) (r .result) (r .ensures .0) (g .0 .0) (g .0 .1 .0) (g .0 .1 .1 .0) (g .0 .1 .1 .1 .0) (g .0 .1 .1 .1 .1 .0) (g .1),
+      group-within (a .s .now) (a .from) (a .count) (l .at) (l .remaining) k (l .seen) (l .inv) (r .result) (r .ensures .0)
+          (g .0 .0) (g .0 .1 .0) (g .0 .1 .1 .0) (g .0 .1 .1 .1 .0) (g .0 .1 .1 .1 .1 .0) (g .1),
     )
 
 mul-keys : tie.Need-mul-keys Inv-loop μ-loop
@@ -118,7 +123,9 @@ add-at c =
     let k : KeySet = record { count = l .n; keys = l .keys } in
     let r = c .before .before .before .before .before .read-group in
     let g = c .before .before .before .g .given in
-    let inside = group-inside (a .s .now) (a .from) (a .count) (l .at) (l .remaining) k (l .seen) (l .inv) (r .result) (r .ensures .0) (g .0 .0) (g .0 .1 .0) (g .0 .1 .1 .0) (g .0 .1 .1 .1 .0) (g .0 .1 .1 .1 .1 .0) (g .1) in
+    let inside =
+    group-inside (a .s .now) (a .from) (a .count) (l .at) (l .remaining) k (l .seen) (l .inv) (r .result) (r .ensures .0)
+    (g .0 .0) (g .0 .1 .0) (g .0 .1 .1 .0) (g .0 .1 .1 .1 .0) (g .0 .1 .1 .1 .1 .0) (g .1) in
     omega (arith, inside .0, start .good)
 
 add-at-2 : tie.Need-add-at-2 Inv-loop μ-loop
@@ -130,7 +137,9 @@ add-at-2 c =
     let k : KeySet = record { count = l .n; keys = l .keys } in
     let r = c .before .before .before .before .before .read-group in
     let g = c .before .before .before .g .given in
-    let inside = group-inside (a .s .now) (a .from) (a .count) (l .at) (l .remaining) k (l .seen) (l .inv) (r .result) (r .ensures .0) (g .0 .0) (g .0 .1 .0) (g .0 .1 .1 .0) (g .0 .1 .1 .1 .0) (g .0 .1 .1 .1 .1 .0) (g .1) in
+    let inside =
+    group-inside (a .s .now) (a .from) (a .count) (l .at) (l .remaining) k (l .seen) (l .inv) (r .result) (r .ensures .0)
+    (g .0 .0) (g .0 .1 .0) (g .0 .1 .1 .0) (g .0 .1 .1 .1 .0) (g .0 .1 .1 .1 .1 .0) (g .1) in
     omega (arith, inside .0, start .good)
 
 loop-less : tie.Need-loop-less Inv-loop μ-loop
@@ -142,7 +151,9 @@ loop-less c =
     let k : KeySet = record { count = l .n; keys = l .keys } in
     let r = c .before .before .before .before .before .read-group in
     let g = c .before .before .before .g .given in
-    let inside = group-inside (a .s .now) (a .from) (a .count) (l .at) (l .remaining) k (l .seen) (l .inv) (r .result) (r .ensures .0) (g .0 .0) (g .0 .1 .0) (g .0 .1 .1 .0) (g .0 .1 .1 .1 .0) (g .0 .1 .1 .1 .1 .0) (g .1) in
+    let inside =
+    group-inside (a .s .now) (a .from) (a .count) (l .at) (l .remaining) k (l .seen) (l .inv) (r .result) (r .ensures .0)
+    (g .0 .0) (g .0 .1 .0) (g .0 .1 .1 .0) (g .0 .1 .1 .1 .0) (g .0 .1 .1 .1 .1 .0) (g .1) in
     inside .1
 
 loop-again : tie.Need-loop-again Inv-loop μ-loop
@@ -159,10 +170,14 @@ loop-again c =
     ⊎-elim
     (λ w.
     rw (w .4, w .5, w .6)
-    (gathering-stored (a .s .now) (a .from) (a .count) (l .at) (l .remaining) k (l .seen) (l .inv) (r .result) (r .ensures .0) (g .0 .0) (g .0 .1 .0) (g .0 .1 .1 .0) (g .0 .1 .1 .1 .0) (g .0 .1 .1 .1 .1 .0) (g .1) (r .ensures .1)
+    (gathering-stored (a .s .now) (a .from) (a .count) (l .at) (l .remaining) k (l .seen) (l .inv) (r .result) (r .ensures .0)
+    (g .0 .0) (g .0 .1 .0) (g .0 .1 .1 .0) (g .0 .1 .1 .1 .0) (g .0 .1 .1 .1 .1 .0) (g .1) (r .ensures .1)
     (ltb-true (l .n) 8 (both-left (ltb (l .n) 8) storing (is-true told (w .0 .taken))))
     (w .1 .result) (w .1 .ensures) (w .3 .last .0) (w .3 .ensures .1) (w .3 .result) (w .3 .ensures .0)))
-    (λ w. rw (w .1, w .2, w .3) (gathering-nine (a .s .now) (a .from) (a .count) (l .at) (l .remaining) k (l .seen) (l .inv) (r .result) (r .ensures .0) (g .0 .0) (g .0 .1 .0) (g .0 .1 .1 .0) (g .0 .1 .1 .1 .0) (g .0 .1 .1 .1 .1 .0) (g .1) (r .ensures .1) (is-false told (w .0 .left))))
+    (λ w.
+    rw (w .1, w .2, w .3)
+    (gathering-nine (a .s .now) (a .from) (a .count) (l .at) (l .remaining) k (l .seen) (l .inv) (r .result) (r .ensures .0)
+    (g .0 .0) (g .0 .1 .0) (g .0 .1 .1 .0) (g .0 .1 .1 .1 .0) (g .0 .1 .1 .1 .1 .0) (g .1) (r .ensures .1) (is-false told (w .0 .left))))
     (c .if1 .came)
 
 close-set-requires : tie.Need-close-set-requires Inv-loop μ-loop
@@ -176,9 +191,10 @@ returns-2 c =
     let l = turn .loop in
     let k : KeySet = record { count = l .n; keys = l .keys } in
     let none : l .remaining ≤ 0 = omega (arith, c .before .loop-test .left) in
-    let done = gathering-done (a .s .now) (a .from) (a .count) (l .at) (l .remaining) k (l .seen) (l .inv) none _ refl in (
+    let done = gathering-done (a .s .now) (a .from) (a .count) (l .at) (l .remaining) k (l .seen) (l .inv) none _ refl in
+    let ended = gathering-end (a .s .now) (a .from) (a .count) (l .at) (l .remaining) k (l .seen) (l .inv) none in (
       keys-settled (c .close-set .result) _ _ (c .close-set .ensures .0) _ done,
-      accepting-on (c .close-set .result .verdict) (λ e. rw e (gathering-end (a .s .now) (a .from) (a .count) (l .at) (l .remaining) k (l .seen) (l .inv) none)) (c .close-set .ensures .1),
+      accepting-on (c .close-set .result .verdict) (λ e. rw e ended) (c .close-set .ensures .1),
     )
 
 pub gather-keys-spec : {M : Type 1} → statement M

@@ -1,10 +1,10 @@
 -- `laws` meets its contract: each law is one of the law files'.
 use Rattle.link_key.proofs.Keys.{entry-says, coverage-says, found-some, found-none, coverage-covered, covers-known-type, covers-listed, same-key-self}
-use Rattle.link_key.proofs.Keys.{same-key-equal, limits-identifier}
+use Rattle.link_key.proofs.Keys.{same-key-equal, valid-identifier}
 use Rattle.link_key_set.proofs.KeySets.{same-keys-self, same-keys-equal, has-none, none-has, shares-apart, apart-shares, shares-turned}
-use Rattle.link_key_set.proofs.KeySets.{has-append, limits-append, none-twice-append, one-of-a-name, cover-found, cover-finds, find-found}
-use Rattle.link_key_set.proofs.KeySets.{find-own, find-none, none-find, allowed-none-twice, allowed-in-limits, allowed-some, allowed-few}
-use Rattle.link_key_set.proofs.KeySets.{set-allowed, keys-of-none}
+use Rattle.link_key_set.proofs.KeySets.{has-append, valid-append, none-twice-append, one-of-a-name, cover-found, cover-finds, find-found}
+use Rattle.link_key_set.proofs.KeySets.{find-own, find-none, none-find, valid-none-twice, valid-each, valid-some, valid-few}
+use Rattle.link_key_set.proofs.KeySets.{valid-set, keys-of-none}
 use Rattle.link_key_set.proofs.laws.Statement.{statement}
 use Rattle.link_key_set.proofs.laws.Tie as tie
 
@@ -26,7 +26,7 @@ returns c =
       apart-shares = apart-shares;
       shares-turned = shares-turned;
       has-append = has-append;
-      limits-append = limits-append;
+      valid-append = valid-append;
       none-twice-append = none-twice-append;
       found-some = found-some;
       found-none = found-none;
@@ -37,12 +37,12 @@ returns c =
       one-of-a-name = one-of-a-name;
       find-none = find-none;
       none-find = none-find;
-      allowed-none-twice = allowed-none-twice;
-      allowed-in-limits = allowed-in-limits;
-      allowed-some = allowed-some;
-      allowed-few = allowed-few;
-      set-allowed = set-allowed;
-      limits-identifier = limits-identifier;
+      valid-none-twice = valid-none-twice;
+      valid-each = valid-each;
+      valid-some = valid-some;
+      valid-few = valid-few;
+      valid-set = valid-set;
+      valid-identifier = valid-identifier;
       keys-of-none = keys-of-none;
       keys-of-count-0 = λ set e. rw e;
     }

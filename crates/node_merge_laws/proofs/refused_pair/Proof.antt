@@ -1,7 +1,7 @@
 -- Computed.
 use mathlib.Core.Path.{refl}
-use Rattle.link_key.specs.Key.{inLimits, sameKey}
-use Rattle.link_key_set.specs.KeySet.{allowed, allowedSet}
+use Rattle.link_key.specs.Key.{validKey, sameKey}
+use Rattle.link_key_set.specs.KeySet.{validKeys, validSet}
 use Rattle.node.specs.Delivery.{apply, configured}
 use Rattle.node_key_sets.specs.Sets.{install}
 use Rattle.node_parameters.specs.Reports.{reportsOf}
@@ -10,7 +10,7 @@ use Rattle.node_merge_laws.proofs.refused_pair.Statement.{statement}
 use Rattle.node_merge_laws.proofs.refused_pair.Tie as tie
 
 pair : RefusedPair
-unfolding apply configured install reportsOf allowedSet allowed inLimits sameKey
+unfolding apply configured install reportsOf validSet validKeys validKey sameKey
 pair = record { first = refl; merged-all-the-same = refl; inside = refl; inside-then = refl }
 
 returns : tie.Need-returns

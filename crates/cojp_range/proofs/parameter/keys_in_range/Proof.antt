@@ -2,7 +2,7 @@
 use mathlib.Core.Path.{sym, _∙_}
 use mathlib.Core.Bool.{true}
 use borrow.Author.Needs.{needs}
-use Rattle.link_key_set.specs.KeySet.{allowedSet}
+use Rattle.link_key_set.specs.KeySet.{validSet}
 use Rattle.cojp_range.proofs.Taken.{taken-is, taken-not}
 use Rattle.cojp_range.proofs.parameter.keys_in_range.Statement.{statement}
 use Rattle.cojp_range.proofs.parameter.keys_in_range.Tie as tie
@@ -10,14 +10,14 @@ use Rattle.cojp_range.proofs.parameter.keys_in_range.Tie as tie
 is-taken-requires : tie.Need-is-taken-requires
 is-taken-requires c κs = search needs
 
-allowed-requires : tie.Need-allowed-requires
-allowed-requires c κs = search needs
+valid-requires : tie.Need-valid-requires
+valid-requires c κs = search needs
 
 returns : tie.Need-returns
-returns c = let p = (c .before .before .before .args .p) in (c .allowed .ensures) ∙ sym (taken-is (p .report) (allowedSet (p .value)) true _ (c .before .before .is-taken .ensures) (c .before .if1 .taken))
+returns c = let p = (c .before .before .before .args .p) in (c .valid .ensures) ∙ sym (taken-is (p .report) (validSet (p .value)) true _ (c .before .before .is-taken .ensures) (c .before .if1 .taken))
 
 returns-2 : tie.Need-returns-2
-returns-2 c = let p = (c .before .before .args .p) in sym (taken-not (p .report) (allowedSet (p .value)) true _ (c .before .is-taken .ensures) (c .if1 .left))
+returns-2 c = let p = (c .before .before .args .p) in sym (taken-not (p .report) (validSet (p .value)) true _ (c .before .is-taken .ensures) (c .if1 .left))
 
 pub keys-in-range-spec : {M : Type 1} → statement M
-keys-in-range-spec = tie.close (tie.spec is-taken-requires allowed-requires returns returns-2)
+keys-in-range-spec = tie.close (tie.spec is-taken-requires valid-requires returns returns-2)

@@ -7,8 +7,8 @@ use Rattle.link_key_set.proofs.Flags.{asked, set-in, outside-none, one-
 use Rattle.link_key_set.proofs.seen.join.Statement.{statement}
 use Rattle.link_key_set.proofs.seen.join.Tie as tie
 
-in-limits-requires : tie.Need-in-limits-requires
-in-limits-requires c κs = search needs
+valid-requires : tie.Need-valid-requires
+valid-requires c κs = search needs
 
 cast-place : tie.Need-cast-place
 cast-place c = search needs
@@ -39,7 +39,7 @@ returns c =
     let judged = c .before .before .before .before in
     let a = judged .before .args in
     let seen = a .seen .now in
-    let ok = is-true (judged .in-limits .ensures) (c .before .before .before .if1 .taken) in
+    let ok = is-true (judged .valid .ensures) (c .before .before .before .if1 .taken) in
     let told = asked seen (a .key) ok in
     let set-so = set-in seen (a .key) ok in
     (told, (set-so, λ ks so-far. one-more seen (a .key) ks so-far _ _ told set-so))
@@ -48,14 +48,14 @@ returns-2 : tie.Need-returns-2
 returns-2 c =
     let a = c .before .before .args in
     let seen = a .seen .now in
-    let none = outside-none seen (a .key) (is-false (c .before .in-limits .ensures) (c .if1 .left)) in
+    let none = outside-none seen (a .key) (is-false (c .before .valid .ensures) (c .if1 .left)) in
     (sym (none .0), (sym (none .1), λ ks so-far. one-more seen (a .key) ks so-far false seen (sym (none .0)) (sym (none .1))))
 
 pub join-spec : {M : Type 1} → statement M
 join-spec =
     tie.close
     (tie.spec
-    in-limits-requires
+    valid-requires
     cast-place
     cast-bit
     mul-word

@@ -6,15 +6,15 @@ use Rattle.logic_facts.specs.Tests.{denied, granted, is-false, is-true}
 use Rattle.node_key_sets.proofs.sets.KeySets.install.Statement.{statement}
 use Rattle.node_key_sets.proofs.sets.KeySets.install.Tie as tie
 
-allowed-requires : tie.Need-allowed-requires
-allowed-requires c κs = search needs
+valid-requires : tie.Need-valid-requires
+valid-requires c κs = search needs
 
 unplaced-requires : tie.Need-unplaced-requires
 unplaced-requires c κs = search needs
 
 returns : tie.Need-returns
 unfolding install
-returns c = c .unplaced .ensures ∙ rw (denied (c .before .before .allowed .ensures) (c .before .if1 .taken))
+returns c = c .unplaced .ensures ∙ rw (denied (c .before .before .valid .ensures) (c .before .if1 .taken))
 
 no-keys-requires : tie.Need-no-keys-requires
 no-keys-requires c κs = search needs
@@ -27,7 +27,7 @@ unfolding install
 returns-2 c =
     let border = c .before .before in
     let judged = border .before in
-    c .placed .ensures ∙ rw (granted (judged .before .allowed .ensures) (judged .if1 .left), border .if2 .taken, c .before .no-keys .ensures)
+    c .placed .ensures ∙ rw (granted (judged .before .valid .ensures) (judged .if1 .left), border .if2 .taken, c .before .no-keys .ensures)
 
 same-keys-requires : tie.Need-same-keys-requires
 same-keys-requires c κs = search needs
@@ -45,7 +45,7 @@ returns-3 c =
     let judged = asked .before .before in
     c .placed2 .ensures
     ∙ rw (
-      granted (judged .before .allowed .ensures) (judged .if1 .left),
+      granted (judged .before .valid .ensures) (judged .if1 .left),
       asked .before .if2 .left,
       is-true (asked .same-keys .ensures) (c .before .before .if3 .taken),
       c .before .no-keys2 .ensures,
@@ -65,7 +65,7 @@ returns-4 c =
     let judged = other .before .before .before in
     c .unplaced2 .ensures
     ∙ rw (
-      granted (judged .before .allowed .ensures) (judged .if1 .left),
+      granted (judged .before .valid .ensures) (judged .if1 .left),
       other .before .before .if2 .left,
       is-false (other .before .same-keys .ensures) (other .if3 .left),
       is-true (asked .shares .ensures) (c .before .if4 .taken),
@@ -81,7 +81,7 @@ returns-5 c =
     let other = asked .before in
     let judged = other .before .before .before in
     rw (
-      granted (judged .before .allowed .ensures) (judged .if1 .left),
+      granted (judged .before .valid .ensures) (judged .if1 .left),
       other .before .before .if2 .left,
       is-false (other .before .same-keys .ensures) (other .if3 .left),
       is-false (asked .shares .ensures) (c .before .if4 .left),
@@ -92,7 +92,7 @@ pub install-spec : {M : Type 1} → statement M
 install-spec =
     tie.close
     (tie.spec
-    allowed-requires
+    valid-requires
     unplaced-requires
     returns
     no-keys-requires

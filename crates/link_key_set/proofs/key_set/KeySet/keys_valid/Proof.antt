@@ -1,4 +1,4 @@
--- `keys_allowed` meets its contract: the flags are exactly those of the keys before the place, and each key is told by its own.
+-- `keys_valid` meets its contract: the flags are exactly those of the keys before the place, and each key is told by its own.
 use Prim.Native.Nat.{_-_}
 use mathlib.Core.Path.{_≡_, refl, sym}
 use borrow.Author.Needs.{needs}
@@ -6,8 +6,8 @@ use lib.ListN.{length, take}
 use Rattle.link_key_set.specs.KeySet.{keysOf}
 use Rattle.link_key_set.proofs.Flags.{Judging, judged-all, judged-bad, judged-more}
 use Rattle.link_key_set.proofs.Places.{firsts, within, past}
-use Rattle.link_key_set.proofs.key_set.KeySet.keys_allowed.Statement.{statement}
-use Rattle.link_key_set.proofs.key_set.KeySet.keys_allowed.Tie as tie
+use Rattle.link_key_set.proofs.key_set.KeySet.keys_valid.Statement.{statement}
+use Rattle.link_key_set.proofs.key_set.KeySet.keys_valid.Tie as tie
 
 abbrev Inv-loop : tie.InvT-loop
 Inv-loop n keys seen₀ i₀ seen i = Judging (take n keys) i seen
@@ -48,7 +48,8 @@ loop-again c =
     let n = sized .len .result in
     let size : n ≡ length (keysOf set) = sized .len .ensures .0 in
     let more = asked .join .ensures .1 .1 (take (turn .i) (take n (set .keys))) (turn .inv .exact) in
-    judged-more (set .keys) n (turn .i) (turn .seen) (turn .inv) (within set n size) past (asked .before .before .before .loop-test .taken) _ _ more (c .if1 .taken)
+    let left = asked .before .before .before .loop-test .taken in
+    judged-more (set .keys) n (turn .i) (turn .seen) (turn .inv) (within set n size) past left _ _ more (c .if1 .taken)
 
 returns : tie.Need-returns Inv-loop μ-loop
 returns c =
@@ -59,8 +60,9 @@ returns c =
     let n = sized .len .result in
     let size : n ≡ length (keysOf set) = sized .len .ensures .0 in
     let more = asked .join .ensures .1 .1 (take (turn .i) (take n (set .keys))) (turn .inv .exact) in
+    let left = asked .before .before .before .loop-test .taken in
     rw (← firsts set n size)
-    (sym (judged-bad (set .keys) n (turn .i) (turn .seen) (turn .inv) (within set n size) past (asked .before .before .before .loop-test .taken) _ _ more (c .if1 .left)))
+    (sym (judged-bad (set .keys) n (turn .i) (turn .seen) (turn .inv) (within set n size) past left _ _ more (c .if1 .left)))
 
 returns-2 : tie.Need-returns-2 Inv-loop μ-loop
 returns-2 c =
@@ -71,8 +73,8 @@ returns-2 c =
     let size : n ≡ length (keysOf set) = sized .len .ensures .0 in
     rw (← firsts set n size) (sym (judged-all (set .keys) n (turn .i) (turn .seen) (turn .inv) (within set n size) (c .loop-test .left)))
 
-pub keys-allowed-spec : {M : Type 1} → statement M
-keys-allowed-spec =
+pub keys-valid-spec : {M : Type 1} → statement M
+keys-valid-spec =
     tie.close
     (tie.spec
     Inv-loop
