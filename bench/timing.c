@@ -1,6 +1,6 @@
 /* The program of bench/run. `timing compare N` holds our reader against limit.c on N damaged payloads; `timing` alone prints tables of times, the least
    of many batches, which take turns, in nanoseconds a call; `timing stack` prints how many bytes of stack calls use, the stack being painted before;
-   `timing copies` (linked with memcpy and memset wrapped) prints how many block copies reads make. It judges nothing. */
+   `timing copies` (linked with memcpy and memset wrapped) prints how many block copies reads and a node's calls make. It judges nothing. */
 #include "limit.h"
 #include "payloads.h"
 #include <stdio.h>
@@ -316,6 +316,19 @@ static void copies(const char *name, reading *f, const uint8_t *p, size_t n)
     printf("%-44s%8ld%8ld\n", name, blocks, bytes);
 }
 
+/* what one call of a node copies: eleven calls less one, by ten */
+static void node_copies(const char *name, node_call *call, const uint8_t *update, size_t len)
+{
+    struct repeated r = {name, call, update, len, 0, 0};
+    repeat(&r, 1);
+    blocks = bytes = 0;
+    repeat(&r, 1);
+    long blocks_of_1 = blocks, bytes_of_1 = bytes;
+    blocks = bytes = 0;
+    repeat(&r, 11);
+    printf("%-44s%8ld%8ld\n", name, (blocks - blocks_of_1) / 10, (bytes - bytes_of_1) / 10);
+}
+
 static void all_copies(void)
 {
     printf("%-44s%8s%8s\n", "block copies", "", "bytes");
@@ -323,6 +336,12 @@ static void all_copies(void)
     copies("read a configuration, 26 bytes", bench_configuration, appendix, sizeof appendix);
     copies("read a configuration, M8", bench_configuration, m8, sizeof m8);
     copies("read a join request, M1", bench_request, m1, sizeof m1);
+    node_copies("update, 232 bytes", 0, other, other_len);
+    node_copies("update, M8", 0, m8, sizeof m8);
+    node_copies("poll", bench_poll, 0, 0);
+    node_copies("sending key", bench_sending, 0, 0);
+    node_copies("receiving key", bench_receiving, 0, 0);
+    node_copies("verified", bench_verified, 0, 0);
 }
 #else
 static void all_copies(void) {}
