@@ -1,6 +1,6 @@
 -- The body's bytes: its text has 19 and it 31, its fields read back from it, and it stands where the code wrote its parts.
 -- Assumes nothing.
-use mathlib.Core.Path.{_≡_, refl, sym, _∙_, ap, subst}
+use mathlib.Core.Path.{_≡_, refl, sym, _∙_, ap, ap₂, subst}
 use mathlib.Core.Bool.{cond}
 use mathlib.Core.List.{List, [], _∷_, _++_, append-nil, append-assoc}
 use Prim.Native.Nat.{ℕ, _+_, _-_, _*_, _/_, _%_, _<_, _≤_}
@@ -18,6 +18,7 @@ use Rattle.aes_ccm.specs.declared.Written.{Written}
 use Rattle.aes_ccm.specs.Ccm.{sealed, two}
 use Rattle.aes_ccm.specs.Laws.{CcmLaws}
 use Rattle.aes_ccm.specs.Plan.{Plan, emit, Did, after, sealPlan}
+use Rattle.join_proxy.specs.declared.judging.Pledge.{Pledge}
 use Rattle.join_proxy.specs.Body.{four, numberOf, nonceWith, eight, pledgeText, bodyOf, BodyWritten}
 use Rattle.join_proxy.specs.Judging.{pledgeIn}
 use Rattle.join_proxy.specs.Laws.{pledgeFor}
@@ -67,7 +68,10 @@ tokens token =
 fields : (a b c d e f g h port : ℕ) (token : List ℕ)
     → pledgeIn (pledgeText (a ∷ b ∷ c ∷ d ∷ e ∷ f ∷ g ∷ h ∷ []) port token) ≡ pledgeFor (a ∷ b ∷ c ∷ d ∷ e ∷ f ∷ g ∷ h ∷ []) port token
 unfolding pledgeIn pledgeText table
-fields a b c d e f g h port token = rw (div-add-mod' port 256, tokens token)
+fields a b c d e f g h port token =
+    let named : ℕ → List ℕ → Pledge
+    = λ p t. record { interface = a ∷ b ∷ c ∷ d ∷ e ∷ f ∷ g ∷ h ∷ []; port = p; len = length token; token = t } in
+    ap₂ named (div-add-mod' port 256) (tokens token)
 
 pub reads-back : (interface : List ℕ) (port : ℕ) (token : List ℕ) → length interface ≡ 8
     → pledgeIn (pledgeText interface port token) ≡ pledgeFor interface port token
