@@ -14,9 +14,12 @@ enum-known-second c = search needs
 
 sub-after-usage : tie.Need-sub-after-usage
 sub-after-usage c =
-    let a = c .before .before .before .before .before .args in
+    let member-at = c .before .before .before in
+    let begun = member-at .before .before in
+    let a = begun .args in
     let g = c .before .second .given in
-    number-left (a .part .now) (a .at) (a .left) (c .before .before .before .member-at .result) (c .before .before .before .member-at .ensures) (g .0 .0) (g .0 .1 .0) (g .1)
+    number-left (a .part .now) (a .at) (a .left) (member-at .member-at .result) (member-at .member-at .ensures) (g .0 .0) (g .0 .1 .0)
+    (g .1)
 
 after-usage-requires : tie.Need-after-usage-requires
 after-usage-requires c κs = search needs
@@ -26,24 +29,31 @@ enum-known-second-2 c = search needs
 
 sub-t12 : tie.Need-sub-t12
 sub-t12 c =
-    let a = c .before .before .before .before .before .args in
+    let member-at = c .before .before .before in
+    let begun = member-at .before .before in
+    let a = begun .args in
     let g = c .before .second2 .given in
-    bytes-left (a .part .now) (a .at) (a .left) (c .before .before .before .member-at .result) (c .before .before .before .member-at .ensures) (g .0 .0) (g .0 .1 .0) (g .1)
+    bytes-left (a .part .now) (a .at) (a .left) (member-at .member-at .result) (member-at .member-at .ensures) (g .0 .0) (g .0 .1 .0) (g .1)
 
 enum-told : tie.Need-enum-told
 enum-told c = search needs
 
 returns : tie.Need-returns
 returns c =
-    let a = c .before .before .before .before .before .before .args in
-    let m = c .before .before .before .before .member-at in
-    let g = c .before .before .second .given in
+    let second = c .before .before in
+    let member-at = second .before .before in
+    let begun = member-at .before .before in
+    let a = begun .args in
+    let m = member-at .member-at in
+    let g = second .second .given in
     (group-used (a .part .now) (a .left) (m .result) (a .at) (a .identifier) (m .ensures) (g .0 .0) (g .0 .1 .0) (g .1) (c .after-usage .result) (c .after-usage .ensures .0), rest-on (a .part .now) (a .at) (a .left) (g .0 .1 .0) (a .left - 1) (c .after-usage .result) (number-after (a .part .now) (a .at) (a .left) (m .result) (m .ensures) (g .0 .0) (g .0 .1 .0) (g .1)) (c .after-usage .ensures .1))
 
 returns-2 : tie.Need-returns-2
 returns-2 c =
-    let a = c .before .before .before .before .before .args in
-    let m = c .before .before .before .member-at in
+    let member-at = c .before .before .before in
+    let begun = member-at .before .before in
+    let a = begun .args in
+    let m = member-at .member-at in
     let g = c .before .second2 .given in
     (group-pair (a .part .now) (a .left) (m .result) (a .at) (a .identifier) (m .ensures) (g .0 .0) (g .0 .1 .0) (g .1), bytes-after (a .part .now) (a .at) (a .left) (m .result) (m .ensures) (g .0 .0) (g .0 .1 .0) (g .1))
 

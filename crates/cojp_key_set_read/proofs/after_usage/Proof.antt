@@ -13,13 +13,18 @@ enum-known-third c = search needs
 
 sub-t10 : tie.Need-sub-t10
 sub-t10 c =
-    let a = c .before .before .before .before .before .args in
-    bytes-left (a .part .now) (a .at) (a .left) (c .before .before .before .member-at .result) (c .before .before .before .member-at .ensures) (c .before .third .given .0 .0) (c .before .third .given .0 .1 .0) (c .before .third .given .1)
+    let member-at = c .before .before .before in
+    let begun = member-at .before .before in
+    let a = begun .args in
+    bytes-left (a .part .now) (a .at) (a .left) (member-at .member-at .result) (member-at .member-at .ensures)
+    (c .before .third .given .0 .0) (c .before .third .given .0 .1 .0) (c .before .third .given .1)
 
 returns : tie.Need-returns
 returns c =
-    let a = c .before .before .before .before .before .args in
-    let m = c .before .before .before .member-at in
+    let member-at = c .before .before .before in
+    let begun = member-at .before .before in
+    let a = begun .args in
+    let m = member-at .member-at in
     let g = c .before .third .given in
     (group-triple (a .part .now) (a .left) (m .result) (a .at) (a .identifier) (m .ensures) (a .usage) (g .0 .0) (g .0 .1 .0) (g .1), bytes-after (a .part .now) (a .at) (a .left) (m .result) (m .ensures) (g .0 .0) (g .0 .1 .0) (g .1))
 

@@ -53,12 +53,13 @@ refused-keys-requires c κs = search needs
 
 returns : tie.Need-returns Inv-loop μ-loop
 returns c =
+    let read-group = c .before .before .before in
     let turn = c .before .before .before .before .before .before in
     let start = turn .before .before .before .before in
     let a = start .args in
     let l = turn .loop in
     let k : KeySet = record { count = l .n; keys = l .keys } in
-    let r = c .before .before .before .read-group in
+    let r = read-group .read-group in
     let broken = gathering-broken (a .s .now) (a .from) (a .count) (l .at) (l .remaining) k (l .seen) (l .inv) (r .result) (r .ensures .0) (c .before .enum-told .given .1) _ refl in
     (keys-settled (c .refused-keys .result) _ _ (c .refused-keys .ensures) _ broken, rw (c .refused-keys .ensures) tt)
 
@@ -70,16 +71,19 @@ is-storable-requires c κs = search needs
 
 group-key-requires : tie.Need-group-key-requires Inv-loop μ-loop
 group-key-requires c κs =
+    let g-2 = c .before .before .before in
+    let read-group = g-2 .before .before in
     let turn = c .before .before .before .before .before .before .before .before in
     let start = turn .before .before .before .before in
     let a = start .args in
     let l = turn .loop in
     let k : KeySet = record { count = l .n; keys = l .keys } in
-    let r = c .before .before .before .before .before .read-group in
-    let g = c .before .before .before .g .given in
+    let r = read-group .read-group in
+    let g = g-2 .g .given in
     let fit = is-true (c .before .is-storable .ensures) (c .if1 .taken) in (
       both-right (ltb (l .n) 8) (storable (g .0 .0) (g .0 .1 .0) (g .0 .1 .1 .1 .0)) fit,
-      group-within (a .s .now) (a .from) (a .count) (l .at) (l .remaining) k (l .seen) (l .inv) (r .result) (r .ensures .0) (g .0 .0) (g .0 .1 .0) (g .0 .1 .1 .0) (g .0 .1 .1 .1 .0) (g .0 .1 .1 .1 .1 .0) (g .1),
+      group-within (a .s .now) (a .from) (a .count) (l .at) (l .remaining) k (l .seen) (l .inv) (r .result) (r .ensures .0) (g .0 .0)
+          (g .0 .1 .0) (g .0 .1 .1 .0) (g .0 .1 .1 .1 .0) (g .0 .1 .1 .1 .1 .0) (g .1),
     )
 
 mul-keys : tie.Need-mul-keys Inv-loop μ-loop
@@ -111,49 +115,57 @@ count-with-requires c κs =
 
 add-at : tie.Need-add-at Inv-loop μ-loop
 add-at c =
+    let g-2 = c .before .before .before in
+    let read-group = g-2 .before .before in
     let turn = c .before .before .before .before .before .before .before .before in
     let start = turn .before .before .before .before in
     let a = start .args in
     let l = turn .loop in
     let k : KeySet = record { count = l .n; keys = l .keys } in
-    let r = c .before .before .before .before .before .read-group in
-    let g = c .before .before .before .g .given in
+    let r = read-group .read-group in
+    let g = g-2 .g .given in
     let inside = group-inside (a .s .now) (a .from) (a .count) (l .at) (l .remaining) k (l .seen) (l .inv) (r .result) (r .ensures .0) (g .0 .0) (g .0 .1 .0) (g .0 .1 .1 .0) (g .0 .1 .1 .1 .0) (g .0 .1 .1 .1 .1 .0) (g .1) in
     omega (arith, inside .0, start .good)
 
 add-at-2 : tie.Need-add-at-2 Inv-loop μ-loop
 add-at-2 c =
+    let g-2 = c .before .before .before in
+    let read-group = g-2 .before .before in
     let turn = c .before .before .before .before .before .before .before .before in
     let start = turn .before .before .before .before in
     let a = start .args in
     let l = turn .loop in
     let k : KeySet = record { count = l .n; keys = l .keys } in
-    let r = c .before .before .before .before .before .read-group in
-    let g = c .before .before .before .g .given in
+    let r = read-group .read-group in
+    let g = g-2 .g .given in
     let inside = group-inside (a .s .now) (a .from) (a .count) (l .at) (l .remaining) k (l .seen) (l .inv) (r .result) (r .ensures .0) (g .0 .0) (g .0 .1 .0) (g .0 .1 .1 .0) (g .0 .1 .1 .1 .0) (g .0 .1 .1 .1 .1 .0) (g .1) in
     omega (arith, inside .0, start .good)
 
 loop-less : tie.Need-loop-less Inv-loop μ-loop
 loop-less c =
+    let g-2 = c .before .before .before in
+    let read-group = g-2 .before .before in
     let turn = c .before .before .before .before .before .before .before .before in
     let start = turn .before .before .before .before in
     let a = start .args in
     let l = turn .loop in
     let k : KeySet = record { count = l .n; keys = l .keys } in
-    let r = c .before .before .before .before .before .read-group in
-    let g = c .before .before .before .g .given in
+    let r = read-group .read-group in
+    let g = g-2 .g .given in
     let inside = group-inside (a .s .now) (a .from) (a .count) (l .at) (l .remaining) k (l .seen) (l .inv) (r .result) (r .ensures .0) (g .0 .0) (g .0 .1 .0) (g .0 .1 .1 .0) (g .0 .1 .1 .1 .0) (g .0 .1 .1 .1 .1 .0) (g .1) in
     inside .1
 
 loop-again : tie.Need-loop-again Inv-loop μ-loop
 loop-again c =
+    let g-2 = c .before .before .before in
+    let read-group = g-2 .before .before in
     let turn = c .before .before .before .before .before .before .before .before in
     let start = turn .before .before .before .before in
     let a = start .args in
     let l = turn .loop in
     let k : KeySet = record { count = l .n; keys = l .keys } in
-    let r = c .before .before .before .before .before .read-group in
-    let g = c .before .before .before .g .given in
+    let r = read-group .read-group in
+    let g = g-2 .g .given in
     let told = c .before .is-storable .ensures in
     let storing = storable (g .0 .0) (g .0 .1 .0) (g .0 .1 .1 .1 .0) in
     ⊎-elim

@@ -14,19 +14,24 @@ enum-known-first c = search needs
 
 sub-after-identifier : tie.Need-sub-after-identifier
 sub-after-identifier c =
-    let a = c .before .before .before .before .before .args in
+    let member-at = c .before .before .before in
+    let begun = member-at .before .before in
+    let a = begun .args in
     let g = c .before .first .given in
-    number-left (a .part .now) 0 (a .left) (c .before .before .before .member-at .result) (c .before .before .before .member-at .ensures) (g .0 .0) (g .0 .1 .0) (g .1)
+    number-left (a .part .now) 0 (a .left) (member-at .member-at .result) (member-at .member-at .ensures) (g .0 .0) (g .0 .1 .0) (g .1)
 
 after-identifier-requires : tie.Need-after-identifier-requires
 after-identifier-requires c κs = search needs
 
 returns : tie.Need-returns
 returns c =
-    let a = c .before .before .before .before .before .before .args in
-    let m = c .before .before .before .before .member-at in
-    let g = c .before .before .first .given in
-    (group-begun (a .part .now) (a .left) (m .result) (c .before .before .before .before .before .before .pre) (m .ensures) (g .0 .0) (g .0 .1 .0) (g .1) (c .after-identifier .result) (c .after-identifier .ensures .0), rest-on (a .part .now) 0 (a .left) (g .0 .1 .0) (a .left - 1) (c .after-identifier .result) (number-after (a .part .now) 0 (a .left) (m .result) (m .ensures) (g .0 .0) (g .0 .1 .0) (g .1)) (c .after-identifier .ensures .1))
+    let first = c .before .before in
+    let member-at = first .before .before in
+    let begun = member-at .before .before in
+    let a = begun .args in
+    let m = member-at .member-at in
+    let g = first .first .given in
+    (group-begun (a .part .now) (a .left) (m .result) (begun .pre) (m .ensures) (g .0 .0) (g .0 .1 .0) (g .1) (c .after-identifier .result) (c .after-identifier .ensures .0), rest-on (a .part .now) 0 (a .left) (g .0 .1 .0) (a .left - 1) (c .after-identifier .result) (number-after (a .part .now) 0 (a .left) (m .result) (m .ensures) (g .0 .0) (g .0 .1 .0) (g .1)) (c .after-identifier .ensures .1))
 
 returns-2 : tie.Need-returns-2
 returns-2 c =

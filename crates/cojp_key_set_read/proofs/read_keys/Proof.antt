@@ -25,15 +25,20 @@ refused-keys-requires c κs = search needs
 
 returns : tie.Need-returns
 returns c =
-    let a = c .before .before .before .before .before .before .args in
-    let v = c .before .before .before .before .value-at in
-    let g = c .before .before .v .given in
+    let v-2 = c .before .before in
+    let value-at = v-2 .before .before in
+    let begun = value-at .before .before in
+    let a = begun .args in
+    let v = value-at .value-at in
+    let g = v-2 .v .given in
     (keys-settled (c .gather-keys .result) _ _ (c .gather-keys .ensures .0) _ (keys-array (a .s .now) (a .at) (v .result) (v .ensures) _ (g .0 .0) (g .0 .1 .0) (g .1) refl), accepting-on (c .gather-keys .result .verdict) (λ e. e ∙ sym (array-after (a .s .now) (a .at) (v .result) (v .ensures) (g .0 .0) (g .0 .1 .0) (g .1))) (c .gather-keys .ensures .1))
 
 returns-2 : tie.Need-returns-2
 returns-2 c =
-    let a = c .before .before .before .before .args in
-    let v = c .before .before .value-at in
+    let value-at = c .before .before in
+    let begun = value-at .before .before in
+    let a = begun .args in
+    let v = value-at .value-at in
     (keys-settled (c .refused-keys .result) _ _ (c .refused-keys .ensures) _ (keys-broken (a .s .now) (a .at) (v .result) (v .ensures) _ (c .before .match .keys2) refl), rw (c .refused-keys .ensures) tt)
 
 pub read-keys-spec : {M : Type 1} → statement M

@@ -64,11 +64,12 @@ copy-requires c κs =
 
 add-t16 : tie.Need-add-t16
 add-t16 c =
+    let copy = c .before .before in
     let told = c .before .before .before .before in
     let found = told .before .before in
     let a = found .before .before .before .args in
     let f = open-fits (a .arrival) (length (a .store .now)) (length (a .sent .now)) (sym (found .course .ensures) ∙ told .enum-told4 .given .1) in
-    omega (arith, f .room, c .before .before .copy .ensures .0)
+    omega (arith, f .room, copy .copy .ensures .0)
 
 returns : tie.Need-returns
 returns c =

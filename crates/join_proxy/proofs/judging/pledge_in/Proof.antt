@@ -90,6 +90,7 @@ token-byte-requires-8 c κs = search needs
 
 returns : tie.Need-returns
 returns c =
+    let token-byte = c .before .before in
     let at-token-byte5 = c .before .before .before in
     let at-token-byte4 = at-token-byte5 .before in
     let at-token-byte3 = at-token-byte4 .before in
@@ -99,7 +100,7 @@ returns c =
     let start = at-port-of .before in
     rw (at-port-of .port-of .ensures)
     (pledge-bytes (start .args .t1) _ _ _ _ _ _ _ _ (at-token-byte .token-byte .ensures) (at-token-byte2 .token-byte2 .ensures) (at-token-byte3 .token-byte3 .ensures) (at-token-byte4 .token-byte4 .ensures)
-    (at-token-byte5 .token-byte5 .ensures) (c .before .before .token-byte6 .ensures) (c .before .token-byte7 .ensures) (c .token-byte8 .ensures))
+    (at-token-byte5 .token-byte5 .ensures) (token-byte .token-byte6 .ensures) (c .before .token-byte7 .ensures) (c .token-byte8 .ensures))
 
 pub pledge-in-spec : {M : Type 1} → statement M
 pledge-in-spec =

@@ -49,14 +49,20 @@ same-key-requires c κs = search needs
 
 returns-2 : tie.Need-returns-2 Inv-loop μ-loop
 returns-2 c =
-    let loop = c .before .before .before .before .before .loop in
-    let n = c .before .before .before .before .before .before .before .before .before .before .len in
-    let a = c .before .before .before .before .before .before .before .before .before .before .before .args .self in
-    let b = c .before .before .before .before .before .before .before .before .before .before .before .args .other in
+    let turn = c .before .before .before .before in
+    let turn-2 = turn .before in
+    let if-place = turn-2 .before .before .before in
+    let len = if-place .before in
+    let len-2 = len .before in
+    let begun = len-2 .before in
+    let loop = turn-2 .loop in
+    let n = len-2 .len in
+    let a = begun .args .self in
+    let b = begun .args .other in
     let size : n .result ≡ length (keysOf a) = n .ensures .0 in
-    let other : n .result ≡ length (keysOf b) = c .before .before .before .before .before .before .before .before .if1 .left ∙ c .before .before .before .before .before .before .before .before .before .len2 .ensures .0 in
+    let other : n .result ≡ length (keysOf b) = if-place .if1 .left ∙ len .len2 .ensures .0 in
     let unequal = sym (c .before .same-key .ensures) ∙ not-true _ (c .if2 .taken) in
-    rw (← firsts a (n .result) size, ← firsts b (n .result) other, loop .inv, same-keys-turn (a .keys) (b .keys) (n .result) (loop .i) past past (within a (n .result) size) (within b (n .result) other) (c .before .before .before .before .loop-test .taken), unequal)
+    rw (← firsts a (n .result) size, ← firsts b (n .result) other, loop .inv, same-keys-turn (a .keys) (b .keys) (n .result) (loop .i) past past (within a (n .result) size) (within b (n .result) other) (turn .loop-test .taken), unequal)
 
 add-i : tie.Need-add-i Inv-loop μ-loop
 add-i c = search needs
@@ -66,23 +72,33 @@ loop-less c = search needs
 
 loop-again : tie.Need-loop-again Inv-loop μ-loop
 loop-again c =
-    let loop = c .before .before .before .before .before .loop in
-    let n = c .before .before .before .before .before .before .before .before .before .before .len in
-    let a = c .before .before .before .before .before .before .before .before .before .before .before .args .self in
-    let b = c .before .before .before .before .before .before .before .before .before .before .before .args .other in
+    let turn = c .before .before .before .before in
+    let turn-2 = turn .before in
+    let if-place = turn-2 .before .before .before in
+    let len = if-place .before in
+    let len-2 = len .before in
+    let begun = len-2 .before in
+    let loop = turn-2 .loop in
+    let n = len-2 .len in
+    let a = begun .args .self in
+    let b = begun .args .other in
     let size : n .result ≡ length (keysOf a) = n .ensures .0 in
-    let other : n .result ≡ length (keysOf b) = c .before .before .before .before .before .before .before .before .if1 .left ∙ c .before .before .before .before .before .before .before .before .before .len2 .ensures .0 in
+    let other : n .result ≡ length (keysOf b) = if-place .if1 .left ∙ len .len2 .ensures .0 in
     let equal = sym (c .before .same-key .ensures) ∙ not-false _ (c .if2 .left) in
-    rw (loop .inv, same-keys-turn (a .keys) (b .keys) (n .result) (loop .i) past past (within a (n .result) size) (within b (n .result) other) (c .before .before .before .before .loop-test .taken), equal)
+    rw (loop .inv, same-keys-turn (a .keys) (b .keys) (n .result) (loop .i) past past (within a (n .result) size) (within b (n .result) other) (turn .loop-test .taken), equal)
 
 returns-3 : tie.Need-returns-3 Inv-loop μ-loop
 returns-3 c =
+    let if-place = c .before .before .before .before in
+    let len = if-place .before in
+    let len-2 = len .before in
+    let begun = len-2 .before in
     let loop = c .before .loop in
-    let n = c .before .before .before .before .before .before .len in
-    let a = c .before .before .before .before .before .before .before .args .self in
-    let b = c .before .before .before .before .before .before .before .args .other in
+    let n = len-2 .len in
+    let a = begun .args .self in
+    let b = begun .args .other in
     let size : n .result ≡ length (keysOf a) = n .ensures .0 in
-    let other : n .result ≡ length (keysOf b) = c .before .before .before .before .if1 .left ∙ c .before .before .before .before .before .len2 .ensures .0 in
+    let other : n .result ≡ length (keysOf b) = if-place .if1 .left ∙ len .len2 .ensures .0 in
     rw (← firsts a (n .result) size, ← firsts b (n .result) other, loop .inv, same-stop sameKey (take (n .result) (a .keys)) (take (n .result) (b .keys)) (loop .i) (omega (arith, length-take (n .result) (a .keys))) (omega (arith, length-take (n .result) (b .keys))))
 
 pub same-keys-spec : {M : Type 1} → statement M

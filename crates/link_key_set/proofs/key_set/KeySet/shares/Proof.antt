@@ -37,15 +37,22 @@ among-requires c κs = search needs
 
 returns : tie.Need-returns Inv-loop μ-loop
 returns c =
-    let loop = c .before .before .before .loop in
-    let theirs = c .before .before .before .before .identifiers2 in
-    let mine = c .before .before .before .before .before .identifiers in
-    let m = c .before .before .before .before .before .before .len2 in
-    let n = c .before .before .before .before .before .before .before .len in
-    let args = c .before .before .before .before .before .before .before .before .args in
+    let turn-2 = c .before .before in
+    let turn-3 = turn-2 .before in
+    let identifiers = turn-3 .before in
+    let identifiers-2 = identifiers .before in
+    let len = identifiers-2 .before in
+    let len-2 = len .before in
+    let begun = len-2 .before in
+    let loop = turn-3 .loop in
+    let theirs = identifiers .identifiers2 in
+    let mine = identifiers-2 .identifiers in
+    let m = len .len2 in
+    let n = len-2 .len in
+    let args = begun .args in
     let places : length (mine .result) ≡ 8 = search needs in
     let yes = sym (c .before .among .ensures) ∙ c .if1 .taken in
-    rw (← meet-keys (args .self) (args .other) (mine .result) (theirs .result) (n .result) (m .result) (mine .ensures) (theirs .ensures) (n .ensures .0) (m .ensures .0), loop .inv, turn (mine .result) (meet (take (m .result) (theirs .result))) (n .result) (loop .i) 0 (omega arith) (c .before .before .loop-test .taken), yes)
+    rw (← meet-keys (args .self) (args .other) (mine .result) (theirs .result) (n .result) (m .result) (mine .ensures) (theirs .ensures) (n .ensures .0) (m .ensures .0), loop .inv, turn (mine .result) (meet (take (m .result) (theirs .result))) (n .result) (loop .i) 0 (omega arith) (turn-2 .loop-test .taken), yes)
 
 add-i : tie.Need-add-i Inv-loop μ-loop
 add-i c = search needs
@@ -55,23 +62,34 @@ loop-less c = search needs
 
 loop-again : tie.Need-loop-again Inv-loop μ-loop
 loop-again c =
-    let loop = c .before .before .before .loop in
-    let theirs = c .before .before .before .before .identifiers2 in
-    let mine = c .before .before .before .before .before .identifiers in
-    let m = c .before .before .before .before .before .before .len2 in
-    let n = c .before .before .before .before .before .before .before .len in
+    let turn-2 = c .before .before in
+    let turn-3 = turn-2 .before in
+    let identifiers = turn-3 .before in
+    let identifiers-2 = identifiers .before in
+    let len = identifiers-2 .before in
+    let len-2 = len .before in
+    let loop = turn-3 .loop in
+    let theirs = identifiers .identifiers2 in
+    let mine = identifiers-2 .identifiers in
+    let m = len .len2 in
+    let n = len-2 .len in
     let places : length (mine .result) ≡ 8 = search needs in
     let no = sym (c .before .among .ensures) ∙ c .if1 .left in
-    rw (loop .inv, turn (mine .result) (meet (take (m .result) (theirs .result))) (n .result) (loop .i) 0 (omega arith) (c .before .before .loop-test .taken), no)
+    rw (loop .inv, turn (mine .result) (meet (take (m .result) (theirs .result))) (n .result) (loop .i) 0 (omega arith) (turn-2 .loop-test .taken), no)
 
 returns-2 : tie.Need-returns-2 Inv-loop μ-loop
 returns-2 c =
+    let identifiers = c .before .before in
+    let identifiers-2 = identifiers .before in
+    let len = identifiers-2 .before in
+    let len-2 = len .before in
+    let begun = len-2 .before in
     let loop = c .before .loop in
-    let theirs = c .before .before .identifiers2 in
-    let mine = c .before .before .before .identifiers in
-    let m = c .before .before .before .before .len2 in
-    let n = c .before .before .before .before .before .len in
-    let args = c .before .before .before .before .before .before .args in
+    let theirs = identifiers .identifiers2 in
+    let mine = identifiers-2 .identifiers in
+    let m = len .len2 in
+    let n = len-2 .len in
+    let args = begun .args in
     rw (← meet-keys (args .self) (args .other) (mine .result) (theirs .result) (n .result) (m .result) (mine .ensures) (theirs .ensures) (n .ensures .0) (m .ensures .0), loop .inv, stop (mine .result) (meet (take (m .result) (theirs .result))) (n .result) (loop .i) (c .loop-test .left))
 
 pub shares-spec : {M : Type 1} → statement M
