@@ -11,9 +11,10 @@ use Rattle.refusal.specs.declared.Refusal.{Refusal}
 use Rattle.cbor.specs.Answer.{Did, Wrote, emit}
 use Rattle.cbor.specs.declared.write.Written.{Written}
 use Rattle.cbor.specs.declared.write.Written.the-variants as wv
-use Rattle.cbor.specs.Encode.{encode}
+use Rattle.cbor.specs.Encode.{encode, shortest}
 use Rattle.cbor.specs.View.{Plain, number, minus, string, other}
-use Rattle.cbor.proofs.Writing.{seam, length-head, wrote-none, wrote-length, length-string, did-done, did-kept, did-never}
+use Rattle.cbor.specs.HeadLaws.{HeadLaws}
+use Rattle.cbor.specs.Writing.{seam, wrote-none, wrote-length, did-done, did-kept, did-never}
 use Rattle.cojp.specs.Bytes.{membersAt}
 use Rattle.cojp.proofs.Arrays.{members-none}
 use Rattle.cojp.specs.Lists.{Picked, nothing, picked, before, fitting, plainItem, written, listAnswer}
@@ -65,15 +66,15 @@ pub written-length : (a b : List Plain) → length (written (a ++ b)) ≡ length
 written-length a b = ap length (written-append a b) ∙ length-append (written a) (written b)
 
 -- each takes a byte at least
-one-byte : (p : Plain) → 1 ≤ length (encode (plainItem p))
-one-byte (number n) = omega (arith, length-head 0 n)
-one-byte (minus n) = omega (arith, length-head 1 n)
-one-byte (string s) = omega (arith, length-string 2 s)
-one-byte other = omega (arith, length-head 7 22)
+one-byte : HeadLaws → (p : Plain) → 1 ≤ length (encode (plainItem p))
+one-byte H (number n) = omega (arith, H .length-head 0 n)
+one-byte H (minus n) = omega (arith, H .length-head 1 n)
+one-byte H (string s) = omega (arith, H .length-head 2 (length s), length-append (shortest 2 (length s)) s)
+one-byte H other = omega (arith, H .length-head 7 22)
 
-pub written-long : (ps : List Plain) → length ps ≤ length (written ps)
-written-long [] = omega arith
-written-long (p ∷ ps) = omega (arith, one-byte p, written-long ps, length-append (encode (plainItem p)) (written ps))
+pub written-long : HeadLaws → (ps : List Plain) → length ps ≤ length (written ps)
+written-long H [] = omega arith
+written-long H (p ∷ ps) = omega (arith, one-byte H p, written-long H ps, length-append (encode (plainItem p)) (written ps))
 
 fitting-over : (n : ℕ) (a : List Plain) (q : Picked) → n < length (written a) → fitting n (before a q) ≡ nothing
 fitting-over n a nothing h = refl
@@ -135,8 +136,8 @@ module _ {f : List Plain → Picked} {s : List ℕ} {from count : ℕ} {d : List
       fits : length (written (g .so-far)) + length (written xs) ≤ length d
       fits = omega (arith, gathering-length, g .wrote .many, g .room)
 
-      pub gathering-count : members + length xs ≤ length d
-      gathering-count = omega (arith, fits, g .many, written-long (g .so-far), written-long xs)
+      pub gathering-count : HeadLaws → members + length xs ≤ length d
+      gathering-count H = omega (arith, fits, g .many, written-long H (g .so-far), written-long H xs)
 
       pub gathering-more : {k : ℕ} {p : List ℕ} → Wrote (written xs) (take (length d′ - len) (drop len d′)) k p
           → Gathering f s from count d next rest (len + k) (members + length xs) (take len d′ ++ (p ++ drop (length d′ - len) (drop len d′)))
@@ -176,10 +177,10 @@ module _ {f : List Plain → Picked} {s : List ℕ} {from count : ℕ} {d : List
     pub turn-more : Gathering f s from count d next rest (len + k) (members + length xs) (take len d′ ++ (q ++ drop (length d′ - len) (drop len d′)))
     turn-more = gathering-more (t .gathering) xs next rest (t .step) turn-room (did-fits (t .put) k y .1)
 
-    pub turn-count : (len + k ≤ length d) × (members + length xs ≤ length d)
-    turn-count =
+    pub turn-count : HeadLaws → (len + k ≤ length d) × (members + length xs ≤ length d)
+    turn-count H =
         let m = turn-more in
-        (omega (arith, m .wrote .many, m .room), gathering-count (t .gathering) xs next rest (t .step) turn-room)
+        (omega (arith, m .wrote .many, m .room), gathering-count (t .gathering) xs next rest (t .step) turn-room H)
 
 -- ---- what was gathered in 253 zeros is the list
 zeros-after : (k n : ℕ) → drop k (replicate {A = ℕ} n 0) ≡ replicate (n - k) 0

@@ -1,6 +1,6 @@
 -- Reports are read, written and gathered.
 use Prim.Native.Nat.{ℕ, _+_, _-_, _≤_, _<_}
-use mathlib.Core.Path.{_≡_, refl, ap, _∙_}
+use mathlib.Core.Path.{_≡_, refl, ap, sym, _∙_}
 use mathlib.Core.Bool.{Bool, true, false, cond}
 use mathlib.Core.List.{List, [], _∷_, _++_, append-assoc, append-nil}
 use mathlib.Core.Logic.{⊎-elim}
@@ -10,7 +10,7 @@ use types.Run.{OneOf}
 use denote.Enum.Declared.{tagOf}
 use Rattle.refusal.specs.declared.Refusal.{Refusal}
 use Rattle.refusal.specs.declared.Refusal.the-variants.{Room}
-use Rattle.cbor.specs.Answer.{Did, Wrote, emit, headPlan, skipAnswer}
+use Rattle.cbor.specs.Answer.{Did, Wrote, emit, headPlan}
 use Rattle.cbor.specs.Decode.{Outcome, refused, got, decode}
 use Rattle.cbor.specs.Encode.{encode, shortest, extraOf}
 use Rattle.cbor.specs.Item.{Item}
@@ -22,8 +22,9 @@ use Rattle.cbor.specs.declared.value.Value.the-variants as vv
 use Rattle.cbor.specs.declared.write.Written.{Written}
 use Rattle.cbor.specs.declared.write.Written.the-variants as wv
 use Rattle.cbor.proofs.value.Value as value
-use Rattle.cbor.proofs.Answers.{skip-refused, skip-next}
-use Rattle.cbor.proofs.Writing.{seam, wrote-as, wrote-length, did-emit, did-kept, did-room, head-did, length-head, short-head, extra-most}
+use Rattle.cbor.specs.HeadLaws.{HeadLaws}
+use Rattle.cbor.specs.Says.{SkipSays}
+use Rattle.cbor.specs.Writing.{seam, wrote-as, wrote-length, did-emit, did-kept, did-room, head-did}
 use Rattle.cojp.specs.Bytes.{membersAt}
 use Rattle.cojp.proofs.Arrays.{members-none, members-step, members-some}
 use Rattle.cojp.specs.Lists.{Picked, nothing, picked, plainItem, written, isInteger, integer, faultsIn, some}
@@ -34,6 +35,17 @@ use Rattle.cojp_list_read.specs.declared.report.Fault.{Fault}
 use Rattle.cojp_list_read.specs.declared.report.Fault.the-variants as fv
 use Rattle.cojp_list_read.specs.declared.report.Place.{Place}
 use Rattle.cojp_list_read.proofs.Gathering.{Gathering, Turn}
+
+-- ---- which outcome there was, by the answer to passing over an item
+refused-then : (s : List ℕ) (o : Outcome Item) (r : Skip) → SkipSays s o r → (j : Refusal) → r ≡ sv.Refused j → o ≡ refused j
+refused-then s (refused k) r e j g = let z : sv.Refused k ≡ sv.Refused j = sym (e .is) ∙ g in cc
+refused-then s (got i t) r e j g =
+    absurd (let f : sv.Next (length s - length t) ≡ sv.Refused j = sym (e .is) ∙ g in let z : _≡_ {A = ℕ} 0 1 = cc in omega arith)
+
+next-then : (s : List ℕ) (o : Outcome Item) (r : Skip) → SkipSays s o r → (p : ℕ) → r ≡ sv.Next p → (i : Item) × (o ≡ got i (drop p s))
+next-then s (refused k) r e p g =
+    absurd (let f : sv.Refused k ≡ sv.Next p = sym (e .is) ∙ g in let z : _≡_ {A = ℕ} 0 1 = cc in omega arith)
+next-then s (got i t) r e p g = let f : t ≡ drop p s = rw g at (e .end) in (i, ap (got i) f)
 
 -- ---- the returns of `integer_at` and `pass_over`
 module _ (s : List ℕ) (at n : ℕ) where
@@ -68,12 +80,12 @@ module _ (s : List ℕ) (at n : ℕ) where
         go vv.Other w o = none other (w .member) refl
         go (vv.Minus x p) w o = absurd (⊎-elim (λ e. omega arith) (λ o. ⊎-elim (λ e. omega arith) (λ e. omega arith) o) o)
 
-  module _ (h : 0 < n) (k : Skip) (e : k ≡ skipAnswer (length s) (decode 6 (drop at s))) where
+  module _ (h : 0 < n) (k : Skip) (e : SkipSays s (decode 6 (drop at s)) k) where
     pub any-refused : (j : Refusal) → k ≡ sv.Refused j → AnyAt s at n (record { next = at; left = 0 })
-    any-refused j g = (other, h, members-step n (drop at s) h ∙ rw (skip-refused s at 6 k e j g, members-none 0 (drop at s) refl))
+    any-refused j g = (other, h, members-step n (drop at s) h ∙ rw (refused-then s (decode 6 (drop at s)) k e j g, members-none 0 (drop at s) refl))
 
     pub any-next : (p : ℕ) → k ≡ sv.Next p → AnyAt s at n (record { next = p; left = n - 1 })
-    any-next p g = (plainAt (drop at s), omega arith, members-step n (drop at s) h ∙ rw (skip-next s at 6 k e p g .1))
+    any-next p g = (plainAt (drop at s), omega arith, members-step n (drop at s) h ∙ rw (next-then s (decode 6 (drop at s)) k e p g .1))
 
 -- ---- the returns of `after_code` and `fault_at`
 integer-is : (b : Bool) (x : ℕ) → isInteger (integer b x) ≡ true
@@ -136,61 +148,62 @@ major-most : (b : Bool) → cond b 1 0 ≤ 7
 major-most true = omega arith
 major-most false = omega arith
 
--- a head after what was written
-head-next : {p d d′ q : List ℕ} {n k : ℕ} {r : Written} (j x : ℕ) → length p + length (shortest j x) ≤ length d → j ≤ 7 → k ≡ extraOf x + 1
-    → Wrote p d n d′ → Did (headPlan j x) (take (length d′ - n) (drop n d′)) r q
-    → Wrote (p ++ shortest j x) d (n + k) (take n d′ ++ (q ++ drop (length d′ - n) (drop n d′)))
-head-next {p} {d} {d′} {q} {n} {k} {r} j x h m e w v =
-    let part = take (length d′ - n) (drop n d′) in
-    let room : length (shortest j x) ≤ length part =
-    simp (length-take, length-drop) (omega (arith, wrote-length w (omega arith), w .many)) in
-    seam h w (wrote-as k (omega (arith, length-head j x)) (did-kept (shortest j x) part r q room (head-did j x part r q m v)))
+module _ (H : HeadLaws) where
+  -- a head after what was written
+  head-next : {p d d′ q : List ℕ} {n k : ℕ} {r : Written} (j x : ℕ) → length p + length (shortest j x) ≤ length d → j ≤ 7 → k ≡ extraOf x + 1
+      → Wrote p d n d′ → Did (headPlan j x) (take (length d′ - n) (drop n d′)) r q
+      → Wrote (p ++ shortest j x) d (n + k) (take n d′ ++ (q ++ drop (length d′ - n) (drop n d′)))
+  head-next {p} {d} {d′} {q} {n} {k} {r} j x h m e w v =
+      let part = take (length d′ - n) (drop n d′) in
+      let room : length (shortest j x) ≤ length part =
+      simp (length-take, length-drop) (omega (arith, wrote-length w (omega arith), w .many)) in
+      seam h w (wrote-as k (omega (arith, H .length-head j x)) (did-kept (shortest j x) part r q room (head-did j x part r q m v)))
 
-module _ (b : Bool) (c : ℕ) (m : Bool) (l : ℕ) (d : List ℕ) {n k : ℕ} (e : n ≡ extraOf c + 1) (f : k ≡ extraOf l + 1) where
-  abbrev report : List Plain
-  report = integer b c ∷ integer m l ∷ other ∷ []
+  module _ (b : Bool) (c : ℕ) (m : Bool) (l : ℕ) (d : List ℕ) {n k : ℕ} (e : n ≡ extraOf c + 1) (f : k ≡ extraOf l + 1) where
+    abbrev report : List Plain
+    report = integer b c ∷ integer m l ∷ other ∷ []
 
-  report-bytes : written report ≡ (shortest (cond b 1 0) c ++ shortest (cond m 1 0) l) ++ shortest 7 22
-  report-bytes = rw (integer-bytes b c, integer-bytes m l, append-nil (shortest 7 22), append-assoc (shortest (cond b 1 0) c))
+    report-bytes : written report ≡ (shortest (cond b 1 0) c ++ shortest (cond m 1 0) l) ++ shortest 7 22
+    report-bytes = rw (integer-bytes b c, integer-bytes m l, append-nil (shortest 7 22), append-assoc (shortest (cond b 1 0) c))
 
-  pub heads-few : n + k ≤ 18
-  heads-few = omega (arith, extra-most c, extra-most l)
+    pub heads-few : n + k ≤ 18
+    heads-few = omega (arith, H .extra-most c, H .extra-most l)
 
-  report-length : length (written report) ≡ n + k + 1
-  report-length =
-      ap length report-bytes ∙ length-append (shortest (cond b 1 0) c ++ shortest (cond m 1 0) l) (shortest 7 22)
-      ∙ omega (arith, length-append (shortest (cond b 1 0) c) (shortest (cond m 1 0) l), length-head (cond b 1 0) c, length-head (cond m 1 0) l, short-head 7 22 (omega arith))
+    report-length : length (written report) ≡ n + k + 1
+    report-length =
+        ap length report-bytes ∙ length-append (shortest (cond b 1 0) c ++ shortest (cond m 1 0) l) (shortest 7 22)
+        ∙ omega (arith, length-append (shortest (cond b 1 0) c) (shortest (cond m 1 0) l), H .length-head (cond b 1 0) c, H .length-head (cond m 1 0) l, H .short-head 7 22 (omega arith))
 
-  pub report-room : length d < n + k + 1 → Did (emit (written report)) d (wv.Refused Room) d
-  report-room h = did-room (written report) d (omega (arith, report-length))
+    pub report-room : length d < n + k + 1 → Did (emit (written report)) d (wv.Refused Room) d
+    report-room h = did-room (written report) d (omega (arith, report-length))
 
-  module _ (h : n + k + 1 ≤ length d) (i j : ℕ) (x : i ≡ cond b 1 0) (y : j ≡ cond m 1 0)
-      {r₁ r₂ : Written} {d₁ q₂ : List ℕ} (w₁ : Did (headPlan i c) d r₁ d₁) (w₂ : Did (headPlan j l) (take (length d₁ - n) (drop n d₁)) r₂ q₂) where
-    abbrev d₂ : List ℕ
-    d₂ = take n d₁ ++ (q₂ ++ drop (length d₁ - n) (drop n d₁))
+    module _ (h : n + k + 1 ≤ length d) (i j : ℕ) (x : i ≡ cond b 1 0) (y : j ≡ cond m 1 0)
+        {r₁ r₂ : Written} {d₁ q₂ : List ℕ} (w₁ : Did (headPlan i c) d r₁ d₁) (w₂ : Did (headPlan j l) (take (length d₁ - n) (drop n d₁)) r₂ q₂) where
+      abbrev d₂ : List ℕ
+      d₂ = take n d₁ ++ (q₂ ++ drop (length d₁ - n) (drop n d₁))
 
-    first : Wrote (shortest (cond b 1 0) c) d n d₁
-    first =
-        let v : Did (headPlan (cond b 1 0) c) d r₁ d₁ = rw x at w₁ in
-        wrote-as n (omega (arith, length-head (cond b 1 0) c))
-        (did-kept (shortest (cond b 1 0) c) d r₁ d₁ (omega (arith, length-head (cond b 1 0) c)) (head-did (cond b 1 0) c d r₁ d₁ (major-most b) v))
+      first : Wrote (shortest (cond b 1 0) c) d n d₁
+      first =
+          let v : Did (headPlan (cond b 1 0) c) d r₁ d₁ = rw x at w₁ in
+          wrote-as n (omega (arith, H .length-head (cond b 1 0) c))
+          (did-kept (shortest (cond b 1 0) c) d r₁ d₁ (omega (arith, H .length-head (cond b 1 0) c)) (head-did (cond b 1 0) c d r₁ d₁ (major-most b) v))
 
-    second : Wrote (shortest (cond b 1 0) c ++ shortest (cond m 1 0) l) d (n + k) d₂
-    second =
-        let v : Did (headPlan (cond m 1 0) l) (take (length d₁ - n) (drop n d₁)) r₂ q₂ = rw y at w₂ in
-        head-next (cond m 1 0) l (omega (arith, length-head (cond b 1 0) c, length-head (cond m 1 0) l)) (major-most m) f first v
+      second : Wrote (shortest (cond b 1 0) c ++ shortest (cond m 1 0) l) d (n + k) d₂
+      second =
+          let v : Did (headPlan (cond m 1 0) l) (take (length d₁ - n) (drop n d₁)) r₂ q₂ = rw y at w₂ in
+          head-next (cond m 1 0) l (omega (arith, H .length-head (cond b 1 0) c, H .length-head (cond m 1 0) l)) (major-most m) f first v
 
-    pub report-done : {r₃ : Written} {q₃ : List ℕ} → Did (headPlan 7 22) (take (length d₂ - (n + k)) (drop (n + k) d₂)) r₃ q₃
-        → Did (emit (written report)) d (wv.Length (n + k + 1)) (take (n + k) d₂ ++ (q₃ ++ drop (length d₂ - (n + k)) (drop (n + k) d₂)))
-    report-done v =
-        did-emit (omega (arith, report-length))
-        (rw report-bytes
-        (head-next 7 22
-        (omega (arith, length-append (shortest (cond b 1 0) c) (shortest (cond m 1 0) l), length-head (cond b 1 0) c, length-head (cond m 1 0) l, short-head 7 22 (omega arith)))
-        (omega arith)
-        (omega (arith, length-head 7 22, short-head 7 22 (omega arith)))
-        second
-        v))
+      pub report-done : {r₃ : Written} {q₃ : List ℕ} → Did (headPlan 7 22) (take (length d₂ - (n + k)) (drop (n + k) d₂)) r₃ q₃
+          → Did (emit (written report)) d (wv.Length (n + k + 1)) (take (n + k) d₂ ++ (q₃ ++ drop (length d₂ - (n + k)) (drop (n + k) d₂)))
+      report-done v =
+          did-emit (omega (arith, report-length))
+          (rw report-bytes
+          (head-next 7 22
+          (omega (arith, length-append (shortest (cond b 1 0) c) (shortest (cond m 1 0) l), H .length-head (cond b 1 0) c, H .length-head (cond m 1 0) l, H .short-head 7 22 (omega arith)))
+          (omega arith)
+          (omega (arith, H .length-head 7 22, H .short-head 7 22 (omega arith)))
+          second
+          v))
 
 -- ---- gathering
 pub faults-none : faultsIn [] ≡ picked []

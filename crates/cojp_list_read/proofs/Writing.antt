@@ -11,7 +11,8 @@ use Rattle.cbor.specs.Answer.{Did, Wrote, emit, headPlan}
 use Rattle.cbor.specs.Encode.{shortest, extraOf}
 use Rattle.cbor.specs.declared.write.Written.{Written}
 use Rattle.cbor.specs.declared.write.Written.the-variants as wv
-use Rattle.cbor.proofs.Writing.{seam, wrote-as, wrote-length, did-emit, did-kept, did-room, did-refuse, head-did, length-head, extra-most}
+use Rattle.cbor.specs.HeadLaws.{HeadLaws}
+use Rattle.cbor.specs.Writing.{seam, wrote-as, wrote-length, did-emit, did-kept, did-room, did-refuse, head-did}
 use Rattle.cojp.specs.Lists.{bytesIn, listPlan}
 use Rattle.cojp.specs.declared.list.ItemList.{ItemList}
 
@@ -19,7 +20,7 @@ pub list-over : (l : ItemList) (d : List ℕ) → 253 < l .len → Did (listPlan
 unfolding listPlan
 list-over l d h = rw (lt-leb (l .len) 253 h) (did-refuse Range d)
 
-module _ (l : ItemList) (z : length (l .bytes) ≡ 253) (i : l .len ≤ 253) (d : List ℕ) {n : ℕ} (e : n ≡ extraOf (l .count) + 1) where
+module _ (H : HeadLaws) (l : ItemList) (z : length (l .bytes) ≡ 253) (i : l .len ≤ 253) (d : List ℕ) {n : ℕ} (e : n ≡ extraOf (l .count) + 1) where
   abbrev c : ℕ
   c = l .count
 
@@ -30,14 +31,14 @@ module _ (l : ItemList) (z : length (l .bytes) ≡ 253) (i : l .len ≤ 253) (d 
   many = length-take-le (l .len) (l .bytes) (omega arith)
 
   whole : length (shortest 4 c ++ b) ≡ n + l .len
-  whole = length-append (shortest 4 c) b ∙ omega (arith, length-head 4 c, many)
+  whole = length-append (shortest 4 c) b ∙ omega (arith, H .length-head 4 c, many)
 
   planned : {r : Written} {d′ : List ℕ} → Did (emit (shortest 4 c ++ b)) d r d′ → Did (listPlan l) d r d′
   unfolding listPlan
   planned w = rw (le-leb (l .len) 253 i) w
 
   pub list-head : n ≤ 9
-  list-head = omega (arith, extra-most c)
+  list-head = omega (arith, H .extra-most c)
 
   pub list-lacks : length d < n + l .len → Did (listPlan l) d (wv.Refused Room) d
   list-lacks h = planned (did-room (shortest 4 c ++ b) d (omega (arith, whole)))
@@ -45,11 +46,11 @@ module _ (l : ItemList) (z : length (l .bytes) ≡ 253) (i : l .len ≤ 253) (d 
   module _ (h : n + l .len ≤ length d) {r : Written} {d′ : List ℕ} (w : Did (headPlan 4 c) d r d′) where
     head-wrote : Wrote (shortest 4 c) d n d′
     head-wrote =
-        wrote-as n (omega (arith, length-head 4 c))
-        (did-kept (shortest 4 c) d r d′ (omega (arith, length-head 4 c)) (head-did 4 c d r d′ (omega arith) w))
+        wrote-as n (omega (arith, H .length-head 4 c))
+        (did-kept (shortest 4 c) d r d′ (omega (arith, H .length-head 4 c)) (head-did 4 c d r d′ (omega arith) w))
 
     head-kept : length d′ ≡ length d
-    head-kept = wrote-length head-wrote (omega (arith, length-head 4 c))
+    head-kept = wrote-length head-wrote (omega (arith, H .length-head 4 c))
 
     pub list-part : length b ≤ length (take (length d′ - n) (drop n d′))
     list-part = simp (length-take, length-drop) (omega (arith, head-kept, many))
@@ -59,4 +60,4 @@ module _ (l : ItemList) (z : length (l .bytes) ≡ 253) (i : l .len ≤ 253) (d 
     list-done q f =
         let g : Wrote b (take (length d′ - n) (drop n d′)) (l .len) q =
         record { many = sym many; holds = f ∙ rw (take-all (length b) b (omega arith)) } in
-        planned (did-emit (omega (arith, whole)) (seam (omega (arith, length-head 4 c, many)) head-wrote g))
+        planned (did-emit (omega (arith, whole)) (seam (omega (arith, H .length-head 4 c, many)) head-wrote g))

@@ -37,6 +37,7 @@ fn write_fault(
 ) -> Written
     ensures { λ r. ⌜ Did (emit (written (integer «code_negative» code ∷ integer «label_negative» label ∷ other ∷ []))) (now (dst .entry)) r (now (dst .exit)) ⌝ }
 {
+    cbor::head_laws();
     let n = head_len(code);
     let m = n + head_len(label);
     let whole = m + 1;
@@ -55,6 +56,7 @@ fn write_fault(
 fn gather_faults(s: &[u8], from: usize, count: u64, dst: &mut [u8]) -> Gathered
     ensures { λ r. ⌜ GatheredAs (faultsIn (membersAt count (drop from (now (s .entry))))) (now (dst .entry)) r (now (dst .exit)) ⌝ }
 {
+    cbor::head_laws();
     let mut at = from;
     let mut left = count;
     let mut len = 0;

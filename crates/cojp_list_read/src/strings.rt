@@ -19,6 +19,7 @@ ghost use Rattle.cojp_list_read.specs.Gathered.{GatheredAs};
 fn gather_strings(s: &[u8], from: usize, count: u64, dst: &mut [u8]) -> Gathered
     ensures { λ r. ⌜ GatheredAs (stringsIn (membersAt count (drop from (now (s .entry))))) (now (dst .entry)) r (now (dst .exit)) ⌝ }
 {
+    cbor::head_laws();
     let mut at = from;
     let mut left = count;
     let mut len = 0;

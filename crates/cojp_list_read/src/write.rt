@@ -11,6 +11,7 @@ ghost use Rattle.cojp.specs.Lists.{listPlan};
 pub fn write_list(dst: &mut [u8], l: ItemList) -> Written
     ensures { λ r. ⌜ Did (listPlan l) (now (dst .entry)) r (now (dst .exit)) ⌝ }
 {
+    cbor::head_laws();
     let count = l.count;
     let len = l.len;
     if 253 < len {

@@ -13,9 +13,12 @@ Inv-loop s from count dst₀ at₀ left₀ len₀ members₀ dst at left len mem
 abbrev μ-loop : tie.MeasureT-loop
 μ-loop s from count dst₀ at₀ left₀ len₀ members₀ dst at left len members = left
 
+head-laws-requires : tie.Need-head-laws-requires Inv-loop μ-loop
+head-laws-requires c κs = search needs
+
 loop-holds : tie.Need-loop-holds Inv-loop μ-loop
 loop-holds c =
-    let begun = c .before .before in
+    let begun = c .before .before .before in
     gathering-none faultsIn (begun .args .s .now) (begun .args .from) (begun .args .count) (begun .args .dst .now)
 
 fault-at-requires : tie.Need-fault-at-requires Inv-loop μ-loop
@@ -86,9 +89,9 @@ add-len c =
     let f = write-fault .before .before .before in
     let fault-at = f .before .before in
     let turn = fault-at .before .before in
-    let begun = turn .before .before .before in
+    let begun = turn .before .before .before .before in
     let put = faults-turn (turn .loop .inv) (fault-at .fault-at .result) (fault-at .fault-at .ensures) (f .f .given .1) (write-fault .write-fault .ensures) in
-    let counts = turn-count put (c .before .w .given .0 .0) (c .before .w .given .1) in
+    let counts = turn-count put (c .before .w .given .0 .0) (c .before .w .given .1) (turn .before .head-laws .ensures) in
     omega (arith, counts .0, begun)
 
 add-members : tie.Need-add-members Inv-loop μ-loop
@@ -97,9 +100,9 @@ add-members c =
     let f = write-fault .before .before .before in
     let fault-at = f .before .before in
     let turn = fault-at .before .before in
-    let begun = turn .before .before .before in
+    let begun = turn .before .before .before .before in
     let put = faults-turn (turn .loop .inv) (fault-at .fault-at .result) (fault-at .fault-at .ensures) (f .f .given .1) (write-fault .write-fault .ensures) in
-    let counts = turn-count put (c .before .w .given .0 .0) (c .before .w .given .1) in
+    let counts = turn-count put (c .before .w .given .0 .0) (c .before .w .given .1) (turn .before .head-laws .ensures) in
     omega (arith, counts .1, begun)
 
 loop-less : tie.Need-loop-less Inv-loop μ-loop
@@ -133,6 +136,7 @@ gather-faults-spec =
     (tie.spec
     Inv-loop
     μ-loop
+    head-laws-requires
     loop-holds
     fault-at-requires
     enum-told

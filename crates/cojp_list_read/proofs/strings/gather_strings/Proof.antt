@@ -16,9 +16,12 @@ Inv-loop s from count dst₀ at₀ left₀ len₀ members₀ dst at left len mem
 abbrev μ-loop : tie.MeasureT-loop
 μ-loop s from count dst₀ at₀ left₀ len₀ members₀ dst at left len members = left
 
+head-laws-requires : tie.Need-head-laws-requires Inv-loop μ-loop
+head-laws-requires c κs = search needs
+
 loop-holds : tie.Need-loop-holds Inv-loop μ-loop
 loop-holds c =
-    let begun = c .before .before in
+    let begun = c .before .before .before in
     gathering-none stringsIn (begun .args .s .now) (begun .args .from) (begun .args .count) (begun .args .dst .now)
 
 member-at-requires : tie.Need-member-at-requires Inv-loop μ-loop
@@ -97,9 +100,9 @@ add-len c =
     let size = m .m .given .0 .1 .0 in
     let member-at = m .before .before in
     let turn = member-at .before .before in
-    let begun = turn .before .before .before in
+    let begun = turn .before .before .before .before in
     let put = strings-turn (turn .loop .inv) (member-at .member-at .ensures) (m .m .given .1) ((start + size) - start) (omega arith) (write-bytes .write-bytes .ensures) in
-    let counts = turn-count put (c .before .w .given .0 .0) (c .before .w .given .1) in
+    let counts = turn-count put (c .before .w .given .0 .0) (c .before .w .given .1) (turn .before .head-laws .ensures) in
     omega (arith, counts .0, begun)
 
 sub-left : tie.Need-sub-left Inv-loop μ-loop
@@ -113,9 +116,9 @@ add-members c =
     let size = m .m .given .0 .1 .0 in
     let member-at = m .before .before in
     let turn = member-at .before .before in
-    let begun = turn .before .before .before in
+    let begun = turn .before .before .before .before in
     let put = strings-turn (turn .loop .inv) (member-at .member-at .ensures) (m .m .given .1) ((start + size) - start) (omega arith) (write-bytes .write-bytes .ensures) in
-    let counts = turn-count put (c .before .w .given .0 .0) (c .before .w .given .1) in
+    let counts = turn-count put (c .before .w .given .0 .0) (c .before .w .given .1) (turn .before .head-laws .ensures) in
     omega (arith, counts .1, begun)
 
 loop-less : tie.Need-loop-less Inv-loop μ-loop
@@ -159,6 +162,7 @@ gather-strings-spec =
     (tie.spec
     Inv-loop
     μ-loop
+    head-laws-requires
     loop-holds
     member-at-requires
     enum-known-m

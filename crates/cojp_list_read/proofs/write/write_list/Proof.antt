@@ -12,8 +12,11 @@ use Rattle.cojp_list_read.proofs.write.write_list.Tie as tie
 array-long : (begun : tie.Start) → length (begun .args .l .bytes) ≡ 253
 array-long begun = search needs
 
+head-laws-requires : tie.Need-head-laws-requires
+head-laws-requires c κs = search needs
+
 returns : tie.Need-returns
-returns c = let a = c .before .before .args in list-over (a .l) (a .dst .now) (c .if1 .taken)
+returns c = let a = c .before .before .before .args in list-over (a .l) (a .dst .now) (c .if1 .taken)
 
 head-len-requires : tie.Need-head-len-requires
 head-len-requires c κs = search needs
@@ -21,18 +24,18 @@ head-len-requires c κs = search needs
 add-whole : tie.Need-add-whole
 add-whole c =
     let asked = c .before .before in
-    let begun = asked .before .before in
+    let begun = asked .before .before .before in
     let a = begun .args in
     let z : length (a .l .bytes) ≡ 253 = array-long begun in
-    omega (arith, list-head (a .l) z (asked .if1 .left) (a .dst .now) (c .head-len .ensures), asked .if1 .left)
+    omega (arith, list-head (asked .before .head-laws .ensures) (a .l) z (asked .if1 .left) (a .dst .now) (c .head-len .ensures), asked .if1 .left)
 
 returns-2 : tie.Need-returns-2
 returns-2 c =
     let asked = c .before .before .before in
-    let begun = asked .before .before in
+    let begun = asked .before .before .before in
     let a = begun .args in
     let z : length (a .l .bytes) ≡ 253 = array-long begun in
-    list-lacks (a .l) z (asked .if1 .left) (a .dst .now) (c .before .head-len .ensures) (c .if2 .taken)
+    list-lacks (asked .before .head-laws .ensures) (a .l) z (asked .if1 .left) (a .dst .now) (c .before .head-len .ensures) (c .if2 .taken)
 
 write-head-requires : tie.Need-write-head-requires
 write-head-requires c κs = search needs
@@ -40,14 +43,14 @@ write-head-requires c κs = search needs
 array-share-prefix-held : tie.Need-array-share-prefix-held
 array-share-prefix-held c =
     let asked = c .before .before .before .before .before .before .before in
-    let begun = asked .before .before in
+    let begun = asked .before .before .before in
     let a = begun .args in
     let z : length (a .l .bytes) ≡ 253 = array-long begun in
     omega (arith, asked .if1 .left)
 
 slice-aggregate-copy : tie.Need-slice-aggregate-copy
 slice-aggregate-copy c =
-    let a = c .before .before .before .before .before .before .before .before .before .before .args in
+    let a = c .before .before .before .before .before .before .before .before .before .before .before .args in
     sym (length-take-le (a .l .len) (a .l .bytes) (array-share-prefix-held (c .before)))
 
 sub-copy : tie.Need-sub-copy
@@ -65,10 +68,10 @@ copy-requires c κs =
     let room = head .before .before in
     let size = room .before in
     let asked = size .before .before in
-    let begun = asked .before .before in
+    let begun = asked .before .before .before in
     let a = begun .args in
     let z : length (a .l .bytes) ≡ 253 = array-long begun in
-    list-part (a .l) z (asked .if1 .left) (a .dst .now) (size .head-len .ensures) (room .if2 .left) (head .write-head .ensures)
+    list-part (asked .before .head-laws .ensures) (a .l) z (asked .if1 .left) (a .dst .now) (size .head-len .ensures) (room .if2 .left) (head .write-head .ensures)
 
 same-length : tie.Need-same-length
 same-length c = search needs
@@ -80,16 +83,17 @@ returns-3 c =
     let room = head .before .before in
     let size = room .before in
     let asked = size .before .before in
-    let begun = asked .before .before in
+    let begun = asked .before .before .before in
     let a = begun .args in
     let z : length (a .l .bytes) ≡ 253 = array-long begun in
-    list-done (a .l) z (asked .if1 .left) (a .dst .now) (size .head-len .ensures) (room .if2 .left) (head .write-head .ensures) _
+    list-done (asked .before .head-laws .ensures) (a .l) z (asked .if1 .left) (a .dst .now) (size .head-len .ensures) (room .if2 .left) (head .write-head .ensures) _
     (copied .copy .ensures .1)
 
 pub write-list-spec : {M : Type 1} → statement M
 write-list-spec =
     tie.close
     (tie.spec
+    head-laws-requires
     returns
     head-len-requires
     add-whole
