@@ -29,14 +29,15 @@ use Rattle.network.proofs.Receiving.{none-apart}
 use Rattle.network.proofs.Places.{size-step}
 use Rattle.network.proofs.Line.{computing, apart, differ, of-link, unspentAt, unspentThrough, unspent-through}
 
-six : (P : ℕ → Type 0) → P 0 → P 1 → P 2 → P 3 → P 4 → P 5 → (i : ℕ) → i < 6 → P i
-six P a b c d e f zero l = a
-six P a b c d e f (suc zero) l = b
-six P a b c d e f (suc (suc zero)) l = c
-six P a b c d e f (suc (suc (suc zero))) l = d
-six P a b c d e f (suc (suc (suc (suc zero)))) l = e
-six P a b c d e f (suc (suc (suc (suc (suc zero))))) l = f
-six P a b c d e f (suc (suc (suc (suc (suc (suc i)))))) l = absurd (omega arith)
+seven : (P : ℕ → Type 0) → P 0 → P 1 → P 2 → P 3 → P 4 → P 5 → P 6 → (i : ℕ) → i < 7 → P i
+seven P a b c d e f g zero l = a
+seven P a b c d e f g (suc zero) l = b
+seven P a b c d e f g (suc (suc zero)) l = c
+seven P a b c d e f g (suc (suc (suc zero))) l = d
+seven P a b c d e f g (suc (suc (suc (suc zero)))) l = e
+seven P a b c d e f g (suc (suc (suc (suc (suc zero))))) l = f
+seven P a b c d e f g (suc (suc (suc (suc (suc (suc zero)))))) l = g
+seven P a b c d e f g (suc (suc (suc (suc (suc (suc (suc i))))))) l = absurd (omega arith)
 
 third-apart : Apart thirdKeys newKeys
 third-apart k l m m′ e =
@@ -56,33 +57,37 @@ supposed : SupposedSome awake building 0 newKeys 1
 unfolding computing
 supposed =
     record {
-      valid = six (λ i. Valid (nodeAt building i)) refl refl refl refl refl refl;
+      valid = seven (λ i. Valid (nodeAt building i)) refl refl refl refl refl refl refl;
       inside = lit< tt;
       is-border = refl;
       ordinary =
-          six (λ i. (i ≡ 0 → ⊥) → nodeAt building i .role ≡ 0) (λ f. absurd (f refl)) (λ _. refl) (λ _. refl) (λ _. refl) (λ _. refl) (λ _. refl);
+          seven (λ i. (i ≡ 0 → ⊥) → nodeAt building i .role ≡ 0) (λ f. absurd (f refl)) (λ _. refl) (λ _. refl) (λ _. refl) (λ _. refl)
+          (λ _. refl) (λ _. refl);
       covering = record { key = _; member = at refl; covering = refl };
       pending =
-          six (λ i. nodeAt building i .role ≡ 0 → awake i ≡ true → pendingOf (nodeAt building i) ≡ newKeys) (λ e. absurd (omega arith)) (λ _ _. refl)
-          (λ _ e. never false e refl) (λ _ _. refl) (λ _ e. never false e refl) (λ _ e. never false e refl);
+          seven (λ i. nodeAt building i .role ≡ 0 → awake i ≡ true → pendingOf (nodeAt building i) ≡ newKeys) (λ e. absurd (omega arith))
+          (λ _ _. refl) (λ _ e. never false e refl) (λ _ _. refl) (λ _ e. never false e refl) (λ _ e. never false e refl) (λ _ _. refl);
       lacking =
-          six (λ i. nodeAt building i .role ≡ 0 → awake i ≡ false → Lacks newKeys (nodeAt building i)) (λ e. absurd (omega arith))
+          seven (λ i. nodeAt building i .role ≡ 0 → awake i ≡ false → Lacks newKeys (nodeAt building i)) (λ e. absurd (omega arith))
           (λ _ e. never true refl e) (λ _ _. record { active = apart; pending = none-apart newKeys }) (λ _ e. never true refl e)
-          (λ _ _. record { active = apart; pending = third-apart }) (λ _ _. record { active = third-apart; pending = none-apart newKeys });
-      active-at-none = six (λ i. activeOf (nodeAt building i) ≡ newKeys → ⊥) differ differ differ differ differ third-differs;
+          (λ _ _. record { active = apart; pending = third-apart }) (λ _ _. record { active = third-apart; pending = none-apart newKeys })
+          (λ _ e. never true refl e);
+      active-at-none = seven (λ i. activeOf (nodeAt building i) ≡ newKeys → ⊥) differ differ differ differ differ third-differs differ;
       former-apart = apart;
     }
 
 -- ---- links, rounds and hops
 linked : AllLinked buildingLinks 1 around
-linked e (at q) = rw q (inr (past (past (at refl))), refl)
-linked e (past (at q)) = rw q (inl (past (past (at refl))), refl)
-linked e (past (past (at q))) = rw q (inr (past (at refl)), refl)
-linked e (past (past (past (at q)))) = rw q (inl (past (at refl)), refl)
-linked e (past (past (past (past (at q))))) = rw q (inr (at refl), refl)
-linked e (past (past (past (past (past (at q)))))) = rw q (inl (at refl), refl)
-linked e (past (past (past (past (past (past (at q))))))) = rw q (inr (past (past (past (at refl)))), refl)
-linked e (past (past (past (past (past (past (past (at q)))))))) = rw q (inl (past (past (past (at refl)))), refl)
+linked e (at q) = rw q (inr (past (past (past (past (at refl))))), refl)
+linked e (past (at q)) = rw q (inl (past (past (past (past (at refl))))), refl)
+linked e (past (past (at q))) = rw q (inr (past (past (at refl))), refl)
+linked e (past (past (past (at q)))) = rw q (inl (past (past (at refl))), refl)
+linked e (past (past (past (past (at q))))) = rw q (inr (past (at refl)), refl)
+linked e (past (past (past (past (past (at q)))))) = rw q (inl (past (at refl)), refl)
+linked e (past (past (past (past (past (past (at q))))))) = rw q (inr (at refl), refl)
+linked e (past (past (past (past (past (past (past (at q)))))))) = rw q (inl (at refl), refl)
+linked e (past (past (past (past (past (past (past (past (at q))))))))) = rw q (inr (past (past (past (at refl)))), refl)
+linked e (past (past (past (past (past (past (past (past (past (at q)))))))))) = rw q (inl (past (past (past (at refl)))), refl)
 
 abbrev There : ℕ → ℕ → Type 0
 There i j = List·Memᴰ (turning i j 1) around
@@ -91,14 +96,16 @@ abbrev Back : ℕ → ℕ → Type 0
 Back i j = There j i
 
 round : Round buildingLinks 1 around
-round i j (inl (at q)) = of-link There i j 0 1 q (past (past (past (past (past (at refl))))))
-round i j (inl (past (at q))) = of-link There i j 0 2 q (past (past (past (at refl))))
-round i j (inl (past (past (at q)))) = of-link There i j 2 3 q (past (at refl))
-round i j (inl (past (past (past (at q))))) = of-link There i j 4 5 q (past (past (past (past (past (past (past (at refl))))))))
-round i j (inr (at q)) = of-link Back j i 0 1 q (past (past (past (past (at refl)))))
-round i j (inr (past (at q))) = of-link Back j i 0 2 q (past (past (at refl)))
-round i j (inr (past (past (at q)))) = of-link Back j i 2 3 q (at refl)
-round i j (inr (past (past (past (at q))))) = of-link Back j i 4 5 q (past (past (past (past (past (past (at refl)))))))
+round i j (inl (at q)) = of-link There i j 0 1 q (past (past (past (past (past (past (past (at refl))))))))
+round i j (inl (past (at q))) = of-link There i j 0 2 q (past (past (past (past (past (at refl))))))
+round i j (inl (past (past (at q)))) = of-link There i j 2 3 q (past (past (past (at refl))))
+round i j (inl (past (past (past (at q))))) = of-link There i j 4 5 q (past (past (past (past (past (past (past (past (past (at refl))))))))))
+round i j (inl (past (past (past (past (at q)))))) = of-link There i j 1 6 q (past (at refl))
+round i j (inr (at q)) = of-link Back j i 0 1 q (past (past (past (past (past (past (at refl)))))))
+round i j (inr (past (at q))) = of-link Back j i 0 2 q (past (past (past (past (at refl)))))
+round i j (inr (past (past (at q)))) = of-link Back j i 2 3 q (past (past (at refl)))
+round i j (inr (past (past (past (at q))))) = of-link Back j i 4 5 q (past (past (past (past (past (past (past (past (at refl)))))))))
+round i j (inr (past (past (past (past (at q)))))) = of-link Back j i 1 6 q (at refl)
 
 linked-twice : AllLinked buildingLinks 1 aroundTwice
 linked-twice e m = ⊎-elim (linked e) (linked e) (List·Memᴰ·append-cases around m)
@@ -109,6 +116,9 @@ rounds = more around round (more around round none)
 near : Hops (Towards buildingLinks awake) 2 0 1
 near = hop (inl (at refl), refl) here
 
+far : Hops (Towards buildingLinks awake) 2 0 6
+far = hop (inl (at refl), refl) (hop (inl (past (past (past (past (at refl))))), refl) here)
+
 plain : Hops (Neighbours buildingLinks) 2 0 3
 plain = hop (inl (past (at refl))) (hop (inl (past (past (at refl)))) here)
 
@@ -118,10 +128,12 @@ from-two i j e (inl (at q)) = let b : j ≡ 1 = ap (λ (l : ℕ × ℕ). l .1) q
 from-two i j e (inl (past (at q))) = let b : j ≡ 2 = ap (λ (l : ℕ × ℕ). l .1) q in absurd (omega (arith, b, e))
 from-two i j e (inl (past (past (at q)))) = ap (λ (l : ℕ × ℕ). l .0) q
 from-two i j e (inl (past (past (past (at q))))) = let b : j ≡ 5 = ap (λ (l : ℕ × ℕ). l .1) q in absurd (omega (arith, b, e))
+from-two i j e (inl (past (past (past (past (at q)))))) = let b : j ≡ 6 = ap (λ (l : ℕ × ℕ). l .1) q in absurd (omega (arith, b, e))
 from-two i j e (inr (at q)) = let b : j ≡ 0 = ap (λ (l : ℕ × ℕ). l .0) q in absurd (omega (arith, b, e))
 from-two i j e (inr (past (at q))) = let b : j ≡ 0 = ap (λ (l : ℕ × ℕ). l .0) q in absurd (omega (arith, b, e))
 from-two i j e (inr (past (past (at q)))) = let b : j ≡ 2 = ap (λ (l : ℕ × ℕ). l .0) q in absurd (omega (arith, b, e))
 from-two i j e (inr (past (past (past (at q))))) = let b : j ≡ 4 = ap (λ (l : ℕ × ℕ). l .0) q in absurd (omega (arith, b, e))
+from-two i j e (inr (past (past (past (past (at q)))))) = let b : j ≡ 1 = ap (λ (l : ℕ × ℕ). l .0) q in absurd (omega (arith, b, e))
 
 asleep : (j : ℕ) → awake j ≡ true → j ≡ 2 → ⊥
 asleep j t p = let z : awake 2 ≡ true = subst (λ (k : ℕ). awake k ≡ true) p t in never false z refl
@@ -161,7 +173,7 @@ turns-come size net (e ∷ es) l t = (
 
 -- ---- what happens, computed
 before : Come building beforehand
-before = turns-come 6 building beforehand refl refl
+before = turns-come 7 building beforehand refl refl
 
 takes : Takes Update (nodeAt (run building beforehand) 0) 20000 Witness.payload newKeys
 unfolding computing
@@ -169,7 +181,7 @@ takes = record { accepted = refl; taken = refl; set = refl }
 
 after : Come takenIn aroundTwice
 unfolding computing
-after = turns-come 6 takenIn aroundTwice refl refl
+after = turns-come 7 takenIn aroundTwice refl refl
 
 unspent-before : Throughout (NoneUsedUp newKeys 1) building beforehand
 unfolding computing unspentAt unspentThrough
@@ -194,6 +206,8 @@ building-witness claim =
       linked = linked-twice;
       rounds = rounds;
       near = near;
+      far = far;
+      one-round = refl;
       plain = plain;
       behind = behind;
       waits = refl;
@@ -201,6 +215,7 @@ building-witness claim =
       none-sends = said .0;
       followed = followed;
       rekeyed = followed .reached 1 (lit< tt) near;
+      rekeyed-far = followed .reached 6 (lit< tt) far;
       lacked = followed .lacked 2 (lit< tt) refl refl refl;
       lacked-too = followed .lacked 5 (lit< tt) refl refl refl;
       counter-before = refl;

@@ -1,5 +1,6 @@
--- The claim with sleepers speaks of something. Node 0 is the border router, 1 hears it and had the new set. 2 hears it too and missed the
--- keys; 3, which had them, hears 2 alone. 4 and 5 lack the set and hear each other: 5 has a third set active, which 4 has pending.
+-- The claim with sleepers speaks of something. Node 0 is the border router, 1 hears it and had the new set, as did 6, which hears 1 alone.
+-- 2 hears the border router too and missed the keys; 3, which had them, hears 2 alone. 4 and 5 lack the set and hear each other: 5 has a
+-- third set active, which 4 has pending.
 use Prim.Native.Nat.{ℕ}
 use mathlib.Core.Path.{_≡_}
 use mathlib.Core.Bool.{Bool, not, _||_}
@@ -43,10 +44,11 @@ building =
     ∷ joined 0 (keySetOf newKeys)
     ∷ joined 0 (keySetOf thirdKeys)
     ∷ third
+    ∷ joined 0 (keySetOf newKeys)
     ∷ []
 
 abbrev pub buildingLinks : Links
-buildingLinks = (0, 1) ∷ (0, 2) ∷ (2, 3) ∷ (4, 5) ∷ []
+buildingLinks = (0, 1) ∷ (0, 2) ∷ (2, 3) ∷ (4, 5) ∷ (1, 6) ∷ []
 
 -- before: frames under the old set
 abbrev pub beforehand : List Event
@@ -55,10 +57,12 @@ beforehand = turning 0 1 1 ∷ turning 2 3 0 ∷ turning 4 0 1 ∷ []
 abbrev pub takenIn : Network
 takenIn = handed (run building beforehand) 0 Update 20000 payload
 
--- a round: each ordered pair of neighbours
+-- a round: each ordered pair of neighbours, the farther senders first
 abbrev pub around : List Event
 around =
-    turning 3 2 1
+    turning 6 1 1
+    ∷ turning 1 6 1
+    ∷ turning 3 2 1
     ∷ turning 2 3 1
     ∷ turning 2 0 1
     ∷ turning 0 2 1
@@ -84,17 +88,22 @@ pub record BuildingWitness : Type 0 where
   pub unspent-after : Throughout (NoneUsedUp newKeys 1) takenIn aroundTwice
   pub linked : AllLinked buildingLinks 1 aroundTwice
   pub rounds : Rounds buildingLinks 1 2 aroundTwice
+  -- 1 and 6 are within two of the claim's hops; 6 is at two, and after one round it waits still
   pub near : Hops (Towards buildingLinks awake) 2 0 1
+  pub far : Hops (Towards buildingLinks awake) 2 0 6
+  pub one-round : pendingOf (nodeAt (run takenIn around) 6) ≡ newKeys
   -- 3 is within two plain hops, but one leads over a sleeper: it is at no number of the claim's hops, and waits still after two rounds
   pub plain : Hops (Neighbours buildingLinks) 2 0 3
   pub behind : (h : ℕ) → Hops (Towards buildingLinks awake) h 0 3 → ⊥
   pub waits : pendingOf (nodeAt atEnd 3) ≡ newKeys
   -- 4 has switched to the third set, of which the claim says nothing
   pub switched : activeOf (nodeAt atEnd 4) ≡ thirdKeys
-  -- by the claim: nobody sends under the set beforehand, and what the lists leave; so 1 has followed, and the sleepers 2 and 5 have their sets
+  -- by the claim: nobody sends under the set beforehand, and what the lists leave; so 1 and 6 have followed, and the sleepers 2 and 5
+  -- have their sets
   pub none-sends : NoneSendsUnder newKeys building beforehand
   pub followed : Followed awake building 0 newKeys 1 buildingLinks 2 atEnd
   pub rekeyed : Rekeyed newKeys 1 (nodeAt atEnd 1)
+  pub rekeyed-far : Rekeyed newKeys 1 (nodeAt atEnd 6)
   pub lacked : activeOf (nodeAt atEnd 2) ≡ oldKeys
   pub lacked-too : activeOf (nodeAt atEnd 5) ≡ thirdKeys
   -- the sleeper's set is that of the start, its counter is not
