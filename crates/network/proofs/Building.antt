@@ -24,9 +24,11 @@ use Rattle.network.specs.Demand3.{NoneUsedUp}
 use Rattle.network.specs.Sleepers.{Lacks, SupposedSome, PassesWhile, SomeLack}
 use Rattle.network.specs.Witness
 use Rattle.network.specs.Witness.{newKeys}
-use Rattle.network.specs.Building.{thirdKeys, awake, building, buildingLinks, beforehand, takenIn, around, aroundTwice, BuildingWitness}
+use Rattle.network.specs.Building.{thirdKeys, awake, building, buildingLinks, beforehand, takenIn, around, aroundTwice}
+use Rattle.network.specs.Building.{BuildingWitness}
 use Rattle.network.proofs.Receiving.{none-apart}
 use Rattle.network.proofs.Places.{size-step}
+use Rattle.network.proofs.Rekey.{where-all-had}
 use Rattle.network.proofs.Line.{computing, apart, differ, of-link, unspentAt, unspentThrough, unspent-through}
 
 seven : (P : ℕ → Type 0) → P 0 → P 1 → P 2 → P 3 → P 4 → P 5 → P 6 → (i : ℕ) → i < 7 → P i
@@ -99,7 +101,8 @@ round : Round buildingLinks 1 around
 round i j (inl (at q)) = of-link There i j 0 1 q (past (past (past (past (past (past (past (at refl))))))))
 round i j (inl (past (at q))) = of-link There i j 0 2 q (past (past (past (past (past (at refl))))))
 round i j (inl (past (past (at q)))) = of-link There i j 2 3 q (past (past (past (at refl))))
-round i j (inl (past (past (past (at q))))) = of-link There i j 4 5 q (past (past (past (past (past (past (past (past (past (at refl))))))))))
+round i j (inl (past (past (past (at q))))) =
+    of-link There i j 4 5 q (past (past (past (past (past (past (past (past (past (at refl))))))))))
 round i j (inl (past (past (past (past (at q)))))) = of-link There i j 1 6 q (past (at refl))
 round i j (inr (at q)) = of-link Back j i 0 1 q (past (past (past (past (past (past (at refl)))))))
 round i j (inr (past (at q))) = of-link Back j i 0 2 q (past (past (past (past (at refl)))))
@@ -195,7 +198,8 @@ pub building-witness : SomeLack → BuildingWitness
 unfolding PassesWhile computing
 building-witness claim =
     let said = claim awake building 0 newKeys 1 supposed beforehand before in
-    let followed = said .1 unspent-before Update 20000 Witness.payload takes buildingLinks 2 aroundTwice after linked-twice rounds unspent-after in
+    let then = said .1 unspent-before Update 20000 Witness.payload takes in
+    let followed = then buildingLinks 2 aroundTwice after linked-twice rounds unspent-after in
     record {
       supposed = supposed;
       before = before;
@@ -220,4 +224,5 @@ building-witness claim =
       lacked-too = followed .lacked 5 (lit< tt) refl refl refl;
       counter-before = refl;
       counter-after = refl;
+      where-all-had = where-all-had;
     }

@@ -22,7 +22,7 @@ use Rattle.network.specs.Network.{Network, nodeAt}
 use Rattle.network.specs.Events.{Event, turning, run, Come, Throughout}
 use Rattle.network.specs.Rounds.{Links, Neighbours, Towards, Hops, AllLinked, Rounds}
 use Rattle.network.specs.Demand3.{NoneUsedUp, NoneSendsUnder, Rekeyed, handed}
-use Rattle.network.specs.Sleepers.{SupposedSome, Followed}
+use Rattle.network.specs.Sleepers.{SupposedSome, Followed, WhereAllHad}
 use Rattle.network.specs.Witness.{oldKeys, newKeys, joined, payload}
 
 abbrev pub thirdKeys : List Key
@@ -109,3 +109,5 @@ pub record BuildingWitness : Type 0 where
   -- the sleeper's set is that of the start, its counter is not
   pub counter-before : sendCounter (nodeAt building 2) 1 ≡ 0
   pub counter-after : sendCounter (nodeAt atEnd 2) 1 ≡ 5
+  -- and where nobody sleeps, the claim supposes and counts what demand 3 does
+  pub where-all-had : WhereAllHad
