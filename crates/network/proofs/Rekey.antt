@@ -26,7 +26,7 @@ use Rattle.network.specs.Network.{Network, nodeAt}
 use Rattle.network.specs.Events.{Event, turning, calling, step, run, Comes, Come, Throughout, answers, Under}
 use Rattle.network.specs.Rounds.{Links, Neighbours, Towards, Hops, here, hop, AllLinked, Rounds}
 use Rattle.network.specs.Demand3.{Supposed, NoneUsedUp, NoneSendsUnder, Rekeyed, handed, Demand3}
-use Rattle.network.specs.Sleepers.{OneLeft, SupposedSome, Followed, PassesWhile, SomeLack}
+use Rattle.network.specs.Sleepers.{OneLeft, SupposedSome, Followed, PassesWhile, SomeLack, all, WhereAllHad}
 use Rattle.network.proofs.Receiving.{apart, old, new, Quiet, Carries, IsNew, Is, none-apart, kind-valid, quiet-sends}
 use Rattle.network.proofs.Flood.{Kinds, with, flows, far}
 use Rattle.network.proofs.Places.{All, at-other, Are, are-with, size-with, size-run, throughout-map, at-end, run-role, step-quiet, run-quiet, run-flows}
@@ -190,12 +190,13 @@ module _ (L : NodeLaws) where
       )
 
 -- ---- where every ordinary node had the set
-abbrev all : ℕ → Bool
-all i = true
-
 hops-all : (links : Links) {h i k : ℕ} → Hops (Neighbours links) h i k → Hops (Towards links all) h i k
 hops-all links here = here
 hops-all links (hop n rest) = hop (n, refl) (hops-all links rest)
+
+hops-back : (links : Links) {h i k : ℕ} → Hops (Towards links all) h i k → Hops (Neighbours links) h i k
+hops-back links here = here
+hops-back links (hop n rest) = hop (n .0) (hops-back links rest)
 
 supposed-all : {net : Network} {border : ℕ} {ks : List Key} {type : ℕ} → Supposed net border ks type → SupposedSome all net border ks type
 supposed-all g = record {
@@ -209,6 +210,21 @@ supposed-all g = record {
   active-at-none = g .active-at-none;
   former-apart = g .former-apart;
 }
+
+supposed-back : {net : Network} {border : ℕ} {ks : List Key} {type : ℕ} → SupposedSome all net border ks type → Supposed net border ks type
+supposed-back g = record {
+  valid = g .valid;
+  inside = g .inside;
+  is-border = g .is-border;
+  ordinary = g .ordinary;
+  covering = g .covering;
+  pending = λ i l o. g .pending i l o refl;
+  active-at-none = g .active-at-none;
+  former-apart = g .former-apart;
+}
+
+pub where-all-had : WhereAllHad
+where-all-had = record { supposed = supposed-all; supposed-back = supposed-back; hops = hops-all; hops-back = hops-back }
 
 pub demand3 : SomeLack → Demand3
 unfolding Demand3 PassesWhile

@@ -1,5 +1,5 @@
 -- Buildings where some unit missed the keys (document 02, request 14): demand 3 where only some of the ordinary nodes had the new set at
--- the start. Beside each clause stand the words that it is for. Demand 3 itself is the case where all had it.
+-- the start. Beside each clause stand the words that it is for. Demand 3 itself is the case where all had it (`WhereAllHad`).
 use Prim.Native.Nat.{ℕ, _<_}
 use mathlib.Core.Path.{_≡_}
 use mathlib.Core.Bool.{Bool, true, false}
@@ -14,8 +14,8 @@ use Rattle.node_delivery.specs.declared.Delivery.{Delivery}
 use Rattle.node.specs.declared.node.Node.{Node}
 use Rattle.network.specs.Network.{Network, nodeAt}
 use Rattle.network.specs.Events.{Event, run, Come, Throughout}
-use Rattle.network.specs.Rounds.{Links, Towards, Hops, AllLinked, Rounds}
-use Rattle.network.specs.Demand3.{NoneUsedUp, NoneSendsUnder, Rekeyed, handed}
+use Rattle.network.specs.Rounds.{Links, Neighbours, Towards, Hops, AllLinked, Rounds}
+use Rattle.network.specs.Demand3.{Supposed, NoneUsedUp, NoneSendsUnder, Rekeyed, handed}
 
 -- a node that shares no identifier with the set
 pub record Lacks (new : List Key) (n : Node) : Type 0 where
@@ -70,3 +70,18 @@ PassesWhile Unused =
 -- the claim, with 02's premise on counters
 abbrev pub SomeLack : Type 0
 SomeLack = PassesWhile NoneUsedUp
+
+-- ---- demand 3 is the case where all had the set
+abbrev pub all : ℕ → Bool
+all i = true
+
+-- the same is supposed, and the same hops count
+pub record WhereAllHad : Type 0 where
+  pub supposed :
+      {net : Network} {border : ℕ} {new : List Key} {type : ℕ} → Supposed net border new type →
+      SupposedSome all net border new type
+  pub supposed-back :
+      {net : Network} {border : ℕ} {new : List Key} {type : ℕ} → SupposedSome all net border new type →
+      Supposed net border new type
+  pub hops : (links : Links) {h i k : ℕ} → Hops (Neighbours links) h i k → Hops (Towards links all) h i k
+  pub hops-back : (links : Links) {h i k : ℕ} → Hops (Towards links all) h i k → Hops (Neighbours links) h i k
