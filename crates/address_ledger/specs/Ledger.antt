@@ -1,4 +1,4 @@
--- The calls of a ledger: what each answers, and the ledger and the lent memory afterwards. RANGE and ROOM come first in every call.
+-- The calls of a ledger: what each answers, and the ledger and the lent memory afterwards. RANGE comes first, and ROOM next where memory is lent.
 use Prim.Native.Nat.{ℕ, _+_, _-_}
 use mathlib.Core.Bool.{cond}
 use mathlib.Core.List.{List}

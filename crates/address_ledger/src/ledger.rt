@@ -36,7 +36,7 @@ pub struct Ledger {
 }
 
 impl Ledger {
-    // Opens a ledger over the memory as it is: its marks stand.
+    // Opens a ledger over the memory as it is: who holds an address there still does, and the count and the summary are made of it.
     pub fn open(first: usize, size: usize, memory: &[u8]) -> Opened
         ensures { λ r. ⌜ r ≡ opened first size (now (memory .entry)) ⌝ }
     {
@@ -66,7 +66,7 @@ impl Ledger {
         }
     }
 
-    // Grants the lowest free address to the board; a board that holds one gets the same again.
+    // Grants the lowest free address, as the summary leads to it, to the board; a board that holds one gets the same again.
     pub fn grant(self, memory: &mut [u8], board: [u8; 8]) -> Answered
         ensures { λ r. ⌜ outcome (r .answer) (r .ledger) (now (memory .exit)) ≡ granted self (now (memory .entry)) board ⌝ }
     {

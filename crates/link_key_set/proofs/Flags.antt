@@ -3,7 +3,7 @@ use Prim.Native.Nat.{ℕ, zero, suc, _+_, _-_, _*_, _/_, _%_, _^_, _<_, _≤_}
 use native.Mathlib.Omega.{arith}
 use mathlib.Core.Path.{_≡_, refl, ap, sym, _∙_}
 use mathlib.Core.Bool.{Bool, true, false, not, cond, _&&_, _||_, or-false, or-true}
-use mathlib.Core.List.{List, [], _∷_, _++_}
+use mathlib.Core.List.{List, [], _∷_, _++_, append-assoc, append-nil}
 use native.Mathlib.Nat.{one-mul, zero-div, div-self, div-eq-of-lt}
 use native.Mathlib.Numerals.{add-one}
 use borrow.Author.Tests.{eqb-true, eqb-false, eq-eqb, ne-eqb, ltb-true, ltb-false, leb-true, not-true}
@@ -17,7 +17,7 @@ use Rattle.link_key_usage.specs.Usage.{listed}
 use Rattle.link_key.specs.Key.{validKey}
 use Rattle.link_key.specs.declared.Key.{Key}
 use Rattle.link_key_set.specs.KeySet.{has, eachOnce}
-use Rattle.link_key_set.specs.Seen.{flagged, flag, joins, noted, Exactly, OneMore}
+use Rattle.link_key_set.specs.Seen.{flagged, flag, joins, noted, allJoin, Exactly, OneMore}
 use Rattle.link_key_set.proofs.KeySets.{has-append, once-more, not-once}
 
 -- ---- the bits of a word
@@ -158,6 +158,22 @@ module _ (seen : List ℕ) (k : Key) where
               once-more ks k ok (both-left (validKey k) new both) (not-true (has (k .identifier) ks) (both-right (validKey k) new both));
           bad = λ out js. not-once ks k js (sym told ∙ out);
         }
+
+-- ---- a whole set, after the keys js
+told-after : (js ks : List Key) (seen : List ℕ) → Exactly seen js → eachOnce js ≡ true → allJoin seen ks ≡ eachOnce (js ++ ks)
+told-after js [] seen e ok = rw (append-nil js) (sym ok)
+told-after js (k ∷ ks) seen e ok = go (joins seen k) refl (λ s x y. told-after (js ++ (k ∷ [])) ks s x y)
+  where
+    go : (b : Bool) → joins seen k ≡ b
+        → ((s : List ℕ) → Exactly s (js ++ (k ∷ [])) → eachOnce (js ++ (k ∷ [])) ≡ true → allJoin s ks ≡ eachOnce ((js ++ (k ∷ [])) ++ ks))
+        → (joins seen k && allJoin (noted seen k) ks) ≡ eachOnce (js ++ (k ∷ ks))
+    go true h again =
+        let m = one-more seen k js e true (noted seen k) (sym h) refl in
+        rw h (again (noted seen k) (m .next refl) (m .good refl ok) ∙ ap eachOnce (append-assoc js (k ∷ []) ks))
+    go false h again = rw h (sym (one-more seen k js e false (noted seen k) (sym h) refl .bad refl ks))
+
+pub all-told : (ks : List Key) → allJoin (replicate 8 0) ks ≡ eachOnce ks
+all-told ks = told-after [] ks (replicate 8 0) exactly-none refl
 
 -- ---- the loop over a set: exactly the flags of the keys before the place are set, and those keys are as they must be
 pub record Judging (ks : List Key) (i : ℕ) (seen : List ℕ) : Type 0 where

@@ -6,7 +6,7 @@ use mathlib.Core.Bool.{Bool, true, false, not, cond, _&&_}
 use mathlib.Core.List.{List, [], _∷_, _++_}
 use lib.Bits.{bitOr}
 use lib.Dec.{eqb}
-use lib.ListN.{length, getD, set}
+use lib.ListN.{length, getD, set, replicate}
 use Rattle.link_key.specs.Key.{validKey}
 use Rattle.link_key.specs.declared.Key.{Key}
 use Rattle.link_key_set.specs.KeySet.{has, eachOnce}
@@ -27,6 +27,11 @@ joins seen k = (validKey k && not (flagged seen (k .identifier)))
 unfoldable pub noted : List ℕ → Key → List ℕ
 noted seen k = cond (validKey k) (flag seen (k .identifier)) seen
 
+-- keys one after the other: whether each joins, with the flags of those before it
+abbrev pub allJoin : List ℕ → List Key → Bool
+allJoin seen [] = true
+allJoin seen (k ∷ ks) = (joins seen k && allJoin (noted seen k) ks)
+
 -- exactly the flags of these keys are set
 pub record Exactly (seen : List ℕ) (ks : List Key) : Type 0 where
   pub words : length seen ≡ 8
@@ -36,7 +41,7 @@ pub record Exactly (seen : List ℕ) (ks : List Key) : Type 0 where
 pub record OneMore (ks : List Key) (k : Key) (joined : Bool) (after : List ℕ) : Type 0 where
   -- a key in its limits is one of the keys so far from now on
   pub exact : Exactly after (cond (validKey k) (ks ++ (k ∷ [])) ks)
-  -- it joins them if no key so far has its identifier
+  -- it joins them if it is in its limits and no key so far has its identifier
   pub told : joined ≡ (validKey k && not (has (k .identifier) ks))
   pub next : joined ≡ true → Exactly after (ks ++ (k ∷ []))
   -- then they are as a set's keys must be, if they were before; if not, no keys after it can make them so
@@ -45,3 +50,8 @@ pub record OneMore (ks : List Key) (k : Key) (joined : Bool) (after : List ℕ) 
 
 abbrev pub WithOneMore : List ℕ → Key → Bool → List ℕ → Type 0
 WithOneMore seen k joined after = (ks : List Key) → Exactly seen ks → OneMore ks k joined after
+
+-- over a whole set, from clear flags: each key joins exactly where all are in their limits and no identifier comes twice
+pub record SeenLaws : Type 0 where
+  pub clear : Exactly (replicate 8 0) []
+  pub told : (ks : List Key) → allJoin (replicate 8 0) ks ≡ eachOnce ks

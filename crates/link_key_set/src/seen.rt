@@ -2,14 +2,21 @@
 use link_key::Key;
 ghost use mathlib.Core.Path.{_≡_};
 ghost use mathlib.Core.List.{[]};
-ghost use Rattle.link_key_set.specs.Seen.{joins, noted, Exactly, WithOneMore};
+ghost use lib.ListN.{replicate};
+ghost use Rattle.link_key_set.specs.Seen.{joins, noted, Exactly, WithOneMore, SeenLaws};
 
 // The flags at the start of a set: none is set.
 pub fn none_seen() -> [u32; 8]
-    ensures { λ r. ⌜ Exactly r [] ⌝ }
+    ensures clear { λ r. ⌜ r ≡ replicate 8 0 ⌝ }
+    ensures none { λ r. ⌜ Exactly r [] ⌝ }
 {
     [0u32; 8]
 }
+
+// Asked key by key from clear flags, a set is told by its flags alone.
+pub fn flags_tell()
+    ensures { λ r. ⌜ SeenLaws ⌝ }
+{}
 
 // One key more of a set: whether it is in its limits and its flag was clear. A key in its limits sets its flag.
 pub fn join(seen: &mut [u32; 8], key: Key) -> bool

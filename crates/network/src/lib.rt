@@ -48,7 +48,7 @@ pub fn rekey_of_a_line()
     rekey_reaches_all();
 }
 
-// The claim with sleepers is not empty: in a building of six nodes one sleeps before another that waits, and one has another set pending.
+// The claim with sleepers is not empty: in a building of seven nodes one sleeps before another that waits, and one has another set pending.
 pub fn rekey_of_a_building()
     ensures { λ r. ⌜ BuildingWitness ⌝ }
 {

@@ -31,7 +31,7 @@ loop-holds : tie.Need-loop-holds Inv-loop μ-loop
 loop-holds c =
     let start = c .before .before .before in
     let a = start .args in
-    gathering-none (a .s .now) (a .from) (a .count) _ (c .none-seen .result) (start .pre) (rw (c .before .no-key .ensures)) (c .none-seen .ensures)
+    gathering-none (a .s .now) (a .from) (a .count) _ (c .none-seen .result) (start .pre) (rw (c .before .no-key .ensures)) (c .none-seen .ensures .1)
 
 sub-part : tie.Need-sub-part Inv-loop μ-loop
 sub-part c = omega (arith, c .before .loop .inv .inside)

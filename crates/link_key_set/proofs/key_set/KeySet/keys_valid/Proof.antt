@@ -22,7 +22,7 @@ none-seen-requires : tie.Need-none-seen-requires Inv-loop μ-loop
 none-seen-requires c κs = search needs
 
 loop-holds : tie.Need-loop-holds Inv-loop μ-loop
-loop-holds c = record { exact = c .none-seen .ensures; good = refl }
+loop-holds c = record { exact = c .none-seen .ensures .1; good = refl }
 
 mul-key : tie.Need-mul-key Inv-loop μ-loop
 mul-key c = search needs
