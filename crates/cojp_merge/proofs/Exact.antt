@@ -8,7 +8,7 @@ use lib.Dec.{leb, eqb}
 use lib.ListN.{length, replicate}
 use lib.Seq.{take-at}
 use Rattle.cbor.specs.Decode.{heading}
-use Rattle.cbor.specs.View.{Plain, number, string, other, View, plain, list}
+use Rattle.cbor.specs.View.{Plain, number, minus, string, other, View, plain, list}
 use Rattle.short_address.specs.Address.{isAddress}
 use Rattle.link_key.specs.Key.{noKey}
 use Rattle.link_key_set.specs.KeySet.{keysOf, validKeys}
@@ -77,11 +77,13 @@ address-in : (ps : List Plain) → Gives AddressTold (addressConcluded (addressI
 unfolding addressIn leased
 address-in [] = tt
 address-in (number n ∷ r) = tt
+address-in (minus n ∷ r) = tt
 address-in (other ∷ r) = tt
 address-in (string s ∷ []) = address-by (isAddress s) s false 0 refl
 address-in (string s ∷ number n ∷ []) = address-by (isAddress s) s true n refl
 address-in (string s ∷ number n ∷ p ∷ r) = tt
 address-in (string s ∷ string t ∷ r) = tt
+address-in (string s ∷ minus n ∷ r) = tt
 address-in (string s ∷ other ∷ r) = tt
 
 address-told : (v : View) → Gives AddressTold (addressRead v)
@@ -96,6 +98,7 @@ octets-told least (plain (string s)) = by-length (leb least (length s) && leb (l
     by-length true = ap octetsOf (sym (take-at s (replicate (16 - length s) 0) (length s) refl))
     by-length false = refl
 octets-told least (plain (number n)) = tt
+octets-told least (plain (minus n)) = tt
 octets-told least (plain other) = tt
 octets-told least (list ps) = tt
 
