@@ -19,7 +19,9 @@ fresh (suc (suc zero)) h = eqb-false 7 1 refl
 fresh (suc (suc (suc k))) h = absurd (omega arith)
 
 pub played : Shift
-unfolding placeAt places same isFree heldBy lowest has countFree sought marked withMark marksOf anew freeBy soughtBy hold freed inLimits judged counted isAddress bytesOf openedBy opened granting grantedBy granted givingBack givenBackBy givenBack freeCount listed addressOf enter strike afterAsk afterGive step run after wholeBoards
+unfolding placeAt places same isFree heldBy lowest has countFree sought marked withMark marksOf anew freeBy soughtBy
+    hold freed inLimits judged counted isAddress bytesOf openedBy opened granting grantedBy granted givingBack givenBackBy
+    givenBack freeCount listed addressOf enter strike afterAsk afterGive step run after wholeBoards
 played =
     record {
       begins = record { accepted = refl; fresh = fresh; boards = refl };

@@ -16,7 +16,8 @@ use Rattle.byte_lists.specs.Same.{same-equal}
 use Rattle.logic_facts.specs.Tests.{both-left, both-right}
 use Rattle.cojp.specs.Bytes.{membersAt}
 use Rattle.cojp.specs.Octets.{padded}
-use Rattle.cojp.specs.Lists.{Picked, nothing, picked, before, fitting, plainItem, itemsOf, written, isInteger, stringsIn, faultsIn, some, inArray, listOf, listAnswer, bytesIn, sameAs, kept, itemsIn, pickedItems}
+use Rattle.cojp.specs.Lists.{Picked, nothing, picked, before, fitting, plainItem, itemsOf, written, isInteger, stringsIn, faultsIn, some}
+use Rattle.cojp.specs.Lists.{inArray, listOf, listAnswer, bytesIn, sameAs, kept, itemsIn, pickedItems}
 use Rattle.cojp.specs.declared.list.ItemList.{ItemList}
 
 -- ---- members as items, and back
@@ -62,7 +63,8 @@ faults-again (p ∷ []) ps e = never ps e
 faults-again (p ∷ q ∷ []) ps e = never ps e
 faults-again (p ∷ q ∷ x ∷ r) ps e = go (λ qs g. faults-again r qs g) (isInteger p && isInteger q) refl e
   where
-    go : ((qs : List Plain) → faultsIn r ≡ picked qs → faultsIn qs ≡ picked qs) → (b : Bool) → (isInteger p && isInteger q) ≡ b → cond b (before (p ∷ q ∷ other ∷ []) (faultsIn r)) nothing ≡ picked ps → faultsIn ps ≡ picked ps
+    go : ((qs : List Plain) → faultsIn r ≡ picked qs → faultsIn qs ≡ picked qs) → (b : Bool) → (isInteger p && isInteger q) ≡ b
+        → cond b (before (p ∷ q ∷ other ∷ []) (faultsIn r)) nothing ≡ picked ps → faultsIn ps ≡ picked ps
     go h false f e = never ps e
     go h true f e = again-before faultsIn (p ∷ q ∷ other ∷ []) (faultsIn r) ps (λ qs g. rw (f, h qs g)) e
 
@@ -96,7 +98,8 @@ pub record Parts (f : List Plain → Picked) (l : ItemList) : Type 0 where
 pub kept-parts : (f : List Plain → Picked) (l : ItemList) → kept f l ≡ true → Parts f l
 unfolding kept sameAs padded
 kept-parts f l e =
-    go (f (membersAt (l .count) (bytesIn l))) refl (both-right (leb (l .len) 253) (sameAs (listAnswer (fitting 253 (f (membersAt (l .count) (bytesIn l))))) l) e)
+    go (f (membersAt (l .count) (bytesIn l))) refl
+    (both-right (leb (l .len) 253) (sameAs (listAnswer (fitting 253 (f (membersAt (l .count) (bytesIn l))))) l) e)
   where
     by : (ps : List Plain) → f (membersAt (l .count) (bytesIn l)) ≡ picked ps → (b : Bool) → leb (length (written ps)) 253 ≡ b
         → sameAs (listAnswer (cond b (picked ps) nothing)) l ≡ true → Parts f l
@@ -125,7 +128,8 @@ module _ (f : List Plain → Picked) (l : ItemList) (p : Parts f l) where
 
   pub list-back : Again f → listAnswer (fitting 253 (inArray f (viewOf (array (itemsIn f l))))) ≡ record { good = true; value = listOf (p .members) }
   list-back a =
-      rw (items-are, plains-back (p .members), a (membersAt (l .count) (bytesIn l)) (p .members) (p .picks), le-leb (length (written (p .members))) 253 (p .small))
+      rw
+      (items-are, plains-back (p .members), a (membersAt (l .count) (bytesIn l)) (p .members) (p .picks), le-leb (length (written (p .members))) 253 (p .small))
 
   pub list-same : (listOf (p .members) .count ≡ l .count) × (bytesIn (listOf (p .members)) ≡ bytesIn l)
   unfolding padded

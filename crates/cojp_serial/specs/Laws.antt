@@ -11,7 +11,8 @@ use Rattle.refusal.specs.declared.Verdict.the-variants.{Accepted, Refused}
 use Rattle.cojp.specs.Configuration.{emptyConfiguration}
 use Rattle.cojp.specs.Request.{emptyRequest}
 use Rattle.cojp_serial.specs.Arrival.{overran, endMarked}
-use Rattle.cojp_serial.specs.Calls.{Reader, SerialCall, resetting, sending, ending, Told, begun, part, joinRequest, update, Held, wholeRead, told, left, leftBy, answers, sent, joined, sendings, verdictIn, takenIn}
+use Rattle.cojp_serial.specs.Calls.{Reader, SerialCall, resetting, sending, ending, Told, begun, part, joinRequest, update, Held}
+use Rattle.cojp_serial.specs.Calls.{wholeRead, told, left, leftBy, answers, sent, joined, sendings, verdictIn, takenIn}
 use Rattle.cojp_serial.specs.declared.arrival.Arrival.{Arrival}
 
 -- ---- cut anywhere, with empty parts too, after a reset, whatever stood before: the end answers as one whole reading does, LONG included

@@ -8,14 +8,14 @@ use mathlib.Core.Option.{none, some}
 use borrow.Author.Tests.{leb-true, eqb-true, eqb-false, eq-eqb, ne-eqb, le-leb, lt-leb, not-true}
 use lib.Dec.{leb, eqb}
 use lib.ListN.{length, length-take}
-use Rattle.link_key.specs.Key.{validKey, sameKey, covers}
+use Rattle.link_key.specs.Key.{validKey, sameKey}
 use Rattle.link_key_set.specs.KeySet.{keysOf, noKeys, named, has, validKeys, validSet, allValid, noneTwice, eachOnce, sameKeys, shares, Apart}
-use Rattle.link_key_set.specs.KeySet.{Covers, firstCover, findKey}
+use Rattle.link_key_set.specs.KeySet.{findKey}
 use Rattle.link_key.specs.declared.Key.{Key}
 use Rattle.link_key_set.specs.declared.key_set.KeySet.{KeySet}
 use Rattle.logic_facts.specs.Tests.{both-left, both-right, never}
 use Rattle.link_key.proofs.Same.{same-self, same-equal}
-use Rattle.link_key_set.proofs.Lists.{any-one, any-none, any-never, any-append, all-each, all-append, first-is, first-none, none-first, first-finds}
+use Rattle.link_key_set.proofs.Lists.{any-none, any-never, any-append, all-each, all-append, first-is, first-none, none-first}
 use Rattle.link_key.proofs.Keys.{same-key-self, same-key-equal}
 
 -- ---- equal sets
@@ -106,12 +106,6 @@ not-once ks k js e = go (validKey k) refl (has (k .identifier) ks) refl
     go true p false q = never true refl (rw (p, q) at e)
 
 -- ---- searches
-pub cover-found : (type : ℕ) (ks : List Key) (k : Key) → firstCover type ks ≡ some k → List·Memᴰ k ks × (covers k type ≡ true)
-cover-found type ks k e = first-is (λ (l : Key). covers l type) ks k e
-
-pub cover-finds : (type : ℕ) (ks : List Key) → Covers ks type → (k : Key) × (firstCover type ks ≡ some k)
-cover-finds type ks h = first-finds (λ (l : Key). covers l type) ks (any-one (λ (l : Key). covers l type) (h .member) (h .covering))
-
 pub find-found : (identifier : ℕ) (ks : List Key) (k : Key) → findKey identifier ks ≡ some k → List·Memᴰ k ks × (k .identifier ≡ identifier)
 find-found identifier ks k e =
     let both = first-is (named identifier) ks k e in

@@ -7,8 +7,8 @@ use mathlib.Core.Option.{Option, none, some}
 use lib.ListN.{length}
 use Rattle.link_key_usage.specs.Usage.{listed, knownType, usageOf, entryAt, entrySays}
 use Rattle.link_key.specs.Key.{validKey, sameKey, covers, coverageOf, coverageSays, foundKey}
-use Rattle.link_key_set.specs.KeySet.{keysOf, noKeys, has, validKeys, validSet, noneTwice, allValid, sameKeys, shares, Apart, Covers}
-use Rattle.link_key_set.specs.KeySet.{firstCover, findKey}
+use Rattle.link_key_set.specs.KeySet.{keysOf, noKeys, has, validKeys, validSet, noneTwice, allValid, sameKeys, shares, Apart}
+use Rattle.link_key_set.specs.KeySet.{findKey}
 use Rattle.link_key.specs.declared.Key.{Key}
 use Rattle.link_key_set.specs.declared.key_set.KeySet.{KeySet}
 use Rattle.link_key_usage.specs.declared.Coverage.the-variants.{Covered}
@@ -41,8 +41,6 @@ pub record KeyLaws : Type 0 where
   -- searches
   pub found-some : (o : Option Key) → foundKey o .found ≡ true → o ≡ some (foundKey o .key)
   pub found-none : (o : Option Key) → foundKey o .found ≡ false → o ≡ none
-  pub cover-found : (type : ℕ) (ks : List Key) (k : Key) → firstCover type ks ≡ some k → List·Memᴰ k ks × (covers k type ≡ true)
-  pub cover-finds : (type : ℕ) (ks : List Key) → Covers ks type → (k : Key) × (firstCover type ks ≡ some k)
   pub find-found :
       (identifier : ℕ) (ks : List Key) (k : Key) → findKey identifier ks ≡ some k → List·Memᴰ k ks × (k .identifier ≡ identifier)
   pub find-own : (ks : List Key) (k : Key) → List·Memᴰ k ks → noneTwice ks ≡ true → findKey (k .identifier) ks ≡ some k

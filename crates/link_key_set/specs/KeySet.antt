@@ -69,9 +69,6 @@ pub record Covers (ks : List Key) (type : ℕ) : Type 0 where
   pub member : List·Memᴰ key ks
   pub covering : covers key type ≡ true
 
--- the first key that covers the frame type, and the first with the identifier
-abbrev pub firstCover : ℕ → List Key → Option Key
-firstCover type ks = firstOf (λ (k : Key). covers k type) ks
-
+-- the first key with the identifier
 abbrev pub findKey : ℕ → List Key → Option Key
 findKey identifier ks = firstOf (named identifier) ks

@@ -11,7 +11,7 @@ ghost use lib.Dec.{eqb};
 ghost use mathlib.Core.List.{map};
 ghost use lib.ListN.{length, take, drop};
 ghost use Rattle.link_key_set.specs.Lists.{anyOf};
-ghost use Rattle.link_key_set.specs.KeySet.{keysOf, identifierOf, noKeys, has, eachOnce, validSet, sameKeys, shares, findKey, firstCover};
+ghost use Rattle.link_key_set.specs.KeySet.{keysOf, identifierOf, noKeys, has, eachOnce, validSet, sameKeys, shares, findKey};
 ghost use Rattle.link_key.specs.Key.{foundKey};
 
 pub struct KeySet {
@@ -172,23 +172,6 @@ impl KeySet {
         while i < n {
             let key = keys[i];
             if key.identifier == identifier {
-                return FoundKey { found: true, key };
-            }
-            i += 1;
-        }
-        not_found()
-    }
-
-    // The first key that covers the frame type.
-    pub fn first_cover(self, frame_type: u8) -> FoundKey
-        ensures { λ r. ⌜ r ≡ foundKey (firstCover «frame_type» (keysOf self)) ⌝ }
-    {
-        let n = self.len();
-        let keys = self.keys;
-        let mut i: usize = 0;
-        while i < n {
-            let key = keys[i];
-            if key.covers(frame_type) {
                 return FoundKey { found: true, key };
             }
             i += 1;

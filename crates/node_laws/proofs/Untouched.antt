@@ -27,7 +27,8 @@ use Rattle.node.specs.Timing.{startPlan, startedFrom, startedBy, start, startAf
 use Rattle.node.specs.Frames as frames
 use Rattle.node.specs.Frames.{unsent, sentBy, send, sendCounter, afterSend, receive, reported, reportedBy, verified}
 use Rattle.node.specs.Lease.{holds, holdingVerdict}
-use Rattle.node_laws.specs.Calls.{NodeCall, starting, polling, delivering, asking, sending, receiving, reporting, nothing, written, reports, key, counted, dueObject, holdingObject, changeObject, perform, Untouched, Demand1}
+use Rattle.node_laws.specs.Calls.{NodeCall, starting, polling, delivering, asking, sending, receiving, reporting, nothing, written}
+use Rattle.node_laws.specs.Calls.{reports, key, counted, dueObject, holdingObject, changeObject, perform, Untouched, Demand1}
 use Rattle.node.specs.declared.frames.Reported.{Reported}
 use Rattle.node.specs.declared.frames.Sent.{Sent}
 use Rattle.node.specs.declared.lease.Holding.{Holding}

@@ -6,7 +6,8 @@ use mathlib.Core.List.{List, [], _∷_, map}
 use lib.ListN.{getD}
 use Rattle.refusal.specs.Refusal.{numberOf, nameOf}
 use Rattle.refusal.specs.declared.Refusal.{Refusal}
-use Rattle.refusal.specs.declared.Refusal.the-variants.{Cut, Form, Deep, Extra, «Type», Twice, Keys, Role, Owed, Clash, Clock, Room, Range, Silent, Long, Phase, Full, Unknown, Loose, Seal, Spent, Stale}
+use Rattle.refusal.specs.declared.Refusal.the-variants.{Cut, Form, Deep, Extra, «Type», Twice, Keys, Role, Owed, Clash, Clock, Room}
+use Rattle.refusal.specs.declared.Refusal.the-variants.{Range, Silent, Long, Phase, Full, Unknown, Loose, Seal, Spent, Stale}
 
 abbrev every : List Refusal
 every = Cut ∷ Form ∷ Deep ∷ Extra ∷ «Type» ∷ Twice ∷ Keys ∷ Role ∷ Owed ∷ Clash ∷ Clock ∷ Room ∷ Range ∷ Silent ∷ Long ∷ Phase ∷ Full ∷ Unknown ∷ Loose ∷ Seal ∷ Spent ∷ Stale ∷ []

@@ -5,7 +5,8 @@ use mathlib.Core.Bool.{Bool, cond}
 use mathlib.Core.List.{List, [], _∷_}
 use Rattle.refusal.specs.Refusal.{numberOf}
 use Rattle.refusal.specs.declared.Refusal.{Refusal}
-use Rattle.refusal.specs.declared.Refusal.the-variants.{Cut, Form, Deep, Extra, «Type», Twice, Keys, Role, Owed, Clash, Clock, Room, Range, Silent, Long, Phase, Full, Unknown, Loose, Seal, Spent, Stale}
+use Rattle.refusal.specs.declared.Refusal.the-variants.{Cut, Form, Deep, Extra, «Type», Twice, Keys, Role, Owed, Clash, Clock, Room}
+use Rattle.refusal.specs.declared.Refusal.the-variants.{Range, Silent, Long, Phase, Full, Unknown, Loose, Seal, Spent, Stale}
 
 -- the number of a test that refuses, 0 of one that does not
 abbrev pub refusedIf : Bool → ℕ → ℕ

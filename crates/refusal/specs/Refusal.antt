@@ -3,7 +3,8 @@ use Prim.Native.Nat.{ℕ, zero, suc, _-_, _≤_}
 use mathlib.Core.List.{List, [], _∷_, _++_}
 use lib.ListN.{length}
 use Rattle.refusal.specs.declared.Refusal.{Refusal}
-use Rattle.refusal.specs.declared.Refusal.the-variants.{Cut, Form, Deep, Extra, «Type», Twice, Keys, Role, Owed, Clash, Clock, Room, Range, Silent, Long, Phase, Full, Unknown, Loose, Seal, Spent, Stale}
+use Rattle.refusal.specs.declared.Refusal.the-variants.{Cut, Form, Deep, Extra, «Type», Twice, Keys, Role, Owed, Clash, Clock, Room}
+use Rattle.refusal.specs.declared.Refusal.the-variants.{Range, Silent, Long, Phase, Full, Unknown, Loose, Seal, Spent, Stale}
 
 -- the number, 1 to 22
 abbrev pub numberOf : Refusal → ℕ

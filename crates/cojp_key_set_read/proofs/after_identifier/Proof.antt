@@ -45,8 +45,12 @@ returns c =
     let begun = member-at .before .before in
     let a = begun .args in
     let m = member-at .member-at in
-    let g = second .second .given in
-    (group-used (a .part .now) (a .left) (m .result) (a .at) (a .identifier) (m .ensures) (g .0 .0) (g .0 .1 .0) (g .1) (c .after-usage .result) (c .after-usage .ensures .0), rest-on (a .part .now) (a .at) (a .left) (g .0 .1 .0) (a .left - 1) (c .after-usage .result) (number-after (a .part .now) (a .at) (a .left) (m .result) (m .ensures) (g .0 .0) (g .0 .1 .0) (g .1)) (c .after-usage .ensures .1))
+    let g = second .second .given in (
+      group-used (a .part .now) (a .left) (m .result) (a .at) (a .identifier) (m .ensures) (g .0 .0) (g .0 .1 .0) (g .1)
+          (c .after-usage .result) (c .after-usage .ensures .0),
+      rest-on (a .part .now) (a .at) (a .left) (g .0 .1 .0) (a .left - 1) (c .after-usage .result)
+          (number-after (a .part .now) (a .at) (a .left) (m .result) (m .ensures) (g .0 .0) (g .0 .1 .0) (g .1)) (c .after-usage .ensures .1),
+    )
 
 returns-2 : tie.Need-returns-2
 returns-2 c =
@@ -54,8 +58,10 @@ returns-2 c =
     let begun = member-at .before .before in
     let a = begun .args in
     let m = member-at .member-at in
-    let g = c .before .second2 .given in
-    (group-pair (a .part .now) (a .left) (m .result) (a .at) (a .identifier) (m .ensures) (g .0 .0) (g .0 .1 .0) (g .1), bytes-after (a .part .now) (a .at) (a .left) (m .result) (m .ensures) (g .0 .0) (g .0 .1 .0) (g .1))
+    let g = c .before .second2 .given in (
+      group-pair (a .part .now) (a .left) (m .result) (a .at) (a .identifier) (m .ensures) (g .0 .0) (g .0 .1 .0) (g .1),
+      bytes-after (a .part .now) (a .at) (a .left) (m .result) (m .ensures) (g .0 .0) (g .0 .1 .0) (g .1),
+    )
 
 returns-3 : tie.Need-returns-3
 returns-3 c =

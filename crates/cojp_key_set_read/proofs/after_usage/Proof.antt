@@ -25,8 +25,10 @@ returns c =
     let begun = member-at .before .before in
     let a = begun .args in
     let m = member-at .member-at in
-    let g = c .before .third .given in
-    (group-triple (a .part .now) (a .left) (m .result) (a .at) (a .identifier) (m .ensures) (a .usage) (g .0 .0) (g .0 .1 .0) (g .1), bytes-after (a .part .now) (a .at) (a .left) (m .result) (m .ensures) (g .0 .0) (g .0 .1 .0) (g .1))
+    let g = c .before .third .given in (
+      group-triple (a .part .now) (a .left) (m .result) (a .at) (a .identifier) (m .ensures) (a .usage) (g .0 .0) (g .0 .1 .0) (g .1),
+      bytes-after (a .part .now) (a .at) (a .left) (m .result) (m .ensures) (g .0 .0) (g .0 .1 .0) (g .1),
+    )
 
 returns-2 : tie.Need-returns-2
 returns-2 c =

@@ -10,7 +10,8 @@ use Rattle.logic_facts.specs.Tests.{both-left, both-right, is-true, is-false}
 use Rattle.link_key_set.specs.declared.key_set.KeySet.{KeySet}
 use Rattle.cojp_key_set_read.specs.Groups.{storable}
 use Rattle.cojp.proofs.Nexts.{keys-settled, accepting-on}
-use Rattle.cojp_key_set_read.proofs.KeySets.{Gathering, gathering-none, gathering-done, gathering-end, gathering-broken, group-within, group-inside, gathering-stored, gathering-nine}
+use Rattle.cojp_key_set_read.proofs.KeySets.{Gathering, gathering-none, gathering-done, gathering-end, gathering-broken}
+use Rattle.cojp_key_set_read.proofs.KeySets.{group-within, group-inside, gathering-stored, gathering-nine}
 use borrow.Author.Needs.{needs}
 use Rattle.cojp_key_set_read.proofs.gather_keys.Statement.{statement}
 use Rattle.cojp_key_set_read.proofs.gather_keys.Tie as tie
@@ -31,7 +32,8 @@ loop-holds : tie.Need-loop-holds Inv-loop μ-loop
 loop-holds c =
     let start = c .before .before .before in
     let a = start .args in
-    gathering-none (a .s .now) (a .from) (a .count) _ (c .none-seen .result) (start .pre) (rw (c .before .no-key .ensures)) (c .none-seen .ensures .1)
+    gathering-none (a .s .now) (a .from) (a .count) _ (c .none-seen .result) (start .pre) (rw (c .before .no-key .ensures))
+    (c .none-seen .ensures .1)
 
 sub-part : tie.Need-sub-part Inv-loop μ-loop
 sub-part c = omega (arith, c .before .loop .inv .inside)
@@ -60,7 +62,9 @@ returns c =
     let l = turn .loop in
     let k : KeySet = record { count = l .n; keys = l .keys } in
     let r = read-group .read-group in
-    let broken = gathering-broken (a .s .now) (a .from) (a .count) (l .at) (l .remaining) k (l .seen) (l .inv) (r .result) (r .ensures .0) (c .before .enum-told .given .1) _ refl in
+    let broken =
+    gathering-broken (a .s .now) (a .from) (a .count) (l .at) (l .remaining) k (l .seen) (l .inv) (r .result) (r .ensures .0)
+    (c .before .enum-told .given .1) _ refl in
     (keys-settled (c .refused-keys .result) _ _ (c .refused-keys .ensures) _ broken, rw (c .refused-keys .ensures) tt)
 
 enum-known-g : tie.Need-enum-known-g Inv-loop μ-loop
@@ -124,7 +128,9 @@ add-at c =
     let k : KeySet = record { count = l .n; keys = l .keys } in
     let r = read-group .read-group in
     let g = g-2 .g .given in
-    let inside = group-inside (a .s .now) (a .from) (a .count) (l .at) (l .remaining) k (l .seen) (l .inv) (r .result) (r .ensures .0) (g .0 .0) (g .0 .1 .0) (g .0 .1 .1 .0) (g .0 .1 .1 .1 .0) (g .0 .1 .1 .1 .1 .0) (g .1) in
+    let inside =
+    group-inside (a .s .now) (a .from) (a .count) (l .at) (l .remaining) k (l .seen) (l .inv) (r .result) (r .ensures .0) (g .0 .0)
+    (g .0 .1 .0) (g .0 .1 .1 .0) (g .0 .1 .1 .1 .0) (g .0 .1 .1 .1 .1 .0) (g .1) in
     omega (arith, inside .0, start .good)
 
 add-at-2 : tie.Need-add-at-2 Inv-loop μ-loop
@@ -138,7 +144,9 @@ add-at-2 c =
     let k : KeySet = record { count = l .n; keys = l .keys } in
     let r = read-group .read-group in
     let g = g-2 .g .given in
-    let inside = group-inside (a .s .now) (a .from) (a .count) (l .at) (l .remaining) k (l .seen) (l .inv) (r .result) (r .ensures .0) (g .0 .0) (g .0 .1 .0) (g .0 .1 .1 .0) (g .0 .1 .1 .1 .0) (g .0 .1 .1 .1 .1 .0) (g .1) in
+    let inside =
+    group-inside (a .s .now) (a .from) (a .count) (l .at) (l .remaining) k (l .seen) (l .inv) (r .result) (r .ensures .0) (g .0 .0)
+    (g .0 .1 .0) (g .0 .1 .1 .0) (g .0 .1 .1 .1 .0) (g .0 .1 .1 .1 .1 .0) (g .1) in
     omega (arith, inside .0, start .good)
 
 loop-less : tie.Need-loop-less Inv-loop μ-loop
@@ -152,7 +160,9 @@ loop-less c =
     let k : KeySet = record { count = l .n; keys = l .keys } in
     let r = read-group .read-group in
     let g = g-2 .g .given in
-    let inside = group-inside (a .s .now) (a .from) (a .count) (l .at) (l .remaining) k (l .seen) (l .inv) (r .result) (r .ensures .0) (g .0 .0) (g .0 .1 .0) (g .0 .1 .1 .0) (g .0 .1 .1 .1 .0) (g .0 .1 .1 .1 .1 .0) (g .1) in
+    let inside =
+    group-inside (a .s .now) (a .from) (a .count) (l .at) (l .remaining) k (l .seen) (l .inv) (r .result) (r .ensures .0) (g .0 .0)
+    (g .0 .1 .0) (g .0 .1 .1 .0) (g .0 .1 .1 .1 .0) (g .0 .1 .1 .1 .1 .0) (g .1) in
     inside .1
 
 loop-again : tie.Need-loop-again Inv-loop μ-loop
@@ -171,7 +181,8 @@ loop-again c =
     ⊎-elim
     (λ w.
     rw (w .4, w .5, w .6)
-    (gathering-stored (a .s .now) (a .from) (a .count) (l .at) (l .remaining) k (l .seen) (l .inv) (r .result) (r .ensures .0) (g .0 .0) (g .0 .1 .0) (g .0 .1 .1 .0) (g .0 .1 .1 .1 .0) (g .0 .1 .1 .1 .1 .0) (g .1) (r .ensures .1)
+    (gathering-stored (a .s .now) (a .from) (a .count) (l .at) (l .remaining) k (l .seen) (l .inv) (r .result) (r .ensures .0) (g .0 .0)
+    (g .0 .1 .0) (g .0 .1 .1 .0) (g .0 .1 .1 .1 .0) (g .0 .1 .1 .1 .1 .0) (g .1) (r .ensures .1)
     (ltb-true (l .n) 8 (both-left (ltb (l .n) 8) storing (is-true told (w .0 .taken))))
     (w .1 .result) (w .1 .ensures) (w .3 .last .0) (w .3 .ensures .1) (w .3 .result) (w .3 .ensures .0)))
     (λ w. rw (w .1, w .2, w .3) (gathering-nine (a .s .now) (a .from) (a .count) (l .at) (l .remaining) k (l .seen) (l .inv) (r .result) (r .ensures .0) (g .0 .0) (g .0 .1 .0) (g .0 .1 .1 .0) (g .0 .1 .1 .1 .0) (g .0 .1 .1 .1 .1 .0) (g .1) (r .ensures .1) (is-false told (w .0 .left))))
@@ -190,7 +201,9 @@ returns-2 c =
     let none : l .remaining ≤ 0 = omega (arith, c .before .loop-test .left) in
     let done = gathering-done (a .s .now) (a .from) (a .count) (l .at) (l .remaining) k (l .seen) (l .inv) none _ refl in (
       keys-settled (c .close-set .result) _ _ (c .close-set .ensures .0) _ done,
-      accepting-on (c .close-set .result .verdict) (λ e. rw e (gathering-end (a .s .now) (a .from) (a .count) (l .at) (l .remaining) k (l .seen) (l .inv) none)) (c .close-set .ensures .1),
+      accepting-on (c .close-set .result .verdict)
+          (λ e. rw e (gathering-end (a .s .now) (a .from) (a .count) (l .at) (l .remaining) k (l .seen) (l .inv) none))
+          (c .close-set .ensures .1),
     )
 
 pub gather-keys-spec : {M : Type 1} → statement M

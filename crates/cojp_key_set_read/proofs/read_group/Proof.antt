@@ -30,8 +30,12 @@ returns c =
     let begun = member-at .before .before in
     let a = begun .args in
     let m = member-at .member-at in
-    let g = first .first .given in
-    (group-begun (a .part .now) (a .left) (m .result) (begun .pre) (m .ensures) (g .0 .0) (g .0 .1 .0) (g .1) (c .after-identifier .result) (c .after-identifier .ensures .0), rest-on (a .part .now) 0 (a .left) (g .0 .1 .0) (a .left - 1) (c .after-identifier .result) (number-after (a .part .now) 0 (a .left) (m .result) (m .ensures) (g .0 .0) (g .0 .1 .0) (g .1)) (c .after-identifier .ensures .1))
+    let g = first .first .given in (
+      group-begun (a .part .now) (a .left) (m .result) (begun .pre) (m .ensures) (g .0 .0) (g .0 .1 .0) (g .1) (c .after-identifier .result)
+          (c .after-identifier .ensures .0),
+      rest-on (a .part .now) 0 (a .left) (g .0 .1 .0) (a .left - 1) (c .after-identifier .result)
+          (number-after (a .part .now) 0 (a .left) (m .result) (m .ensures) (g .0 .0) (g .0 .1 .0) (g .1)) (c .after-identifier .ensures .1),
+    )
 
 returns-2 : tie.Need-returns-2
 returns-2 c =

@@ -30,16 +30,23 @@ returns c =
     let begun = value-at .before .before in
     let a = begun .args in
     let v = value-at .value-at in
-    let g = v-2 .v .given in
-    (keys-settled (c .gather-keys .result) _ _ (c .gather-keys .ensures .0) _ (keys-array (a .s .now) (a .at) (v .result) (v .ensures) _ (g .0 .0) (g .0 .1 .0) (g .1) refl), accepting-on (c .gather-keys .result .verdict) (λ e. e ∙ sym (array-after (a .s .now) (a .at) (v .result) (v .ensures) (g .0 .0) (g .0 .1 .0) (g .1))) (c .gather-keys .ensures .1))
+    let g = v-2 .v .given in (
+      keys-settled (c .gather-keys .result) _ _ (c .gather-keys .ensures .0) _
+          (keys-array (a .s .now) (a .at) (v .result) (v .ensures) _ (g .0 .0) (g .0 .1 .0) (g .1) refl),
+      accepting-on (c .gather-keys .result .verdict)
+          (λ e. e ∙ sym (array-after (a .s .now) (a .at) (v .result) (v .ensures) (g .0 .0) (g .0 .1 .0) (g .1))) (c .gather-keys .ensures .1),
+    )
 
 returns-2 : tie.Need-returns-2
 returns-2 c =
     let value-at = c .before .before in
     let begun = value-at .before .before in
     let a = begun .args in
-    let v = value-at .value-at in
-    (keys-settled (c .refused-keys .result) _ _ (c .refused-keys .ensures) _ (keys-broken (a .s .now) (a .at) (v .result) (v .ensures) _ (c .before .match .keys2) refl), rw (c .refused-keys .ensures) tt)
+    let v = value-at .value-at in (
+      keys-settled (c .refused-keys .result) _ _ (c .refused-keys .ensures) _
+          (keys-broken (a .s .now) (a .at) (v .result) (v .ensures) _ (c .before .match .keys2) refl),
+      rw (c .refused-keys .ensures) tt,
+    )
 
 pub read-keys-spec : {M : Type 1} → statement M
 read-keys-spec =

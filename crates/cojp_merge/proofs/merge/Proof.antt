@@ -53,4 +53,14 @@ returns-3 c =
     (sym (judged .configuration-in-range2 .ensures) ∙ not-false _ (test .if2 .left))
 
 pub merge-spec : {M : Type 1} → statement M
-merge-spec = tie.close (tie.spec configuration-in-range-requires outside-limits-requires returns configuration-in-range-requires-2 outside-limits-requires-2 returns-2 merge-parameters-requires returns-3)
+merge-spec =
+    tie.close
+    (tie.spec
+    configuration-in-range-requires
+    outside-limits-requires
+    returns
+    configuration-in-range-requires-2
+    outside-limits-requires-2
+    returns-2
+    merge-parameters-requires
+    returns-3)

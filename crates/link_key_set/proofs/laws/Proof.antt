@@ -2,7 +2,7 @@
 use Rattle.link_key.proofs.Keys.{entry-says, coverage-says, found-some, found-none, coverage-covered, covers-known-type, covers-listed, same-key-self}
 use Rattle.link_key.proofs.Keys.{same-key-equal, valid-identifier, limits-fit}
 use Rattle.link_key_set.proofs.KeySets.{same-keys-self, same-keys-equal, has-none, none-has, shares-apart, apart-shares, shares-turned}
-use Rattle.link_key_set.proofs.KeySets.{has-append, limits-append, none-twice-append, one-of-a-name, cover-found, cover-finds, find-found}
+use Rattle.link_key_set.proofs.KeySets.{has-append, limits-append, none-twice-append, one-of-a-name, find-found}
 use Rattle.link_key_set.proofs.KeySets.{find-own, find-none, none-find, valid-none-twice, valid-each, valid-some, valid-few}
 use Rattle.link_key_set.proofs.KeySets.{valid-set, set-valid, keys-of-none}
 use Rattle.link_key_set.proofs.laws.Statement.{statement}
@@ -30,8 +30,6 @@ returns c =
       none-twice-append = none-twice-append;
       found-some = found-some;
       found-none = found-none;
-      cover-found = cover-found;
-      cover-finds = cover-finds;
       find-found = find-found;
       find-own = λ ks k m e. find-own m e;
       one-of-a-name = one-of-a-name;

@@ -2,7 +2,8 @@
 use native.Mathlib.Omega.{arith}
 use borrow.Author.Needs.{needs}
 use Rattle.cbor.proofs.Answers.{head-inside}
-use Rattle.cbor.proofs.Views.{value-refused, value-number, value-minus, value-string, value-cut, value-array, value-other, value-told}
+use Rattle.cbor.proofs.Views.{value-refused, value-number, value-minus, value-string, value-cut, value-array, value-other}
+use Rattle.cbor.proofs.Views.{value-told}
 use Rattle.cbor.proofs.value.value_at.Statement.{statement}
 use Rattle.cbor.proofs.value.value_at.Tie as tie
 
@@ -27,7 +28,8 @@ returns c =
     let r = c .before .before in
     let a = r .before .before .args in
     value-told (a .s .now) (a .at) _
-    (value-refused (a .s .now) (a .at) (r .read-head .result) (r .read-head .ensures .is) (c .enum-told .given .0 .0) (c .enum-told .given .1))
+    (value-refused (a .s .now) (a .at) (r .read-head .result) (r .read-head .ensures .is) (c .enum-told .given .0 .0)
+    (c .enum-told .given .1))
 
 returns-2 : tie.Need-returns-2
 returns-2 c =
@@ -51,7 +53,8 @@ returns-4 c =
     let r = k .before .before in
     let a = r .before .before .args in
     value-told (a .s .now) (a .at) _
-    (value-string (a .s .now) (a .at) (r .read-head .result) (r .read-head .ensures .is) (k .h .given .0 .0) (k .h .given .1) (omega arith) (c .if1 .taken))
+    (value-string (a .s .now) (a .at) (r .read-head .result) (r .read-head .ensures .is) (k .h .given .0 .0) (k .h .given .1) (omega arith)
+    (c .if1 .taken))
 
 returns-5 : tie.Need-returns-5
 returns-5 c =
@@ -59,7 +62,8 @@ returns-5 c =
     let r = k .before .before in
     let a = r .before .before .args in
     value-told (a .s .now) (a .at) _
-    (value-cut (a .s .now) (a .at) (r .read-head .result) (r .read-head .ensures .is) (k .h .given .0 .0) (k .h .given .1) (omega arith) (c .if1 .left))
+    (value-cut (a .s .now) (a .at) (r .read-head .result) (r .read-head .ensures .is) (k .h .given .0 .0) (k .h .given .1) (omega arith)
+    (c .if1 .left))
 
 returns-6 : tie.Need-returns-6
 returns-6 c =
@@ -75,7 +79,8 @@ returns-7 c =
     let r = k .before .before in
     let a = r .before .before .args in
     value-told (a .s .now) (a .at) _
-    (value-other (a .s .now) (a .at) (r .read-head .result) (r .read-head .ensures .is) (k .h .given .0 .0) (k .h .given .1) (λ e. omega arith) (λ e. omega arith) (λ e. omega arith) (λ e. omega arith))
+    (value-other (a .s .now) (a .at) (r .read-head .result) (r .read-head .ensures .is) (k .h .given .0 .0) (k .h .given .1)
+    (λ e. omega arith) (λ e. omega arith) (λ e. omega arith) (λ e. omega arith))
 
 pub value-at-spec : {M : Type 1} → statement M
 value-at-spec =

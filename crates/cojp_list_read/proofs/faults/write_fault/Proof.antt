@@ -17,20 +17,27 @@ head-len-requires-2 c κs = search needs
 add-m : tie.Need-add-m
 add-m c =
     let begun = c .before .before .before .before in
-    omega
-    (arith, heads-few (c .before .before .head-laws .ensures) (begun .args .code-negative) (begun .args .code) (begun .args .label-negative) (begun .args .label) (begun .args .dst .now) (c .before .head-len .ensures) (c .head-len2 .ensures))
+    omega (
+      arith,
+      heads-few (c .before .before .head-laws .ensures) (begun .args .code-negative) (begun .args .code) (begun .args .label-negative)
+          (begun .args .label) (begun .args .dst .now) (c .before .head-len .ensures) (c .head-len2 .ensures),
+    )
 
 add-whole : tie.Need-add-whole
 add-whole c =
     let begun = c .before .before .before .before in
-    omega
-    (arith, heads-few (c .before .before .head-laws .ensures) (begun .args .code-negative) (begun .args .code) (begun .args .label-negative) (begun .args .label) (begun .args .dst .now) (c .before .head-len .ensures) (c .head-len2 .ensures))
+    omega (
+      arith,
+      heads-few (c .before .before .head-laws .ensures) (begun .args .code-negative) (begun .args .code) (begun .args .label-negative)
+          (begun .args .label) (begun .args .dst .now) (c .before .head-len .ensures) (c .head-len2 .ensures),
+    )
 
 returns : tie.Need-returns
 returns c =
     let head-len = c .before .before in
     let begun = head-len .before .before .before in
-    report-room (head-len .before .head-laws .ensures) (begun .args .code-negative) (begun .args .code) (begun .args .label-negative) (begun .args .label) (begun .args .dst .now)
+    report-room (head-len .before .head-laws .ensures) (begun .args .code-negative) (begun .args .code) (begun .args .label-negative)
+    (begun .args .label) (begun .args .dst .now)
     (head-len .head-len .ensures) (c .before .head-len2 .ensures) (c .if1 .taken)
 
 major-of-requires : tie.Need-major-of-requires
@@ -80,7 +87,8 @@ returns-2 c =
     let head-len = if-place .before in
     let head-len-2 = head-len .before in
     let begun = head-len-2 .before .before .before in
-    report-done (head-len-2 .before .head-laws .ensures) (begun .args .code-negative) (begun .args .code) (begun .args .label-negative) (begun .args .label) (begun .args .dst .now)
+    report-done (head-len-2 .before .head-laws .ensures) (begun .args .code-negative) (begun .args .code) (begun .args .label-negative)
+    (begun .args .label) (begun .args .dst .now)
     (head-len-2 .head-len .ensures) (head-len .head-len2 .ensures) (if-place .if1 .left) (major-of-2 .major-of .result)
     (major-of .major-of2 .result) (major-of-2 .major-of .ensures) (major-of .major-of2 .ensures) (write-head-3 .write-head .ensures)
     (write-head-2 .write-head2 .ensures) (write-head .write-head3 .ensures)

@@ -76,21 +76,24 @@ returns c =
     let told = c .before in
     let found = told .before .before in
     let a = found .before .before .before .args in
-    parted (a .arrival) (a .store .now) (a .sent .now) Outside (sym (found .course .ensures) ∙ told .enum-told .given .1) _ (c .refused-part .ensures) _ refl
+    parted (a .arrival) (a .store .now) (a .sent .now) Outside (sym (found .course .ensures) ∙ told .enum-told .given .1) _
+    (c .refused-part .ensures) _ refl
 
 returns-2 : tie.Need-returns-2
 returns-2 c =
     let told = c .before .before in
     let found = told .before .before in
     let a = found .before .before .before .args in
-    parted (a .arrival) (a .store .now) (a .sent .now) Overrun (sym (found .course .ensures) ∙ told .enum-told2 .given .1) _ (c .refused-part2 .ensures ∙ ap (refusedPart Long) (c .before .overran .ensures)) _ refl
+    parted (a .arrival) (a .store .now) (a .sent .now) Overrun (sym (found .course .ensures) ∙ told .enum-told2 .given .1) _
+    (c .refused-part2 .ensures ∙ ap (refusedPart Long) (c .before .overran .ensures)) _ refl
 
 returns-3 : tie.Need-returns-3
 returns-3 c =
     let told = c .before in
     let found = told .before .before in
     let a = found .before .before .before .args in
-    parted (a .arrival) (a .store .now) (a .sent .now) Ended (sym (found .course .ensures) ∙ told .enum-told3 .given .1) _ (c .refused-part3 .ensures) _ refl
+    parted (a .arrival) (a .store .now) (a .sent .now) Ended (sym (found .course .ensures) ∙ told .enum-told3 .given .1) _
+    (c .refused-part3 .ensures) _ refl
 
 same-length : tie.Need-same-length
 same-length c = search needs

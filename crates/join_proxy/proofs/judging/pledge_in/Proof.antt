@@ -99,7 +99,8 @@ returns c =
     let at-port-of = at-token-byte .before in
     let start = at-port-of .before in
     rw (at-port-of .port-of .ensures)
-    (pledge-bytes (start .args .t1) _ _ _ _ _ _ _ _ (at-token-byte .token-byte .ensures) (at-token-byte2 .token-byte2 .ensures) (at-token-byte3 .token-byte3 .ensures) (at-token-byte4 .token-byte4 .ensures)
+    (pledge-bytes (start .args .t1) _ _ _ _ _ _ _ _ (at-token-byte .token-byte .ensures) (at-token-byte2 .token-byte2 .ensures)
+    (at-token-byte3 .token-byte3 .ensures) (at-token-byte4 .token-byte4 .ensures)
     (at-token-byte5 .token-byte5 .ensures) (token-byte .token-byte6 .ensures) (c .before .token-byte7 .ensures) (c .token-byte8 .ensures))
 
 pub pledge-in-spec : {M : Type 1} → statement M

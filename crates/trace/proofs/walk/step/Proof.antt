@@ -2,7 +2,8 @@
 use Prim.Native.Nat.{_+_}
 use native.Mathlib.Omega.{arith}
 use borrow.Author.Needs.{needs}
-use Rattle.trace.proofs.Laws.{steps-end, steps-bad, steps-new, steps-start, steps-answer, steps-update, steps-verified, steps-poll, room-new, room-start, room-answer, room-update, room-verified, room-poll, part-is}
+use Rattle.trace.proofs.Laws.{steps-end, steps-bad, steps-new, steps-start, steps-answer, steps-update, steps-verified, steps-poll}
+use Rattle.trace.proofs.Laws.{room-new, room-start, room-answer, room-update, room-verified, room-poll, part-is}
 use Rattle.trace.proofs.walk.step.Statement.{statement}
 use Rattle.trace.proofs.walk.step.Tie as tie
 
@@ -182,14 +183,16 @@ returns c =
     let told = c .before in
     let read = told .before .before in
     let a = read .before .before .args in
-    steps-end (a .trace .now) (a .at) (a .state) (read .entry-at .result) (read .entry-at .ensures) _ (told .enum-told .given .1) (c .reached .ensures)
+    steps-end (a .trace .now) (a .at) (a .state) (read .entry-at .result) (read .entry-at .ensures) _ (told .enum-told .given .1)
+    (c .reached .ensures)
 
 returns-2 : tie.Need-returns-2
 returns-2 c =
     let told = c .before in
     let read = told .before .before in
     let a = read .before .before .args in
-    steps-bad (a .trace .now) (a .at) (a .state) (read .entry-at .result) (read .entry-at .ensures) _ (told .enum-told2 .given .1) (c .reached2 .ensures)
+    steps-bad (a .trace .now) (a .at) (a .state) (read .entry-at .result) (read .entry-at .ensures) _ (told .enum-told2 .given .1)
+    (c .reached2 .ensures)
 
 returns-3 : tie.Need-returns-3
 returns-3 c =

@@ -38,7 +38,10 @@ returns c =
     let args = begun .args in
     let set = args .self in
     let size : n .result ≡ length (keysOf set) = n .ensures .0 in
-    rw (← firsts set (n .result) size, loop .inv, turn (set .keys) (findKey (args .identifier)) (n .result) (loop .i) past (within set (n .result) size) (turn-2 .loop-test .taken), eq-eqb _ _ (c .if1 .taken))
+    let front = firsts set (n .result) size in
+    let here =
+    turn (set .keys) (findKey (args .identifier)) (n .result) (loop .i) past (within set (n .result) size) (turn-2 .loop-test .taken) in
+    rw (← front, loop .inv, here, eq-eqb _ _ (c .if1 .taken))
 
 add-i : tie.Need-add-i Inv-loop μ-loop
 add-i c = search needs
@@ -57,7 +60,9 @@ loop-again c =
     let args = begun .args in
     let set = args .self in
     let size : n .result ≡ length (keysOf set) = n .ensures .0 in
-    rw (loop .inv, turn (set .keys) (findKey (args .identifier)) (n .result) (loop .i) past (within set (n .result) size) (turn-2 .loop-test .taken), ne-eqb _ _ (c .if1 .left))
+    let here =
+    turn (set .keys) (findKey (args .identifier)) (n .result) (loop .i) past (within set (n .result) size) (turn-2 .loop-test .taken) in
+    rw (loop .inv, here, ne-eqb _ _ (c .if1 .left))
 
 not-found-requires : tie.Need-not-found-requires Inv-loop μ-loop
 not-found-requires c κs = search needs
@@ -72,7 +77,10 @@ returns-2 c =
     let args = begun .args in
     let set = args .self in
     let size : n .result ≡ length (keysOf set) = n .ensures .0 in
-    rw (← firsts set (n .result) size, loop .inv, stop (set .keys) (findKey (args .identifier)) (n .result) (loop .i) (c .before .loop-test .left)) (c .not-found .ensures)
+    let front = firsts set (n .result) size in
+    let ended = stop (set .keys) (findKey (args .identifier)) (n .result) (loop .i) (c .before .loop-test .left) in
+    rw (← front, loop .inv, ended)
+    (c .not-found .ensures)
 
 pub find-key-spec : {M : Type 1} → statement M
 find-key-spec =

@@ -48,7 +48,8 @@ loop-again c =
     let n = sized .len .result in
     let size : n ≡ length (keysOf set) = sized .len .ensures .0 in
     let more = asked .join .ensures .1 .1 (take (turn .i) (take n (set .keys))) (turn .inv .exact) in
-    judged-more (set .keys) n (turn .i) (turn .seen) (turn .inv) (within set n size) past (asked .before .before .before .loop-test .taken) _ _ more (c .if1 .taken)
+    judged-more (set .keys) n (turn .i) (turn .seen) (turn .inv) (within set n size) past (asked .before .before .before .loop-test .taken)
+    _ _ more (c .if1 .taken)
 
 returns : tie.Need-returns Inv-loop μ-loop
 returns c =
@@ -60,7 +61,8 @@ returns c =
     let size : n ≡ length (keysOf set) = sized .len .ensures .0 in
     let more = asked .join .ensures .1 .1 (take (turn .i) (take n (set .keys))) (turn .inv .exact) in
     rw (← firsts set n size)
-    (sym (judged-bad (set .keys) n (turn .i) (turn .seen) (turn .inv) (within set n size) past (asked .before .before .before .loop-test .taken) _ _ more (c .if1 .left)))
+    (sym
+    (judged-bad (set .keys) n (turn .i) (turn .seen) (turn .inv) (within set n size) past (asked .before .before .before .loop-test .taken) _ _ more (c .if1 .left)))
 
 returns-2 : tie.Need-returns-2 Inv-loop μ-loop
 returns-2 c =

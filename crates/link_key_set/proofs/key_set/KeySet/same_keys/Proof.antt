@@ -62,7 +62,12 @@ returns-2 c =
     let size : n .result ≡ length (keysOf a) = n .ensures .0 in
     let other : n .result ≡ length (keysOf b) = if-place .if1 .left ∙ len .len2 .ensures .0 in
     let unequal = sym (c .before .same-key .ensures) ∙ not-true _ (c .if2 .taken) in
-    rw (← firsts a (n .result) size, ← firsts b (n .result) other, loop .inv, same-keys-turn (a .keys) (b .keys) (n .result) (loop .i) past past (within a (n .result) size) (within b (n .result) other) (turn .loop-test .taken), unequal)
+    let front = firsts a (n .result) size in
+    let front-2 = firsts b (n .result) other in
+    let here =
+    same-keys-turn (a .keys) (b .keys) (n .result) (loop .i) past past (within a (n .result) size) (within b (n .result) other)
+    (turn .loop-test .taken) in
+    rw (← front, ← front-2, loop .inv, here, unequal)
 
 add-i : tie.Need-add-i Inv-loop μ-loop
 add-i c = search needs
@@ -85,7 +90,10 @@ loop-again c =
     let size : n .result ≡ length (keysOf a) = n .ensures .0 in
     let other : n .result ≡ length (keysOf b) = if-place .if1 .left ∙ len .len2 .ensures .0 in
     let equal = sym (c .before .same-key .ensures) ∙ not-false _ (c .if2 .left) in
-    rw (loop .inv, same-keys-turn (a .keys) (b .keys) (n .result) (loop .i) past past (within a (n .result) size) (within b (n .result) other) (turn .loop-test .taken), equal)
+    let here =
+    same-keys-turn (a .keys) (b .keys) (n .result) (loop .i) past past (within a (n .result) size) (within b (n .result) other)
+    (turn .loop-test .taken) in
+    rw (loop .inv, here, equal)
 
 returns-3 : tie.Need-returns-3 Inv-loop μ-loop
 returns-3 c =
@@ -99,7 +107,12 @@ returns-3 c =
     let b = begun .args .other in
     let size : n .result ≡ length (keysOf a) = n .ensures .0 in
     let other : n .result ≡ length (keysOf b) = if-place .if1 .left ∙ len .len2 .ensures .0 in
-    rw (← firsts a (n .result) size, ← firsts b (n .result) other, loop .inv, same-stop sameKey (take (n .result) (a .keys)) (take (n .result) (b .keys)) (loop .i) (omega (arith, length-take (n .result) (a .keys))) (omega (arith, length-take (n .result) (b .keys))))
+    let front = firsts a (n .result) size in
+    let front-2 = firsts b (n .result) other in
+    let ended =
+    same-stop sameKey (take (n .result) (a .keys)) (take (n .result) (b .keys)) (loop .i) (omega (arith, length-take (n .result) (a .keys)))
+    (omega (arith, length-take (n .result) (b .keys))) in
+    rw (← front, ← front-2, loop .inv, ended)
 
 pub same-keys-spec : {M : Type 1} → statement M
 same-keys-spec =

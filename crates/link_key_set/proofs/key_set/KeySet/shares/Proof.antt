@@ -52,7 +52,12 @@ returns c =
     let args = begun .args in
     let places : length (mine .result) ≡ 8 = search needs in
     let yes = sym (c .before .among .ensures) ∙ c .if1 .taken in
-    rw (← meet-keys (args .self) (args .other) (mine .result) (theirs .result) (n .result) (m .result) (mine .ensures) (theirs .ensures) (n .ensures .0) (m .ensures .0), loop .inv, turn (mine .result) (meet (take (m .result) (theirs .result))) (n .result) (loop .i) 0 (omega arith) (turn-2 .loop-test .taken), yes)
+    let whole =
+    meet-keys (args .self) (args .other) (mine .result) (theirs .result) (n .result) (m .result) (mine .ensures) (theirs .ensures)
+    (n .ensures .0) (m .ensures .0) in
+    let here =
+    turn (mine .result) (meet (take (m .result) (theirs .result))) (n .result) (loop .i) 0 (omega arith) (turn-2 .loop-test .taken) in
+    rw (← whole, loop .inv, here, yes)
 
 add-i : tie.Need-add-i Inv-loop μ-loop
 add-i c = search needs
@@ -75,7 +80,9 @@ loop-again c =
     let n = len-2 .len in
     let places : length (mine .result) ≡ 8 = search needs in
     let no = sym (c .before .among .ensures) ∙ c .if1 .left in
-    rw (loop .inv, turn (mine .result) (meet (take (m .result) (theirs .result))) (n .result) (loop .i) 0 (omega arith) (turn-2 .loop-test .taken), no)
+    let here =
+    turn (mine .result) (meet (take (m .result) (theirs .result))) (n .result) (loop .i) 0 (omega arith) (turn-2 .loop-test .taken) in
+    rw (loop .inv, here, no)
 
 returns-2 : tie.Need-returns-2 Inv-loop μ-loop
 returns-2 c =
@@ -90,7 +97,11 @@ returns-2 c =
     let m = len .len2 in
     let n = len-2 .len in
     let args = begun .args in
-    rw (← meet-keys (args .self) (args .other) (mine .result) (theirs .result) (n .result) (m .result) (mine .ensures) (theirs .ensures) (n .ensures .0) (m .ensures .0), loop .inv, stop (mine .result) (meet (take (m .result) (theirs .result))) (n .result) (loop .i) (c .loop-test .left))
+    let whole =
+    meet-keys (args .self) (args .other) (mine .result) (theirs .result) (n .result) (m .result) (mine .ensures) (theirs .ensures)
+    (n .ensures .0) (m .ensures .0) in
+    let ended = stop (mine .result) (meet (take (m .result) (theirs .result))) (n .result) (loop .i) (c .loop-test .left) in
+    rw (← whole, loop .inv, ended)
 
 pub shares-spec : {M : Type 1} → statement M
 shares-spec =
