@@ -60,10 +60,8 @@ module _ (r : AddressRead) (x : Reading AddressParameter) (n : ℕ) (e : r ≡ a
 
 module _ (r : KeysRead) (x : Reading KeysParameter) (n : ℕ) (e : r ≡ keysAnswer x n) where
   pub keys-settled : (y : Reading KeysParameter) → x ≡ y → r ≡ keysAnswer y (r .next)
-  keys-settled y f =
-      let g : r .next ≡ n = ap (λ (q : KeysRead). q .next) e ∙ own x in
-      e ∙ ap (λ (z : Reading KeysParameter). keysAnswer z n) f ∙ ap (keysAnswer y) (sym g)
+  keys-settled y f = go x e ∙ ap (λ (z : Reading KeysParameter). keysAnswer z (r .next)) f
     where
-      own : (x : Reading KeysParameter) → keysAnswer x n .next ≡ n
-      own (refused k) = refl
-      own (read p) = refl
+      go : (x : Reading KeysParameter) → r ≡ keysAnswer x n → r ≡ keysAnswer x (r .next)
+      go (refused k) e = e
+      go (read p) e = e ∙ ap (keysAnswer (read p)) (sym (ap (λ (q : KeysRead). q .next) e))

@@ -70,7 +70,7 @@ keysConcluded j = concluded (refused Keys) (keysParameter Taken) j
 abbrev pub keysRead : View → Reading KeysParameter
 keysRead v = keysConcluded (keysJudged v)
 
--- the answer: beside a refusal the parameter is absent; the value ends at `next`
+-- the answer: the value ends at `next`; beside a refusal the parameter is absent and `next` is 0
 abbrev pub keysAnswer : Reading KeysParameter → ℕ → KeysRead
-keysAnswer (refused k) next = record { verdict = verdict.Refused k; parameter = noKeysParameter Absent; next = next }
+keysAnswer (refused k) next = record { verdict = verdict.Refused k; parameter = noKeysParameter Absent; next = 0 }
 keysAnswer (read p) next = record { verdict = verdict.Accepted; parameter = p; next = next }

@@ -12,7 +12,7 @@ pub struct KeysParameter {
     pub value: KeySet,
 }
 
-// Beside a refusal the parameter is absent, and `next`, where the bytes go on after the value, says nothing.
+// Beside a refusal the parameter is absent, and `next`, where the bytes go on after the value, is 0.
 pub struct KeysRead {
     pub verdict: Verdict,
     pub parameter: KeysParameter,

@@ -65,7 +65,7 @@ returns c =
     let broken =
     gathering-broken (a .s .now) (a .from) (a .count) (l .at) (l .remaining) k (l .seen) (l .inv) (r .result) (r .ensures .0)
     (c .before .enum-told .given .1) _ refl in
-    (keys-settled (c .refused-keys .result) _ _ (c .refused-keys .ensures) _ broken, rw (c .refused-keys .ensures) tt)
+    (keys-settled (c .refused-keys .result) _ 0 (c .refused-keys .ensures) _ broken, rw (c .refused-keys .ensures) tt)
 
 enum-known-g : tie.Need-enum-known-g Inv-loop μ-loop
 enum-known-g c = search needs
@@ -200,7 +200,7 @@ returns-2 c =
     let k : KeySet = record { count = l .n; keys = l .keys } in
     let none : l .remaining ≤ 0 = omega (arith, c .before .loop-test .left) in
     let done = gathering-done (a .s .now) (a .from) (a .count) (l .at) (l .remaining) k (l .seen) (l .inv) none _ refl in (
-      keys-settled (c .close-set .result) _ _ (c .close-set .ensures .0) _ done,
+      keys-settled (c .close-set .result) _ (c .close-set .result .next) (c .close-set .ensures .0) _ done,
       accepting-on (c .close-set .result .verdict)
           (λ e. rw e (gathering-end (a .s .now) (a .from) (a .count) (l .at) (l .remaining) k (l .seen) (l .inv) none))
           (c .close-set .ensures .1),
