@@ -32,14 +32,14 @@ abbrev pub grown : Arrival → ℕ → Arrival
 grown a n = record { arrived = a .arrived + n; overrun = a .overrun; ended = a .ended }
 
 -- ---- how a call with n bytes finds an arrival and a store of so many bytes: RANGE, LONG, PHASE, in this order. An end is a call with none
-abbrev pub validKey : Arrival → ℕ → Bool
-validKey a lent = leb 256 lent && leb (a .arrived) 256
+abbrev pub valid : Arrival → ℕ → Bool
+valid a lent = leb 256 lent && leb (a .arrived) 256
 
 abbrev pub passes : Arrival → ℕ → Bool
 passes a n = a .overrun || ltb 256 (a .arrived + n)
 
 unfoldable pub courseOf : Arrival → ℕ → ℕ → Course
-courseOf a lent n = cond (not (validKey a lent)) Outside (cond (passes a n) Overrun (cond (a .ended) Ended Open))
+courseOf a lent n = cond (not (valid a lent)) Outside (cond (passes a n) Overrun (cond (a .ended) Ended Open))
 
 -- ---- a part: its answer, and the store afterwards. Where it is LONG the overrun is marked, though the call is refused
 abbrev pub refusedPart : Refusal → Arrival → PartAnswer
