@@ -23,7 +23,7 @@ use Rattle.address_places.proofs.Found.{held-is}
 use Rattle.address_places.proofs.Passing.{sought-held}
 use Rattle.address_ledger.proofs.Calls.{grant-accepted, back-accepted}
 use Rattle.address_ledger_laws.proofs.Marks.{walk-accepted}
-use Rattle.address_ledger_laws.specs.AnyMemory.{HeldAt, FreeAt, LowestAt, NoneAt, LowestMatches, AnyMemory}
+use Rattle.address_ledger_laws.specs.AnyMemory.{HeldAt, FreeAt, LowestAt, NoneAt, AnyMemory}
 
 -- ---- bytes that agree are equal
 self-none : (n : ℕ) → same n [] [] ≡ true

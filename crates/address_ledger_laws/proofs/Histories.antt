@@ -10,7 +10,7 @@ use lib.ListN.{length, getD, drop, set}
 use lib.Seq.{getD-drop}
 use Rattle.refusal.specs.declared.Refusal.the-variants.{Full, Unknown}
 use Rattle.refusal.specs.declared.Verdict.the-variants.{Accepted}
-use Rattle.address_places.specs.Place.{Place, placeAt, places, lowest, heldBy, countFree, sought, hold, freed}
+use Rattle.address_places.specs.Place.{placeAt, places, lowest, heldBy, countFree, sought, hold, freed}
 use Rattle.address_range.specs.Range.{judged, counted}
 use Rattle.address_ledger.specs.Ledger.{Outcome, outcome, withSummary, cut, fewer, more, opened, granting, granted, givingBack, givenBack, freeCount}
 use Rattle.address_ledger.specs.declared.answer.AddressAnswer.{AddressAnswer}

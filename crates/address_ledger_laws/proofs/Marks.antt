@@ -9,7 +9,7 @@ use borrow.Author.Tests.{lt-ltb, ltb-false}
 use lib.ListN.{length, drop}
 use Rattle.refusal.specs.declared.Verdict.{Verdict}
 use Rattle.refusal.specs.declared.Verdict.the-variants as verdict
-use Rattle.address_places.specs.Place.{Place, places, heldBy, isFree, lowest, has, sought, hold, freed}
+use Rattle.address_places.specs.Place.{places, heldBy, isFree, lowest, has, sought, hold, freed}
 use Rattle.address_places.specs.Marks.{marked, groupAt, marksOf, anew, soughtBy}
 use Rattle.address_places.specs.declared.place.Sought.{Sought}
 use Rattle.address_places.specs.declared.place.Sought.the-variants.{Held, Free, Nothing}

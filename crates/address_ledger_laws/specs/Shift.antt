@@ -8,7 +8,7 @@ use Rattle.address_ledger.specs.Ledger.{ledgerOf, opened, granted, givenBack, f
 use Rattle.address_ledger.specs.declared.answer.AddressAnswer.{AddressAnswer}
 use Rattle.address_ledger.specs.declared.answer.AddressAnswer.the-variants.{Address, Refused}
 use Rattle.address_ledger.specs.declared.answer.FreeAnswer.the-variants.{Count}
-use Rattle.address_ledger_laws.specs.History.{Call, opens, asks, gives, counts, Holding, Moment, after, Begins}
+use Rattle.address_ledger_laws.specs.History.{Call, opens, asks, gives, counts, Moment, after, Begins}
 
 abbrev pub board : ℕ → List ℕ
 board n = replicate 8 n

@@ -1,6 +1,6 @@
 -- What the answers of `read_head` and `value_at` say of the tree: where an item can be read at a place,
 -- its head tells whether it is an integer, a number, a byte string or an array of such.
-use Prim.Native.Nat.{ℕ, zero, suc, _+_, _-_, _≤_, _<_}
+use Prim.Native.Nat.{ℕ, zero, suc, _-_, _≤_, _<_}
 use mathlib.Core.Path.{_≡_, refl, ap, sym, _∙_}
 use mathlib.Core.Bool.{Bool, true, false, cond}
 use mathlib.Core.List.{List, []}
@@ -16,7 +16,7 @@ use Rattle.cbor.specs.Decode.{Outcome, refused, got, andThen, next, head
 use Rattle.cbor.specs.Decode.{byteStrings, textStrings, arrays, maps, tags, others, majorOf, special, content, decodeBy, decode}
 use Rattle.cbor.specs.Answer.{headAnswer, outcomeNumber, headNumber}
 use Rattle.cbor.specs.Says.{LabelSays, saysLabel, HeadSays}
-use Rattle.cbor.specs.View.{number, minus, string, other, plain, list, plainOf, plainsOf, viewOf, labelOf, plainBy, plainAt}
+use Rattle.cbor.specs.View.{number, string, other, plain, list, plainOf, plainsOf, viewOf, labelOf, plainBy, plainAt}
 use Rattle.cbor.specs.View.{plainsAt, viewBy, viewAt, labelBy, labelAt, valueBy, valueAnswer, restOf, afterItem, afterItems, ValueAt, ValueSays}
 use Rattle.cbor.specs.declared.head.Head.{Head}
 use Rattle.cbor.specs.declared.head.HeadRead.{HeadRead}

@@ -1,5 +1,5 @@
 -- A member of an array is what stands at its place, and the other members are what stands behind it.
-use Prim.Native.Nat.{ℕ, _+_, _-_, _≤_, _<_, zero, suc}
+use Prim.Native.Nat.{ℕ, _+_, _-_, _≤_, _<_, suc}
 use mathlib.Core.Path.{_≡_, refl, ap, sym, _∙_}
 use mathlib.Core.List.{List, [], _∷_}
 use mathlib.Core.Logic.{⊎-elim}

@@ -1,6 +1,6 @@
 -- The answer about a parameter, and where the bytes go on after it.
 use Prim.Native.Nat.{ℕ}
-use mathlib.Core.Path.{_≡_, refl, ap, sym, _∙_}
+use mathlib.Core.Path.{_≡_, ap, sym, _∙_}
 use mathlib.Core.List.{List}
 use lib.ListN.{drop}
 use Rattle.refusal.specs.declared.Verdict.{Verdict}

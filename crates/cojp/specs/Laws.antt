@@ -10,7 +10,7 @@ use Rattle.refusal.specs.declared.Refusal.{Refusal}
 use Rattle.refusal.specs.declared.Refusal.the-variants.{Loose}
 use Rattle.refusal.specs.declared.Verdict.the-variants.{Refused}
 use Rattle.cbor.specs.Decode.{Outcome, Heading}
-use Rattle.cbor.specs.Strict.{headBy, loosePayload}
+use Rattle.cbor.specs.Strict.{loosePayload}
 use Rattle.cojp.specs.Request.{emptyRequest, refuseRequest, readRequestBy, readRequest, readStrictRequest}
 use Rattle.cojp.specs.Configuration.{emptyConfiguration, refuseConfiguration, readConfigurationBy, readConfiguration, readStrictConfiguration}
 

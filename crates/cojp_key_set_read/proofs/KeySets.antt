@@ -7,7 +7,7 @@ use mathlib.Core.Logic.{⊎-elim}
 use native.Mathlib.Omega.{arith}
 use lib.Dec.{leb, ltb, eqb}
 use lib.ListN.{length, take, drop, set, replicate, length-append, length-drop}
-use lib.Seq.{set-at, take-append-seam, append-snoc, take-all, drop-drop, length-take-le}
+use lib.Seq.{set-at, append-snoc, take-all, drop-drop, length-take-le}
 use borrow.Author.Tests.{lt-leb, ltb-false, leb-true, leb-false, eqb-true}
 use types.Run.{OneOf}
 use denote.Enum.Declared.{tagOf}

@@ -1,10 +1,10 @@
 -- A turn that is refused or fails leaves the receiver, since a refused report of a verified frame does; refused by the sender, it leaves both.
 use Prim.Native.Nat.{ℕ}
 use native.Mathlib.Omega.{arith}
-use mathlib.Core.Path.{_≡_, refl, _∙_, ap}
+use mathlib.Core.Path.{_≡_, refl, ap}
 use Rattle.refusal.specs.declared.Refusal.{Refusal}
 use Rattle.refusal.specs.declared.Verdict.the-variants as verdict
-use Rattle.node.specs.Frames.{send, afterSend, verified}
+use Rattle.node.specs.Frames.{afterSend, verified}
 use Rattle.node_key_sets.specs.Frames.{changeVerdict}
 use Rattle.node_key_sets.specs.declared.frames.Change.{Change}
 use Rattle.node_key_sets.specs.declared.frames.Change.the-variants as change

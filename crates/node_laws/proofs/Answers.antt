@@ -1,6 +1,6 @@
 -- Numbers and values go by the tests of a call, in the order of its definition; of a valid node the attempt is valid too, and a key set that was
 -- read is within its limits.
-use Prim.Native.Nat.{ℕ, _+_, _*_, _-_, _≤_}
+use Prim.Native.Nat.{ℕ, _+_, _*_, _≤_}
 use native.Mathlib.Omega.{arith}
 use mathlib.Core.Path.{_≡_, refl, sym, _∙_, ap}
 use mathlib.Core.Bool.{Bool, true, false, cond, not, _&&_}
@@ -20,7 +20,7 @@ use Rattle.link_key.specs.Key.{covers}
 use Rattle.link_key.specs.declared.Key.{Key}
 use Rattle.link_key_set.specs.KeySet.{keysOf, validSet, sameKeys, shares, has}
 use Rattle.link_key_set.specs.declared.key_set.KeySet.{KeySet}
-use Rattle.cbor.specs.Answer.{Plan, refuse, answer}
+use Rattle.cbor.specs.Answer.{Plan, answer}
 use Rattle.cbor.specs.declared.write.Written.{Written}
 use Rattle.cbor.specs.declared.write.Written.the-variants as written
 use Rattle.cojp.specs.InRange.{ReadsInRange}
@@ -54,19 +54,17 @@ use Rattle.node_delivery.specs.Delivery.{belongs, mayCome}
 use Rattle.node_delivery.specs.declared.Delivery.{Delivery}
 use Rattle.node_parameters.specs.Lease.{holdsAt}
 use Rattle.node_parameters.specs.Octets.{validOctets}
-use Rattle.node_parameters.specs.Reports.{reportsOf}
 use Rattle.node_parameters.specs.declared.octets.HeldOctets.{HeldOctets}
 use Rattle.node.specs.Delivery.{placementOf, placedBy, owesIdentifier, undelivered, apply, applyRead, deliverVerdict, deliverBy, readFor, deliver}
 use Rattle.node.specs.Frames as frames
 use Rattle.node.specs.Frames.{unsent, sentBy, send, receive, reported, reportedBy, verified}
 use Rattle.node.specs.Lease.{holds, holdingNumber, holdsNow}
-use Rattle.node.specs.Node.{emptyNode, activeOf, isBorder, clockOf, validRole, unmade, made}
-use Rattle.node.specs.Range.{valid, Valid}
+use Rattle.node.specs.Node.{activeOf, isBorder, clockOf, validRole, unmade, made}
+use Rattle.node.specs.Range.{valid}
 use Rattle.node.specs.Timing.{requestOf, startVerdict, planBy, startPlan, startedFrom, startedBy, start, polled, polledBy, poll}
 use Rattle.node.specs.declared.frames.Reported.{Reported}
 use Rattle.node.specs.declared.frames.Sent.{Sent}
 use Rattle.node.specs.declared.lease.Holding.the-variants as holding
-use Rattle.node.specs.declared.node.Made.{Made}
 use Rattle.node.specs.declared.node.Node.{Node}
 use Rattle.node_laws.specs.Answers.{early, reached, isPolled, isDue, clashes, isMissing, isUncovered, writtenNumber, AnswersSay}
 use Rattle.node_laws.specs.Phases.{waits}

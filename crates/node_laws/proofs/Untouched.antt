@@ -1,5 +1,5 @@
 -- Each call's definition gives, beside a refusal, the node it was handed and the empty object, and a refused start writes nothing.
-use Prim.Native.Nat.{ℕ, _-_}
+use Prim.Native.Nat.{ℕ}
 use mathlib.Core.Path.{_≡_, refl, ap}
 use mathlib.Core.Bool.{Bool, true, false, cond}
 use mathlib.Core.List.{List, _++_}

@@ -1,6 +1,5 @@
 -- A call's definition changes the phase in three places alone: a start that writes its request, a poll that gives up, an accepted join answer.
 use Prim.Native.Nat.{ℕ}
-use native.Mathlib.Omega.{arith}
 use mathlib.Core.Path.{_≡_, refl, sym, _∙_, ap}
 use mathlib.Core.Bool.{Bool, true, false, cond}
 use mathlib.Core.List.{List}
@@ -32,15 +31,13 @@ use Rattle.node_key_sets.specs.declared.sets.KeySets.{KeySets}
 use Rattle.node_key_sets.specs.declared.frames.Effect.{Effect}
 use Rattle.node_key_sets.specs.declared.frames.Sending.{Sending}
 use Rattle.node_parameters.specs.Octets.{validOctets, knownOctets}
-use Rattle.node_parameters.specs.Reports.{reportsOf}
 use Rattle.node_parameters.specs.declared.octets.HeldOctets.{HeldOctets}
-use Rattle.node.specs.Node.{isBorder, validRole, freshNode, unmade, made, attempting}
+use Rattle.node.specs.Node.{validRole, freshNode, unmade, made}
 use Rattle.node.specs.Range.{valid}
 use Rattle.node.specs.Timing.{startPlan, startedFrom, startedBy, start, polled, polledBy, poll}
 use Rattle.node.specs.Delivery.{placementOf, placedBy, configured, undelivered, owesIdentifier, apply, deliverVerdict, applyRead, deliverBy, readFor, deliver}
 use Rattle.node.specs.Frames.{sentBy, unsent, sending, afterSend, reported, reportedBy, verified}
 use Rattle.node.specs.declared.delivery.Delivered.{Delivered}
-use Rattle.node.specs.declared.node.Made.{Made}
 use Rattle.node.specs.declared.node.Node.{Node}
 use Rattle.node_laws.specs.Phases.{waits, PhaseLaws}
 use Rattle.node_laws.proofs.Deliveries.{deliver-leaves}

@@ -11,12 +11,11 @@ use Rattle.trace_record.specs.Layout.{entry, Inside}
 use Rattle.trace_record.specs.declared.entries.Entry.{Entry}
 use Rattle.trace_record.specs.declared.entries.Entry.the-variants as entries
 use Rattle.trace_record.proofs.Rooms.{roomy}
-use Rattle.trace.specs.Night.{Record, newNode, start, joinAnswer, update, verified, poll, sizeOf, Reading, end, bad, got, readingOf}
-use Rattle.trace.specs.Night.{reading, mayCome, Night, over, stop, then, nightBy, nightFrom, night, recordsIn}
+use Rattle.trace.specs.Night.{Record, sizeOf, Reading, end, bad, got, readingOf}
+use Rattle.trace.specs.Night.{reading, mayCome, Night, stop, then, nightBy, nightFrom, night, recordsIn}
 use Rattle.trace.specs.Step.{afterwards, walked, nothingYet, stepped, advance, step, play, played}
 use Rattle.trace.specs.declared.state.Progress.{Progress}
 use Rattle.trace.specs.declared.state.Progress.the-variants.{Complete, Stopped, Walked}
-use Rattle.trace.specs.declared.state.State.{State}
 use Rattle.trace.specs.declared.state.Stepped.{Stepped}
 
 -- ---- a record takes bytes, and no more than there are

@@ -1,10 +1,9 @@
 -- The keys so far stand before the groups that are left, and the set holds them or is overfull.
-use Prim.Native.Nat.{_≤_, _-_}
+use Prim.Native.Nat.{_≤_}
 use native.Mathlib.Omega.{arith}
 use mathlib.Core.Path.{refl}
 use mathlib.Core.Logic.{⊎-elim}
 use lib.Dec.{ltb}
-use lib.ListN.{length, take, drop}
 use borrow.Author.Tests.{ltb-true}
 use Rattle.logic_facts.specs.Tests.{both-left, both-right, is-true, is-false}
 use Rattle.link_key_set.specs.declared.key_set.KeySet.{KeySet}
