@@ -10,3 +10,4 @@ pub mod Payloads
 pub mod RoundTrip
 pub mod HeadLengths
 mod Shortest
+mod Fits

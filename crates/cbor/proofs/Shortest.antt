@@ -20,7 +20,7 @@ use Rattle.cbor.proofs.Numbers.{grows}
 use Rattle.cbor.proofs.Outcomes.{never, then-got, same-value, same-rest}
 use Rattle.cbor.proofs.HeadLengths.{length-head}
 
-digits-below : (w i v : ℕ) (s : List ℕ) → Bytes s → v < 256 ^ i → w ≤ length s → digits v (take w s) < 256 ^ (i + w)
+pub digits-below : (w i v : ℕ) (s : List ℕ) → Bytes s → v < 256 ^ i → w ≤ length s → digits v (take w s) < 256 ^ (i + w)
 unfolding digits
 digits-below zero i v s b h l = let e : i + 0 ≡ i = omega arith in rw e h
 digits-below (suc w) i v [] b h l = absurd (omega arith)

@@ -1,6 +1,6 @@
 -- What the layer above asks of an item: of a map's label whether it is an integer, of a value whether it is an integer, a byte string,
 -- an array of such, or something else. Said of the tree, and then of the bytes that a place's head begins.
-use Prim.Native.Nat.{ℕ, zero, suc, _+_, _-_, _≤_}
+use Prim.Native.Nat.{ℕ, zero, suc, _+_, _-_, _^_, _≤_, _<_}
 use mathlib.Core.Bool.{cond}
 use mathlib.Core.Path.{_≡_}
 use mathlib.Core.List.{List, [], _∷_}
@@ -20,6 +20,13 @@ pub data Plain : Type 0 where
   minus : ℕ → Plain
   string : List ℕ → Plain
   other : Plain
+
+-- its number, or how many bytes it has, fits the 64 bits that a head can hold
+abbrev pub PlainFits : Plain → Type 0
+PlainFits (number n) = n < 2 ^ 64
+PlainFits (minus n) = n < 2 ^ 64
+PlainFits (string s) = length s < 2 ^ 64
+PlainFits other = Unit {0}
 
 -- a value
 pub data View : Type 0 where

@@ -10,8 +10,11 @@ use lib.Dec.{leb, eqb}
 use lib.ListN.{length}
 use Rattle.refusal.specs.declared.Refusal.the-variants.{Range}
 use Rattle.link_key_usage.specs.Usage.{usageOf, familyOf, familyCovers, listed, knownType, entryAt, entrySays}
-use Rattle.link_key.specs.Key.{keyOf, validKey, sameKey, sameSecret, sameValue, covers, coverageOf, coverageSays, foundKey}
+use Rattle.link_key.specs.Same.{sameBytes}
+use Rattle.link_key.specs.Info.{infoBytes}
+use Rattle.link_key.specs.Key.{informedKey, validKey, sameKey, sameSecret, covers, coverageOf, coverageSays, foundKey}
 use Rattle.link_key.specs.declared.Key.{Key}
+use Rattle.link_key.specs.declared.info.Info.{Info}
 use Rattle.link_key_usage.specs.declared.Coverage.the-variants.{Covered, Refused}
 use Rattle.link_key_usage.specs.declared.Entry.the-variants as entry
 use Rattle.link_key_usage.specs.declared.Usage.{Usage}
@@ -19,38 +22,46 @@ use Rattle.link_key_usage.specs.declared.Family.{Family}
 use Rattle.link_key_usage.specs.declared.Family.the-variants.{K1K2Encrypted, K1K2, K1, K2, K2Encrypted}
 use Rattle.logic_facts.specs.Tests.{both-left, both-right, first}
 use Rattle.link_key.proofs.Same.{same-self, same-equal}
+use Rattle.link_key.proofs.Infos.{info-equal}
+
+bytes-self : (s : List ℕ) → sameBytes s s ≡ true
+bytes-self s = same-self eqb (λ n. eq-eqb n n refl) s
 
 pub same-key-self : (k : Key) → sameKey k k ≡ true
 unfolding sameKey
 same-key-self k =
-    rw (eq-eqb (k .identifier) (k .identifier) refl, eq-eqb (k .usage) (k .usage) refl, same-self eqb (λ n. eq-eqb n n refl) (k .value))
+    rw (eq-eqb (k .identifier) (k .identifier) refl, eq-eqb (k .usage) (k .usage) refl, bytes-self (k .value), bytes-self (infoBytes (k .info)))
 
-alike : {i j t u : ℕ} {v w : List ℕ} → i ≡ j → t ≡ u → v ≡ w → keyOf i t v ≡ keyOf j u w
-alike p q r = rw (p, q, r)
+alike :
+    {i j t u : ℕ} {v w : List ℕ} {m n : Info} → i ≡ j → t ≡ u → v ≡ w → m ≡ n → informedKey i t v m ≡ informedKey j u w n
+alike p q r s = rw (p, q, r, s)
 
 pub same-key-equal : (k l : Key) → sameKey k l ≡ true → k ≡ l
 unfolding sameKey
 same-key-equal k l e =
     let names = eqb (k .identifier) (l .identifier) in
     let usages = eqb (k .usage) (l .usage) in
-    let front : (names && usages) ≡ true = both-left (names && usages) (sameValue (k .value) (l .value)) e in
+    let values = sameBytes (k .value) (l .value) in
+    let infos = sameBytes (infoBytes (k .info)) (infoBytes (l .info)) in
+    let three : (names && usages && values) ≡ true = both-left (names && usages && values) infos e in
+    let front : (names && usages) ≡ true = both-left (names && usages) values three in
     let i : k .identifier ≡ l .identifier = eqb-true _ _ (both-left names usages front) in
     let u : k .usage ≡ l .usage = eqb-true _ _ (both-right names usages front) in
-    let values = both-right (names && usages) (sameValue (k .value) (l .value)) e in
-    let v : k .value ≡ l .value = same-equal eqb eqb-true (k .value) (l .value) values in
-    alike i u v
+    let v : k .value ≡ l .value = same-equal eqb eqb-true (k .value) (l .value) (both-right (names && usages) values three) in
+    let bytes = same-equal eqb eqb-true (infoBytes (k .info)) (infoBytes (l .info)) (both-right (names && usages && values) infos e) in
+    alike i u v (info-equal (k .info) (l .info) bytes)
 
 pub same-secret-says : (k l : Key) → sameSecret k l ≡ true → (k .identifier ≡ l .identifier) × (k .value ≡ l .value)
 unfolding sameSecret
 same-secret-says k l e =
     let names = eqb (k .identifier) (l .identifier) in
-    let values = sameValue (k .value) (l .value) in
+    let values = sameBytes (k .value) (l .value) in
     (eqb-true _ _ (both-left names values e), same-equal eqb eqb-true (k .value) (l .value) (both-right names values e))
 
 pub same-secret-made : (k l : Key) → k .identifier ≡ l .identifier → k .value ≡ l .value → sameSecret k l ≡ true
 unfolding sameSecret
 same-secret-made k l p q =
-    rw (eq-eqb (k .identifier) (l .identifier) p, q, same-self eqb (λ n. eq-eqb n n refl) (l .value))
+    rw (eq-eqb (k .identifier) (l .identifier) p, q, bytes-self (l .value))
 
 pub valid-identifier : (k : Key) → validKey k ≡ true → 1 ≤ k .identifier
 unfolding validKey

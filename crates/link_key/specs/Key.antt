@@ -7,16 +7,23 @@ use lib.Dec.{leb, eqb}
 use lib.ListN.{length, replicate}
 use Rattle.refusal.specs.Refusal.{numberOf}
 use Rattle.refusal.specs.declared.Refusal.the-variants.{Range}
-use Rattle.link_key.specs.Same.{sameBy}
+use Rattle.link_key.specs.Same.{sameBytes}
+use Rattle.link_key.specs.Info.{infoBytes, noInfo}
 use Rattle.link_key_usage.specs.Usage.{familyOf, familyCovers, listed, knownType}
 use Rattle.link_key.specs.declared.Key.{Key}
 use Rattle.link_key.specs.declared.FoundKey.{FoundKey}
+use Rattle.link_key.specs.declared.info.Info.{Info}
+use Rattle.link_key.specs.declared.info.Info.the-variants as info
 use Rattle.link_key_usage.specs.declared.Coverage.{Coverage}
 use Rattle.link_key_usage.specs.declared.Coverage.the-variants as coverage
 
 -- the one place that makes a key
+abbrev pub informedKey : ℕ → ℕ → List ℕ → Info → Key
+informedKey identifier usage value info = record { identifier = identifier; usage = usage; value = value; info = info }
+
+-- a key without additional information
 abbrev pub keyOf : ℕ → ℕ → List ℕ → Key
-keyOf identifier usage value = record { identifier = identifier; usage = usage; value = value }
+keyOf identifier usage value = informedKey identifier usage value info.Absent
 
 -- all zero: what stands where there is no key
 abbrev pub noKey : Key
@@ -31,16 +38,21 @@ foundKey (some k) = record { found = true; key = k }
 unfoldable pub validKey : Key → Bool
 validKey k = (leb 1 (k .identifier) && leb (k .identifier) 255 && listed (k .usage) && eqb (length (k .value)) 16)
 
--- two keys are equal when identifier, usage and value are
-abbrev pub sameValue : List ℕ → List ℕ → Bool
-sameValue a b = sameBy eqb a b
+-- no additional information, as every key of draft 004; a published key may have some, so it is no part of a key's limits
+unfoldable pub plainKey : Key → Bool
+plainKey k = noInfo (k .info)
 
+-- two keys are equal when identifier, usage, value and additional information are
 unfoldable pub sameKey : Key → Key → Bool
-sameKey k l = (eqb (k .identifier) (l .identifier) && eqb (k .usage) (l .usage) && sameValue (k .value) (l .value))
+sameKey k l =
+    (eqb (k .identifier) (l .identifier)
+    && eqb (k .usage) (l .usage)
+    && sameBytes (k .value) (l .value)
+    && sameBytes (infoBytes (k .info)) (infoBytes (l .info)))
 
--- the same identifier and value, whatever the usage
+-- the same identifier and value, whatever the usage and the additional information
 unfoldable pub sameSecret : Key → Key → Bool
-sameSecret k l = (eqb (k .identifier) (l .identifier) && sameValue (k .value) (l .value))
+sameSecret k l = (eqb (k .identifier) (l .identifier) && sameBytes (k .value) (l .value))
 
 -- the key covers the frame type; one whose usage is not listed covers none
 unfoldable pub covers : Key → ℕ → Bool

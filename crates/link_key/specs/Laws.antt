@@ -1,8 +1,10 @@
--- What the layers above may rely on of keys that are equal, or have the same identifier and value, whatever the definition is.
+-- What the layers above may rely on of keys that are equal, have the same identifier and value, or have no additional information, whatever
+-- the definition is.
 use mathlib.Core.Path.{_≡_}
 use mathlib.Core.Bool.{true}
-use Rattle.link_key.specs.Key.{sameKey, sameSecret}
+use Rattle.link_key.specs.Key.{plainKey, sameKey, sameSecret}
 use Rattle.link_key.specs.declared.Key.{Key}
+use Rattle.link_key.specs.declared.info.Info.the-variants.{Absent}
 
 pub record SameKeyLaws : Type 0 where
   pub same-key-self : (k : Key) → sameKey k k ≡ true
@@ -10,3 +12,5 @@ pub record SameKeyLaws : Type 0 where
   -- a frame counter goes with identifier and value, and with nothing else of a key
   pub same-secret-says : (k l : Key) → sameSecret k l ≡ true → (k .identifier ≡ l .identifier) × (k .value ≡ l .value)
   pub same-secret-made : (k l : Key) → k .identifier ≡ l .identifier → k .value ≡ l .value → sameSecret k l ≡ true
+  -- a key of draft 004
+  pub plain-info : (k : Key) → plainKey k ≡ true → k .info ≡ Absent

@@ -1,3 +1,4 @@
 pub mod Same
+pub mod Info
 pub mod Key
 pub mod Laws

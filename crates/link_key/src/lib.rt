@@ -1,10 +1,18 @@
 // A link-layer key: its limits, when two are equal, and which frames it covers.
+pub mod compare;
+pub mod info;
+
+pub use compare::same_bytes;
+pub use info::Info;
+pub use info::Spread;
+pub use info::bytes_of;
+pub use info::same_info;
 use link_key_usage::Coverage;
 use link_key_usage::Entry;
 use link_key_usage::entry_at;
 use refusal::Refusal;
 ghost use mathlib.Core.Path.{_≡_};
-ghost use Rattle.link_key.specs.Key.{keyOf, noKey, validKey, sameKey, sameSecret, sameValue, covers, coverageOf};
+ghost use Rattle.link_key.specs.Key.{informedKey, keyOf, noKey, validKey, plainKey, sameKey, sameSecret, covers, coverageOf};
 ghost use Rattle.link_key.specs.Laws.{SameKeyLaws};
 
 pub struct Key {
@@ -13,6 +21,8 @@ pub struct Key {
     // The number of its entry in the usage list.
     pub usage: u8,
     pub value: [u8; 16],
+    // Additional information (RFC 9031); a key of draft 004 has none.
+    pub info: Info,
 }
 
 // What a search for a key gives. The key is all zero where none was found.
@@ -22,14 +32,22 @@ pub struct FoundKey {
 }
 
 // The one place that makes a key.
-pub fn key_of(identifier: u8, usage: u8, value: [u8; 16]) -> Key
-    ensures { λ r. ⌜ r ≡ keyOf identifier usage value ⌝ }
+pub fn key_with(identifier: u8, usage: u8, value: [u8; 16], info: Info) -> Key
+    ensures { λ r. ⌜ r ≡ informedKey identifier usage value info ⌝ }
 {
     Key {
         identifier,
         usage,
         value,
+        info,
     }
+}
+
+// A key without additional information.
+pub fn key_of(identifier: u8, usage: u8, value: [u8; 16]) -> Key
+    ensures { λ r. ⌜ r ≡ keyOf identifier usage value ⌝ }
+{
+    key_with(identifier, usage, value, Info::Absent)
 }
 
 // The key that is all zero, which stands where there is none.
@@ -48,6 +66,18 @@ impl Key {
             return false;
         }
         self.usage <= 14
+    }
+
+    // Whether the key has no additional information, as draft 004 wants it.
+    pub fn is_plain(self) -> bool
+        ensures { λ r. ⌜ r ≡ plainKey self ⌝ }
+    {
+        let info = self.info;
+        match info {
+            Info::Absent => true,
+            Info::Four(_, _, _, _) => false,
+            Info::Eight(_, _, _, _, _, _, _, _) => false,
+        }
     }
 
     // Whether the key covers the frame type. A key whose usage is not listed covers none.
@@ -76,7 +106,7 @@ impl Key {
         Coverage::Covered(self.covers(frame_type))
     }
 
-    // Whether two keys agree in identifier and value, whatever their usage.
+    // Whether two keys agree in identifier and value, whatever their usage and additional information.
     pub fn same_secret(self, other: Key) -> bool
         ensures { λ r. ⌜ r ≡ sameSecret self other ⌝ }
     {
@@ -85,10 +115,10 @@ impl Key {
         }
         let mine = self.value;
         let theirs = other.value;
-        same_value(mine, theirs)
+        same_bytes(&mine, &theirs)
     }
 
-    // Whether two keys agree in identifier, usage and value.
+    // Whether two keys agree in identifier, usage, value and additional information.
     pub fn same_key(self, other: Key) -> bool
         ensures { λ r. ⌜ r ≡ sameKey self other ⌝ }
     {
@@ -100,22 +130,13 @@ impl Key {
         }
         let mine = self.value;
         let theirs = other.value;
-        same_value(mine, theirs)
-    }
-}
-
-// Whether two key values agree byte by byte.
-fn same_value(a: [u8; 16], b: [u8; 16]) -> bool
-    ensures { λ r. ⌜ r ≡ sameValue a b ⌝ }
-{
-    let mut i: usize = 0;
-    while i < 16 {
-        if a[i] != b[i] {
+        if !same_bytes(&mine, &theirs) {
             return false;
         }
-        i += 1;
+        let info = self.info;
+        let other_info = other.info;
+        same_info(info, other_info)
     }
-    true
 }
 
 // What the layers above may rely on of equal keys.

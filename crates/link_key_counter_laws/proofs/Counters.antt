@@ -11,7 +11,8 @@ use lib.Dec.{eqb}
 use lib.ListN.{length, getD, set, replicate, length-set, length-map, length-append, length-replicate}
 use lib.Seq.{getD-set-same, getD-set-other, getD-append-seam, append-snoc}
 use Rattle.logic_facts.specs.Tests.{both, both-left, both-right}
-use Rattle.link_key.specs.Key.{sameSecret, sameValue}
+use Rattle.link_key.specs.Same.{sameBytes}
+use Rattle.link_key.specs.Key.{sameSecret}
 use Rattle.link_key.specs.declared.Key.{Key}
 use Rattle.link_key.proofs.Same.{same-self, same-equal}
 use Rattle.link_key_set.specs.KeySet.{keysOf, validSet, has, noneTwice}
@@ -27,18 +28,18 @@ use Rattle.link_key_counter_laws.specs.Kept.{Holds, Sound, KeptLaws}
 secret-self : (k : Key) → sameSecret k k ≡ true
 unfolding sameSecret
 secret-self k =
-    both (eqb (k .identifier) (k .identifier)) (sameValue (k .value) (k .value)) (eq-eqb (k .identifier) (k .identifier) refl)
+    both (eqb (k .identifier) (k .identifier)) (sameBytes (k .value) (k .value)) (eq-eqb (k .identifier) (k .identifier) refl)
     (same-self eqb (λ x. eq-eqb x x refl) (k .value))
 
 secret-identifier : (k l : Key) → sameSecret k l ≡ true → k .identifier ≡ l .identifier
 unfolding sameSecret
 secret-identifier k l e =
-    eqb-true (k .identifier) (l .identifier) (both-left (eqb (k .identifier) (l .identifier)) (sameValue (k .value) (l .value)) e)
+    eqb-true (k .identifier) (l .identifier) (both-left (eqb (k .identifier) (l .identifier)) (sameBytes (k .value) (l .value)) e)
 
 secret-value : (k l : Key) → sameSecret k l ≡ true → k .value ≡ l .value
 unfolding sameSecret
 secret-value k l e =
-    same-equal eqb eqb-true (k .value) (l .value) (both-right (eqb (k .identifier) (l .identifier)) (sameValue (k .value) (l .value)) e)
+    same-equal eqb eqb-true (k .value) (l .value) (both-right (eqb (k .identifier) (l .identifier)) (sameBytes (k .value) (l .value)) e)
 
 -- ---- the first place with the key's identifier and value
 placeFrom : Key → ℕ → List Key → Option ℕ

@@ -9,7 +9,7 @@ use mathlib.Core.List.{List, [], _∷_, _++_, map}
 use borrow.Author.Tests.{ne-eqb, eq-eqb}
 use lib.ListN.{length, drop, take, getD, set, replicate, length-map, length-take, drop-of-length-le}
 use lib.Seq.{take-suc, set-at, append-snoc, length-take-le, getD-take}
-use Rattle.link_key.specs.Key.{covers}
+use Rattle.link_key.specs.Key.{keyOf, covers}
 use Rattle.link_key.specs.declared.Key.{Key}
 use Rattle.link_key.proofs.Same.{next}
 use Rattle.link_key_set.specs.KeySet.{keysOf}
@@ -19,7 +19,7 @@ use Rattle.link_key_counters.specs.declared.CountedSet.{CountedSet}
 
 -- what a read past the end would give
 abbrev pub past : Key
-past = record { identifier = 0; usage = 0; value = [] }
+past = keyOf 0 0 []
 
 all-taken : (n : ℕ) (ks : List Key) → take (length (take n ks)) ks ≡ take n ks
 all-taken zero ks = refl

@@ -8,14 +8,16 @@ use mathlib.Core.Option.{none, some}
 use borrow.Author.Tests.{leb-true, eqb-true, eqb-false, eq-eqb, ne-eqb, le-leb, lt-leb, not-true}
 use lib.Dec.{leb, eqb}
 use lib.ListN.{length, length-take}
-use Rattle.link_key.specs.Key.{validKey, sameKey}
-use Rattle.link_key_set.specs.KeySet.{keysOf, noKeys, named, has, validKeys, validSet, allValid, noneTwice, eachOnce, sameKeys, shares, Apart}
+use Rattle.link_key.specs.Key.{validKey, plainKey, sameKey}
+use Rattle.link_key_set.specs.KeySet.{keysOf, noKeys, named, has, validKeys, validSet, allValid, noneTwice, eachOnce, plainKeys, sameKeys, shares, Apart}
 use Rattle.link_key_set.specs.KeySet.{findKey}
 use Rattle.link_key.specs.declared.Key.{Key}
+use Rattle.link_key.specs.declared.info.Info.the-variants.{Absent}
 use Rattle.link_key_set.specs.declared.key_set.KeySet.{KeySet}
 use Rattle.logic_facts.specs.Tests.{both-left, both-right, never}
 use Rattle.link_key.proofs.Same.{same-self, same-equal}
 use Rattle.link_key_set.proofs.Lists.{any-none, any-never, any-append, all-each, all-append, first-is, first-none, none-first}
+use Rattle.link_key.proofs.Infos.{plain-info}
 use Rattle.link_key.proofs.Keys.{same-key-self, same-key-equal}
 
 -- ---- equal sets
@@ -131,6 +133,10 @@ one-of-a-name ks k l e m n p =
     let a = find-own m e in
     let b = find-own n e in
     cc
+
+-- ---- additional information
+pub plain-each : (ks : List Key) → plainKeys ks ≡ true → (k : Key) → List·Memᴰ k ks → k .info ≡ Absent
+plain-each ks e k m = plain-info k (all-each plainKey m e)
 
 -- ---- limits
 module _ (ks : List Key) (ok : validKeys ks ≡ true) where

@@ -9,7 +9,7 @@ use mathlib.Core.List.{List, [], _∷_, _++_, map}
 use lib.Dec.{eqb}
 use lib.ListN.{length, take, drop, getD, set, length-take, drop-of-length-le}
 use lib.Seq.{getD-take, take-all, take-suc, take-suc-set}
-use Rattle.link_key.specs.Key.{sameKey}
+use Rattle.link_key.specs.Key.{keyOf, sameKey}
 use Rattle.link_key_set.specs.Lists.{anyOf}
 use Rattle.link_key_set.specs.KeySet.{keysOf, identifierOf, has, shares, sameKeys}
 use Rattle.link_key.specs.declared.Key.{Key}
@@ -38,7 +38,7 @@ within set n e = omega (arith, length-take (set .count) (set .keys))
 
 -- what a read past the end would give
 abbrev pub past : Key
-past = record { identifier = 0; usage = 0; value = [] }
+past = keyOf 0 0 []
 
 -- ---- identifiers, gathered in a list of their own
 abbrev pub isAmong : List ℕ → ℕ → Bool

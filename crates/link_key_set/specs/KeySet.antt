@@ -1,14 +1,14 @@
 -- Key sets, as the list of their keys in order; the empty list is no set.
 use Prim.Native.Nat.{ℕ}
 use mathlib.Core.Path.{_≡_}
-use mathlib.Core.Bool.{Bool, true, not, _&&_}
+use mathlib.Core.Bool.{Bool, true, not, _&&_, _||_}
 use mathlib.Core.List.{List, [], _∷_, List·Memᴰ}
 use mathlib.Core.Option.{Option}
 use lib.Dec.{leb, eqb}
 use lib.ListN.{length, take, replicate}
 use Rattle.link_key.specs.Same.{sameBy}
 use Rattle.link_key_set.specs.Lists.{anyOf, allOf, firstOf}
-use Rattle.link_key.specs.Key.{noKey, validKey, sameKey, covers}
+use Rattle.link_key.specs.Key.{noKey, validKey, plainKey, sameKey, covers}
 use Rattle.link_key.specs.declared.Key.{Key}
 use Rattle.link_key_set.specs.declared.key_set.KeySet.{KeySet}
 
@@ -50,6 +50,14 @@ validKeys ks = (leb 1 (length ks) && leb (length ks) 8 && allValid ks && noneTwi
 -- the same of a set that is handed in: a count over 8, which its eight places cannot hold, is outside the limits too
 unfoldable pub validSet : KeySet → Bool
 validSet set = (leb (set .count) 8 && validKeys (keysOf set))
+
+-- no key has additional information, as draft 004 wants it; the published form does not ask for it
+abbrev pub plainKeys : List Key → Bool
+plainKeys ks = allOf plainKey ks
+
+-- whether the keys are those of a form in which a key may have additional information, or may not
+abbrev pub mayInform : Bool → List Key → Bool
+mayInform informed ks = (informed || plainKeys ks)
 
 -- the same keys in the same order
 abbrev pub sameKeys : List Key → List Key → Bool

@@ -4,6 +4,7 @@ use crate::seen::none_seen;
 use link_key::FoundKey;
 use link_key::Key;
 use link_key::no_key;
+ghost use mathlib.Core.Bool.{_&&_, _||_};
 ghost use mathlib.Core.Path.{_≡_};
 ghost use Prim.Native.Nat.{ℕ, _≤_};
 ghost use mathlib.Core.Option.{none};
@@ -11,8 +12,8 @@ ghost use lib.Dec.{eqb};
 ghost use mathlib.Core.List.{map};
 ghost use lib.ListN.{length, take, drop};
 ghost use Rattle.link_key_set.specs.Lists.{anyOf};
-ghost use Rattle.link_key_set.specs.KeySet.{keysOf, identifierOf, noKeys, has, eachOnce, validSet, sameKeys, shares, findKey};
-ghost use Rattle.link_key.specs.Key.{foundKey};
+ghost use Rattle.link_key_set.specs.KeySet.{keysOf, identifierOf, noKeys, has, eachOnce, validSet, plainKeys, mayInform, sameKeys, shares, findKey};
+ghost use Rattle.link_key.specs.Key.{plainKey, foundKey};
 
 pub struct KeySet {
     // How many keys the set has; 0 is no set.
@@ -58,6 +59,13 @@ fn among(ids: [u8; 8], from: usize, to: usize, identifier: u8) -> bool
     false
 }
 
+// Whether a key is without additional information, or may have it.
+fn may_inform(informed: bool, key: Key) -> bool
+    ensures { λ r. ⌜ r ≡ (informed || plainKey key) ⌝ }
+{
+    informed || key.is_plain()
+}
+
 impl KeySet {
     // How many keys there are: the count, and 8 where the count is over 8.
     pub fn len(self) -> usize
@@ -89,15 +97,22 @@ impl KeySet {
     pub fn valid(self) -> bool
         ensures { λ r. ⌜ r ≡ validSet self ⌝ }
     {
+        self.valid_as(true)
+    }
+
+    // The same of a form whose keys may have additional information, or may not.
+    pub fn valid_as(self, informed: bool) -> bool
+        ensures { λ r. ⌜ r ≡ (validSet self && mayInform informed (keysOf self)) ⌝ }
+    {
         if self.count == 0 || 8 < self.count {
             return false;
         }
-        self.keys_valid()
+        self.keys_valid(informed)
     }
 
     // Whether every key is in its limits, and no identifier comes twice: each key is looked at once.
-    fn keys_valid(self) -> bool
-        ensures { λ r. ⌜ r ≡ eachOnce (keysOf self) ⌝ }
+    fn keys_valid(self, informed: bool) -> bool
+        ensures { λ r. ⌜ r ≡ (eachOnce (keysOf self) && mayInform informed (keysOf self)) ⌝ }
     {
         let n = self.len();
         let keys = self.keys;
@@ -105,11 +120,31 @@ impl KeySet {
         let mut i: usize = 0;
         while i < n {
             let key = keys[i];
+            if !may_inform(informed, key) {
+                return false;
+            }
             if join(&mut seen, key) {
                 i += 1;
             } else {
                 return false;
             }
+        }
+        true
+    }
+
+    // Whether no key of the set has additional information, as draft 004 wants it.
+    pub fn is_plain(self) -> bool
+        ensures { λ r. ⌜ r ≡ plainKeys (keysOf self) ⌝ }
+    {
+        let n = self.len();
+        let keys = self.keys;
+        let mut i: usize = 0;
+        while i < n {
+            let key = keys[i];
+            if !key.is_plain() {
+                return false;
+            }
+            i += 1;
         }
         true
     }

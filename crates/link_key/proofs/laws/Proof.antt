@@ -1,4 +1,5 @@
 -- `laws` meets its contract: each is among the laws of keys.
+use Rattle.link_key.proofs.Infos.{plain-info}
 use Rattle.link_key.proofs.Keys.{same-key-self, same-key-equal, same-secret-says, same-secret-made}
 use Rattle.link_key.proofs.laws.Statement.{statement}
 use Rattle.link_key.proofs.laws.Tie as tie
@@ -9,6 +10,7 @@ returns c = record {
   same-key-equal = same-key-equal;
   same-secret-says = same-secret-says;
   same-secret-made = same-secret-made;
+  plain-info = plain-info;
 }
 
 pub laws-spec : {M : Type 1} → statement M

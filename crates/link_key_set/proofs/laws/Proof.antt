@@ -1,10 +1,11 @@
 -- `laws` meets its contract: each law is one of the law files'.
 use Rattle.link_key.proofs.Keys.{entry-says, coverage-says, found-some, found-none, coverage-covered, covers-known-type, covers-listed, same-key-self}
+use Rattle.link_key.proofs.Infos.{plain-info}
 use Rattle.link_key.proofs.Keys.{same-key-equal, valid-identifier, limits-fit}
 use Rattle.link_key_set.proofs.KeySets.{same-keys-self, same-keys-equal, has-none, none-has, shares-apart, apart-shares, shares-turned}
 use Rattle.link_key_set.proofs.KeySets.{has-append, limits-append, none-twice-append, one-of-a-name, find-found}
 use Rattle.link_key_set.proofs.KeySets.{find-own, find-none, none-find, valid-none-twice, valid-each, valid-some, valid-few}
-use Rattle.link_key_set.proofs.KeySets.{valid-set, set-valid, keys-of-none}
+use Rattle.link_key_set.proofs.KeySets.{plain-each, valid-set, set-valid, keys-of-none}
 use Rattle.link_key_set.proofs.laws.Statement.{statement}
 use Rattle.link_key_set.proofs.laws.Tie as tie
 
@@ -35,6 +36,8 @@ returns c =
       one-of-a-name = one-of-a-name;
       find-none = find-none;
       none-find = none-find;
+      plain-info = plain-info;
+      plain-each = plain-each;
       valid-none-twice = valid-none-twice;
       valid-each = valid-each;
       valid-some = valid-some;

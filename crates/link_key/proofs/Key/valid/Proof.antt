@@ -1,4 +1,4 @@
--- `in_limits` meets its contract: a byte is at most 255, and the value has 16 bytes by its type.
+-- `valid` meets its contract: a byte is at most 255, and the value has 16 bytes by its type.
 use Prim.Native.Nat.{_≤_}
 use mathlib.Core.Path.{_≡_}
 use mathlib.Core.Bool.{and-true}

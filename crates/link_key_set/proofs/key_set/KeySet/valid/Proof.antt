@@ -1,28 +1,16 @@
--- `validKeys` meets its contract: each test of the code is one of the definition's.
-use mathlib.Core.Path.{_≡_, sym, _∙_}
-use mathlib.Core.Logic.{⊎-elim}
+-- `valid` meets its contract: what a key may have besides is not asked.
+use mathlib.Core.Path.{_∙_}
+use mathlib.Core.Bool.{and-true}
 use borrow.Author.Needs.{needs}
-use borrow.Author.Tests.{ltb-true, ltb-false}
-use lib.ListN.{length, length-map}
-use Rattle.link_key_set.proofs.KeySets.{set-none, set-over, set-limits}
+use Rattle.link_key_set.specs.KeySet.{validSet}
 use Rattle.link_key_set.proofs.key_set.KeySet.valid.Statement.{statement}
 use Rattle.link_key_set.proofs.key_set.KeySet.valid.Tie as tie
 
+valid-as-requires : tie.Need-valid-as-requires
+valid-as-requires c κs = search needs
+
 returns : tie.Need-returns
-returns c =
-    let set = c .before .before .args .self in
-    sym (⊎-elim (λ w. set-none set (w .taken)) (λ w. set-over set (ltb-true 8 (set .count) (w .2 .taken))) (c .if1 .came))
-
-keys-valid-requires : tie.Need-keys-valid-requires
-keys-valid-requires c κs = search needs
-
-returns-2 : tie.Need-returns-2
-returns-2 c =
-    let asked = c .before .before .before in
-    let start = asked .before .before in
-    let set = start .args .self in
-    let places : length (set .keys) ≡ 8 = sym (length-map (set .keys) _) ∙ start .good .0 .1 .1 .1 .0 .1 .0 .1 in
-    c .keys-valid .ensures ∙ sym (set-limits set places (asked .if1 .left) (ltb-false 8 (set .count) (c .before .if2 .left)))
+returns c = c .valid-as .ensures ∙ and-true (validSet (c .before .args .self))
 
 pub valid-spec : {M : Type 1} → statement M
-valid-spec = tie.close (tie.spec returns keys-valid-requires returns-2)
+valid-spec = tie.close (tie.spec valid-as-requires returns)

@@ -1,0 +1,29 @@
+-- `is_plain` meets its contract case by case.
+use borrow.Author.Needs.{needs}
+use Rattle.link_key.specs.Key.{plainKey}
+use Rattle.link_key.proofs.Key.is_plain.Statement.{statement}
+use Rattle.link_key.proofs.Key.is_plain.Tie as tie
+
+enum-told : tie.Need-enum-told
+enum-told c = search needs
+
+enum-told-2 : tie.Need-enum-told-2
+enum-told-2 c = search needs
+
+enum-told-3 : tie.Need-enum-told-3
+enum-told-3 c = search needs
+
+returns : tie.Need-returns
+unfolding plainKey
+returns c = rw (c .enum-told .given .1)
+
+returns-2 : tie.Need-returns-2
+unfolding plainKey
+returns-2 c = rw (c .enum-told2 .given .1)
+
+returns-3 : tie.Need-returns-3
+unfolding plainKey
+returns-3 c = rw (c .enum-told3 .given .1)
+
+pub is-plain-spec : {M : Type 1} → statement M
+is-plain-spec = tie.close (tie.spec enum-told enum-told-2 enum-told-3 returns returns-2 returns-3)
