@@ -35,8 +35,8 @@ configuration-zero (read c) e = absurd (e refl)
 
 pub readers-demand1 : ReadersDemand1
 readers-demand1 = record {
-  request = (λ head s k e. request-empty (onward (payloadReadBy requestForm head nothingGathered s) settled) k e);
-  configuration = (λ head s k e. configuration-empty (payloadReadBy configurationForm head emptyConfiguration s) k e);
-  request-number = (λ head s e. request-zero (onward (payloadReadBy requestForm head nothingGathered s) settled) e);
-  configuration-number = (λ head s e. configuration-zero (payloadReadBy configurationForm head emptyConfiguration s) e);
+  request = (λ v head s k e. request-empty (onward (payloadReadBy (requestForm v) head nothingGathered s) (settled v)) k e);
+  configuration = (λ v head s k e. configuration-empty (payloadReadBy (configurationForm v) head emptyConfiguration s) k e);
+  request-number = (λ v head s e. request-zero (onward (payloadReadBy (requestForm v) head nothingGathered s) (settled v)) e);
+  configuration-number = (λ v head s e. configuration-zero (payloadReadBy (configurationForm v) head emptyConfiguration s) e);
 }

@@ -3,18 +3,33 @@ use mathlib.Core.Path.{refl}
 use Rattle.cbor.specs.Decode.{payloadBy, decodeBy, heading, argument, next, digits, members, pairs, majorOf}
 use Rattle.cbor.specs.Encode.{infoOf}
 use Rattle.cbor.specs.Strict.{strictHeading, isShort}
+use Rattle.link_key.specs.Key.{validKey}
 use Rattle.link_key_set.specs.KeySet.{validKeys}
 use Rattle.cojp.specs.Octets.{padded, octetsJudged}
 use Rattle.short_address.specs.Address.{isAddress}
 use Rattle.cojp.specs.Address.{addressIn}
-use Rattle.cojp.specs.KeySet.{groups}
+use Rattle.cojp.specs.KeySet.{groups, identified, used, valued}
 use Rattle.cojp.specs.Walk.{payloadReadBy}
+use Rattle.cojp.specs.Parameter.{parameterOf, laterParameter}
 use Rattle.cojp.specs.Request.{roleJudged, requestStanding, requestTaking, owing}
-use Rattle.cojp.specs.Configuration.{configurationStanding, configurationTaking}
+use Rattle.cojp.specs.Configuration.{configurationTaking}
 use Rattle.cojp.specs.Examples.{MarkedExamples}
+use Rattle.cojp.specs.Faults.{added}
+use Rattle.cojp.specs.Lists.{stringsIn, faultsIn}
+use Rattle.cojp.specs.PublishedExamples.{PublishedExamples}
+use Rattle.cojp.specs.Rate.{rateTaken}
+use Rattle.cbor.specs.Encode.{shortest, extraOf, bytesOf}
 
 pub marked : MarkedExamples
 unfolding payloadBy strictHeading isShort infoOf decodeBy heading argument next digits members pairs majorOf validKeys padded octetsJudged
-    isAddress addressIn groups payloadReadBy roleJudged requestStanding requestTaking owing configurationStanding configurationTaking
+    isAddress addressIn groups identified used valued payloadReadBy roleJudged requestStanding requestTaking owing parameterOf laterParameter
+    configurationTaking
 marked =
     (refl, (refl, (refl, (refl, (refl, (refl, (refl, (refl, (refl, (refl, (refl, (refl, (refl, (refl, (refl, tt)))))))))))))))
+
+pub published : PublishedExamples
+unfolding payloadBy infoOf decodeBy heading argument next digits members pairs majorOf validKeys padded octetsJudged isAddress addressIn
+    groups identified used valued payloadReadBy roleJudged requestStanding requestTaking owing parameterOf laterParameter configurationTaking
+    validKey added stringsIn faultsIn rateTaken shortest extraOf bytesOf
+published =
+    (refl, (refl, (refl, (refl, (refl, (refl, (refl, (refl, (refl, (refl, (refl, (refl, (refl, (refl, (refl, (refl, (refl, (refl, (refl, (refl, (refl, tt)))))))))))))))))))))

@@ -5,5 +5,9 @@ pub mod Strings
 pub mod Arrays
 mod Addresses
 pub mod Walks
+mod Faults
+mod Kept
+mod Rates
+pub mod Reports
 mod Reading
 pub mod Nexts

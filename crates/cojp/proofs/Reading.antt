@@ -2,7 +2,7 @@
 use Prim.Native.Nat.{ℕ, _≤_, _+_, _-_}
 use native.Mathlib.Omega.{arith}
 use mathlib.Core.Path.{_≡_, refl}
-use mathlib.Core.Bool.{Bool, true, false, cond, _&&_}
+use mathlib.Core.Bool.{Bool, true, false, cond, _&&_, _||_}
 use mathlib.Core.List.{List, [], _∷_}
 use borrow.Author.Tests.{leb-true, le-leb, eq-eqb}
 use lib.Dec.{leb, eqb}
@@ -14,25 +14,44 @@ use Rattle.refusal.specs.declared.Verdict.the-variants.{Accepted}
 use Rattle.cbor.specs.Decode.{heading}
 use Rattle.cbor.specs.View.{Plain, number, minus, string, other, View, plain, list}
 use Rattle.link_key.specs.Key.{noKey}
-use Rattle.link_key_set.specs.KeySet.{validKeys, validSet}
+use Rattle.link_key_set.specs.KeySet.{keysOf, validKeys, validSet, plainKeys}
 use Rattle.link_key.specs.declared.Key.{Key}
 use Rattle.link_key_set.specs.declared.key_set.KeySet.{KeySet}
 use Rattle.link_key_set.specs.KeyLaws.{KeyLaws}
-use Rattle.cojp.specs.Reading.{Reading, refused, read, put, Judgement, broken, unfit, good, concluded}
-use Rattle.cojp.specs.Octets.{octetsJudged, octetsOf, octetsParameter, noOctetsParameter}
+use Rattle.link_key.specs.Key.{plainKey}
+use Rattle.link_key.specs.declared.info.Info.the-variants as info
+use Rattle.cbor.specs.Laws.{ItemLaws}
+use Rattle.cojp.specs.Reading.{Reading, refused, read, put, Judgement, broken, unfit, good, concluded, following}
+use Rattle.cojp.specs.Octets.{octetsJudged, octetsOf, octetsParameter, noOctetsParameter, octetsRead}
 use Rattle.short_address.specs.Address.{isAddress}
-use Rattle.cojp.specs.Address.{addressBy, addressIn, addressJudged, addressOf, addressParameter, noAddressParameter}
-use Rattle.cojp.specs.KeySet.{Groups, notGroups, groupsOf, groups, keysIn, keysJudged, keySetOf, keysParameter}
+use Rattle.cojp.specs.Address.{addressBy, addressIn, addressJudged, addressOf, addressParameter, noAddressParameter, addressRead}
+use Rattle.cojp.specs.KeySet.{Groups, notGroups, groupsOf, group, groups, identified, used, valued}
+use Rattle.cojp.specs.KeySet.{keysIn, keysJudgedAs, keysReadAs, keySetOf, keysParameter, noKeysParameter}
+use Rattle.cojp.specs.Faults.{noFaults, isReportable, faultsFit}
+use Rattle.cojp.specs.Lists.{stringsIn}
+use Rattle.cojp.specs.Parameter.{parameterOf, laterParameter}
+use Rattle.cojp.specs.Version.{byVersion, informed}
 use Rattle.cojp.specs.Walk.{payloadRead}
 use Rattle.cojp.specs.Configuration.{emptyConfiguration, withKeys, withAddress, withJrc, withNetwork, withPrefix, withPassed}
-use Rattle.cojp.specs.Configuration.{configurationTaking, configurationForm, configurationAnswer}
+use Rattle.cojp.specs.Configuration.{standingFor, takingFor, noted, configurationTaking, configurationForm, configurationAnswer}
 use Rattle.cojp.specs.InRange.{InRange, ReadsInRange}
-use Rattle.cojp.specs.Writing.{keysInRange, addressInRange, jrcInRange, octetsInRange}
+use Rattle.cojp.specs.Writing.{keysInRange, keysPlain, addressInRange, jrcInRange, octetsInRange, listInRange, missing, ofForm}
+use Rattle.cojp.specs.declared.address.AddressParameter.{AddressParameter}
 use Rattle.cojp.specs.declared.address.ShortAddress.{ShortAddress}
 use Rattle.cojp.specs.declared.configuration.Configuration.{Configuration}
+use Rattle.cojp.specs.declared.fault.Faults.{Faults}
+use Rattle.cojp.specs.declared.key_set.KeysParameter.{KeysParameter}
 use Rattle.cojp.specs.declared.octets.Octets.{Octets}
+use Rattle.cojp.specs.declared.octets.OctetsParameter.{OctetsParameter}
+use Rattle.cojp.specs.declared.parameter.Parameter.{Parameter}
+use Rattle.cojp.specs.declared.parameter.Parameter.the-variants as name
 use Rattle.cojp.specs.declared.report.Report.the-variants.{Taken, Discarded}
+use Rattle.cojp.specs.declared.version.Version.{Version}
+use Rattle.cojp.specs.declared.version.Version.the-variants.{Draft, Published}
+use Rattle.cojp.specs.declared.walk.Standing.the-variants.{Fresh}
 use Rattle.logic_facts.specs.Tests.{both-left, both-right}
+use Rattle.cojp.proofs.Faults.{Listed, none-listed, added-listed, listed-valid}
+use Rattle.cojp.proofs.Kept.{blacklist-good}
 use Rattle.cojp.proofs.Walks.{Gives, payload-gives}
 
 -- ---- a good value
@@ -46,19 +65,70 @@ unfolding Good
 good-if P true a f = f refl
 good-if P false a f = tt
 
+-- ---- the keys of the draft have no additional information
+abbrev Plainly : Groups → Type 0
+Plainly notGroups = Unit {0}
+Plainly (groupsOf ks) = plainKeys ks ≡ true
+
+group-plain : (i u : ℕ) (v : List ℕ) (g : Groups) → Plainly g → Plainly (group i u v info.Absent g)
+unfolding plainKey
+group-plain i u v notGroups h = tt
+group-plain i u v (groupsOf ks) h = h
+
+mutual
+  unfolding groups identified used valued
+
+  groups-plain : (ps : List Plain) → Plainly (groups false ps)
+  groups-plain [] = refl
+  groups-plain (number i ∷ r) = identified-plain r i
+  groups-plain (minus n ∷ r) = tt
+  groups-plain (string v ∷ r) = tt
+  groups-plain (other ∷ r) = tt
+
+  identified-plain : (ps : List Plain) (i : ℕ) → Plainly (identified false i ps)
+  identified-plain [] i = tt
+  identified-plain (number u ∷ r) i = used-plain r i u
+  identified-plain (minus n ∷ r) i = tt
+  identified-plain (string v ∷ r) i = valued-plain r i 0 v
+  identified-plain (other ∷ r) i = tt
+
+  used-plain : (ps : List Plain) (i u : ℕ) → Plainly (used false i u ps)
+  used-plain [] i u = tt
+  used-plain (number n ∷ r) i u = tt
+  used-plain (minus n ∷ r) i u = tt
+  used-plain (string v ∷ r) i u = valued-plain r i u v
+  used-plain (other ∷ r) i u = tt
+
+  valued-plain : (ps : List Plain) (i u : ℕ) (v : List ℕ) → Plainly (valued false i u v ps)
+  valued-plain [] i u v = group-plain i u v (groupsOf []) refl
+  valued-plain (number n ∷ r) i u v = group-plain i u v (identified false n r) (identified-plain r n)
+  valued-plain (minus n ∷ r) i u v = tt
+  valued-plain (string w ∷ r) i u v = tt
+  valued-plain (other ∷ r) i u v = tt
+
+draft-plain : (informed : Bool) (ps : List Plain) → informed ≡ false → (ks : List Key) → groups informed ps ≡ groupsOf ks → plainKeys ks ≡ true
+draft-plain true ps i ks e = absurd (let z : _≡_ {A = ℕ} 0 1 = cc in omega arith)
+draft-plain false ps i ks e = rw e at (groups-plain ps)
+
 module _ (K : KeyLaws) where
   set-of : (ks : List Key) → validKeys ks ≡ true → validSet (keySetOf ks) ≡ true
   set-of ks e =
       K .set-valid (keySetOf ks) (K .valid-few ks e) (rw (take-at ks (replicate (8 - length ks) noKey) (length ks) refl) e)
 
-  keys-good : (v : View) → Good (λ (s : KeySet). validSet s ≡ true) (keysJudged v)
-  unfolding Good
-  keys-good (plain p) = tt
-  keys-good (list ps) = go (groups ps)
+  -- in the limits, and without additional information where none may be
+  FineSet : Bool → KeySet → Type 0
+  FineSet informed s = (validSet s ≡ true) × (informed ≡ false → plainKeys (keysOf s) ≡ true)
+
+  keys-good : (informed : Bool) (x : View) → Good (FineSet informed) (keysJudgedAs informed x)
+  unfolding Good FineSet
+  keys-good informed (plain p) = tt
+  keys-good informed (list ps) = go (groups informed ps) refl
     where
-      go : (g : Groups) → Good (λ (s : KeySet). validSet s ≡ true) (keysIn g)
-      go notGroups = tt
-      go (groupsOf ks) = good-if (λ (s : KeySet). validSet s ≡ true) (validKeys ks) (keySetOf ks) (set-of ks)
+      go : (g : Groups) → groups informed ps ≡ g → Good (FineSet informed) (keysIn g)
+      go notGroups e = tt
+      go (groupsOf ks) e =
+          good-if (FineSet informed) (validKeys ks) (keySetOf ks)
+          (λ h. (set-of ks h, λ i. rw (take-at ks (replicate (8 - length ks) noKey) (length ks) refl) (draft-plain informed ps i ks e)))
 
 address-by : (s : List ℕ) (leased : Bool) (lease : ℕ) → Good (λ (a : ShortAddress). isAddress (a .bytes) ≡ true) (addressBy s leased lease)
 address-by s leased lease = good-if (λ (a : ShortAddress). isAddress (a .bytes) ≡ true) (isAddress s) (addressOf s leased lease) (λ e. e)
@@ -98,65 +168,248 @@ module _ (least : ℕ) where
   octets-good (plain other) = tt
   octets-good (list ps) = tt
 
--- ---- one parameter put in its place
-put-fits :
-    {A P : Type 0} (Q : A → Type 0) (take : A → P) (outside : Reading P) (j : Judgement A) (f : P → Configuration) → Good Q j →
-    Gives InRange (put f outside) → ((a : A) → Q a → InRange (f (take a))) → Gives InRange (put f (concluded outside take j))
+-- ---- a parameter after reading: R holds of each good value, and of what stands where nothing is taken
+reads-well :
+    {A P : Type 0} (Q : A → Type 0) (R : P → Type 0) (take : A → P) (outside : Reading P) (j : Judgement A) → Good Q j → Gives R outside →
+    ((a : A) → Q a → R (take a)) → Gives R (concluded outside take j)
 unfolding Good
-put-fits Q take outside broken f g o h = tt
-put-fits Q take outside unfit f g o h = o
-put-fits Q take outside (good a) f g o h = h a g
+reads-well Q R take outside broken g o h = tt
+reads-well Q R take outside unfit g o h = o
+reads-well Q R take outside (good a) g o h = h a g
 
-module _ (K : KeyLaws) (c : Configuration) (h : InRange c) where
-  keys-put : (p : _) → keysInRange p ≡ true → InRange (withKeys c p)
-  keys-put p e = record { keys = e; address = h .address; jrc = h .jrc; network = h .network; prefix = h .prefix }
+follows-well : {P : Type 0} (R : P → Type 0) (v : Version) (bad : P) (r : Reading P) → R bad → Gives R r → Gives R (following v bad r)
+follows-well R Draft bad r b g = g
+follows-well R Published bad (refused k) b g = b
+follows-well R Published bad (read p) b g = g
 
-  address-put : (p : _) → addressInRange p ≡ true → InRange (withAddress c p)
-  address-put p e = record { keys = h .keys; address = e; jrc = h .jrc; network = h .network; prefix = h .prefix }
+puts-well :
+    {P S : Type 0} (R : P → Type 0) (Q : S → Type 0) (f : P → S) (r : Reading P) → Gives R r → ((p : P) → R p → Q (f p)) → Gives Q (put f r)
+puts-well R Q f (refused k) g h = tt
+puts-well R Q f (read p) g h = h p g
 
-  jrc-put : (p : _) → jrcInRange p ≡ true → InRange (withJrc c p)
-  jrc-put p e = record { keys = h .keys; address = h .address; jrc = e; network = h .network; prefix = h .prefix }
+-- ---- which parameters a form knows
+abbrev Of : Version → Parameter → Type 0
+Of Draft name.Keys = Unit {0}
+Of Draft name.Address = Unit {0}
+Of Draft name.Jrc = Unit {0}
+Of Draft name.Network = Unit {0}
+Of Draft name.Prefix = Unit {0}
+Of Draft name.Blacklist = ⊥
+Of Draft name.Rate = ⊥
+Of Draft name.Unknown = Unit {0}
+Of Published name.Keys = Unit {0}
+Of Published name.Address = Unit {0}
+Of Published name.Jrc = Unit {0}
+Of Published name.Network = ⊥
+Of Published name.Prefix = ⊥
+Of Published name.Blacklist = Unit {0}
+Of Published name.Rate = Unit {0}
+Of Published name.Unknown = Unit {0}
 
-  network-put : (p : _) → octetsInRange p ≡ true → InRange (withNetwork c p)
-  network-put p e = record { keys = h .keys; address = h .address; jrc = h .jrc; network = e; prefix = h .prefix }
+either-of : (v : Version) (b : Bool) (p q : Parameter) → Of v p → Of v q → Of v (cond b p q)
+either-of v true p q g h = g
+either-of v false p q g h = h
 
-  prefix-put : (p : _) → octetsInRange p ≡ true → InRange (withPrefix c p)
-  prefix-put p e = record { keys = h .keys; address = h .address; jrc = h .jrc; network = h .network; prefix = e }
+later-of : (v : Version) (n : ℕ) → Of v (laterParameter v n)
+unfolding laterParameter
+later-of Draft n = either-of Draft (eqb n 5) _ _ tt (either-of Draft (eqb n 6) _ _ tt tt)
+later-of Published n = either-of Published (eqb n 6) _ _ tt (either-of Published (eqb n 7) _ _ tt tt)
 
-  passing-fits : (m : ℕ) → InRange (withPassed c m)
-  passing-fits m = record { keys = h .keys; address = h .address; jrc = h .jrc; network = h .network; prefix = h .prefix }
+known-of : (v : Version) (n : ℕ) → Of v (parameterOf v n)
+unfolding parameterOf
+known-of Draft n =
+    either-of Draft (eqb n 2) _ _ tt (either-of Draft (eqb n 3) _ _ tt (either-of Draft (eqb n 4) _ _ tt (later-of Draft n)))
+known-of Published n =
+    either-of Published (eqb n 2) _ _ tt
+    (either-of Published (eqb n 3) _ _ tt (either-of Published (eqb n 4) _ _ tt (later-of Published n)))
 
-  either-fits : (b : Bool) (x y : Reading Configuration) → Gives InRange x → Gives InRange y → Gives InRange (cond b x y)
-  either-fits true x y p q = p
-  either-fits false x y p q = q
+-- a label that is known in the published form may be reported
+known-reportable : (v : Version) (c : Configuration) (n : ℕ) → standingFor c (parameterOf v n) ≡ Fresh → byVersion v true (isReportable n) ≡ true
+unfolding parameterOf laterParameter
+known-reportable Draft c n e = refl
+known-reportable Published c n e = go (eqb n 2) (eqb n 3) (eqb n 4) (eqb n 6) (eqb n 7) e
+  where
+    go : (a b d f g : Bool)
+        → standingFor c (cond a name.Keys (cond b name.Address (cond d name.Jrc (cond f name.Blacklist (cond g name.Rate name.Unknown))))) ≡ Fresh
+        → (a || b || d || f || g) ≡ true
+    go true b d f g e = refl
+    go false true d f g e = refl
+    go false false true f g e = refl
+    go false false false true g e = refl
+    go false false false false true e = refl
+    go false false false false false e = absurd (let z : _≡_ {A = ℕ} 0 1 = cc in omega arith)
 
-  taking-fits : (n : ℕ) (v : View) → Gives InRange (configurationTaking c n v)
-  unfolding configurationTaking sized
-  taking-fits n v =
-      either-fits (eqb n 2) _ _
-      (put-fits (λ (s : KeySet). validSet s ≡ true) (keysParameter Taken) (refused refusal.Keys) (keysJudged v) (withKeys c) (keys-good K v) tt
-      (λ s e. keys-put (keysParameter Taken s) e))
-      (either-fits (eqb n 3) _ _
-      (put-fits (λ (a : ShortAddress). isAddress (a .bytes) ≡ true) (addressParameter Taken) (read (noAddressParameter Discarded))
-      (addressJudged v) (withAddress c) (address-good v) (address-put (noAddressParameter Discarded) refl) (λ a e. address-put (addressParameter Taken a) e))
-      (either-fits (eqb n 4) _ _
-      (put-fits (sized 16) (octetsParameter Taken) (read (noOctetsParameter Discarded)) (octetsJudged 16 v) (withJrc c) (octets-good 16 v)
-      (jrc-put (noOctetsParameter Discarded) refl) (λ o e. jrc-put (octetsParameter Taken o) (eq-eqb (o .len) 16 (omega (arith, e .0, e .1)))))
-      (either-fits (eqb n 5) _ _
-      (put-fits (sized 0) (octetsParameter Taken) (read (noOctetsParameter Discarded)) (octetsJudged 0 v) (withNetwork c) (octets-good 0 v)
-      (network-put (noOctetsParameter Discarded) refl) (λ o e. network-put (octetsParameter Taken o) (le-leb _ _ (e .1))))
-      (put-fits (sized 0) (octetsParameter Taken) (read (noOctetsParameter Discarded)) (octetsJudged 0 v) (withPrefix c) (octets-good 0 v)
-      (prefix-put (noOctetsParameter Discarded) refl) (λ o e. prefix-put (octetsParameter Taken o) (le-leb _ _ (e .1)))))))
+-- ---- a configuration whose parameters are fine, and what its form asks besides
+abbrev FormFine : Version → Configuration → Type 0
+FormFine Draft c = (keysPlain (c .keys) ≡ true) × (missing (c .blacklist .report) ≡ true) × (missing (c .rate .report) ≡ true)
+FormFine Published c =
+    (missing (c .network .report) ≡ true) × (missing (c .prefix .report) ≡ true) × (listInRange stringsIn (c .blacklist) ≡ true)
+
+-- nothing came in the draft; what came may be reported
+abbrev CameFine : Version → Faults → Type 0
+CameFine Draft f = f ≡ noFaults
+CameFine Published f = Listed f
+
+record Fine (v : Version) (c : Configuration) : Type 0 where
+  keys : keysInRange (c .keys) ≡ true
+  address : addressInRange (c .address) ≡ true
+  jrc : jrcInRange (c .jrc) ≡ true
+  network : octetsInRange (c .network) ≡ true
+  prefix : octetsInRange (c .prefix) ≡ true
+  form : FormFine v c
+  came : CameFine v (c .came)
+
+abbrev KeysFine : Version → KeysParameter → Type 0
+KeysFine Draft p = (keysInRange p ≡ true) × (keysPlain p ≡ true)
+KeysFine Published p = (keysInRange p ≡ true) × Unit {0}
+
+module _ (K : KeyLaws) where
+  keys-fine : (v : Version) (x : View) → Gives (KeysFine v) (following v (noKeysParameter Discarded) (keysReadAs (informed v) x))
+  unfolding FineSet
+  keys-fine Draft x =
+      reads-well (FineSet K false) (KeysFine Draft) (keysParameter Taken) (refused refusal.Keys) (keysJudgedAs false x) (keys-good K false x) tt
+      (λ s e. (e .0, e .1 refl))
+  keys-fine Published x =
+      follows-well (KeysFine Published) Published (noKeysParameter Discarded) (keysReadAs true x) (refl, tt)
+      (reads-well (FineSet K true) (KeysFine Published) (keysParameter Taken) (refused refusal.Keys) (keysJudgedAs true x) (keys-good K true x) tt
+      (λ s e. (e .0, tt)))
+
+address-fine :
+    (v : Version) (x : View) →
+    Gives (λ (p : AddressParameter). addressInRange p ≡ true) (following v (noAddressParameter Discarded) (addressRead x))
+address-fine v x =
+    let R : AddressParameter → Type 0 = λ p. addressInRange p ≡ true in
+    let none = noAddressParameter Discarded in
+    follows-well R v none (addressRead x) refl
+    (reads-well (λ (a : ShortAddress). isAddress (a .bytes) ≡ true) R (addressParameter Taken) (read none) (addressJudged x) (address-good x) refl
+    (λ a e. e))
+
+octets-fine : (x : View) → Gives (λ (p : OctetsParameter). octetsInRange p ≡ true) (octetsRead 0 x)
+unfolding sized
+octets-fine x =
+    reads-well (sized 0) (λ (p : OctetsParameter). octetsInRange p ≡ true) (octetsParameter Taken) (read (noOctetsParameter Discarded))
+    (octetsJudged 0 x) (octets-good 0 x) refl (λ o e. le-leb _ _ (e .1))
+
+jrc-fine :
+    (v : Version) (x : View) →
+    Gives (λ (p : OctetsParameter). jrcInRange p ≡ true) (following v (noOctetsParameter Discarded) (octetsRead 16 x))
+unfolding sized
+jrc-fine v x =
+    let R : OctetsParameter → Type 0 = λ p. jrcInRange p ≡ true in
+    let none = noOctetsParameter Discarded in
+    follows-well R v none (octetsRead 16 x) refl
+    (reads-well (sized 16) R (octetsParameter Taken) (read none) (octetsJudged 16 x) (octets-good 16 x) refl
+    (λ o e. eq-eqb (o .len) 16 (omega (arith, e .0, e .1))))
+
+-- ---- one parameter put in its place
+keys-put : (v : Version) (c : Configuration) → Fine v c → (p : KeysParameter) → KeysFine v p → Fine v (withKeys c p)
+keys-put Draft c h p e = record { keys = e .0; address = h .address; jrc = h .jrc; network = h .network; prefix = h .prefix; form = (e .1, h .form .1, h .form .2); came = h .came }
+keys-put Published c h p e = record { keys = e .0; address = h .address; jrc = h .jrc; network = h .network; prefix = h .prefix; form = h .form; came = h .came }
+
+address-put : (v : Version) (c : Configuration) → Fine v c → (p : AddressParameter) → addressInRange p ≡ true → Fine v (withAddress c p)
+address-put Draft c h p e = record { keys = h .keys; address = e; jrc = h .jrc; network = h .network; prefix = h .prefix; form = h .form; came = h .came }
+address-put Published c h p e = record { keys = h .keys; address = e; jrc = h .jrc; network = h .network; prefix = h .prefix; form = h .form; came = h .came }
+
+jrc-put : (v : Version) (c : Configuration) → Fine v c → (p : OctetsParameter) → jrcInRange p ≡ true → Fine v (withJrc c p)
+jrc-put Draft c h p e = record { keys = h .keys; address = h .address; jrc = e; network = h .network; prefix = h .prefix; form = h .form; came = h .came }
+jrc-put Published c h p e = record { keys = h .keys; address = h .address; jrc = e; network = h .network; prefix = h .prefix; form = h .form; came = h .came }
+
+-- the notes of what came: the label of a known parameter may be reported
+noting-fine : (v : Version) (c : Configuration) (n : ℕ) → byVersion v true (isReportable n) ≡ true → Fine v c → Fine v (noted v n c)
+noting-fine Draft c n e h = record { keys = h .keys; address = h .address; jrc = h .jrc; network = h .network; prefix = h .prefix; form = h .form; came = h .came }
+noting-fine Published c n e h = record {
+  keys = h .keys;
+  address = h .address;
+  jrc = h .jrc;
+  network = h .network;
+  prefix = h .prefix;
+  form = h .form;
+  came = added-listed (c .came) 1 n (h .came) e;
+}
+
+passing-fine : (v : Version) (c : Configuration) (m : ℕ) → Fine v c → Fine v (withPassed c m)
+passing-fine Draft c m h = record { keys = h .keys; address = h .address; jrc = h .jrc; network = h .network; prefix = h .prefix; form = h .form; came = h .came }
+passing-fine Published c m h = record { keys = h .keys; address = h .address; jrc = h .jrc; network = h .network; prefix = h .prefix; form = h .form; came = h .came }
+
+module _ (laws : ItemLaws) (K : KeyLaws) where
+  parameter-fine : (p : Parameter) (v : Version) (c : Configuration) → Fine v c → Of v p → (x : View) → Gives (Fine v) (takingFor v c p x)
+  parameter-fine name.Keys v c h o x = puts-well (KeysFine v) (Fine v) (withKeys c) (following v (noKeysParameter Discarded) (keysReadAs (informed v) x)) (keys-fine K v x) (keys-put v c h)
+  parameter-fine name.Address v c h o x =
+      puts-well (λ (p : AddressParameter). addressInRange p ≡ true) (Fine v) (withAddress c)
+      (following v (noAddressParameter Discarded) (addressRead x)) (address-fine v x) (address-put v c h)
+  parameter-fine name.Jrc v c h o x =
+      puts-well (λ (p : OctetsParameter). jrcInRange p ≡ true) (Fine v) (withJrc c)
+      (following v (noOctetsParameter Discarded) (octetsRead 16 x)) (jrc-fine v x) (jrc-put v c h)
+  parameter-fine name.Network Draft c h o x =
+      puts-well (λ (p : OctetsParameter). octetsInRange p ≡ true) (Fine Draft) (withNetwork c) (octetsRead 0 x) (octets-fine x)
+      (λ p e. record { keys = h .keys; address = h .address; jrc = h .jrc; network = e; prefix = h .prefix; form = h .form; came = h .came })
+  parameter-fine name.Network Published c h o x = absurd o
+  parameter-fine name.Prefix Draft c h o x =
+      puts-well (λ (p : OctetsParameter). octetsInRange p ≡ true) (Fine Draft) (withPrefix c) (octetsRead 0 x) (octets-fine x)
+      (λ p e. record { keys = h .keys; address = h .address; jrc = h .jrc; network = h .network; prefix = e; form = h .form; came = h .came })
+  parameter-fine name.Prefix Published c h o x = absurd o
+  parameter-fine name.Blacklist Draft c h o x = absurd o
+  parameter-fine name.Blacklist Published c h o x = record {
+    keys = h .keys;
+    address = h .address;
+    jrc = h .jrc;
+    network = h .network;
+    prefix = h .prefix;
+    form = (h .form .0, h .form .1, blacklist-good laws x);
+    came = h .came;
+  }
+  parameter-fine name.Rate Draft c h o x = absurd o
+  parameter-fine name.Rate Published c h o x = record {
+    keys = h .keys;
+    address = h .address;
+    jrc = h .jrc;
+    network = h .network;
+    prefix = h .prefix;
+    form = h .form;
+    came = h .came;
+  }
+  parameter-fine name.Unknown v c h o x = h
+
+  taking-fine :
+      (v : Version) (c : Configuration) → Fine v c → (n : ℕ) → standingFor c (parameterOf v n) ≡ Fresh → (x : View) →
+      Gives (Fine v) (configurationTaking v c n x)
+  unfolding configurationTaking
+  taking-fine v c h n e x =
+      puts-well (Fine v) (Fine v) (noted v n) (takingFor v c (parameterOf v n) x) (parameter-fine (parameterOf v n) v c h (known-of v n) x)
+      (λ d g. noting-fine v d n (known-reportable v c n e) g)
 
 -- ---- the whole payload
-empty-fits : InRange emptyConfiguration
-empty-fits = record { keys = refl; address = refl; jrc = refl; network = refl; prefix = refl }
+empty-fine : (v : Version) → Fine v emptyConfiguration
+empty-fine Draft = record { keys = refl; address = refl; jrc = refl; network = refl; prefix = refl; form = (refl, refl, refl); came = refl }
+empty-fine Published = record { keys = refl; address = refl; jrc = refl; network = refl; prefix = refl; form = (refl, refl, refl); came = none-listed }
 
-pub reads-in-range : KeyLaws → ReadsInRange
-reads-in-range K p e =
-    go (payloadRead configurationForm emptyConfiguration p)
-    (payload-gives configurationForm InRange (λ c h. passing-fits K c h (c .passed + 1)) (taking-fits K) heading emptyConfiguration empty-fits p) e
+in-range : (v : Version) (c : Configuration) → Fine v c → InRange v c
+unfolding ofForm faultsFit
+in-range Draft c h = record {
+  keys = h .keys;
+  address = h .address;
+  jrc = h .jrc;
+  network = h .network;
+  prefix = h .prefix;
+  form = rw (h .form .0, h .form .1, h .form .2);
+  came = rw (h .came);
+}
+in-range Published c h = record {
+  keys = h .keys;
+  address = h .address;
+  jrc = h .jrc;
+  network = h .network;
+  prefix = h .prefix;
+  form = rw (h .form .0, h .form .1, h .form .2);
+  came = listed-valid (c .came) (h .came);
+}
+
+pub reads-in-range : ItemLaws → KeyLaws → ReadsInRange
+reads-in-range laws K v p e =
+    go (payloadRead (configurationForm v) emptyConfiguration p)
+    (payload-gives (configurationForm v) (Fine v) (λ c h. passing-fine v c (c .passed + 1) h) (taking-fine laws K v) heading emptyConfiguration
+    (empty-fine v) p) e
   where
-    go : (r : Reading Configuration) → Gives InRange r → configurationAnswer r .verdict ≡ Accepted → InRange (configurationAnswer r .configuration)
+    go : (r : Reading Configuration) → Gives (Fine v) r → configurationAnswer r .verdict ≡ Accepted → InRange v (configurationAnswer r .configuration)
     go (refused k) h q = refused-not k q
-    go (read c) h q = h
+    go (read c) h q = in-range v c h

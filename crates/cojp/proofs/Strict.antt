@@ -19,17 +19,26 @@ use Rattle.cbor.specs.View.{View, labelOf, viewOf}
 use Rattle.cbor.specs.declared.value.Label.{Label}
 use Rattle.cbor.specs.declared.value.Label.the-variants as label
 use Rattle.cojp.specs.Address.{addressParameter, noAddressParameter, addressJudged, addressRead}
-use Rattle.cojp.specs.Configuration.{emptyConfiguration, withKeys, withAddress, withJrc, withNetwork, withPrefix, configurationTaking, configurationForm, configurationAnswer}
-use Rattle.cojp.specs.KeySet.{keysParameter, keysJudged, keysRead}
+use Rattle.cojp.specs.Configuration.{emptyConfiguration, withKeys, withAddress, withJrc, withNetwork, withPrefix, takingFor, noted}
+use Rattle.cojp.specs.Configuration.{configurationTaking, configurationForm, configurationAnswer}
+use Rattle.cojp.specs.KeySet.{keysParameter, noKeysParameter, keysJudgedAs, keysReadAs}
 use Rattle.cojp.specs.Laws.{StrictReaders, meetsLonger}
 use Rattle.cojp.specs.Octets.{octetsParameter, noOctetsParameter, octetsJudged, octetsRead}
-use Rattle.cojp.specs.Reading.{Reading, refused, read, onward, put, Judgement, broken, unfit, good, concluded}
-use Rattle.cojp.specs.Request.{nothingGathered, withRole, withNetwork as withIdentifier, roleJudged, roleRead, requestTaking, requestForm, requestAnswer, owing, settled}
+use Rattle.cojp.specs.Reading.{Reading, refused, read, onward, put, Judgement, broken, unfit, good, concluded, following}
+use Rattle.cojp.specs.Request.{nothingGathered, withRole, withNetwork as withIdentifier, roleJudged, roleConcluded, roleGathered}
+use Rattle.cojp.specs.Request.{requestTaking, requestForm, requestAnswer, owing, settled}
+use Rattle.cojp.specs.Parameter.{parameterOf}
+use Rattle.cojp.specs.Version.{informed}
 use Rattle.cojp.specs.Walk.{Form, knownRead, pairRead, pairsRead, mapRead, scannedRead, payloadRead, payloadReadBy}
 use Rattle.cojp.specs.declared.configuration.Configuration.{Configuration}
+use Rattle.cojp.specs.declared.parameter.Parameter.{Parameter}
+use Rattle.cojp.specs.declared.parameter.Parameter.the-variants as name
 use Rattle.cojp.specs.declared.report.Report.the-variants.{Taken, Discarded}
 use Rattle.cojp.specs.declared.request.Gathered.{Gathered}
 use Rattle.cojp.specs.declared.request.JoinRequest.{JoinRequest}
+use Rattle.cojp.specs.declared.request.RequestRead.{RequestRead}
+use Rattle.cojp.specs.declared.version.Version.{Version}
+use Rattle.cojp.specs.declared.version.Version.the-variants.{Draft, Published}
 use Rattle.cojp.specs.declared.walk.Standing.{Standing}
 use Rattle.cojp.specs.declared.walk.Standing.the-variants.{Unknown, Fresh, Again}
 
@@ -114,23 +123,48 @@ module _ {S : Type 0} (F : Form S) (taking : (s : S) (n : ℕ) (v : View) → Fi
 octets-firm : (least : ℕ) (v : View) → Firm (octetsRead least v)
 octets-firm least v = firm-concluded (read (noOctetsParameter Discarded)) (octetsParameter Taken) (octetsJudged least v) tt
 
-request-taking : (g : Gathered) (n : ℕ) (v : View) → Firm (requestTaking g n v)
-unfolding requestTaking
-request-taking g n v =
-    firm-cond (eqb n 1) (put (withRole g) (roleRead v)) (put (withIdentifier g) (octetsRead 0 v))
-    (firm-put (withRole g) (roleRead v) (firm-concluded (refused Role) (λ n. n) (roleJudged v) (another Role (omega arith))))
-    (firm-put (withIdentifier g) (octetsRead 0 v) (octets-firm 0 v))
+following-firm : {P : Type 0} (v : Version) (bad : P) (r : Reading P) → Firm r → Firm (following v bad r)
+following-firm Draft bad r h = h
+following-firm Published bad r h = tt
 
-configuration-taking : (c : Configuration) (n : ℕ) (v : View) → Firm (configurationTaking c n v)
+role-firm : (v : Version) (g : Gathered) (j : Judgement ℕ) → Firm (roleGathered v g j)
+role-firm Draft g j = firm-put (withRole g) (roleConcluded j) (firm-concluded (refused Role) (λ n. n) j (another Role (omega arith)))
+role-firm Published g broken = tt
+role-firm Published g unfit = tt
+role-firm Published g (good n) = tt
+
+request-taking : (v : Version) (g : Gathered) (n : ℕ) (x : View) → Firm (requestTaking v g n x)
+unfolding requestTaking
+request-taking v g n x =
+    let none = noOctetsParameter Discarded in
+    firm-cond (eqb n 1) _ _ (role-firm v g (roleJudged x))
+    (firm-cond (eqb n 5) _ _
+    (firm-put (withIdentifier g) (following v none (octetsRead 0 x)) (following-firm v none (octetsRead 0 x) (octets-firm 0 x))) tt)
+
+parameter-firm : (v : Version) (c : Configuration) (p : Parameter) (x : View) → Firm (takingFor v c p x)
+parameter-firm v c name.Keys x =
+    let none = noKeysParameter Discarded in
+    let r = keysReadAs (informed v) x in
+    firm-put (withKeys c) (following v none r)
+    (following-firm v none r (firm-concluded (refused Keys) (keysParameter Taken) (keysJudgedAs (informed v) x) (another Keys (omega arith))))
+parameter-firm v c name.Address x =
+    let none = noAddressParameter Discarded in
+    let r = addressRead x in
+    firm-put (withAddress c) (following v none r)
+    (following-firm v none r (firm-concluded (read none) (addressParameter Taken) (addressJudged x) tt))
+parameter-firm v c name.Jrc x =
+    let none = noOctetsParameter Discarded in
+    firm-put (withJrc c) (following v none (octetsRead 16 x)) (following-firm v none (octetsRead 16 x) (octets-firm 16 x))
+parameter-firm v c name.Network x = firm-put (withNetwork c) (octetsRead 0 x) (octets-firm 0 x)
+parameter-firm v c name.Prefix x = firm-put (withPrefix c) (octetsRead 0 x) (octets-firm 0 x)
+parameter-firm v c name.Blacklist x = tt
+parameter-firm v c name.Rate x = tt
+parameter-firm v c name.Unknown x = tt
+
+configuration-taking : (v : Version) (c : Configuration) (n : ℕ) (x : View) → Firm (configurationTaking v c n x)
 unfolding configurationTaking
-configuration-taking c n v =
-    firm-cond (eqb n 2) _ _
-    (firm-put (withKeys c) (keysRead v) (firm-concluded (refused Keys) (keysParameter Taken) (keysJudged v) (another Keys (omega arith))))
-    (firm-cond (eqb n 3) _ _
-    (firm-put (withAddress c) (addressRead v) (firm-concluded (read (noAddressParameter Discarded)) (addressParameter Taken) (addressJudged v) tt))
-    (firm-cond (eqb n 4) _ _
-    (firm-put (withJrc c) (octetsRead 16 v) (octets-firm 16 v))
-    (firm-cond (eqb n 5) _ _ (firm-put (withNetwork c) (octetsRead 0 v) (octets-firm 0 v)) (firm-put (withPrefix c) (octetsRead 0 v) (octets-firm 0 v)))))
+configuration-taking v c n x =
+    firm-put (noted v n) (takingFor v c (parameterOf v n) x) (parameter-firm v c (parameterOf v n) x)
 
 request-never : (r : Reading JoinRequest) → Firm r → requestAnswer r .verdict ≡ verdict.Refused Loose → ⊥
 request-never (refused k) h e = h cc
@@ -140,21 +174,28 @@ configuration-never : (r : Reading Configuration) → Firm r → configurationAn
 configuration-never (refused k) h e = h cc
 configuration-never (read c) h e = let z : _≡_ {A = ℕ} 0 1 = cc in omega arith
 
-settled-firm : (g : Gathered) → Firm (settled g)
-settled-firm g = firm-cond (owing (g .request .role) (g .request .network .report)) (refused Owed) (read (g .request)) (another Owed (omega arith)) tt
+settled-firm : (v : Version) (g : Gathered) → Firm (settled v g)
+settled-firm v g =
+    firm-cond (owing v (g .request .role) (g .request .network .report)) (refused Owed) (read (g .request)) (another Owed (omega arith)) tt
+
+-- the answer to a request after its last pair
+answered : Version → Reading Gathered → RequestRead
+answered v x = requestAnswer (onward x (settled v))
 
 pub strict-readers : ItemLaws → StrictReaders
+unfolding answered
 strict-readers laws = record {
-  request = λ s.
-      ap (λ (x : Reading Gathered). requestAnswer (onward x settled)) (payload-strict laws requestForm nothingGathered s)
-      ∙ answers (λ (x : Reading Gathered). requestAnswer (onward x settled)) (meetsLonger s) (refused Loose) (payloadRead requestForm nothingGathered s);
-  configuration = λ s.
-      ap configurationAnswer (payload-strict laws configurationForm emptyConfiguration s)
-      ∙ answers configurationAnswer (meetsLonger s) (refused Loose) (payloadRead configurationForm emptyConfiguration s);
-  ordinary-request = λ s.
-      request-never (onward (payloadRead requestForm nothingGathered s) settled)
-      (firm-onward (payloadRead requestForm nothingGathered s) settled (payload-firm requestForm request-taking laws nothingGathered s) settled-firm);
-  ordinary-configuration = λ s.
-      configuration-never (payloadRead configurationForm emptyConfiguration s)
-      (payload-firm configurationForm configuration-taking laws emptyConfiguration s);
+  request = λ v s.
+      ap (answered v) (payload-strict laws (requestForm v) nothingGathered s)
+      ∙ answers (answered v) (meetsLonger s) (refused Loose) (payloadRead (requestForm v) nothingGathered s);
+  configuration = λ v s.
+      ap configurationAnswer (payload-strict laws (configurationForm v) emptyConfiguration s)
+      ∙ answers configurationAnswer (meetsLonger s) (refused Loose) (payloadRead (configurationForm v) emptyConfiguration s);
+  ordinary-request = λ v s.
+      let r = payloadRead (requestForm v) nothingGathered s in
+      request-never (onward r (settled v))
+      (firm-onward r (settled v) (payload-firm (requestForm v) (request-taking v) laws nothingGathered s) (settled-firm v));
+  ordinary-configuration = λ v s.
+      configuration-never (payloadRead (configurationForm v) emptyConfiguration s)
+      (payload-firm (configurationForm v) (configuration-taking v) laws emptyConfiguration s);
 }

@@ -1,6 +1,8 @@
--- What holds of an object before its pairs are read, and still holds where a label is passed over or its value taken, holds of what a payload gives.
+-- What holds of an object before its pairs are read, and still holds where a label is passed over or the value of a label that is known and
+-- comes first is taken, holds of what a payload gives.
 use Prim.Native.Nat.{ℕ}
 use mathlib.Core.Bool.{Bool, true, false, cond}
+use mathlib.Core.Path.{_≡_, refl}
 use mathlib.Core.List.{List}
 use lib.Dec.{ltb}
 use lib.ListN.{length}
@@ -22,16 +24,16 @@ Gives P (refused k) = Unit {0}
 Gives P (read s) = P s
 
 module _ {S : Type 0} (F : Form S) (P : S → Type 0) (passing : (s : S) → P s → P (F .passing s))
-    (taking : (s : S) → P s → (n : ℕ) (v : View) → Gives P (F .taking s n v)) where
-  known-gives : (s : S) → P s → (x : Standing) (n : ℕ) (v : View) → Gives P (knownRead F x s n v)
-  known-gives s h Unknown n v = passing s h
-  known-gives s h Fresh n v = taking s h n v
-  known-gives s h Again n v = tt
+    (taking : (s : S) → P s → (n : ℕ) → F .standing s n ≡ Fresh → (v : View) → Gives P (F .taking s n v)) where
+  known-gives : (s : S) → P s → (x : Standing) (n : ℕ) → F .standing s n ≡ x → (v : View) → Gives P (knownRead F x s n v)
+  known-gives s h Unknown n e v = passing s h
+  known-gives s h Fresh n e v = taking s h n e v
+  known-gives s h Again n e v = tt
 
   pair-gives : (s : S) → P s → (l : Label) (v : View) → Gives P (pairRead F s l v)
   pair-gives s h label.NoInteger v = tt
   pair-gives s h label.Negative v = passing s h
-  pair-gives s h (label.Number n) v = known-gives s h (F .standing s n) n v
+  pair-gives s h (label.Number n) v = known-gives s h (F .standing s n) n refl v
 
   onward-gives : (r : Reading S) (f : S → Reading S) → Gives P r → ((s : S) → P s → Gives P (f s)) → Gives P (onward r f)
   onward-gives (refused k) f p g = tt

@@ -1,4 +1,4 @@
--- Short addresses: an array of a byte string and optionally an unsigned lease in seconds.
+-- Short addresses: an array of a byte string and optionally an unsigned lease, in seconds, in the published form in hours.
 use Prim.Native.Nat.{ℕ}
 use mathlib.Core.Bool.{Bool, true, false, cond}
 use mathlib.Core.List.{List, [], _∷_}

@@ -1,24 +1,35 @@
--- Configurations: 2 key set, 3 short address, 4 JRC address, 5 network identifier, 6 prefix.
+-- Configurations: 2 key set, 3 short address, 4 JRC address; 5 network identifier and 6 prefix in the draft; 6 blacklist and 7 join rate in
+-- the published form (docs/RFC9031.md). What does not belong to a form stays absent in it.
 use Prim.Native.Nat.{ℕ, _+_}
-use mathlib.Core.Bool.{cond}
 use mathlib.Core.List.{List}
-use lib.Dec.{eqb}
 use Rattle.refusal.specs.declared.Refusal.{Refusal}
 use Rattle.refusal.specs.declared.Verdict.the-variants as verdict
 use Rattle.cbor.specs.Decode.{Outcome, Heading, heading}
 use Rattle.cbor.specs.Strict.{strictHeading}
 use Rattle.cbor.specs.View.{View}
-use Rattle.cojp.specs.Reading.{Reading, refused, read, put}
+use Rattle.cojp.specs.Version.{byVersion, informed}
+use Rattle.cojp.specs.Reading.{Reading, refused, read, put, following}
 use Rattle.cojp.specs.Octets.{noOctetsParameter, octetsRead}
 use Rattle.cojp.specs.Address.{noAddressParameter, addressRead}
-use Rattle.cojp.specs.KeySet.{noKeysParameter, keysRead}
+use Rattle.cojp.specs.Faults.{noFaults, added}
+use Rattle.cojp.specs.KeySet.{noKeysParameter, keysReadAs}
+use Rattle.cojp.specs.Lists.{noListParameter, blacklistTaken}
+use Rattle.cojp.specs.Parameter.{parameterOf}
+use Rattle.cojp.specs.Rate.{noRateParameter, rateTaken}
 use Rattle.cojp.specs.Walk.{Form, standingOf, payloadReadBy}
 use Rattle.cojp.specs.declared.address.AddressParameter.{AddressParameter}
 use Rattle.cojp.specs.declared.configuration.Configuration.{Configuration}
 use Rattle.cojp.specs.declared.configuration.ConfigurationRead.{ConfigurationRead}
+use Rattle.cojp.specs.declared.fault.Faults.{Faults}
 use Rattle.cojp.specs.declared.key_set.KeysParameter.{KeysParameter}
+use Rattle.cojp.specs.declared.list.ListParameter.{ListParameter}
 use Rattle.cojp.specs.declared.octets.OctetsParameter.{OctetsParameter}
-use Rattle.cojp.specs.declared.report.Report.the-variants.{Absent}
+use Rattle.cojp.specs.declared.parameter.Parameter.{Parameter}
+use Rattle.cojp.specs.declared.parameter.Parameter.the-variants as name
+use Rattle.cojp.specs.declared.rate.RateParameter.{RateParameter}
+use Rattle.cojp.specs.declared.report.Report.the-variants.{Absent, Discarded}
+use Rattle.cojp.specs.declared.version.Version.{Version}
+use Rattle.cojp.specs.declared.version.Version.the-variants.{Draft}
 use Rattle.cojp.specs.declared.walk.Standing.{Standing}
 use Rattle.cojp.specs.declared.walk.Standing.the-variants.{Unknown}
 
@@ -29,55 +40,169 @@ emptyConfiguration = record {
   jrc = noOctetsParameter Absent;
   network = noOctetsParameter Absent;
   prefix = noOctetsParameter Absent;
+  blacklist = noListParameter Absent;
+  rate = noRateParameter Absent;
+  came = noFaults;
   passed = 0;
 }
 
 -- ---- the configuration with one part changed
 module _ (c : Configuration) where
   abbrev pub withKeys : KeysParameter → Configuration
-  withKeys p = record { keys = p; address = c .address; jrc = c .jrc; network = c .network; prefix = c .prefix; passed = c .passed }
+  withKeys p = record {
+    keys = p;
+    address = c .address;
+    jrc = c .jrc;
+    network = c .network;
+    prefix = c .prefix;
+    blacklist = c .blacklist;
+    rate = c .rate;
+    came = c .came;
+    passed = c .passed;
+  }
 
   abbrev pub withAddress : AddressParameter → Configuration
-  withAddress p = record { keys = c .keys; address = p; jrc = c .jrc; network = c .network; prefix = c .prefix; passed = c .passed }
+  withAddress p = record {
+    keys = c .keys;
+    address = p;
+    jrc = c .jrc;
+    network = c .network;
+    prefix = c .prefix;
+    blacklist = c .blacklist;
+    rate = c .rate;
+    came = c .came;
+    passed = c .passed;
+  }
 
   abbrev pub withJrc : OctetsParameter → Configuration
-  withJrc p = record { keys = c .keys; address = c .address; jrc = p; network = c .network; prefix = c .prefix; passed = c .passed }
+  withJrc p = record {
+    keys = c .keys;
+    address = c .address;
+    jrc = p;
+    network = c .network;
+    prefix = c .prefix;
+    blacklist = c .blacklist;
+    rate = c .rate;
+    came = c .came;
+    passed = c .passed;
+  }
 
   abbrev pub withNetwork : OctetsParameter → Configuration
-  withNetwork p = record { keys = c .keys; address = c .address; jrc = c .jrc; network = p; prefix = c .prefix; passed = c .passed }
+  withNetwork p = record {
+    keys = c .keys;
+    address = c .address;
+    jrc = c .jrc;
+    network = p;
+    prefix = c .prefix;
+    blacklist = c .blacklist;
+    rate = c .rate;
+    came = c .came;
+    passed = c .passed;
+  }
 
   abbrev pub withPrefix : OctetsParameter → Configuration
-  withPrefix p = record { keys = c .keys; address = c .address; jrc = c .jrc; network = c .network; prefix = p; passed = c .passed }
+  withPrefix p = record {
+    keys = c .keys;
+    address = c .address;
+    jrc = c .jrc;
+    network = c .network;
+    prefix = p;
+    blacklist = c .blacklist;
+    rate = c .rate;
+    came = c .came;
+    passed = c .passed;
+  }
+
+  abbrev pub withBlacklist : ListParameter → Configuration
+  withBlacklist p = record {
+    keys = c .keys;
+    address = c .address;
+    jrc = c .jrc;
+    network = c .network;
+    prefix = c .prefix;
+    blacklist = p;
+    rate = c .rate;
+    came = c .came;
+    passed = c .passed;
+  }
+
+  abbrev pub withRate : RateParameter → Configuration
+  withRate p = record {
+    keys = c .keys;
+    address = c .address;
+    jrc = c .jrc;
+    network = c .network;
+    prefix = c .prefix;
+    blacklist = c .blacklist;
+    rate = p;
+    came = c .came;
+    passed = c .passed;
+  }
+
+  abbrev pub withCame : Faults → Configuration
+  withCame f = record {
+    keys = c .keys;
+    address = c .address;
+    jrc = c .jrc;
+    network = c .network;
+    prefix = c .prefix;
+    blacklist = c .blacklist;
+    rate = c .rate;
+    came = f;
+    passed = c .passed;
+  }
 
   abbrev pub withPassed : ℕ → Configuration
-  withPassed n = record { keys = c .keys; address = c .address; jrc = c .jrc; network = c .network; prefix = c .prefix; passed = n }
+  withPassed n = record {
+    keys = c .keys;
+    address = c .address;
+    jrc = c .jrc;
+    network = c .network;
+    prefix = c .prefix;
+    blacklist = c .blacklist;
+    rate = c .rate;
+    came = c .came;
+    passed = n;
+  }
 
--- ---- labels 2 to 6 are known
-unfoldable pub configurationStanding : Configuration → ℕ → Standing
-configurationStanding c n =
-    cond (eqb n 2)
-    (standingOf (c .keys .report))
-    (cond (eqb n 3)
-    (standingOf (c .address .report))
-    (cond (eqb n 4)
-    (standingOf (c .jrc .report))
-    (cond (eqb n 5) (standingOf (c .network .report)) (cond (eqb n 6) (standingOf (c .prefix .report)) Unknown))))
+-- ---- labels that are known, by the parameter that they name
+abbrev pub standingFor : Configuration → Parameter → Standing
+standingFor c name.Keys = standingOf (c .keys .report)
+standingFor c name.Address = standingOf (c .address .report)
+standingFor c name.Jrc = standingOf (c .jrc .report)
+standingFor c name.Network = standingOf (c .network .report)
+standingFor c name.Prefix = standingOf (c .prefix .report)
+standingFor c name.Blacklist = standingOf (c .blacklist .report)
+standingFor c name.Rate = standingOf (c .rate .report)
+standingFor c name.Unknown = Unknown
 
 abbrev pub configurationPassing : Configuration → Configuration
 configurationPassing c = withPassed c (c .passed + 1)
 
-unfoldable pub configurationTaking : Configuration → ℕ → View → Reading Configuration
-configurationTaking c n v =
-    cond (eqb n 2)
-    (put (withKeys c) (keysRead v))
-    (cond (eqb n 3)
-    (put (withAddress c) (addressRead v))
-    (cond (eqb n 4)
-    (put (withJrc c) (octetsRead 16 v))
-    (cond (eqb n 5) (put (withNetwork c) (octetsRead 0 v)) (put (withPrefix c) (octetsRead 0 v)))))
+-- what is taken of its value; network identifier and prefix are the draft's alone, blacklist and join rate the published form's
+abbrev pub takingFor : Version → Configuration → Parameter → View → Reading Configuration
+takingFor v c name.Keys x = put (withKeys c) (following v (noKeysParameter Discarded) (keysReadAs (informed v) x))
+takingFor v c name.Address x = put (withAddress c) (following v (noAddressParameter Discarded) (addressRead x))
+takingFor v c name.Jrc x = put (withJrc c) (following v (noOctetsParameter Discarded) (octetsRead 16 x))
+takingFor v c name.Network x = put (withNetwork c) (octetsRead 0 x)
+takingFor v c name.Prefix x = put (withPrefix c) (octetsRead 0 x)
+takingFor v c name.Blacklist x = read (withBlacklist c (blacklistTaken x))
+takingFor v c name.Rate x = read (withRate c (rateTaken x))
+takingFor v c name.Unknown x = read c
 
-abbrev pub configurationForm : Form Configuration
-configurationForm = record { standing = configurationStanding; passing = configurationPassing; taking = configurationTaking }
+-- in the published form the known labels are noted in the order in which they came, each as the report that it would get: 1 is malformed
+abbrev pub noted : Version → ℕ → Configuration → Configuration
+noted v n c = withCame c (byVersion v (c .came) (added (c .came) 1 n))
+
+unfoldable pub configurationTaking : Version → Configuration → ℕ → View → Reading Configuration
+configurationTaking v c n x = put (noted v n) (takingFor v c (parameterOf v n) x)
+
+abbrev pub configurationForm : Version → Form Configuration
+configurationForm v = record {
+  standing = λ c n. standingFor c (parameterOf v n);
+  passing = configurationPassing;
+  taking = configurationTaking v;
+}
 
 -- ---- the answer: beside a refusal stands the empty configuration
 abbrev pub refuseConfiguration : Refusal → ConfigurationRead
@@ -91,11 +216,18 @@ configurationAnswer (refused k) = refuseConfiguration k
 configurationAnswer (read c) = acceptConfiguration c
 
 -- its heads read by `head`
-abbrev pub readConfigurationBy : (List ℕ → Outcome Heading) → List ℕ → ConfigurationRead
-readConfigurationBy head p = configurationAnswer (payloadReadBy configurationForm head emptyConfiguration p)
+abbrev pub readConfigurationBy : Version → (List ℕ → Outcome Heading) → List ℕ → ConfigurationRead
+readConfigurationBy v head p = configurationAnswer (payloadReadBy (configurationForm v) head emptyConfiguration p)
 
+abbrev pub readConfigurationAs : Version → List ℕ → ConfigurationRead
+readConfigurationAs v p = readConfigurationBy v heading p
+
+abbrev pub readStrictConfigurationAs : Version → List ℕ → ConfigurationRead
+readStrictConfigurationAs v p = readConfigurationBy v strictHeading p
+
+-- in document 01's form
 abbrev pub readConfiguration : List ℕ → ConfigurationRead
-readConfiguration p = readConfigurationBy heading p
+readConfiguration p = readConfigurationAs Draft p
 
 abbrev pub readStrictConfiguration : List ℕ → ConfigurationRead
-readStrictConfiguration p = readConfigurationBy strictHeading p
+readStrictConfiguration p = readStrictConfigurationAs Draft p

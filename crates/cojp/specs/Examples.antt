@@ -5,32 +5,45 @@ use mathlib.Core.Bool.{true}
 use mathlib.Core.List.{List, [], _∷_}
 use lib.ListN.{replicate}
 use Rattle.refusal.specs.declared.Refusal.the-variants as refusal
+use Rattle.cojp.specs.Faults.{noFaults}
+use Rattle.cojp.specs.Lists.{noListParameter}
 use Rattle.cojp.specs.Octets.{octetsParameter, noOctetsParameter}
 use Rattle.cojp.specs.Address.{addressOf, addressParameter, noAddressParameter}
-use Rattle.cojp.specs.Request.{readRequest, readStrictRequest, refuseRequest, acceptRequest}
-use Rattle.cojp.specs.Configuration.{emptyConfiguration, withAddress, withPassed, readConfiguration, refuseConfiguration, acceptConfiguration}
+use Rattle.cojp.specs.Request.{readRequest, readRequestAs, readStrictRequest, refuseRequest, acceptRequest}
+use Rattle.cojp.specs.Configuration.{emptyConfiguration, withAddress, withPassed, readConfiguration, readConfigurationAs, refuseConfiguration, acceptConfiguration}
 use Rattle.cojp.specs.declared.configuration.ConfigurationRead.{ConfigurationRead}
 use Rattle.cojp.specs.declared.octets.OctetsParameter.{OctetsParameter}
 use Rattle.cojp.specs.declared.report.Report.the-variants.{Absent, Taken, Discarded}
 use Rattle.cojp.specs.declared.request.RequestRead.{RequestRead}
+use Rattle.cojp.specs.declared.version.Version.the-variants.{Published}
 
 -- a payload and what it must be read as
 pub data Example : Type 0 where
   request : List ℕ → RequestRead → Example
   strictRequest : List ℕ → RequestRead → Example
   configuration : List ℕ → ConfigurationRead → Example
+  publishedRequest : List ℕ → RequestRead → Example
+  publishedConfiguration : List ℕ → ConfigurationRead → Example
 
 abbrev pub Shown : Example → Type 0
 Shown (request s r) = readRequest s ≡ r
 Shown (strictRequest s r) = readStrictRequest s ≡ r
 Shown (configuration s r) = readConfiguration s ≡ r
+Shown (publishedRequest s r) = readRequestAs Published s ≡ r
+Shown (publishedConfiguration s r) = readConfigurationAs Published s ≡ r
 
 abbrev pub AllShown : List Example → Type 0
 AllShown [] = Unit {0}
 AllShown (e ∷ es) = Shown e × AllShown es
 
 abbrev pub asking : ℕ → OctetsParameter → RequestRead
-asking role network = acceptRequest (record { role = role; network = network; passed = 0 })
+asking role network = acceptRequest (record {
+  role = role;
+  network = network;
+  unsupported = noListParameter Absent;
+  faults = noFaults;
+  passed = 0;
+})
 
 abbrev pub cafe : OctetsParameter
 cafe = octetsParameter Taken (record { len = 2; bytes = 0xCA ∷ 0xFE ∷ replicate 14 0 })

@@ -1,14 +1,18 @@
--- Key sets: one flat array of groups, each an identifier (unsigned), optionally a usage (unsigned, absent means 0)
--- and a value (byte string).
+-- Key sets: one flat array of groups, each an identifier (unsigned), optionally a usage (unsigned, absent means 0),
+-- a value (byte string) and, in the published form (RFC 9031), optionally additional information (byte string).
 use Prim.Native.Nat.{ℕ, _-_}
-use mathlib.Core.Bool.{cond}
+use mathlib.Core.Bool.{Bool, true, false, cond}
 use mathlib.Core.List.{List, [], _∷_, _++_}
+use mathlib.Core.Option.{Option, none, some}
 use lib.ListN.{length, replicate}
 use Rattle.refusal.specs.declared.Refusal.the-variants.{Keys}
 use Rattle.cbor.specs.View.{Plain, number, minus, string, other, View, plain, list}
-use Rattle.link_key.specs.Key.{keyOf, noKey}
+use Rattle.link_key.specs.Info.{infoIn}
+use Rattle.link_key.specs.Key.{informedKey, noKey}
 use Rattle.link_key_set.specs.KeySet.{noKeys, validKeys}
 use Rattle.link_key.specs.declared.Key.{Key}
+use Rattle.link_key.specs.declared.info.Info.{Info}
+use Rattle.link_key.specs.declared.info.Info.the-variants as info
 use Rattle.link_key_set.specs.declared.key_set.KeySet.{KeySet}
 use Rattle.refusal.specs.declared.Verdict.the-variants as verdict
 use Rattle.cojp.specs.declared.key_set.KeysRead.{KeysRead}
@@ -34,41 +38,69 @@ pub data Groups : Type 0 where
   notGroups : Groups
   groupsOf : List Key → Groups
 
-abbrev pub group : ℕ → ℕ → List ℕ → Groups → Groups
-group i u v notGroups = notGroups
-group i u v (groupsOf ks) = groupsOf (keyOf i u v ∷ ks)
+abbrev pub group : ℕ → ℕ → List ℕ → Info → Groups → Groups
+group i u v w notGroups = notGroups
+group i u v w (groupsOf ks) = groupsOf (informedKey i u v w ∷ ks)
 
--- the byte string closes the group
-unfoldable pub groups : List Plain → Groups
-groups [] = groupsOf []
-groups (string v ∷ r) = notGroups
-groups (minus n ∷ r) = notGroups
-groups (other ∷ r) = notGroups
-groups (number i ∷ []) = notGroups
-groups (number i ∷ string v ∷ r) = group i 0 v (groups r)
-groups (number i ∷ minus n ∷ r) = notGroups
-groups (number i ∷ other ∷ r) = notGroups
-groups (number i ∷ number u ∷ []) = notGroups
-groups (number i ∷ number u ∷ string v ∷ r) = group i u v (groups r)
-groups (number i ∷ number u ∷ number w ∷ r) = notGroups
-groups (number i ∷ number u ∷ minus n ∷ r) = notGroups
-groups (number i ∷ number u ∷ other ∷ r) = notGroups
+-- a group with a second byte string: only where keys may have additional information, and only of 4 or 8 bytes
+abbrev pub further : Bool → ℕ → ℕ → List ℕ → Option Info → Groups → Groups
+further false i u v w gs = notGroups
+further true i u v none gs = notGroups
+further true i u v (some w) gs = group i u v w gs
+
+-- what comes next, `informed` telling whether keys may have additional information: an identifier; after it a usage or a value; after a usage
+-- a value; after a value perhaps additional information, and then the next group
+unfoldable mutual
+  pub groups : Bool → List Plain → Groups
+  groups informed [] = groupsOf []
+  groups informed (number i ∷ r) = identified informed i r
+  groups informed (minus n ∷ r) = notGroups
+  groups informed (string v ∷ r) = notGroups
+  groups informed (other ∷ r) = notGroups
+
+  pub identified : Bool → ℕ → List Plain → Groups
+  identified informed i [] = notGroups
+  identified informed i (number u ∷ r) = used informed i u r
+  identified informed i (minus n ∷ r) = notGroups
+  identified informed i (string v ∷ r) = valued informed i 0 v r
+  identified informed i (other ∷ r) = notGroups
+
+  pub used : Bool → ℕ → ℕ → List Plain → Groups
+  used informed i u [] = notGroups
+  used informed i u (number n ∷ r) = notGroups
+  used informed i u (minus n ∷ r) = notGroups
+  used informed i u (string v ∷ r) = valued informed i u v r
+  used informed i u (other ∷ r) = notGroups
+
+  pub valued : Bool → ℕ → ℕ → List ℕ → List Plain → Groups
+  valued informed i u v [] = group i u v info.Absent (groupsOf [])
+  valued informed i u v (number n ∷ r) = group i u v info.Absent (identified informed n r)
+  valued informed i u v (minus n ∷ r) = notGroups
+  valued informed i u v (string w ∷ r) = further informed i u v (infoIn w) (groups informed r)
+  valued informed i u v (other ∷ r) = notGroups
 
 -- the whole pattern comes before the limits
 abbrev pub keysIn : Groups → Judgement KeySet
 keysIn notGroups = broken
 keysIn (groupsOf ks) = cond (validKeys ks) (good (keySetOf ks)) unfit
 
+abbrev pub keysJudgedAs : Bool → View → Judgement KeySet
+keysJudgedAs informed (plain p) = broken
+keysJudgedAs informed (list ps) = keysIn (groups informed ps)
+
+-- in draft 004 keys have no additional information
 abbrev pub keysJudged : View → Judgement KeySet
-keysJudged (plain p) = broken
-keysJudged (list ps) = keysIn (groups ps)
+keysJudged v = keysJudgedAs false v
 
 -- a set outside the limits refuses the payload
 abbrev pub keysConcluded : Judgement KeySet → Reading KeysParameter
 keysConcluded j = concluded (refused Keys) (keysParameter Taken) j
 
+abbrev pub keysReadAs : Bool → View → Reading KeysParameter
+keysReadAs informed v = keysConcluded (keysJudgedAs informed v)
+
 abbrev pub keysRead : View → Reading KeysParameter
-keysRead v = keysConcluded (keysJudged v)
+keysRead v = keysReadAs false v
 
 -- the answer: the value ends at `next`; beside a refusal the parameter is absent and `next` is 0
 abbrev pub keysAnswer : Reading KeysParameter → ℕ → KeysRead

@@ -11,23 +11,24 @@ use Rattle.refusal.specs.declared.Refusal.the-variants.{Loose}
 use Rattle.refusal.specs.declared.Verdict.the-variants.{Refused}
 use Rattle.cbor.specs.Decode.{Outcome, Heading}
 use Rattle.cbor.specs.Strict.{loosePayload}
-use Rattle.cojp.specs.Request.{emptyRequest, refuseRequest, readRequestBy, readRequest, readStrictRequest}
-use Rattle.cojp.specs.Configuration.{emptyConfiguration, refuseConfiguration, readConfigurationBy, readConfiguration, readStrictConfiguration}
+use Rattle.cojp.specs.Request.{emptyRequest, refuseRequest, readRequestBy, readRequestAs, readStrictRequestAs}
+use Rattle.cojp.specs.Configuration.{emptyConfiguration, refuseConfiguration, readConfigurationBy, readConfigurationAs, readStrictConfigurationAs}
+use Rattle.cojp.specs.declared.version.Version.{Version}
 
--- ---- demand 1, for every reader of heads: a refusal comes with the empty object; it is told by its number, which is not 0, or by its case
+-- ---- demand 1, for both forms and every reader of heads: a refusal comes with the empty object; it is told by its number, which is not 0, or by its case
 pub record ReadersDemand1 : Type 0 where
   pub request :
-      (head : List ℕ → Outcome Heading) (s : List ℕ) (k : Refusal) → readRequestBy head s .verdict ≡ Refused k →
-      readRequestBy head s .request ≡ emptyRequest
+      (v : Version) (head : List ℕ → Outcome Heading) (s : List ℕ) (k : Refusal) → readRequestBy v head s .verdict ≡ Refused k →
+      readRequestBy v head s .request ≡ emptyRequest
   pub configuration :
-      (head : List ℕ → Outcome Heading) (s : List ℕ) (k : Refusal) → readConfigurationBy head s .verdict ≡ Refused k →
-      readConfigurationBy head s .configuration ≡ emptyConfiguration
+      (v : Version) (head : List ℕ → Outcome Heading) (s : List ℕ) (k : Refusal) → readConfigurationBy v head s .verdict ≡ Refused k →
+      readConfigurationBy v head s .configuration ≡ emptyConfiguration
   pub request-number :
-      (head : List ℕ → Outcome Heading) (s : List ℕ) → ¬ (verdictNumber (readRequestBy head s .verdict) ≡ 0) →
-      readRequestBy head s .request ≡ emptyRequest
+      (v : Version) (head : List ℕ → Outcome Heading) (s : List ℕ) → ¬ (verdictNumber (readRequestBy v head s .verdict) ≡ 0) →
+      readRequestBy v head s .request ≡ emptyRequest
   pub configuration-number :
-      (head : List ℕ → Outcome Heading) (s : List ℕ) → ¬ (verdictNumber (readConfigurationBy head s .verdict) ≡ 0) →
-      readConfigurationBy head s .configuration ≡ emptyConfiguration
+      (v : Version) (head : List ℕ → Outcome Heading) (s : List ℕ) → ¬ (verdictNumber (readConfigurationBy v head s .verdict) ≡ 0) →
+      readConfigurationBy v head s .configuration ≡ emptyConfiguration
 
 -- ---- the strict readings: LOOSE where the scan of a payload that is not LONG meets a longer head, else the ordinary answer,
 -- which is never LOOSE
@@ -35,8 +36,10 @@ abbrev pub meetsLonger : List ℕ → Bool
 meetsLonger s = cond (ltb 256 (length s)) false (loosePayload s)
 
 pub record StrictReaders : Type 0 where
-  pub request : (s : List ℕ) → readStrictRequest s ≡ cond (meetsLonger s) (refuseRequest Loose) (readRequest s)
+  pub request :
+      (v : Version) (s : List ℕ) → readStrictRequestAs v s ≡ cond (meetsLonger s) (refuseRequest Loose) (readRequestAs v s)
   pub configuration :
-      (s : List ℕ) → readStrictConfiguration s ≡ cond (meetsLonger s) (refuseConfiguration Loose) (readConfiguration s)
-  pub ordinary-request : (s : List ℕ) → readRequest s .verdict ≡ Refused Loose → ⊥
-  pub ordinary-configuration : (s : List ℕ) → readConfiguration s .verdict ≡ Refused Loose → ⊥
+      (v : Version) (s : List ℕ) →
+      readStrictConfigurationAs v s ≡ cond (meetsLonger s) (refuseConfiguration Loose) (readConfigurationAs v s)
+  pub ordinary-request : (v : Version) (s : List ℕ) → readRequestAs v s .verdict ≡ Refused Loose → ⊥
+  pub ordinary-configuration : (v : Version) (s : List ℕ) → readConfigurationAs v s .verdict ≡ Refused Loose → ⊥

@@ -14,7 +14,10 @@ use Rattle.byte_lists.specs.Same.{same}
 use Rattle.cojp.specs.Bytes.{membersAt}
 use Rattle.cojp.specs.Octets.{padded}
 use Rattle.cojp.specs.declared.list.ItemList.{ItemList}
+use Rattle.cojp.specs.declared.list.ListParameter.{ListParameter}
 use Rattle.cojp.specs.declared.list.ListRead.{ListRead}
+use Rattle.cojp.specs.declared.report.Report.{Report}
+use Rattle.cojp.specs.declared.report.Report.the-variants.{Taken, Discarded}
 
 -- a member as it is written: what is no number and no byte string is null
 abbrev pub plainItem : Plain → Item
@@ -90,6 +93,24 @@ noList = record { count = 0; len = 0; bytes = replicate 253 0 }
 abbrev pub listAnswer : Picked → ListRead
 listAnswer nothing = record { good = false; value = noList }
 listAnswer (picked ps) = record { good = true; value = listOf ps }
+
+-- ---- the parameter: a good list is taken
+abbrev pub listParameter : Report → ItemList → ListParameter
+listParameter r l = record { report = r; value = l }
+
+abbrev pub noListParameter : Report → ListParameter
+noListParameter r = listParameter r noList
+
+abbrev pub listTaken : ListRead → ListParameter
+listTaken r = cond (r .good) (listParameter Taken (r .value)) (noListParameter Discarded)
+
+-- label 6 of a configuration
+abbrev pub blacklistTaken : View → ListParameter
+blacklistTaken v = listTaken (listAnswer (fitting 253 (inArray stringsIn v)))
+
+-- label 8 of a request
+abbrev pub unsupportedTaken : View → ListParameter
+unsupportedTaken v = listTaken (listAnswer (fitting 253 (inArray (some faultsIn) v)))
 
 -- ---- a list that is handed in: it is in its limits if reading it again gives it
 abbrev pub bytesIn : ItemList → List ℕ

@@ -3,8 +3,10 @@ use Rattle.refusal.specs.declared.Refusal.{Refusal}
 use Rattle.refusal.specs.declared.Refusal.the-variants as refusal
 use Rattle.refusal.specs.declared.Verdict.{Verdict}
 use Rattle.refusal.specs.declared.Verdict.the-variants as verdict
+use Rattle.cojp.specs.Version.{byVersion}
 use Rattle.cojp.specs.declared.report.Report.{Report}
 use Rattle.cojp.specs.declared.report.Report.the-variants.{Absent, Taken, Discarded}
+use Rattle.cojp.specs.declared.version.Version.{Version}
 
 -- a refusal, or what was read
 pub data Reading (A : Type 0) : Type 0 where
@@ -41,6 +43,15 @@ abbrev pub concluded : {A P : Type 0} → Reading P → (A → P) → Judgement 
 concluded outside take broken = refused refusal.«Type»
 concluded outside take unfit = outside
 concluded outside take (good a) = read (take a)
+
+-- in the published form what is bad is reported, whatever is bad about it: nothing of it is taken, and the payload is not refused
+abbrev pub forgiven : {P : Type 0} → P → Reading P → P
+forgiven bad (refused k) = bad
+forgiven bad (read p) = p
+
+-- what follows from a known label's value in each form, `bad` being the parameter with nothing taken
+abbrev pub following : {P : Type 0} → Version → P → Reading P → Reading P
+following v bad r = byVersion v r (read (forgiven bad r))
 
 -- one thing where a parameter is taken, another where it is absent or discarded
 abbrev pub ifTaken : {A : Type 0} → Report → A → A → A

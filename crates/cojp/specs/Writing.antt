@@ -1,24 +1,36 @@
 -- Objects are written as maps with ascending labels and shortest heads.
--- Role 0 and usage 0 are omitted, and so are absent and discarded parameters.
+-- Role 0 and usage 0 are omitted, and so are absent and discarded parameters. One list of pairs serves both forms, since what does not
+-- belong to a form is absent in it.
 use Prim.Native.Nat.{ℕ}
 use mathlib.Core.Bool.{Bool, true, false, cond, not, _&&_}
 use mathlib.Core.List.{List, [], _∷_}
 use lib.Dec.{leb, eqb}
+use lib.ListN.{length}
 use Rattle.refusal.specs.declared.Refusal.the-variants.{Range, Owed}
 use Rattle.cbor.specs.Answer.{Plan, refuse, emit}
 use Rattle.cbor.specs.Encode.{encode}
 use Rattle.cbor.specs.Item.{Item, Items, Pairs, unsigned, bytes, array, map, none, more, empty, pair}
-use Rattle.link_key_set.specs.KeySet.{keysOf, validSet}
+use Rattle.cbor.specs.View.{Plain}
+use Rattle.link_key.specs.Info.{infoBytes}
+use Rattle.link_key_set.specs.KeySet.{keysOf, validSet, plainKeys}
 use Rattle.link_key.specs.declared.Key.{Key}
+use Rattle.link_key.specs.declared.info.Info.{Info}
+use Rattle.link_key.specs.declared.info.Info.the-variants as info
 use Rattle.cojp.specs.Reading.{ifTaken}
+use Rattle.cojp.specs.Lists.{Picked, stringsIn, faultsIn, some, itemsIn, kept}
 use Rattle.cojp.specs.Octets.{bytesIn}
 use Rattle.short_address.specs.Address.{isAddress}
 use Rattle.cojp.specs.Request.{owing}
+use Rattle.cojp.specs.Version.{byVersion}
 use Rattle.cojp.specs.declared.address.AddressParameter.{AddressParameter}
 use Rattle.cojp.specs.declared.configuration.Configuration.{Configuration}
 use Rattle.cojp.specs.declared.key_set.KeysParameter.{KeysParameter}
+use Rattle.cojp.specs.declared.list.ListParameter.{ListParameter}
 use Rattle.cojp.specs.declared.octets.OctetsParameter.{OctetsParameter}
+use Rattle.cojp.specs.declared.rate.RateParameter.{RateParameter}
+use Rattle.cojp.specs.declared.report.Report.{Report}
 use Rattle.cojp.specs.declared.request.JoinRequest.{JoinRequest}
+use Rattle.cojp.specs.declared.version.Version.{Version}
 
 -- one after the other
 abbrev pub join : Pairs → Pairs → Pairs
@@ -52,8 +64,14 @@ addressPairs p =
 abbrev pub usageItems : ℕ → Items
 usageItems usage = cond (eqb usage 0) none (more (unsigned usage) none)
 
+-- additional information is a second byte string
+abbrev pub infoItems : Info → Items
+infoItems info.Absent = none
+infoItems (info.Four a b c d) = more (bytes (infoBytes (info.Four a b c d))) none
+infoItems (info.Eight a b c d e f g h) = more (bytes (infoBytes (info.Eight a b c d e f g h))) none
+
 abbrev pub groupItems : Key → Items
-groupItems k = chain (more (unsigned (k .identifier)) (usageItems (k .usage))) (more (bytes (k .value)) none)
+groupItems k = chain (more (unsigned (k .identifier)) (usageItems (k .usage))) (more (bytes (k .value)) (infoItems (k .info)))
 
 abbrev pub groupsItems : List Key → Items
 groupsItems [] = none
@@ -61,6 +79,12 @@ groupsItems (k ∷ ks) = chain (groupItems k) (groupsItems ks)
 
 abbrev pub keysPairs : KeysParameter → Pairs
 keysPairs p = ifTaken (p .report) (labelled 2 (array (groupsItems (keysOf (p .value))))) empty
+
+abbrev pub listPairs : ℕ → (List Plain → Picked) → ListParameter → Pairs
+listPairs n f p = ifTaken (p .report) (labelled n (array (itemsIn f (p .value)))) empty
+
+abbrev pub ratePairs : RateParameter → Pairs
+ratePairs p = ifTaken (p .report) (labelled 7 (unsigned (p .value))) empty
 
 -- ---- the limits: an absent or discarded parameter is not judged
 abbrev pub octetsInRange : OctetsParameter → Bool
@@ -75,34 +99,70 @@ addressInRange p = ifTaken (p .report) (isAddress (p .value .bytes)) true
 abbrev pub keysInRange : KeysParameter → Bool
 keysInRange p = ifTaken (p .report) (validSet (p .value)) true
 
+-- a blacklist, and a list of reports
+abbrev pub listInRange : (List Plain → Picked) → ListParameter → Bool
+listInRange f p = ifTaken (p .report) (kept f (p .value)) true
+
+-- the draft's keys have no additional information
+abbrev pub keysPlain : KeysParameter → Bool
+keysPlain p = ifTaken (p .report) (plainKeys (keysOf (p .value))) true
+
+-- a parameter of the other form
+abbrev pub missing : Report → Bool
+missing r = ifTaken r false true
+
+-- a payload has at most 256 bytes
+abbrev pub fits : List ℕ → Plan
+fits s = cond (leb (length s) 256) (emit s) (refuse Range)
+
 -- ---- the join request
 abbrev pub requestPairs : JoinRequest → Pairs
-requestPairs q = join (rolePairs (q .role)) (octetsPairs 5 (q .network))
+requestPairs q = join (join (rolePairs (q .role)) (octetsPairs 5 (q .network))) (listPairs 8 (some faultsIn) (q .unsupported))
 
-unfoldable pub requestInRange : JoinRequest → Bool
-requestInRange q = leb (q .role) 1 && octetsInRange (q .network)
+unfoldable pub requestInRange : Version → JoinRequest → Bool
+requestInRange v q =
+    (leb (q .role) 1
+    && octetsInRange (q .network)
+    && byVersion v (missing (q .unsupported .report)) (listInRange (some faultsIn) (q .unsupported)))
 
--- RANGE, OWED, then the bytes, for which there may be no ROOM
-unfoldable pub requestPlan : JoinRequest → Plan
-requestPlan q =
-    cond (not (requestInRange q))
+-- RANGE, also where the payload would have more than 256 bytes, OWED, then the bytes, for which there may be no ROOM
+abbrev pub owingPlan : Bool → Plan → Plan
+owingPlan owed (refuse k) = refuse k
+owingPlan owed (emit s) = cond owed (refuse Owed) (emit s)
+
+unfoldable pub requestPlan : Version → JoinRequest → Plan
+requestPlan v q =
+    cond (not (requestInRange v q))
     (refuse Range)
-    (cond (owing (q .role) (q .network .report)) (refuse Owed) (emit (encode (map (requestPairs q)))))
+    (owingPlan (owing v (q .role) (q .network .report)) (fits (encode (map (requestPairs q)))))
 
 -- ---- the configuration
 abbrev pub configurationPairs : Configuration → Pairs
 configurationPairs c =
     join
+    (join
+    (join
     (join (join (join (keysPairs (c .keys)) (addressPairs (c .address))) (octetsPairs 4 (c .jrc))) (octetsPairs 5 (c .network)))
-    (octetsPairs 6 (c .prefix))
+    (octetsPairs 6 (c .prefix)))
+    (listPairs 6 stringsIn (c .blacklist)))
+    (ratePairs (c .rate))
 
-unfoldable pub configurationInRange : Configuration → Bool
-configurationInRange c =
+-- what a form asks besides: the other form's parameters are missing
+unfoldable pub ofForm : Version → Configuration → Bool
+ofForm v c =
+    byVersion v
+    (keysPlain (c .keys) && missing (c .blacklist .report) && missing (c .rate .report))
+    (missing (c .network .report) && missing (c .prefix .report) && listInRange stringsIn (c .blacklist))
+
+unfoldable pub configurationInRange : Version → Configuration → Bool
+configurationInRange v c =
     (keysInRange (c .keys)
     && addressInRange (c .address)
     && jrcInRange (c .jrc)
     && octetsInRange (c .network)
-    && octetsInRange (c .prefix))
+    && octetsInRange (c .prefix)
+    && ofForm v c)
 
-unfoldable pub configurationPlan : Configuration → Plan
-configurationPlan c = cond (not (configurationInRange c)) (refuse Range) (emit (encode (map (configurationPairs c))))
+-- RANGE, also where the payload would have more than 256 bytes, then the bytes, for which there may be no ROOM
+unfoldable pub configurationPlan : Version → Configuration → Plan
+configurationPlan v c = cond (not (configurationInRange v c)) (refuse Range) (fits (encode (map (configurationPairs c))))

@@ -1,4 +1,4 @@
-// Short addresses, with the seconds that they are leased for.
+// Short addresses, with the time that they are leased for: seconds, in the published form hours.
 use crate::members::Member;
 use crate::members::member_at;
 use crate::report::Report;

@@ -3,12 +3,17 @@
 pub mod address;
 pub mod configuration;
 pub mod copy;
+pub mod fault;
 pub mod key_set;
 pub mod list;
 pub mod members;
 pub mod octets;
+pub mod parameter;
+pub mod rate;
 pub mod report;
+pub mod reported;
 pub mod request;
+pub mod version;
 pub mod walk;
 
 pub use address::AddressParameter;
@@ -20,11 +25,17 @@ pub use configuration::Configuration;
 pub use configuration::ConfigurationRead;
 pub use configuration::empty_configuration;
 pub use copy::copied;
+pub use fault::Fault;
+pub use fault::Faults;
+pub use fault::fault_of;
+pub use fault::no_faults;
 pub use key_set::KeysParameter;
 pub use key_set::KeysRead;
 pub use key_set::no_key_set;
 pub use list::ItemList;
+pub use list::ListParameter;
 pub use list::ListRead;
+pub use list::no_list;
 pub use members::Member;
 pub use members::member_at;
 pub use octets::Octets;
@@ -32,15 +43,23 @@ pub use octets::OctetsParameter;
 pub use octets::OctetsRead;
 pub use octets::no_octets;
 pub use octets::read_octets;
+pub use parameter::Parameter;
+pub use parameter::parameter_of;
+pub use rate::RateParameter;
+pub use rate::no_rate;
+pub use rate::read_rate;
 pub use report::Report;
+pub use reported::faults_of;
 pub use request::Gathered;
 pub use request::JoinRequest;
 pub use request::RequestRead;
 pub use request::empty_request;
 pub use request::is_owing;
+pub use version::Version;
 pub use walk::Standing;
 ghost use Rattle.cojp.specs.Examples.{MarkedExamples};
-ghost use Rattle.cojp.specs.InRange.{ReadsInRange};
+ghost use Rattle.cojp.specs.InRange.{ReadsInRange, ReportsFit};
+ghost use Rattle.cojp.specs.PublishedExamples.{PublishedExamples};
 ghost use Rattle.cojp.specs.Laws.{ReadersDemand1, StrictReaders};
 
 // Document 01's marked examples hold of the definitions.
@@ -48,12 +67,23 @@ pub fn marked_examples()
     ensures { λ r. ⌜ MarkedExamples ⌝ }
 {}
 
+// Payloads of the published form, as docs/RFC9031.md reads them.
+pub fn published_examples()
+    ensures { λ r. ⌜ PublishedExamples ⌝ }
+{}
+
 // What the reader of configurations takes is in range.
 pub fn reads_in_range()
     ensures { λ r. ⌜ ReadsInRange ⌝ }
 {
     link_key_set::laws();
+    cbor::laws();
 }
+
+// The reports of a configuration that was read may be made.
+pub fn reports_fit()
+    ensures { λ r. ⌜ ReportsFit ⌝ }
+{}
 
 // Demand 1 for the readers: a refusal comes with the empty object.
 pub fn readers_demand1()

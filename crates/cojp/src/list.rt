@@ -1,4 +1,7 @@
 // Arrays that are kept as they are written (RFC 9031: a blacklist, and reports of what a node could not act on).
+use crate::report::Report;
+ghost use mathlib.Core.Path.{_≡_};
+ghost use Rattle.cojp.specs.Lists.{noListParameter};
 
 // `count` members in the first `len` bytes, shortest heads one after another.
 pub struct ItemList {
@@ -11,4 +14,26 @@ pub struct ItemList {
 pub struct ListRead {
     pub good: bool,
     pub value: ItemList,
+}
+
+// The value counts where it is taken.
+pub struct ListParameter {
+    pub report: Report,
+    pub value: ItemList,
+}
+
+// A parameter with no value.
+pub fn no_list(report: Report) -> ListParameter
+    ensures { λ r. ⌜ r ≡ noListParameter report ⌝ }
+{
+    let zeros = [0u8; 253];
+    let value = ItemList {
+        count: 0,
+        len: 0,
+        bytes: zeros,
+    };
+    ListParameter {
+        report: report,
+        value: value,
+    }
 }

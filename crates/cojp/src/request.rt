@@ -1,15 +1,26 @@
 // Join requests.
+use crate::fault::Faults;
+use crate::fault::no_faults;
+use crate::list::ListParameter;
+use crate::list::no_list;
 use crate::octets::OctetsParameter;
 use crate::octets::no_octets;
 use crate::report::Report;
+use crate::version::Version;
 use refusal::Verdict;
 ghost use mathlib.Core.Path.{_≡_};
+ghost use mathlib.Core.Bool.{true};
+ghost use lib.Dec.{eqb};
 ghost use Rattle.cojp.specs.Request.{emptyRequest, owing};
+ghost use Rattle.cojp.specs.Version.{byVersion};
 
-// Role 0 is an ordinary node, 1 the border router (6LBR); `passed` labels were passed over.
+// Role 0 is an ordinary node, 1 the border router (6LBR). In the published form `unsupported` has what a node could not act on, and `faults`
+// what was bad in this request; in the draft both are empty. `passed` labels were passed over.
 pub struct JoinRequest {
     pub role: u8,
     pub network: OctetsParameter,
+    pub unsupported: ListParameter,
+    pub faults: Faults,
     pub passed: u64,
 }
 
@@ -30,20 +41,34 @@ pub fn empty_request() -> JoinRequest
     ensures { λ r. ⌜ r ≡ emptyRequest ⌝ }
 {
     let network = no_octets(Report::Absent);
+    let unsupported = no_list(Report::Absent);
+    let faults = no_faults();
     JoinRequest {
         role: 0,
         network: network,
+        unsupported: unsupported,
+        faults: faults,
         passed: 0,
     }
 }
 
+// Whether a network identifier is due: of role 0, in the published form of every role.
+fn is_due(version: Version, role: u8) -> bool
+    ensures { λ r. ⌜ r ≡ byVersion version (eqb role 0) true ⌝ }
+{
+    match version {
+        Version::Draft => role == 0,
+        Version::Published => true,
+    }
+}
+
 // Whether a network identifier is due and none was taken.
-pub fn is_owing(role: u8, report: Report) -> bool
-    ensures { λ r. ⌜ r ≡ owing role report ⌝ }
+pub fn is_owing(version: Version, role: u8, report: Report) -> bool
+    ensures { λ r. ⌜ r ≡ owing version role report ⌝ }
 {
     match report {
-        Report::Absent => role == 0,
+        Report::Absent => is_due(version, role),
         Report::Taken => false,
-        Report::Discarded => role == 0,
+        Report::Discarded => is_due(version, role),
     }
 }

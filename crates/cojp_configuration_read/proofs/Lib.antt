@@ -1,1 +1,2 @@
 mod Configurations
+mod Labels

@@ -1,17 +1,15 @@
 // Configurations, which join responses and parameter updates carry.
-use cojp::AddressParameter;
-use cojp::AddressRead;
+use crate::once::address_once;
+use crate::once::keys_once;
+use crate::published::blacklist_once;
+use crate::published::noted_label;
+use crate::published::rate_once;
 use cojp::ConfigurationRead;
-use cojp::KeysParameter;
-use cojp::KeysRead;
-use cojp::Report;
+use cojp::Parameter;
+use cojp::Version;
 use cojp::empty_configuration;
-use cojp::no_address;
-use cojp::no_key_set;
-use cojp::read_address;
-use cojp_key_set_read::read_keys;
+use cojp::parameter_of;
 use cojp_map::Start;
-use cojp_map::is_seen;
 use cojp_map::item_end;
 use cojp_map::labelled_at;
 use cojp_map::octets_once;
@@ -20,13 +18,9 @@ use refusal::Refusal;
 use refusal::Verdict;
 ghost use mathlib.Core.Path.{_≡_};
 ghost use lib.ListN.{drop};
-ghost use Rattle.cojp.specs.Address.{addressRead};
-ghost use Rattle.cojp.specs.Bytes.{valueView, afterValue};
-ghost use Rattle.cojp.specs.Configuration.{emptyConfiguration, configurationForm, refuseConfiguration, configurationAnswer, readConfigurationBy, readConfiguration, readStrictConfiguration};
-ghost use Rattle.cojp.specs.KeySet.{keysRead};
-ghost use Rattle.cojp.specs.Reading.{said, Accepting};
+ghost use Rattle.cojp.specs.Configuration.{emptyConfiguration, configurationForm, refuseConfiguration, configurationAnswer, readConfigurationBy, readConfigurationAs, readStrictConfigurationAs, readConfiguration, readStrictConfiguration};
 ghost use Rattle.cbor.specs.Strict.{headBy};
-ghost use Rattle.cojp_map.specs.Pairs.{seen, once, walkAt};
+ghost use Rattle.cojp_map.specs.Pairs.{walkAt};
 
 fn refused_configuration(why: Refusal) -> ConfigurationRead
     ensures { λ r. ⌜ r ≡ refuseConfiguration why ⌝ }
@@ -38,87 +32,69 @@ fn refused_configuration(why: Refusal) -> ConfigurationRead
     }
 }
 
-// The key set at a place: TWICE where its label came before, with what is held.
-fn keys_once(s: &[u8], at: usize, held: KeysParameter) -> KeysRead
-    ensures { λ r. ⌜ said (r .verdict) (r .parameter) ≡ once (seen (held .report)) (keysRead (valueView (drop at (now (s .entry))))) ⌝ }
-    ensures rest { λ r. ⌜ Accepting (r .verdict) (drop (r .next) (now (s .entry)) ≡ afterValue (drop at (now (s .entry)))) ⌝ }
-{
-    let report = held.report;
-    if is_seen(report) {
-        let none = no_key_set(Report::Absent);
-        return KeysRead {
-            verdict: Verdict::Refused(Refusal::Twice),
-            parameter: none,
-            next: 0,
-        };
-    }
-    read_keys(s, at)
-}
-
-// The short address at a place: TWICE where its label came before, with what is held.
-fn address_once(s: &[u8], at: usize, held: AddressParameter) -> AddressRead
-    ensures { λ r. ⌜ said (r .verdict) (r .parameter) ≡ once (seen (held .report)) (addressRead (valueView (drop at (now (s .entry))))) ⌝ }
-    ensures rest { λ r. ⌜ Accepting (r .verdict) (drop (r .next) (now (s .entry)) ≡ afterValue (drop at (now (s .entry)))) ⌝ }
-{
-    let report = held.report;
-    if is_seen(report) {
-        let none = no_address(Report::Absent);
-        return AddressRead {
-            verdict: Verdict::Refused(Refusal::Twice),
-            parameter: none,
-            next: 0,
-        };
-    }
-    read_address(s, at)
-}
-
 // The next pairs in payload order, up to the first refusal. The parameters are stored where they stand: a Configuration that is
 // handed down and back for each pair costs a third of a short read.
-fn take_pairs(s: &[u8], mut at: usize, mut left: u64) -> ConfigurationRead
-    ensures { λ r. ⌜ r ≡ configurationAnswer (walkAt configurationForm left emptyConfiguration (drop at (now (s .entry)))) ⌝ }
+fn take_pairs(s: &[u8], mut at: usize, mut left: u64, version: Version) -> ConfigurationRead
+    ensures { λ r. ⌜ r ≡ configurationAnswer (walkAt (configurationForm version) left emptyConfiguration (drop at (now (s .entry)))) ⌝ }
 {
     let mut c = empty_configuration();
     while 0 < left {
         let pair = labelled_at(s, at);
         let mut verdict = pair.verdict;
-        let label = pair.label;
-        match label {
-            2 => {
-                let r = keys_once(s, pair.value, c.keys);
+        let came = noted_label(c.came, version, pair.label);
+        c.came = came;
+        let named = parameter_of(version, pair.label);
+        match named {
+            Parameter::Keys => {
+                let r = keys_once(s, pair.value, c.keys, version);
                 verdict = r.verdict;
                 let parameter = r.parameter;
                 c.keys = parameter;
                 at = r.next;
             }
-            3 => {
-                let r = address_once(s, pair.value, c.address);
+            Parameter::Address => {
+                let r = address_once(s, pair.value, c.address, version);
                 verdict = r.verdict;
                 let parameter = r.parameter;
                 c.address = parameter;
                 at = r.next;
             }
-            4 => {
-                let r = octets_once(s, pair.value, c.jrc, 16);
+            Parameter::Jrc => {
+                let r = octets_once(s, pair.value, c.jrc, 16, version);
                 verdict = r.verdict;
                 let parameter = r.parameter;
                 c.jrc = parameter;
                 at = r.next;
             }
-            5 => {
-                let r = octets_once(s, pair.value, c.network, 0);
+            Parameter::Network => {
+                let r = octets_once(s, pair.value, c.network, 0, Version::Draft);
                 verdict = r.verdict;
                 let parameter = r.parameter;
                 c.network = parameter;
                 at = r.next;
             }
-            6 => {
-                let r = octets_once(s, pair.value, c.prefix, 0);
+            Parameter::Prefix => {
+                let r = octets_once(s, pair.value, c.prefix, 0, Version::Draft);
                 verdict = r.verdict;
                 let parameter = r.parameter;
                 c.prefix = parameter;
                 at = r.next;
             }
-            _ => {
+            Parameter::Blacklist => {
+                let r = blacklist_once(s, pair.value, c.blacklist);
+                verdict = r.verdict;
+                let parameter = r.parameter;
+                c.blacklist = parameter;
+                at = r.next;
+            }
+            Parameter::Rate => {
+                let r = rate_once(s, pair.value, c.rate);
+                verdict = r.verdict;
+                let parameter = r.parameter;
+                c.rate = parameter;
+                at = r.next;
+            }
+            Parameter::Unknown => {
                 c.passed += 1;
                 at = item_end(s, pair.value);
             }
@@ -134,27 +110,41 @@ fn take_pairs(s: &[u8], mut at: usize, mut left: u64) -> ConfigurationRead
     }
 }
 
-// Reads a configuration from a payload, strictly or not.
-fn read_by(payload: &[u8], strict: bool) -> ConfigurationRead
-    ensures { λ r. ⌜ r ≡ readConfigurationBy (headBy strict) (now (payload .entry)) ⌝ }
+// Reads a configuration of a form from a payload, strictly or not.
+fn read_by(payload: &[u8], version: Version, strict: bool) -> ConfigurationRead
+    ensures { λ r. ⌜ r ≡ readConfigurationBy version (headBy strict) (now (payload .entry)) ⌝ }
 {
     let opened = open_payload(payload, strict);
     match opened {
         Start::Refused(k) => refused_configuration(k),
-        Start::Pairs { count, start } => take_pairs(payload, start, count),
+        Start::Pairs { count, start } => take_pairs(payload, start, count, version),
     }
 }
 
-// Reads a configuration from a payload.
+// Reads a configuration of document 01's form from a payload.
 pub fn read_configuration(payload: &[u8]) -> ConfigurationRead
     ensures { λ r. ⌜ r ≡ readConfiguration (now (payload .entry)) ⌝ }
 {
-    read_by(payload, false)
+    read_by(payload, Version::Draft, false)
 }
 
-// Reads a configuration from a payload whose heads must all be the shortest: else LOOSE.
+// Reads a configuration of document 01's form from a payload whose heads must all be the shortest: else LOOSE.
 pub fn read_strict_configuration(payload: &[u8]) -> ConfigurationRead
     ensures { λ r. ⌜ r ≡ readStrictConfiguration (now (payload .entry)) ⌝ }
 {
-    read_by(payload, true)
+    read_by(payload, Version::Draft, true)
+}
+
+// Reads a configuration of a form from a payload.
+pub fn read_configuration_as(payload: &[u8], version: Version) -> ConfigurationRead
+    ensures { λ r. ⌜ r ≡ readConfigurationAs version (now (payload .entry)) ⌝ }
+{
+    read_by(payload, version, false)
+}
+
+// Reads a configuration of a form from a payload whose heads must all be the shortest: else LOOSE.
+pub fn read_strict_configuration_as(payload: &[u8], version: Version) -> ConfigurationRead
+    ensures { λ r. ⌜ r ≡ readStrictConfigurationAs version (now (payload .entry)) ⌝ }
+{
+    read_by(payload, version, true)
 }

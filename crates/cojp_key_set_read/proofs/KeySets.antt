@@ -1,9 +1,8 @@
--- A group is read member by member; the keys are gathered one after the other, each told by its flag, and a set that no eight places hold is never validKeys.
+-- The keys are gathered one after the other, each told by its flag, and a set that no eight places hold is never validKeys.
 use Prim.Native.Nat.{ℕ, suc, _+_, _-_, _≤_, _<_}
 use mathlib.Core.Path.{_≡_, refl, ap, sym, _∙_}
 use mathlib.Core.Bool.{Bool, true, false, cond, _&&_, and-true, and-false, and-assoc}
 use mathlib.Core.List.{List, [], _∷_, _++_, append-assoc, append-nil}
-use mathlib.Core.Logic.{⊎-elim}
 use native.Mathlib.Omega.{arith}
 use lib.Dec.{leb, ltb, eqb}
 use lib.ListN.{length, take, drop, set, replicate, length-append, length-drop}
@@ -12,113 +11,27 @@ use borrow.Author.Tests.{lt-leb, ltb-false, leb-true, leb-false, eqb-true}
 use types.Run.{OneOf}
 use denote.Enum.Declared.{tagOf}
 use Rattle.refusal.specs.declared.Refusal.the-variants as refusal
-use Rattle.cbor.specs.View.{Plain, number, minus, string, other, ValueSays}
+use Rattle.cbor.specs.View.{ValueSays}
 use Rattle.cbor.specs.declared.value.Value.{Value}
 use Rattle.cbor.specs.declared.value.Value.the-variants as vv
 use Rattle.cbor.proofs.value.Value as value
-use Rattle.link_key.specs.Key.{keyOf, noKey, validKey}
+use Rattle.link_key.specs.Key.{informedKey, noKey, validKey}
 use Rattle.link_key_set.specs.KeySet.{noKeys, allValid, noneTwice, eachOnce, validKeys}
 use Rattle.link_key_set.specs.Seen.{joins, Exactly, OneMore, WithOneMore}
 use Rattle.link_key.specs.declared.Key.{Key}
+use Rattle.link_key.specs.declared.info.Info.{Info}
 use Rattle.link_key_set.specs.declared.key_set.KeySet.{KeySet}
 use Rattle.cojp_key_set_read.specs.Groups.{GroupAt, GroupRest, storable, someFew}
-use Rattle.cojp.specs.Bytes.{valueView, membersAt, afterMembers, Neither, MemberAt, MemberSays}
-use Rattle.cojp.specs.KeySet.{keySetOf, Groups, notGroups, groupsOf, group, groups, keysIn, keysConcluded, keysRead}
+use Rattle.cojp.specs.Bytes.{valueView, membersAt, afterMembers}
+use Rattle.cojp.specs.KeySet.{keySetOf, Groups, notGroups, groupsOf, group, groups, keysIn, keysConcluded, keysReadAs}
 use Rattle.cojp.specs.Octets.{padded, copiedFrom}
 use Rattle.cojp.specs.Reading.{Reading, refused, unfit, good}
-use Rattle.cojp_key_set_read.specs.declared.Group.{Group}
-use Rattle.cojp_key_set_read.specs.declared.Group.the-variants as gv
+use Rattle.cojp_key_set_read.specs.declared.group.Group.{Group}
+use Rattle.cojp_key_set_read.specs.declared.group.Group.the-variants as gv
 use Rattle.cojp.specs.declared.key_set.KeysParameter.{KeysParameter}
-use Rattle.cojp.specs.declared.members.Member.{Member}
-use Rattle.cojp.specs.declared.members.Member.the-variants as mv
 use Rattle.logic_facts.specs.Tests.{both-left, both-right}
-use Rattle.cojp.proofs.Arrays.{nothing-left, members-none, members-some, array-here, no-array}
+use Rattle.cojp.proofs.Arrays.{nothing-left, members-none, array-here, no-array}
 use Rattle.cojp.proofs.Strings.{copied-inside}
-use Rattle.cojp.proofs.members.Member as member
-
--- ---- the readers of a group
--- the same groups, with more members left
-regroup : (l : List ℕ) (m n : ℕ) (gs hs : Groups) (r : Group) → m ≤ n → gs ≡ hs → GroupAt l m hs r → GroupAt l n gs r
-regroup l m n gs hs gv.Broken k e w = e ∙ w
-regroup l m n gs hs (gv.Closed i u p a j) k e w = (w .0, omega (arith, w .1), e ∙ w .2)
-
-pub rest-on : (s : List ℕ) (at n q m : ℕ) (r : Group) → afterMembers n (drop at s) ≡ afterMembers m (drop q s) → GroupRest s q m r → GroupRest s at n r
-rest-on s at n q m gv.Broken e w = tt
-rest-on s at n q m (gv.Closed i u p a j) e w = e ∙ w
-
-module _ (l : List ℕ) (n : ℕ) (v : Member) where
-  module _ (h : 0 < n) (e : MemberSays l 0 n v) where
-    pub group-begun : (x p : ℕ) → v ≡ mv.Number x p → (r : Group) → GroupAt l (n - 1) (groups (number x ∷ membersAt (n - 1) (drop p l))) r
-        → GroupAt l n (groups (membersAt n l)) r
-    group-begun x p g r q =
-        let w : MemberAt l 0 n (mv.Number x p) = rw g at (e .here) in
-        regroup l (n - 1) n _ _ r (omega arith) (ap groups (w .1)) q
-
-    pub group-headless : OneOf (1 ∷ 2 ∷ []) (tagOf member.the-type v) → GroupAt l n (groups (membersAt n l)) gv.Broken
-    unfolding groups
-    group-headless o = go v (e .here) o
-      where
-        none : (p : Plain) (ps : List Plain) → Neither (p ∷ ps) → groups (p ∷ ps) ≡ notGroups
-        none (number x) ps w = absurd w
-        none (minus x) ps w = refl
-        none (string s) ps w = refl
-        none other ps w = refl
-
-        go : (v : Member) → MemberAt l 0 n v → OneOf (1 ∷ 2 ∷ []) (tagOf member.the-type v) → groups (membersAt n l) ≡ notGroups
-        go (mv.Number x p) w o = absurd (⊎-elim (λ e. omega arith) (λ e. omega arith) o)
-        go (mv.Bytes p a) w o = rw (w .2)
-        go mv.Neither w o = let (p, ps, f) = members-some n l h in rw f (none p ps (rw f at w))
-
-  module _ (at i : ℕ) (e : MemberSays l at n v) where
-    pub group-used : (u p : ℕ) → v ≡ mv.Number u p → (r : Group)
-        → GroupAt l (n - 1) (groups (number i ∷ number u ∷ membersAt (n - 1) (drop p l))) r
-        → GroupAt l n (groups (number i ∷ membersAt n (drop at l))) r
-    group-used u p g r q =
-        let w : MemberAt l at n (mv.Number u p) = rw g at (e .here) in
-        regroup l (n - 1) n _ _ r (omega arith) (ap (λ (ps : List Plain). groups (number i ∷ ps)) (w .1)) q
-
-    pub group-pair : (p a : ℕ) → v ≡ mv.Bytes p a → GroupAt l n (groups (number i ∷ membersAt n (drop at l))) (gv.Closed i 0 p a (n - 1))
-    unfolding groups
-    group-pair p a g =
-        let w : MemberAt l at n (mv.Bytes p a) = rw g at (e .here) in
-        (w .1, omega (arith, w .0), rw (w .2))
-
-    pub group-open : v ≡ mv.Neither → GroupAt l n (groups (number i ∷ membersAt n (drop at l))) gv.Broken
-    unfolding groups
-    group-open g = go (membersAt n (drop at l)) (let w : MemberAt l at n mv.Neither = rw g at (e .here) in w)
-      where
-        go : (ps : List Plain) → Neither ps → groups (number i ∷ ps) ≡ notGroups
-        go [] w = refl
-        go (number x ∷ ps) w = absurd w
-        go (string s ∷ ps) w = absurd w
-        go (minus x ∷ ps) w = refl
-        go (other ∷ ps) w = refl
-
-    module _ (u : ℕ) where
-      pub group-triple : (p a : ℕ) → v ≡ mv.Bytes p a
-          → GroupAt l n (groups (number i ∷ number u ∷ membersAt n (drop at l))) (gv.Closed i u p a (n - 1))
-      unfolding groups
-      group-triple p a g =
-          let w : MemberAt l at n (mv.Bytes p a) = rw g at (e .here) in
-          (w .1, omega (arith, w .0), rw (w .2))
-
-      pub group-valueless : OneOf (0 ∷ 2 ∷ []) (tagOf member.the-type v)
-          → GroupAt l n (groups (number i ∷ number u ∷ membersAt n (drop at l))) gv.Broken
-      unfolding groups
-      group-valueless o = go v (e .here) o
-        where
-          none : (ps : List Plain) → Neither ps → groups (number i ∷ number u ∷ ps) ≡ notGroups
-          none [] w = refl
-          none (number x ∷ ps) w = absurd w
-          none (string s ∷ ps) w = absurd w
-          none (minus x ∷ ps) w = refl
-          none (other ∷ ps) w = refl
-
-          go : (v : Member) → MemberAt l at n v → OneOf (0 ∷ 2 ∷ []) (tagOf member.the-type v)
-              → groups (number i ∷ number u ∷ membersAt n (drop at l)) ≡ notGroups
-          go (mv.Number x p) w o = rw (w .1)
-          go (mv.Bytes p a) w o = absurd (⊎-elim (λ e. omega arith) (λ e. omega arith) o)
-          go mv.Neither w o = none (membersAt n (drop at l)) w
 
 -- ---- a key is added, or there is no place for it
 -- a key that no place holds is outside the limits
@@ -227,9 +140,10 @@ pub after-none : (gs : Groups) → gs ≡ after [] gs
 after-none notGroups = refl
 after-none (groupsOf js) = refl
 
-after-more : (ks : List Key) (i u : ℕ) (v : List ℕ) (gs : Groups) → after ks (group i u v gs) ≡ after (ks ++ (keyOf i u v ∷ [])) gs
-after-more ks i u v notGroups = refl
-after-more ks i u v (groupsOf js) = ap groupsOf (sym (append-snoc ks (keyOf i u v) js))
+after-more :
+    (ks : List Key) (i u : ℕ) (v : List ℕ) (o : Info) (gs : Groups) → after ks (group i u v o gs) ≡ after (ks ++ (informedKey i u v o ∷ [])) gs
+after-more ks i u v o notGroups = refl
+after-more ks i u v o (groupsOf js) = ap groupsOf (sym (append-snoc ks (informedKey i u v o) js))
 
 -- ---- the key that is added
 pub storable-parts : (i u n : ℕ) → storable i u n ≡ true → (i ≤ 255) × (u ≤ 255) × (n ≡ 16)
@@ -251,89 +165,89 @@ pub value-copied : (l : List ℕ) (p n : ℕ) (b : List ℕ) → p + n ≤ lengt
 value-copied l p n b h z e = e ∙ copied-inside l p n (omega arith) h ∙ unpadded (take n (drop p l)) (whole l p n h ∙ z)
 
 -- ---- the loop over the groups: the keys so far, the set that holds them, and the groups that are left
-pub record Gathering (s : List ℕ) (from count at left : ℕ) (k : KeySet) (seen : List ℕ) : Type 0 where
+pub record Gathering (informed : Bool) (s : List ℕ) (from count at left : ℕ) (k : KeySet) (seen : List ℕ) : Type 0 where
   pub keys : List Key
   pub holds : Holds keys seen k
-  pub so-far : groups (membersAt count (drop from s)) ≡ after keys (groups (membersAt left (drop at s)))
+  pub so-far : groups informed (membersAt count (drop from s)) ≡ after keys (groups informed (membersAt left (drop at s)))
   pub inside : at ≤ length s
   pub rest : afterMembers count (drop from s) ≡ afterMembers left (drop at s)
 
-pub gathering-none : (s : List ℕ) (from count : ℕ) (k : KeySet) (seen : List ℕ) → from ≤ length s → k ≡ noKeys → Exactly seen []
-    → Gathering s from count from count k seen
-gathering-none s from count k seen h e clear =
+pub gathering-none : (informed : Bool) (s : List ℕ) (from count : ℕ) (k : KeySet) (seen : List ℕ) → from ≤ length s → k ≡ noKeys → Exactly seen []
+    → Gathering informed s from count from count k seen
+gathering-none informed s from count k seen h e clear =
     record { keys = []; holds = holds-none seen k clear e; so-far = after-none _; inside = h; rest = refl }
 
-module _ (s : List ℕ) (from count at n : ℕ) (k : KeySet) (seen : List ℕ) (w : Gathering s from count at n k seen) where
+module _ (informed : Bool) (s : List ℕ) (from count at n : ℕ) (k : KeySet) (seen : List ℕ) (w : Gathering informed s from count at n k seen) where
   pub gathering-done : n ≤ 0 → (r : Reading KeysParameter) → r ≡ keysConcluded (cond (someFew k) (good k) unfit)
-      → r ≡ keysConcluded (keysIn (groups (membersAt count (drop from s))))
+      → r ≡ keysConcluded (keysIn (groups informed (membersAt count (drop from s))))
   unfolding groups
   gathering-done h r e =
       let z : n ≡ 0 = omega arith in
-      let f : groups (membersAt count (drop from s)) ≡ groupsOf (w .keys) =
+      let f : groups informed (membersAt count (drop from s)) ≡ groupsOf (w .keys) =
       w .so-far ∙ rw (members-none n (drop at s) z, append-nil) in
       e ∙ ap keysConcluded (holds-all (w .keys) seen k (w .holds) ∙ ap keysIn (sym f))
 
   pub gathering-end : n ≤ 0 → drop at s ≡ afterMembers count (drop from s)
   gathering-end h = sym (w .rest ∙ nothing-left n (drop at s) (omega arith))
 
-  module _ (r : Group) (g : GroupAt (take (length s - at) (drop at s)) n (groups (membersAt n (take (length s - at) (drop at s)))) r) where
+  module _ (r : Group) (g : GroupAt informed (take (length s - at) (drop at s)) n (groups informed (membersAt n (take (length s - at) (drop at s)))) r) where
     part : take (length s - at) (drop at s) ≡ drop at s
     part = take-all (length s - at) (drop at s) (omega (arith, length-drop at s))
 
-    here-group : GroupAt (drop at s) n (groups (membersAt n (drop at s))) r
+    here-group : GroupAt informed (drop at s) n (groups informed (membersAt n (drop at s))) r
     here-group = rw part at g
 
     pub gathering-broken : r ≡ gv.Broken → (x : Reading KeysParameter) → x ≡ refused refusal.«Type»
-        → x ≡ keysConcluded (keysIn (groups (membersAt count (drop from s))))
+        → x ≡ keysConcluded (keysIn (groups informed (membersAt count (drop from s))))
     gathering-broken e x f =
-        let b : groups (membersAt n (drop at s)) ≡ notGroups = rw e at here-group in
+        let b : groups informed (membersAt n (drop at s)) ≡ notGroups = rw e at here-group in
         f ∙ rw (w .so-far, b)
 
-    module _ (i u p a m : ℕ) (e : r ≡ gv.Closed i u p a m) where
-      closed : GroupAt (drop at s) n (groups (membersAt n (drop at s))) (gv.Closed i u p a m)
+    module _ (i u p a : ℕ) (o : Info) (q m : ℕ) (e : r ≡ gv.Closed i u p a o q m) where
+      closed : GroupAt informed (drop at s) n (groups informed (membersAt n (drop at s))) (gv.Closed i u p a o q m)
       closed = rw e at here-group
 
       pub group-within : p + a ≤ length (take (length s - at) (drop at s))
       group-within = rw part (closed .0)
 
-      pub group-inside : (at + (p + a) ≤ length s) × (m < n)
-      group-inside = (omega (arith, closed .0, length-drop at s, w .inside), closed .1)
+      pub group-inside : (at + q ≤ length s) × (m < n)
+      group-inside = (omega (arith, closed .1, length-drop at s, w .inside), closed .2)
 
       module _ (y : GroupRest (take (length s - at) (drop at s)) 0 n r) where
         abbrev read : Key
-        read = keyOf i u (take a (drop p (take (length s - at) (drop at s))))
+        read = informedKey i u (take a (drop p (take (length s - at) (drop at s)))) o
 
-        gathering-more : (x : KeySet) (seen' : List ℕ) → Holds (w .keys ++ (read ∷ [])) seen' x → Gathering s from count (at + (p + a)) m x seen'
+        gathering-more : (x : KeySet) (seen' : List ℕ) → Holds (w .keys ++ (read ∷ [])) seen' x → Gathering informed s from count (at + q) m x seen'
         gathering-more x seen' h =
             let v : List ℕ = take a (drop p (drop at s)) in
-            let z : GroupRest (drop at s) 0 n (gv.Closed i u p a m) = rw e at (rw part at y) in
+            let z : GroupRest (drop at s) 0 n (gv.Closed i u p a o q m) = rw e at (rw part at y) in
             record {
-              keys = w .keys ++ (keyOf i u v ∷ []);
+              keys = w .keys ++ (informedKey i u v o ∷ []);
               holds = rw part at h;
-              so-far = w .so-far ∙ rw (closed .2, drop-drop (p + a) at s) (after-more (w .keys) i u v (groups (membersAt m (drop (at + (p + a)) s))));
+              so-far = w .so-far ∙ rw (closed .3, drop-drop q at s) (after-more (w .keys) i u v o (groups informed (membersAt m (drop (at + q) s))));
               inside = group-inside .0;
-              rest = w .rest ∙ z ∙ ap (afterMembers m) (drop-drop (p + a) at s);
+              rest = w .rest ∙ z ∙ ap (afterMembers m) (drop-drop q at s);
             }
 
         pub gathering-stored : k .count < 8 → (j : Key) → j ≡ read → (seen' : List ℕ) → WithOneMore seen j (joins seen j) seen'
             → (c : ℕ) → c ≡ cond (joins seen j) (k .count + 1) 9
-            → Gathering s from count (at + (p + a)) m (record { count = c; keys = set (k .keys) (k .count) j }) seen'
-        gathering-stored h j f seen' more c q =
-            rw q
+            → Gathering informed s from count (at + q) m (record { count = c; keys = set (k .keys) (k .count) j }) seen'
+        gathering-stored h j f seen' more c z =
+            rw z
             (gathering-more (record { count = cond (joins seen j) (k .count + 1) 9; keys = set (k .keys) (k .count) j }) seen'
             (rw (← f) (holds-stored (w .keys) j seen k (w .holds) h (joins seen j) seen' (more (w .keys)))))
 
         pub gathering-nine : (ltb (k .count) 8 && storable i u a) ≡ false
-            → Gathering s from count (at + (p + a)) m (record { count = 9; keys = k .keys }) seen
+            → Gathering informed s from count (at + q) m (record { count = 9; keys = k .keys }) seen
         gathering-nine f =
             gathering-more (record { count = 9; keys = k .keys }) seen
             (holds-nine (w .keys) read seen k (w .holds) (rw (whole (take (length s - at) (drop at s)) p a group-within) f))
 
 -- ---- the value
-module _ (s : List ℕ) (at : ℕ) (v : Value) (e : ValueSays s at v) (r : Reading KeysParameter) where
-  pub keys-array : (p n : ℕ) → v ≡ vv.Array p n → r ≡ keysConcluded (keysIn (groups (membersAt n (drop p s))))
-      → r ≡ keysRead (valueView (drop at s))
+module _ (s : List ℕ) (at : ℕ) (v : Value) (e : ValueSays s at v) (r : Reading KeysParameter) (informed : Bool) where
+  pub keys-array : (p n : ℕ) → v ≡ vv.Array p n → r ≡ keysConcluded (keysIn (groups informed (membersAt n (drop p s))))
+      → r ≡ keysReadAs informed (valueView (drop at s))
   keys-array p n g f = f ∙ rw (array-here s at v e p n g .1)
 
-  pub keys-broken : OneOf (0 ∷ 1 ∷ 3 ∷ 4 ∷ []) (tagOf value.the-type v) → r ≡ refused refusal.«Type» → r ≡ keysRead (valueView (drop at s))
+  pub keys-broken : OneOf (0 ∷ 1 ∷ 3 ∷ 4 ∷ []) (tagOf value.the-type v) → r ≡ refused refusal.«Type» → r ≡ keysReadAs informed (valueView (drop at s))
   keys-broken o f = f ∙ rw (no-array s at v e o .1)

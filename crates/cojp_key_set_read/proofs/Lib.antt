@@ -1,1 +1,3 @@
-mod KeySets
+pub mod Infos
+pub mod Groups
+pub mod KeySets

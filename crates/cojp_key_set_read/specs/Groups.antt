@@ -1,31 +1,33 @@
 -- For the contracts of the functions that read a key set: its groups as they stand in the bytes, and what a place and a set can hold.
 use Prim.Native.Nat.{ℕ, _+_, _≤_, _<_}
 use mathlib.Core.Path.{_≡_}
-use mathlib.Core.Bool.{Bool, _&&_}
-use mathlib.Core.List.{List, _++_}
+use mathlib.Core.Bool.{Bool, cond, _&&_}
+use mathlib.Core.List.{List}
+use mathlib.Core.Option.{Option, none, some}
 use lib.Dec.{leb, eqb}
 use lib.ListN.{length, take, drop}
-use Rattle.cbor.specs.View.{Plain}
+use Rattle.link_key.specs.declared.info.Info.{Info}
 use Rattle.link_key_set.specs.declared.key_set.KeySet.{KeySet}
 use Rattle.cojp.specs.Bytes.{membersAt, afterMembers}
 use Rattle.cojp.specs.KeySet.{Groups, notGroups, group, groups}
-use Rattle.cojp_key_set_read.specs.declared.Group.{Group}
-use Rattle.cojp_key_set_read.specs.declared.Group.the-variants as gv
+use Rattle.cojp_key_set_read.specs.declared.group.Group.{Group}
+use Rattle.cojp_key_set_read.specs.declared.group.Group.the-variants as gv
+use Rattle.cojp_key_set_read.specs.declared.info.InfoRead.{InfoRead}
 
 -- what an answer of a group's reader says of these groups, n members being left
-abbrev pub GroupAt : List ℕ → ℕ → Groups → Group → Type 0
-GroupAt s n gs gv.Broken = gs ≡ notGroups
-GroupAt s n gs (gv.Closed i u p a m) =
-    (p + a ≤ length s) × (m < n) × (gs ≡ group i u (take a (drop p s)) (groups (membersAt m (drop (p + a) s))))
-
--- the same of the groups whose first members have been read, the others standing at a place
-abbrev pub GroupAfter : List Plain → List ℕ → ℕ → ℕ → Group → Type 0
-GroupAfter read s at n r = GroupAt s n (groups (read ++ membersAt n (drop at s))) r
+abbrev pub GroupAt : Bool → List ℕ → ℕ → Groups → Group → Type 0
+GroupAt informed s n gs gv.Broken = gs ≡ notGroups
+GroupAt informed s n gs (gv.Closed i u p a w q m) =
+    (p + a ≤ length s) × (q ≤ length s) × (m < n) × (gs ≡ group i u (take a (drop p s)) w (groups informed (membersAt m (drop q s))))
 
 -- where the bytes go on after a group that begins at a place, n members being left
 abbrev pub GroupRest : List ℕ → ℕ → ℕ → Group → Type 0
 GroupRest s at n gv.Broken = Unit {0}
-GroupRest s at n (gv.Closed i u p a m) = afterMembers n (drop at s) ≡ afterMembers m (drop (p + a) s)
+GroupRest s at n (gv.Closed i u p a w q m) = afterMembers n (drop at s) ≡ afterMembers m (drop q s)
+
+-- what was read as additional information
+abbrev pub infoSaid : InfoRead → Option Info
+infoSaid r = cond (r .good) (some (r .info)) none
 
 -- a place of a set can hold the key
 abbrev pub storable : ℕ → ℕ → ℕ → Bool

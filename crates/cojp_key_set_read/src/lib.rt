@@ -1,15 +1,20 @@
-// Link-layer key sets are read: a flat array of groups, each an identifier, perhaps a usage, and a value that closes it.
+// Link-layer key sets are read: a flat array of groups, each an identifier, perhaps a usage, a value and perhaps, where keys may have it,
+// additional information.
+pub mod group;
+pub mod info;
+
+use crate::group::Group;
+use crate::group::read_group;
 use cbor::Value;
 use cbor::value_at;
 use cojp::KeysParameter;
 use cojp::KeysRead;
-use cojp::Member;
 use cojp::Report;
 use cojp::copied;
-use cojp::member_at;
 use cojp::no_key_set;
+use link_key::Info;
 use link_key::Key;
-use link_key::key_of;
+use link_key::key_with;
 use link_key::no_key;
 use link_key_set::KeySet;
 use link_key_set::seen::join;
@@ -19,28 +24,14 @@ use refusal::Verdict;
 ghost use mathlib.Core.Path.{_≡_};
 ghost use mathlib.Core.Bool.{true, cond, _&&_};
 ghost use lib.Dec.{ltb};
-ghost use mathlib.Core.List.{[], _∷_};
 ghost use Prim.Native.Nat.{_+_, _≤_, _<_};
 ghost use lib.ListN.{length, take, drop};
-ghost use Rattle.cbor.specs.View.{number};
-ghost use Rattle.link_key.specs.Key.{keyOf};
+ghost use Rattle.link_key.specs.Key.{informedKey};
 ghost use Rattle.link_key_set.specs.Seen.{joins, WithOneMore};
 ghost use Rattle.cojp.specs.Bytes.{valueView, membersAt, afterValue, afterMembers};
-ghost use Rattle.cojp.specs.KeySet.{groups, keysIn, keysConcluded, keysRead, keysAnswer};
+ghost use Rattle.cojp.specs.KeySet.{groups, keysIn, keysConcluded, keysReadAs, keysAnswer};
 ghost use Rattle.cojp.specs.Reading.{refused, unfit, good, Accepting};
-ghost use Rattle.cojp_key_set_read.specs.Groups.{GroupAt, GroupAfter, GroupRest, storable, someFew};
-
-// A group: where its value stands in the part, and how many members are left after it.
-enum Group {
-    Broken,
-    Closed {
-        identifier: u64,
-        usage: u64,
-        start: usize,
-        len: usize,
-        left: u64,
-    },
-}
+ghost use Rattle.cojp_key_set_read.specs.Groups.{storable, someFew};
 
 fn refused_keys(why: Refusal) -> KeysRead
     ensures { λ r. ⌜ r ≡ keysAnswer (refused why) 0 ⌝ }
@@ -50,56 +41,6 @@ fn refused_keys(why: Refusal) -> KeysRead
         verdict: Verdict::Refused(why),
         parameter: none,
         next: 0,
-    }
-}
-
-// The group at the front of a part of the payload, where `left` members are left.
-fn read_group(part: &[u8], left: u64) -> Group
-    requires { ⌜ 0 < left ⌝ }
-    ensures { λ r. ⌜ GroupAt (now (part .entry)) left (groups (membersAt left (now (part .entry)))) r ⌝ }
-    ensures rest { λ r. ⌜ GroupRest (now (part .entry)) 0 left r ⌝ }
-{
-    let first = member_at(part, 0, left);
-    match first {
-        Member::Number { number, next } => after_identifier(part, next, left - 1, number),
-        _ => Group::Broken,
-    }
-}
-
-// The rest of a group after its identifier: a value, or a usage and a value.
-fn after_identifier(part: &[u8], at: usize, left: u64, identifier: u64) -> Group
-    ensures { λ r. ⌜ GroupAfter (number identifier ∷ []) (now (part .entry)) at left r ⌝ }
-    ensures rest { λ r. ⌜ GroupRest (now (part .entry)) at left r ⌝ }
-{
-    let second = member_at(part, at, left);
-    match second {
-        Member::Number { number, next } => after_usage(part, next, left - 1, identifier, number),
-        Member::Bytes { start, len } => Group::Closed {
-            identifier: identifier,
-            usage: 0,
-            start: start,
-            len: len,
-            left: left - 1,
-        },
-        Member::Neither => Group::Broken,
-    }
-}
-
-// The rest of a group after its usage: a value.
-fn after_usage(part: &[u8], at: usize, left: u64, identifier: u64, usage: u64) -> Group
-    ensures { λ r. ⌜ GroupAfter (number identifier ∷ number usage ∷ []) (now (part .entry)) at left r ⌝ }
-    ensures rest { λ r. ⌜ GroupRest (now (part .entry)) at left r ⌝ }
-{
-    let third = member_at(part, at, left);
-    match third {
-        Member::Bytes { start, len } => Group::Closed {
-            identifier: identifier,
-            usage: usage,
-            start: start,
-            len: len,
-            left: left - 1,
-        },
-        _ => Group::Broken,
     }
 }
 
@@ -120,13 +61,13 @@ fn is_storable(n: usize, identifier: u64, usage: u64, len: usize) -> bool
 }
 
 // The key of a group that a place can hold.
-fn group_key(part: &[u8], identifier: u64, usage: u64, start: usize, len: usize) -> Key
+fn group_key(part: &[u8], identifier: u64, usage: u64, start: usize, len: usize, info: Info) -> Key
     requires { ⌜ storable identifier usage len ≡ true ⌝ }
     requires { ⌜ start + len ≤ length (now part) ⌝ }
-    ensures { λ r. ⌜ r ≡ keyOf identifier usage (take len (drop start (now (part .entry)))) ⌝ }
+    ensures { λ r. ⌜ r ≡ informedKey identifier usage (take len (drop start (now (part .entry)))) info ⌝ }
 {
     let value = copied(part, start, len);
-    key_of(identifier as u8, usage as u8, value)
+    key_with(identifier as u8, usage as u8, value, info)
 }
 
 // How many keys a set of `n` has with the key: one more if it joins them, else nine, which no set has.
@@ -161,9 +102,9 @@ fn close_set(set: KeySet, next: usize) -> KeysRead
 }
 
 // The key set whose `count` members begin at a place: the pattern to its end, and then the limits, which each key has met or not as it came.
-fn gather_keys(s: &[u8], from: usize, count: u64) -> KeysRead
+fn gather_keys(s: &[u8], from: usize, count: u64, informed: bool) -> KeysRead
     requires { ⌜ from ≤ length (now s) ⌝ }
-    ensures { λ r. ⌜ r ≡ keysAnswer (keysConcluded (keysIn (groups (membersAt count (drop from (now (s .entry))))))) (r .next) ⌝ }
+    ensures { λ r. ⌜ r ≡ keysAnswer (keysConcluded (keysIn (groups informed (membersAt count (drop from (now (s .entry))))))) (r .next) ⌝ }
     ensures rest { λ r. ⌜ Accepting (r .verdict) (drop (r .next) (now (s .entry)) ≡ afterMembers count (drop from (now (s .entry)))) ⌝ }
 {
     let mut at = from;
@@ -174,7 +115,7 @@ fn gather_keys(s: &[u8], from: usize, count: u64) -> KeysRead
     let mut seen = none_seen();
     while 0 < remaining {
         let part = &s[at..];
-        let g = read_group(part, remaining);
+        let g = read_group(part, remaining, informed);
         match g {
             Group::Broken => return refused_keys(Refusal::Type),
             Group::Closed {
@@ -182,16 +123,18 @@ fn gather_keys(s: &[u8], from: usize, count: u64) -> KeysRead
                 usage,
                 start,
                 len,
+                info,
+                next,
                 left,
             } => {
                 if is_storable(n, identifier, usage, len) {
-                    let key = group_key(part, identifier, usage, start, len);
+                    let key = group_key(part, identifier, usage, start, len, info);
                     keys[n] = key;
                     n = count_with(&mut seen, n, key);
                 } else {
                     n = 9;
                 }
-                at = at + (start + len);
+                at = at + next;
                 remaining = left;
             }
         }
@@ -200,14 +143,14 @@ fn gather_keys(s: &[u8], from: usize, count: u64) -> KeysRead
     close_set(set, at)
 }
 
-// The key set at a place.
-pub fn read_keys(s: &[u8], at: usize) -> KeysRead
-    ensures { λ r. ⌜ r ≡ keysAnswer (keysRead (valueView (drop at (now (s .entry))))) (r .next) ⌝ }
+// The key set at a place. `informed` tells whether its keys may have additional information: in draft 004 they may not.
+pub fn read_keys(s: &[u8], at: usize, informed: bool) -> KeysRead
+    ensures { λ r. ⌜ r ≡ keysAnswer (keysReadAs informed (valueView (drop at (now (s .entry))))) (r .next) ⌝ }
     ensures rest { λ r. ⌜ Accepting (r .verdict) (drop (r .next) (now (s .entry)) ≡ afterValue (drop at (now (s .entry)))) ⌝ }
 {
     let v = value_at(s, at);
     match v {
-        Value::Array { start, count } => gather_keys(s, start, count),
+        Value::Array { start, count } => gather_keys(s, start, count, informed),
         _ => refused_keys(Refusal::Type),
     }
 }

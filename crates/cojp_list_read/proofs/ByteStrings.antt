@@ -12,7 +12,6 @@ use Rattle.cbor.specs.Encode.{encode}
 use Rattle.cbor.specs.Item.{bytes}
 use Rattle.cbor.specs.View.{Plain, number, minus, string, other, ValueSays}
 use Rattle.cbor.specs.declared.write.Written.{Written}
-use Rattle.cbor.specs.declared.write.Written.the-variants as wv
 use Rattle.cbor.specs.declared.value.Value.{Value}
 use Rattle.cbor.specs.declared.value.Value.the-variants as vv
 use Rattle.cbor.proofs.value.Value as value
@@ -63,14 +62,15 @@ pub string-written : (b : List ℕ) → written (string b ∷ []) ≡ encode (by
 string-written b = append-nil (encode (bytes b))
 
 -- ---- one turn: the byte string at p, of a bytes, was written to the lent part
-module _ {s : List ℕ} {from count : ℕ} {d : List ℕ} {at left len members : ℕ} {d′ : List ℕ}
-    (g : Gathering stringsIn s from count d at left len members d′) {v : Member} (e : MemberSays s at left v) where
-  pub strings-broken : 0 < left → OneOf (0 ∷ 2 ∷ []) (tagOf member.the-type v) → GatheredAs (stringsIn (membersAt count (drop from s))) d gv.Bad d′
+module _ {whole : Picked} {s d : List ℕ} {at left len members : ℕ} {d′ : List ℕ}
+    (g : Gathering whole d (stringsIn (membersAt left (drop at s))) len members d′) {v : Member} (e : MemberSays s at left v) where
+  pub strings-broken : 0 < left → OneOf (0 ∷ 2 ∷ []) (tagOf member.the-type v) → GatheredAs whole d gv.Bad d′
   strings-broken h o = gathering-bad g (string-broken e h o)
 
   pub strings-turn : {p a : ℕ} → v ≡ mv.Bytes p a → (n : ℕ) → n ≡ a → {r : Written} {q : List ℕ}
       → Did (emit (encode (bytes (take n (drop p s))))) (take (length d′ - len) (drop len d′)) r q
-      → Turn stringsIn s from count d at left len members d′ (string (take a (drop p s)) ∷ []) (p + a) (left - 1) r q
+      → Turn whole d (stringsIn (membersAt left (drop at s))) len members d′ (string (take a (drop p s)) ∷ [])
+      (stringsIn (membersAt (left - 1) (drop (p + a) s))) r q
   strings-turn {p} {a} f n x w = record {
     gathering = g;
     step = string-next e f;

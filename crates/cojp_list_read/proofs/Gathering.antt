@@ -80,20 +80,20 @@ fitting-over : (n : ℕ) (a : List Plain) (q : Picked) → n < length (written a
 fitting-over n a nothing h = refl
 fitting-over n a (picked ps) h = let l : n < length (written (a ++ ps)) = omega (arith, written-length a ps) in rw (lt-leb (length (written (a ++ ps))) n l)
 
--- ---- a loop over the members that are left
--- f says what is kept of members; d is the destination before, and d′ now
-module _ (f : List Plain → Picked) (s : List ℕ) (from count : ℕ) (d : List ℕ) where
-  pub record Gathering (at left len members : ℕ) (d′ : List ℕ) : Type 0 where
+-- ---- a loop over what is left
+-- `whole` is what is to be kept, d the destination before; `rest` is to be kept yet, and d′ is the destination now
+module _ (whole : Picked) (d : List ℕ) where
+  pub record Gathering (rest : Picked) (len members : ℕ) (d′ : List ℕ) : Type 0 where
     pub so-far : List Plain
-    pub pattern : f (membersAt count (drop from s)) ≡ before so-far (f (membersAt left (drop at s)))
+    pub pattern : whole ≡ before so-far rest
     pub room : length (written so-far) ≤ length d
     pub many : members ≡ length so-far
     pub wrote : Wrote (written so-far) d len d′
 
-  pub gathering-none : Gathering from count 0 0 d
+  pub gathering-none : Gathering whole 0 0 d
   gathering-none = record {
     so-far = [];
-    pattern = same (f (membersAt count (drop from s)));
+    pattern = same whole;
     room = omega arith;
     many = refl;
     wrote = wrote-none d;
@@ -103,33 +103,30 @@ module _ (f : List Plain → Picked) (s : List ℕ) (from count : ℕ) (d : List
       same nothing = refl
       same (picked ps) = refl
 
-module _ {f : List Plain → Picked} {s : List ℕ} {from count : ℕ} {d : List ℕ} {at left len members : ℕ} {d′ : List ℕ}
-    (g : Gathering f s from count d at left len members d′) where
+module _ {whole rest : Picked} {d : List ℕ} {len members : ℕ} {d′ : List ℕ} (g : Gathering whole d rest len members d′) where
   pub gathering-length : length d′ ≡ length d
   gathering-length = wrote-length (g .wrote) (g .room)
 
   pub gathering-within : len ≤ length d′
   gathering-within = omega (arith, gathering-length, g .wrote .many, g .room)
 
-  pub gathering-bad : f (membersAt left (drop at s)) ≡ nothing → fitting (length d) (f (membersAt count (drop from s))) ≡ nothing
+  pub gathering-bad : rest ≡ nothing → fitting (length d) whole ≡ nothing
   gathering-bad e = rw (g .pattern, e)
 
-  pub gathering-done : f [] ≡ picked [] → left ≤ 0 → GatheredAs (f (membersAt count (drop from s))) d (gv.Kept members len) d′
-  gathering-done e h =
-      let z : left ≡ 0 = omega arith in
-      let whole : f (membersAt count (drop from s)) ≡ picked (g .so-far) =
-      g .pattern ∙ rw (members-none left (drop at s) z, e, append-nil (g .so-far)) in
-      (g .so-far, rw (whole, le-leb (length (written (g .so-far))) (length d) (g .room)), g .many, g .wrote)
+  pub gathering-done : rest ≡ picked [] → GatheredAs whole d (gv.Kept members len) d′
+  gathering-done e =
+      let all : whole ≡ picked (g .so-far) = g .pattern ∙ rw (e, append-nil (g .so-far)) in
+      (g .so-far, rw (all, le-leb (length (written (g .so-far))) (length d) (g .room)), g .many, g .wrote)
 
   -- the next members, xs of them kept
-  module _ (xs : List Plain) (next rest : ℕ) (e : f (membersAt left (drop at s)) ≡ before xs (f (membersAt rest (drop next s)))) where
-    further : f (membersAt count (drop from s)) ≡ before (g .so-far ++ xs) (f (membersAt rest (drop next s)))
-    further = g .pattern ∙ rw e (before-before (g .so-far) xs (f (membersAt rest (drop next s))))
+  module _ (xs : List Plain) (next : Picked) (e : rest ≡ before xs next) where
+    further : whole ≡ before (g .so-far ++ xs) next
+    further = g .pattern ∙ rw e (before-before (g .so-far) xs next)
 
-    pub gathering-full : length d′ - len < length (written xs) → fitting (length d) (f (membersAt count (drop from s))) ≡ nothing
+    pub gathering-full : length d′ - len < length (written xs) → fitting (length d) whole ≡ nothing
     gathering-full h =
         rw further
-        (fitting-over (length d) (g .so-far ++ xs) (f (membersAt rest (drop next s)))
+        (fitting-over (length d) (g .so-far ++ xs) next
         (omega (arith, written-length (g .so-far) xs, gathering-length, g .wrote .many, g .room)))
 
     module _ (h : length (written xs) ≤ length d′ - len) where
@@ -140,7 +137,7 @@ module _ {f : List Plain → Picked} {s : List ℕ} {from count : ℕ} {d : List
       gathering-count H = omega (arith, fits, g .many, written-long H (g .so-far), written-long H xs)
 
       pub gathering-more : {k : ℕ} {p : List ℕ} → Wrote (written xs) (take (length d′ - len) (drop len d′)) k p
-          → Gathering f s from count d next rest (len + k) (members + length xs) (take len d′ ++ (p ++ drop (length d′ - len) (drop len d′)))
+          → Gathering whole d next (len + k) (members + length xs) (take len d′ ++ (p ++ drop (length d′ - len) (drop len d′)))
       gathering-more w = record {
         so-far = g .so-far ++ xs;
         pattern = further;
@@ -149,15 +146,19 @@ module _ {f : List Plain → Picked} {s : List ℕ} {from count : ℕ} {d : List
         wrote = rw (written-append (g .so-far) xs) (seam fits (g .wrote) w);
       }
 
+-- no member is left
+pub gathering-ended : (f : List Plain → Picked) (left : ℕ) (l : List ℕ) → f [] ≡ picked [] → left ≤ 0 → f (membersAt left l) ≡ picked []
+gathering-ended f left l e h = let z : left ≡ 0 = omega arith in ap f (members-none left l z) ∙ e
+
 -- ---- one turn: r is the answer of writing xs to the lent part, which then is q
-module _ (f : List Plain → Picked) (s : List ℕ) (from count : ℕ) (d : List ℕ) where
-  pub record Turn (at left len members : ℕ) (d′ : List ℕ) (xs : List Plain) (next rest : ℕ) (r : Written) (q : List ℕ) : Type 0 where
-    pub gathering : Gathering f s from count d at left len members d′
-    pub step : f (membersAt left (drop at s)) ≡ before xs (f (membersAt rest (drop next s)))
+module _ (whole : Picked) (d : List ℕ) where
+  pub record Turn (rest : Picked) (len members : ℕ) (d′ : List ℕ) (xs : List Plain) (next : Picked) (r : Written) (q : List ℕ) : Type 0 where
+    pub gathering : Gathering whole d rest len members d′
+    pub step : rest ≡ before xs next
     pub put : Did (emit (written xs)) (take (length d′ - len) (drop len d′)) r q
 
-module _ {f : List Plain → Picked} {s : List ℕ} {from count : ℕ} {d : List ℕ} {at left len members : ℕ} {d′ : List ℕ} {xs : List Plain} {next rest : ℕ} {r : Written} {q : List ℕ}
-    (t : Turn f s from count d at left len members d′ xs next rest r q) where
+module _ {whole rest : Picked} {d : List ℕ} {len members : ℕ} {d′ : List ℕ} {xs : List Plain} {next : Picked} {r : Written} {q : List ℕ}
+    (t : Turn whole d rest len members d′ xs next r q) where
   lent : length (take (length d′ - len) (drop len d′)) ≡ length d′ - len
   lent = simp (length-take, length-drop) (omega arith)
 
@@ -167,20 +168,20 @@ module _ {f : List Plain → Picked} {s : List ℕ} {from count : ℕ} {d : List
       simp (length-append, length-take, length-drop)
       (omega (arith, gathering-length (t .gathering), gathering-within (t .gathering)))
 
-  pub turn-full : (k : Refusal) → r ≡ wv.Refused k → fitting (length d) (f (membersAt count (drop from s))) ≡ nothing
-  turn-full k y = gathering-full (t .gathering) xs next rest (t .step) (omega (arith, lent, did-lacks (t .put) k y))
+  pub turn-full : (k : Refusal) → r ≡ wv.Refused k → fitting (length d) whole ≡ nothing
+  turn-full k y = gathering-full (t .gathering) xs next (t .step) (omega (arith, lent, did-lacks (t .put) k y))
 
   module _ (k : ℕ) (y : r ≡ wv.Length k) where
     turn-room : length (written xs) ≤ length d′ - len
     turn-room = omega (arith, lent, did-fits (t .put) k y .0)
 
-    pub turn-more : Gathering f s from count d next rest (len + k) (members + length xs) (take len d′ ++ (q ++ drop (length d′ - len) (drop len d′)))
-    turn-more = gathering-more (t .gathering) xs next rest (t .step) turn-room (did-fits (t .put) k y .1)
+    pub turn-more : Gathering whole d next (len + k) (members + length xs) (take len d′ ++ (q ++ drop (length d′ - len) (drop len d′)))
+    turn-more = gathering-more (t .gathering) xs next (t .step) turn-room (did-fits (t .put) k y .1)
 
     pub turn-count : HeadLaws → (len + k ≤ length d) × (members + length xs ≤ length d)
     turn-count H =
         let m = turn-more in
-        (omega (arith, m .wrote .many, m .room), gathering-count (t .gathering) xs next rest (t .step) turn-room H)
+        (omega (arith, m .wrote .many, m .room), gathering-count (t .gathering) xs next (t .step) turn-room H)
 
 -- ---- what was gathered in 253 zeros is the list
 zeros-after : (k n : ℕ) → drop k (replicate {A = ℕ} n 0) ≡ replicate (n - k) 0

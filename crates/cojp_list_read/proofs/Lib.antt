@@ -4,3 +4,4 @@ mod Reports
 mod Again
 mod Back
 mod Writing
+mod Listing

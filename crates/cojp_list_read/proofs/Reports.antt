@@ -210,8 +210,8 @@ pub faults-none : faultsIn [] ≡ picked []
 unfolding faultsIn
 faults-none = refl
 
-module _ {s : List ℕ} {from count : ℕ} {d : List ℕ} {at left len members : ℕ} {d′ : List ℕ}
-    (g : Gathering faultsIn s from count d at left len members d′)
+module _ (s : List ℕ) (at left : ℕ) {whole : Picked} {d : List ℕ} {len members : ℕ} {d′ : List ℕ}
+    (g : Gathering whole d (faultsIn (membersAt left (drop at s))) len members d′)
     (v : Fault) (e : FaultAt s left (faultsIn (membersAt left (drop at s))) v) where
   pub faults-broken : v ≡ fv.Broken → faultsIn (membersAt left (drop at s)) ≡ nothing
   faults-broken f = let w : FaultAt s left (faultsIn (membersAt left (drop at s))) fv.Broken = rw f at e in w
@@ -225,7 +225,8 @@ module _ {s : List ℕ} {from count : ℕ} {d : List ℕ} {at left len members :
 
     pub faults-turn : {r : Written} {q : List ℕ}
         → Did (emit (written (integer b c ∷ integer m l ∷ other ∷ []))) (take (length d′ - len) (drop len d′)) r q
-        → Turn faultsIn s from count d at left len members d′ (integer b c ∷ integer m l ∷ other ∷ []) next rest r q
+        → Turn whole d (faultsIn (membersAt left (drop at s))) len members d′ (integer b c ∷ integer m l ∷ other ∷ [])
+        (faultsIn (membersAt rest (drop next s))) r q
     faults-turn w = record { gathering = g; step = group-here .1; put = w }
 
 -- at least one

@@ -28,7 +28,7 @@ fn major_of(negative: bool) -> u8
 }
 
 // Writes a report: code, label, null.
-fn write_fault(
+pub(crate) fn write_fault(
     dst: &mut [u8],
     code_negative: bool,
     code: u64,

@@ -1,7 +1,8 @@
 // Arrays of a published configuration or request that are kept as they are written: read, judged, and written again.
 pub mod faults;
 pub mod kept;
-mod list;
+pub mod list;
+pub mod listed;
 mod report;
 pub mod strings;
 pub mod write;
@@ -9,6 +10,8 @@ pub mod write;
 pub use faults::read_unsupported;
 pub use kept::is_blacklist;
 pub use kept::is_unsupported;
+pub use list::taken_list;
+pub use listed::unsupported_of;
 pub use strings::read_blacklist;
 pub use write::write_list;
 ghost use Rattle.cojp_list_read.specs.Laws.{ListLaws};

@@ -1,8 +1,11 @@
-// What gathering members into a destination comes to.
+// What gathering members into a destination comes to, and the parameter that a list is.
 use cojp::ItemList;
+use cojp::ListParameter;
 use cojp::ListRead;
+use cojp::Report;
+use cojp::no_list;
 ghost use mathlib.Core.Path.{_≡_};
-ghost use Rattle.cojp.specs.Lists.{nothing, listAnswer};
+ghost use Rattle.cojp.specs.Lists.{nothing, listAnswer, listTaken};
 
 // What gathering comes to: how many members and bytes, or a broken pattern or too little room.
 pub(crate) enum Gathered {
@@ -22,4 +25,18 @@ pub(crate) fn bad_list() -> ListRead
         good: false,
         value: none,
     }
+}
+
+// A good list is taken, a bad one is not.
+pub fn taken_list(list: ListRead) -> ListParameter
+    ensures { λ r. ⌜ r ≡ listTaken list ⌝ }
+{
+    if list.good {
+        let value = list.value;
+        return ListParameter {
+            report: Report::Taken,
+            value: value,
+        };
+    }
+    no_list(Report::Discarded)
 }

@@ -1,10 +1,13 @@
 -- What the answer about a parameter says is what its definition reads.
 use Prim.Native.Nat.{ℕ}
-use mathlib.Core.Path.{_≡_}
+use mathlib.Core.Path.{_≡_, ap, sym, _∙_}
+use Rattle.refusal.specs.declared.Refusal.{Refusal}
+use Rattle.refusal.specs.declared.Verdict.{Verdict}
+use Rattle.refusal.specs.declared.Verdict.the-variants as verdict
 use Rattle.cojp.specs.Address.{addressAnswer}
 use Rattle.cojp.specs.KeySet.{keysAnswer}
 use Rattle.cojp.specs.Octets.{octetsAnswer}
-use Rattle.cojp.specs.Reading.{Reading, refused, read, said}
+use Rattle.cojp.specs.Reading.{Reading, refused, read, said, forgiven}
 use Rattle.cojp.specs.declared.address.AddressParameter.{AddressParameter}
 use Rattle.cojp.specs.declared.address.AddressRead.{AddressRead}
 use Rattle.cojp.specs.declared.key_set.KeysParameter.{KeysParameter}
@@ -23,3 +26,15 @@ address-said r (read p) n e = rw e
 pub keys-said : (r : KeysRead) (x : Reading KeysParameter) (n : ℕ) → r ≡ keysAnswer x n → said (r .verdict) (r .parameter) ≡ x
 keys-said r (refused k) n e = rw e
 keys-said r (read p) n e = rw e
+
+-- ---- in the published form a refusal is forgiven: what an answer has, or the parameter with nothing taken
+module _ {P : Type 0} (bad : P) (w : Verdict) (p : P) (x : Reading P) (e : said w p ≡ x) where
+  pub said-kept : w ≡ verdict.Accepted → p ≡ forgiven bad x
+  said-kept g = ap (λ (w : Verdict). forgiven bad (said w p)) (sym g) ∙ ap (forgiven bad) e
+
+  pub said-bad : (k : Refusal) → w ≡ verdict.Refused k → bad ≡ forgiven bad x
+  said-bad k g = ap (λ (w : Verdict). forgiven bad (said w p)) (sym g) ∙ ap (forgiven bad) e
+
+pub octets-kept : (r : OctetsRead) (x : Reading OctetsParameter) (bad : OctetsParameter) (n : ℕ) → r ≡ octetsAnswer x n → r .verdict ≡ verdict.Accepted
+    → r ≡ octetsAnswer (read (forgiven bad x)) (r .next)
+octets-kept r x bad n e g = rw (g, ← said-kept bad (r .verdict) (r .parameter) x (octets-said r x n e) g)

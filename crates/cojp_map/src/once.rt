@@ -1,7 +1,9 @@
 // A known label may come once.
+use crate::pair::item_end;
 use cojp::OctetsParameter;
 use cojp::OctetsRead;
 use cojp::Report;
+use cojp::Version;
 use cojp::no_octets;
 use cojp::read_octets;
 use refusal::Refusal;
@@ -9,8 +11,8 @@ use refusal::Verdict;
 ghost use mathlib.Core.Path.{_≡_};
 ghost use lib.ListN.{drop};
 ghost use Rattle.cojp.specs.Bytes.{valueView, afterValue};
-ghost use Rattle.cojp.specs.Octets.{octetsRead, octetsAnswer};
-ghost use Rattle.cojp.specs.Reading.{Accepting};
+ghost use Rattle.cojp.specs.Octets.{noOctetsParameter, octetsRead, octetsAnswer};
+ghost use Rattle.cojp.specs.Reading.{read, forgiven, following, Accepting};
 ghost use Rattle.cojp_map.specs.Pairs.{seen, once};
 
 // Whether a label came before: its parameter was taken or discarded.
@@ -24,10 +26,37 @@ pub fn is_seen(report: Report) -> bool
     }
 }
 
+// The byte string of `least` to 16 bytes at a place, in the published form: one that is bad is discarded, and the bytes go on after it.
+fn forgiven_octets(s: &[u8], at: usize, least: usize) -> OctetsRead
+    ensures { λ r. ⌜ r ≡ octetsAnswer (read (forgiven (noOctetsParameter Report.Discarded) (octetsRead least (valueView (drop at (now (s .entry))))))) (r .next) ⌝ }
+    ensures rest { λ r. ⌜ Accepting (r .verdict) (drop (r .next) (now (s .entry)) ≡ afterValue (drop at (now (s .entry)))) ⌝ }
+{
+    let r = read_octets(s, at, least);
+    let verdict = r.verdict;
+    match verdict {
+        Verdict::Accepted => r,
+        Verdict::Refused(_) => {
+            let bad = no_octets(Report::Discarded);
+            let next = item_end(s, at);
+            OctetsRead {
+                verdict: Verdict::Accepted,
+                parameter: bad,
+                next: next,
+            }
+        }
+    }
+}
+
 // The byte string of `least` to 16 bytes at a place of a payload that passed the item scan: TWICE where its label came before, with what is
-// held.
-pub fn octets_once(s: &[u8], at: usize, held: OctetsParameter, least: usize) -> OctetsRead
-    ensures { λ r. ⌜ r ≡ octetsAnswer (once (seen (held .report)) (octetsRead least (valueView (drop at (now (s .entry)))))) (r .next) ⌝ }
+// held; what follows from a bad one is the form's.
+pub fn octets_once(
+    s: &[u8],
+    at: usize,
+    held: OctetsParameter,
+    least: usize,
+    version: Version,
+) -> OctetsRead
+    ensures { λ r. ⌜ r ≡ octetsAnswer (once (seen (held .report)) (following version (noOctetsParameter Report.Discarded) (octetsRead least (valueView (drop at (now (s .entry))))))) (r .next) ⌝ }
     ensures rest { λ r. ⌜ Accepting (r .verdict) (drop (r .next) (now (s .entry)) ≡ afterValue (drop at (now (s .entry)))) ⌝ }
 {
     let report = held.report;
@@ -39,5 +68,8 @@ pub fn octets_once(s: &[u8], at: usize, held: OctetsParameter, least: usize) -> 
             next: 0,
         };
     }
-    read_octets(s, at, least)
+    match version {
+        Version::Draft => read_octets(s, at, least),
+        Version::Published => forgiven_octets(s, at, least),
+    }
 }

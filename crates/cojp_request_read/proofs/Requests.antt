@@ -1,114 +1,143 @@
--- Join requests: a label's standing, its value, and the answer, case by case.
-use Prim.Native.Nat.{ℕ, _+_, _≤_, _<_}
+-- Join requests: what a label names, its value, and the answer, case by case.
+use Prim.Native.Nat.{ℕ, zero, suc, _+_, _≤_, _<_}
 use mathlib.Core.Path.{_≡_, refl, ap, sym, _∙_}
-use mathlib.Core.Bool.{Bool, true, false}
-use mathlib.Core.List.{List, [], _∷_}
-use mathlib.Core.Logic.{⊎-elim}
+use mathlib.Core.Bool.{Bool, true, false, cond}
+use mathlib.Core.List.{List}
 use native.Mathlib.Omega.{arith}
+use lib.Dec.{eqb}
 use lib.ListN.{drop}
-use borrow.Author.Tests.{ne-eqb, le-leb, lt-leb}
-use types.Run.{OneOf}
-use denote.Enum.Declared.{tagOf}
-use Rattle.refusal.specs.declared.Refusal.{Refusal}
-use Rattle.refusal.specs.declared.Refusal.the-variants as refusal
 use Rattle.refusal.specs.declared.Verdict.{Verdict}
 use Rattle.refusal.specs.declared.Verdict.the-variants as verdict
-use Rattle.cbor.specs.View.{View, ValueAt, ValueSays, restOf}
-use Rattle.cbor.specs.declared.value.Value.{Value}
-use Rattle.cbor.specs.declared.value.Value.the-variants as vv
-use Rattle.cbor.proofs.value.Value as value
+use Rattle.cbor.specs.View.{View}
 use Rattle.cojp.specs.Bytes.{valueView, afterValue}
-use Rattle.cojp.specs.Octets.{octetsRead, octetsAnswer}
-use Rattle.cojp.specs.Reading.{Reading, refused, read, onward, said, Accepting}
-use Rattle.cojp.specs.Request.{roleJudged, roleRead, roleStanding, withRole, withNetwork, requestStanding, requestTaking, requestForm, settled, requestAnswer}
-use Rattle.cojp.specs.Walk.{knownRead}
-use Rattle.cojp.specs.declared.octets.OctetsParameter.{OctetsParameter}
+use Rattle.cojp.specs.Faults.{added}
+use Rattle.cojp.specs.Lists.{listTaken, unsupportedTaken}
+use Rattle.cojp.specs.Octets.{noOctetsParameter, octetsRead, octetsAnswer}
+use Rattle.cojp.specs.Reading.{Reading, read, onward, put, said, Accepting, following}
+use Rattle.cojp.specs.Request.{roleJudged, roleGathered, listGathered, roleStanding, withNetwork, gathered, requestPassing, requestStanding, requestTaking, requestForm, settled, requestAnswer}
+use Rattle.cojp.specs.Version.{byVersion}
+use Rattle.cojp.specs.Walk.{standingOf, knownRead}
+use Rattle.cojp.specs.declared.fault.Faults.{Faults}
+use Rattle.cojp.specs.declared.list.ListRead.{ListRead}
 use Rattle.cojp.specs.declared.octets.OctetsRead.{OctetsRead}
+use Rattle.cojp.specs.declared.report.Report.{Report}
+use Rattle.cojp.specs.declared.report.Report.the-variants as report
 use Rattle.cojp.specs.declared.request.Gathered.{Gathered}
+use Rattle.cojp.specs.declared.request.JoinRequest.{JoinRequest}
 use Rattle.cojp.specs.declared.request.RequestRead.{RequestRead}
+use Rattle.cojp.specs.declared.version.Version.{Version}
+use Rattle.cojp.specs.declared.version.Version.the-variants.{Draft, Published}
+use Rattle.cojp.specs.declared.walk.Standing.{Standing}
 use Rattle.cojp.specs.declared.walk.Standing.the-variants.{Unknown}
 use Rattle.cojp_map.specs.Pairs.{Told, seen, once}
 use Rattle.cojp_map.specs.declared.pair.Labelled.{Labelled}
 use Rattle.cojp_map.proofs.Parameters.{octets-said}
-use Rattle.cojp_map.proofs.Maps.{put-said, known-put, ifAgain, standing-seen, Turned, turned-known, turned-passed}
-use Rattle.cojp_request_read.specs.Requests.{gatheredOf}
-use Rattle.cojp_request_read.specs.declared.request.RoleRead.{RoleRead}
+use Rattle.cojp_map.proofs.Maps.{put-said, ifAgain, standing-seen, Turned, turned-known, turned-passed}
+use Rattle.cojp_request_read.specs.Requests.{requestParameterOf, roleIn, RoleSays, unsupportedIn, UnsupportedSays}
+use Rattle.cojp_request_read.specs.declared.parameter.RequestParameter.{RequestParameter}
+use Rattle.cojp_request_read.specs.declared.parameter.RequestParameter.the-variants as parameter
+use Rattle.cojp_request_read.specs.declared.role.RoleRead.{RoleRead}
+use Rattle.cojp_request_read.specs.declared.unsupported.UnsupportedRead.{UnsupportedRead}
 
--- ---- the role
-module _ (s : List ℕ) (at : ℕ) (v : Value) (e : ValueSays s at v) where
-  module _ (n p : ℕ) (g : v ≡ vv.Number n p) where
-    role-here : ValueAt 5 s at (vv.Number n p)
-    role-here = rw g at (e .says 5)
+pub by-version-same : {A : Type 0} (v : Version) (a : A) → byVersion v a a ≡ a
+by-version-same Draft a = refl
+by-version-same Published a = refl
 
-    pub role-high : 1 < n → refused refusal.Role ≡ roleRead (valueView (drop at s))
-    unfolding roleJudged
-    role-high h = rw (role-here .view, lt-leb n 1 h)
+-- ---- a list of reports: taken, or reported itself
+module _ (held : Report) (f : Faults) (l : ListRead) (next : ℕ) (first : seen held ≡ false) where
+  pub says-taken : l .good ≡ true
+      → UnsupportedSays held f (listTaken l) (record { verdict = verdict.Accepted; parameter = listTaken l; faults = f; next = next })
+  says-taken h g e = rw (first, h, ← e)
 
-    pub role-taken : n ≤ 1 → read n ≡ roleRead (valueView (drop at s))
-    unfolding roleJudged
-    role-taken h = rw (role-here .view, le-leb n 1 h)
+  pub says-reported : l .good ≡ false
+      → UnsupportedSays held f (listTaken l) (record { verdict = verdict.Accepted; parameter = listTaken l; faults = added f 1 8; next = next })
+  says-reported h g e = rw (first, h, ← e)
 
-    pub role-ends : drop p s ≡ afterValue (drop at s)
-    role-ends = let w : ValueAt 6 s at (vv.Number n p) = rw g at (e .says 6) in sym (ap restOf (w .rest .1))
+-- ---- what a form makes of a label goes by the parameter that it names
+abbrev standingFor : Gathered → RequestParameter → Standing
+standingFor g parameter.Role = ifAgain (g .named)
+standingFor g parameter.Network = standingOf (g .request .network .report)
+standingFor g parameter.Unsupported = standingOf (g .request .unsupported .report)
+standingFor g parameter.Unknown = Unknown
 
-  pub role-broken : OneOf (1 ∷ 2 ∷ 3 ∷ 4 ∷ []) (tagOf value.the-type v) → refused refusal.«Type» ≡ roleRead (valueView (drop at s))
-  unfolding roleJudged
-  role-broken o = go v (e .says 5) o
-    where
-      go : (v : Value) → ValueAt 5 s at v → OneOf (1 ∷ 2 ∷ 3 ∷ 4 ∷ []) (tagOf value.the-type v)
-          → refused refusal.«Type» ≡ roleRead (valueView (drop at s))
-      go (vv.Number x p) w o = absurd
-          (⊎-elim (λ e. omega arith) (λ o. ⊎-elim (λ e. omega arith) (λ o. ⊎-elim (λ e. omega arith) (λ e. omega arith) o) o) o)
-      go (vv.Bytes p a) w o = rw (w .view)
-      go (vv.Array p a) w o = rw (w .view)
-      go vv.Other w o = rw (w .view)
-      go (vv.Minus x p) w o = rw (w .view)
-
--- a refusal of the role, s being the payload and l what is left after the value
-pub role-refused : (named : Bool) (x : Reading ℕ) (s l : List ℕ) (r : RoleRead) (k : Refusal) → r ≡ record { verdict = verdict.Refused k; role = 0; next = 0 }
-    → refused k ≡ once named x → (said (r .verdict) (r .role) ≡ once named x) × Accepting (r .verdict) (drop (r .next) s ≡ l)
-role-refused named x s l r k e f = rw e (f, tt)
-
--- ---- a known label's value, as its reader says it
-module _ (g : Gathered) (n : ℕ) (v : View) where
-  -- what the label comes to
-  abbrev pub known : Reading Gathered
-  known = knownRead requestForm (requestStanding g n) g n v
+module _ (v : Version) (g : Gathered) (x : View) where
+  abbrev takingFor : RequestParameter → Reading Gathered
+  takingFor parameter.Role = roleGathered v g (roleJudged x)
+  takingFor parameter.Network = put (withNetwork g) (following v (noOctetsParameter report.Discarded) (octetsRead 0 x))
+  takingFor parameter.Unsupported = read (listGathered g (unsupportedTaken x))
+  takingFor parameter.Unknown = read (listGathered g (unsupportedTaken x))
 
   standing-named : (b : Bool) → roleStanding b ≡ ifAgain b
   standing-named true = refl
   standing-named false = refl
 
-  role-known : n ≡ 1 → (w : Verdict) (role : ℕ) → said w role ≡ once (g .named) (roleRead v) → said w (withRole g role) ≡ known
-  unfolding requestStanding requestTaking
-  role-known h w role e =
-      put-said (withRole g) w role _ e
-      ∙ known-put requestForm g n v (g .named) (withRole g) (roleRead v) (rw h (standing-named (g .named))) (rw h)
+  module _ (n : ℕ) where
+    standing-is : requestStanding v g n ≡ standingFor g (requestParameterOf v n)
+    unfolding requestStanding requestParameterOf
+    standing-is = go v (eqb n 1) (eqb n 5) (eqb n 8)
+      where
+        go : (v : Version) (a b c : Bool)
+            → cond a (roleStanding (g .named)) (cond b (standingOf (g .request .network .report)) (byVersion v Unknown (cond c (standingOf (g .request .unsupported .report)) Unknown)))
+            ≡ standingFor g (cond a parameter.Role (cond b parameter.Network (byVersion v parameter.Unknown (cond c parameter.Unsupported parameter.Unknown))))
+        go v true b c = standing-named (g .named)
+        go v false true c = refl
+        go Draft false false c = refl
+        go Published false false true = refl
+        go Published false false false = refl
 
-  network-known : n ≡ 5 → (w : Verdict) (p : OctetsParameter) → said w p ≡ once (seen (g .request .network .report)) (octetsRead 0 v)
-      → said w (withNetwork g p) ≡ known
-  unfolding requestStanding requestTaking
-  network-known h w p e =
-      put-said (withNetwork g) w p _ e
-      ∙ known-put requestForm g n v (seen (g .request .network .report)) (withNetwork g) (octetsRead 0 v) (rw h (standing-seen (g .request .network .report))) (rw h)
+    taking-is : requestTaking v g n x ≡ takingFor (requestParameterOf v n)
+    unfolding requestTaking requestParameterOf
+    taking-is = go v (eqb n 1) (eqb n 5) (eqb n 8)
+      where
+        go : (w : Version) (a b c : Bool)
+            → cond a (roleGathered v g (roleJudged x)) (cond b (put (withNetwork g) (following v (noOctetsParameter report.Discarded) (octetsRead 0 x))) (read (listGathered g (unsupportedTaken x))))
+            ≡ takingFor (cond a parameter.Role (cond b parameter.Network (byVersion w parameter.Unknown (cond c parameter.Unsupported parameter.Unknown))))
+        go w true b c = refl
+        go w false true c = refl
+        go Draft false false c = refl
+        go Published false false true = refl
+        go Published false false false = refl
 
-  unknown : ¬ (n ≡ 1) → ¬ (n ≡ 5) → requestStanding g n ≡ Unknown
-  unfolding requestStanding
-  unknown h k = rw (ne-eqb n 1 h, ne-eqb n 5 k)
+    -- what the label comes to
+    abbrev pub known : Reading Gathered
+    known = knownRead (requestForm v) (requestStanding v g n) g n x
+
+    known-once : (p : RequestParameter) → requestParameterOf v n ≡ p → (again : Bool) → standingFor g p ≡ ifAgain again
+        → once again (takingFor p) ≡ known
+    known-once p e again h = rw (standing-is, e, h) (go again)
+      where
+        go : (again : Bool) → once again (takingFor p) ≡ knownRead (requestForm v) (ifAgain again) g n x
+        go true = refl
+        go false = sym (taking-is ∙ ap takingFor e)
+
+-- ---- a label that names a parameter is positive
+abbrev isKnown : RequestParameter → ℕ
+isKnown parameter.Role = 1
+isKnown parameter.Network = 1
+isKnown parameter.Unsupported = 1
+isKnown parameter.Unknown = 0
+
+positive : (v : Version) (n : ℕ) (p : RequestParameter) → requestParameterOf v n ≡ p → isKnown p ≡ 1 → 0 < n
+unfolding requestParameterOf
+positive v zero p e k =
+    let none : requestParameterOf v 0 ≡ parameter.Unknown = by-version-same v parameter.Unknown in
+    let z : _≡_ {A = ℕ} 0 1 = ap isKnown (sym none ∙ e) ∙ k in
+    absurd (omega arith)
+positive v (suc n) p e k = omega arith
+
+put-once : {A B : Type 0} (f : A → B) (again : Bool) (x : Reading A) → put f (once again x) ≡ once again (put f x)
+put-once f true x = refl
+put-once f false x = refl
 
 -- ---- one turn of the walk: what is gathered after the pair, by its label; p is the answer about the label
-module _ (named : Bool) (role : ℕ) (network : OctetsParameter) (passed : ℕ)
-    (s l : List ℕ) (p : Labelled) (t : Told s l p)
-    (named′ : Bool) (role′ : ℕ) (network′ : OctetsParameter) (passed′ : ℕ) (w : Verdict) (next : ℕ) where
+module _ (v : Version) (named : Bool) (q : JoinRequest) (s l : List ℕ) (p : Labelled) (t : Told s l p)
+    (named′ : Bool) (q′ : JoinRequest) (w : Verdict) (next : ℕ) where
   abbrev old : Gathered
-  old = gatheredOf named role network passed
-
-  abbrev new : Gathered
-  new = gatheredOf named′ role′ network′ passed′
+  old = gathered named q
 
   pub record Turn : Type 0 where
-    pub turned : Turned requestForm old s l w new next
-    pub few : passed′ ≤ passed + 1
+    pub turned : Turned (requestForm v) old s l w (gathered named′ q′) next
+    pub few : q′ .passed ≤ q .passed + 1
 
   abbrev here : View
   here = valueView (drop (p .value) s)
@@ -116,31 +145,49 @@ module _ (named : Bool) (role : ℕ) (network : OctetsParameter) (passed : ℕ)
   abbrev after : List ℕ
   after = afterValue (drop (p .value) s)
 
-  by-reader : 0 < p .label → said w new ≡ known old (p .label) here → Accepting w (drop next s ≡ after) → passed′ ≡ passed → Turn
-  by-reader h e f g = record { turned = turned-known requestForm old s l p t h w new next e f; few = omega arith }
+  -- a known label: w₀, g₀ and next₀ are what its reader gave
+  turn-known : (x : RequestParameter) → requestParameterOf v (p .label) ≡ x → isKnown x ≡ 1 → (w₀ : Verdict) (g₀ : Gathered) (next₀ : ℕ)
+      → said w₀ g₀ ≡ known v old here (p .label) → Accepting w₀ (drop next₀ s ≡ after) → g₀ .request .passed ≡ q .passed
+      → next ≡ next₀ → named′ ≡ g₀ .named → q′ ≡ g₀ .request → w ≡ w₀ → Turn
+  turn-known x e k w₀ g₀ next₀ says ends same n-is b-is q-is w-is = record {
+    turned = rw (n-is, b-is, q-is, w-is) (turned-known (requestForm v) old s l p t (positive v (p .label) x e k) w₀ g₀ next₀ says ends);
+    few = rw q-is (omega (arith, same));
+  }
 
-  pub turn-role : p .label ≡ 1 → (r : RoleRead)
-      → (said (r .verdict) (r .role) ≡ once named (roleRead here)) × Accepting (r .verdict) (drop (r .next) s ≡ after)
-      → next ≡ r .next → named′ ≡ true → role′ ≡ r .role → network′ ≡ network → passed′ ≡ passed → w ≡ r .verdict → Turn
-  turn-role h r (e, f) n-is b-is r-is o-is p-is w-is =
-      let read = role-known old (p .label) here h (r .verdict) (r .role) e in
-      by-reader (omega arith) (rw (w-is, b-is, r-is, o-is, p-is) read) (rw (w-is, n-is) f) p-is
+  pub turn-role : requestParameterOf v (p .label) ≡ parameter.Role → (r : RoleRead)
+      → RoleSays v named (q .faults) (roleJudged here) r × Accepting (r .verdict) (drop (r .next) s ≡ after)
+      → next ≡ r .next → named′ ≡ true → q′ ≡ roleIn old r .request → w ≡ r .verdict → Turn
+  turn-role e r (says, ends) =
+      turn-known parameter.Role e refl (r .verdict) (roleIn old r) (r .next) (says old refl ∙ known-once v old here (p .label) parameter.Role e named refl) ends refl
 
-  pub turn-network : p .label ≡ 5 → (r : OctetsRead)
-      → (r ≡ octetsAnswer (once (seen (network .report)) (octetsRead 0 here)) (r .next)) × Accepting (r .verdict) (drop (r .next) s ≡ after)
-      → next ≡ r .next → named′ ≡ named → role′ ≡ role → network′ ≡ r .parameter → passed′ ≡ passed → w ≡ r .verdict → Turn
-  turn-network h r (e, f) n-is b-is r-is o-is p-is w-is =
-      let value = octets-said r (once (seen (network .report)) (octetsRead 0 here)) (r .next) e in
-      let read = network-known old (p .label) here h (r .verdict) (r .parameter) value in
-      by-reader (omega arith) (rw (w-is, b-is, r-is, o-is, p-is) read) (rw (w-is, n-is) f) p-is
+  pub turn-network : requestParameterOf v (p .label) ≡ parameter.Network → (r : OctetsRead)
+      → (r ≡ octetsAnswer (once (seen (q .network .report)) (following v (noOctetsParameter report.Discarded) (octetsRead 0 here))) (r .next))
+      × Accepting (r .verdict) (drop (r .next) s ≡ after)
+      → next ≡ r .next → named′ ≡ named → q′ ≡ withNetwork old (r .parameter) .request → w ≡ r .verdict → Turn
+  turn-network e r (says, ends) =
+      let again = seen (q .network .report) in
+      let value = following v (noOctetsParameter report.Discarded) (octetsRead 0 here) in
+      let put-in = put-said (withNetwork old) (r .verdict) (r .parameter) (once again value) (octets-said r (once again value) (r .next) says) in
+      turn-known parameter.Network e refl (r .verdict) (withNetwork old (r .parameter)) (r .next)
+      (put-in ∙ put-once (withNetwork old) again value ∙ known-once v old here (p .label) parameter.Network e again (standing-seen (q .network .report))) ends refl
 
-  pub turn-passed : ¬ (p .label ≡ 1) → ¬ (p .label ≡ 5) → (end : ℕ) → drop end s ≡ after
-      → next ≡ end → named′ ≡ named → role′ ≡ role → network′ ≡ network → passed′ ≡ passed + 1 → w ≡ p .verdict → Turn
-  turn-passed h k end e n-is b-is r-is o-is p-is w-is = record {
-    turned = rw (w-is, b-is, r-is, o-is, p-is, n-is) (turned-passed requestForm old s l p t (unknown old (p .label) here h k) end e);
-    few = omega arith;
+  pub turn-unsupported : requestParameterOf v (p .label) ≡ parameter.Unsupported → (r : UnsupportedRead)
+      → UnsupportedSays (q .unsupported .report) (q .faults) (unsupportedTaken here) r × Accepting (r .verdict) (drop (r .next) s ≡ after)
+      → next ≡ r .next → named′ ≡ named → q′ ≡ unsupportedIn old r .request → w ≡ r .verdict → Turn
+  turn-unsupported e r (says, ends) =
+      let held = q .unsupported .report in
+      turn-known parameter.Unsupported e refl (r .verdict) (unsupportedIn old r) (r .next)
+      (says old refl ∙ known-once v old here (p .label) parameter.Unsupported e (seen held) (standing-seen held)) ends refl
+
+  pub turn-passed : requestParameterOf v (p .label) ≡ parameter.Unknown → (end : ℕ) → drop end s ≡ after
+      → next ≡ end → named′ ≡ named → q′ ≡ requestPassing old .request → w ≡ p .verdict → Turn
+  turn-passed e end ends n-is b-is q-is w-is = record {
+    turned =
+        rw (n-is, b-is, q-is, w-is)
+        (turned-passed (requestForm v) old s l p t (standing-is v old here (p .label) ∙ ap (standingFor old) e) end ends);
+    few = rw q-is (omega arith);
   }
 
 -- ---- the answer to what was gathered
-abbrev pub answerTo : Reading Gathered → RequestRead
-answerTo x = requestAnswer (onward x settled)
+abbrev pub answerTo : Version → Reading Gathered → RequestRead
+answerTo v x = requestAnswer (onward x (settled v))

@@ -1,13 +1,13 @@
 // Join requests.
-use cbor::Value;
-use cbor::value_at;
+use crate::parameter::RequestParameter;
+use crate::parameter::request_parameter_of;
+use crate::role::role_once;
+use crate::unsupported::unsupported_once;
 use cojp::JoinRequest;
-use cojp::OctetsParameter;
-use cojp::Report;
 use cojp::RequestRead;
+use cojp::Version;
 use cojp::empty_request;
 use cojp::is_owing;
-use cojp::no_octets;
 use cojp_map::Start;
 use cojp_map::item_end;
 use cojp_map::labelled_at;
@@ -18,19 +18,10 @@ use refusal::Verdict;
 ghost use mathlib.Core.Path.{_≡_};
 ghost use mathlib.Core.Bool.{true};
 ghost use lib.ListN.{drop};
-ghost use Rattle.cojp.specs.Bytes.{valueView, afterValue};
-ghost use Rattle.cojp.specs.Reading.{said, onward, Accepting};
-ghost use Rattle.cojp.specs.Request.{roleRead, nothingGathered, requestForm, settled, refuseRequest, requestAnswer, readRequestBy, readRequest, readStrictRequest};
+ghost use Rattle.cojp.specs.Reading.{onward};
+ghost use Rattle.cojp.specs.Request.{gathered, nothingGathered, requestForm, settled, refuseRequest, requestAnswer, readRequestBy, readRequestAs, readStrictRequestAs, readRequest, readStrictRequest};
 ghost use Rattle.cbor.specs.Strict.{headBy};
-ghost use Rattle.cojp_map.specs.Pairs.{once, walkAt};
-ghost use Rattle.cojp_request_read.specs.Requests.{gatheredOf};
-
-// Beside a refusal the role and the next place say nothing.
-struct RoleRead {
-    verdict: Verdict,
-    role: u8,
-    next: usize,
-}
+ghost use Rattle.cojp_map.specs.Pairs.{walkAt};
 
 fn refused_request(why: Refusal) -> RequestRead
     ensures { λ r. ⌜ r ≡ refuseRequest why ⌝ }
@@ -42,87 +33,59 @@ fn refused_request(why: Refusal) -> RequestRead
     }
 }
 
-fn refused_role(why: Refusal) -> RoleRead
-    ensures { λ r. ⌜ r ≡ record { verdict = Verdict.Refused why; role = 0; next = 0 } ⌝ }
-{
-    RoleRead {
-        verdict: Verdict::Refused(why),
-        role: 0,
-        next: 0,
-    }
-}
-
-// The role at a place: TWICE where one came before.
-fn role_once(s: &[u8], at: usize, named: bool) -> RoleRead
-    ensures { λ r. ⌜ said (r .verdict) (r .role) ≡ once named (roleRead (valueView (drop at (now (s .entry))))) ⌝ }
-    ensures rest { λ r. ⌜ Accepting (r .verdict) (drop (r .next) (now (s .entry)) ≡ afterValue (drop at (now (s .entry)))) ⌝ }
-{
-    if named {
-        return refused_role(Refusal::Twice);
-    }
-    let v = value_at(s, at);
-    match v {
-        Value::Number { number, next } => {
-            if 1 < number {
-                return refused_role(Refusal::Role);
-            }
-            RoleRead {
-                verdict: Verdict::Accepted,
-                role: number as u8,
-                next: next,
-            }
-        }
-        _ => refused_role(Refusal::Type),
-    }
-}
-
 // The answer after the last pair: OWED where a network identifier is due.
-fn settled_request(role: u8, network: OctetsParameter, passed: u64) -> RequestRead
-    ensures { λ r. ⌜ r ≡ requestAnswer (settled (gatheredOf true role network passed)) ⌝ }
+fn settled_request(request: JoinRequest, version: Version) -> RequestRead
+    ensures { λ r. ⌜ r ≡ requestAnswer (settled version (gathered true request)) ⌝ }
 {
+    let network = request.network;
     let report = network.report;
-    if is_owing(role, report) {
+    if is_owing(version, request.role, report) {
         return refused_request(Refusal::Owed);
     }
-    let request = JoinRequest {
-        role: role,
-        network: network,
-        passed: passed,
-    };
     RequestRead {
         verdict: Verdict::Accepted,
         request: request,
     }
 }
 
-// The next pairs in payload order, up to the first refusal.
-fn take_pairs(s: &[u8], mut at: usize, mut left: u64) -> RequestRead
-    ensures { λ r. ⌜ r ≡ requestAnswer (onward (walkAt requestForm left nothingGathered (drop at (now (s .entry)))) settled) ⌝ }
+// The next pairs in payload order, up to the first refusal. The parameters are stored where they stand.
+fn take_pairs(s: &[u8], mut at: usize, mut left: u64, version: Version) -> RequestRead
+    ensures { λ r. ⌜ r ≡ requestAnswer (onward (walkAt (requestForm version) left nothingGathered (drop at (now (s .entry)))) (settled version)) ⌝ }
 {
     let mut named = false;
-    let mut role: u8 = 0;
-    let mut network = no_octets(Report::Absent);
-    let mut passed: u64 = 0;
+    let mut q = empty_request();
     while 0 < left {
         let pair = labelled_at(s, at);
         let mut verdict = pair.verdict;
-        let label = pair.label;
-        match label {
-            1 => {
-                let r = role_once(s, pair.value, named);
+        let parameter = request_parameter_of(version, pair.label);
+        match parameter {
+            RequestParameter::Role => {
+                let r = role_once(s, pair.value, version, named, q.faults);
                 verdict = r.verdict;
-                role = r.role;
+                q.role = r.role;
+                let faults = r.faults;
+                q.faults = faults;
                 named = true;
                 at = r.next;
             }
-            5 => {
-                let r = octets_once(s, pair.value, network, 0);
+            RequestParameter::Network => {
+                let r = octets_once(s, pair.value, q.network, 0, version);
                 verdict = r.verdict;
-                network = r.parameter;
+                let network = r.parameter;
+                q.network = network;
                 at = r.next;
             }
-            _ => {
-                passed += 1;
+            RequestParameter::Unsupported => {
+                let r = unsupported_once(s, pair.value, q.unsupported, q.faults);
+                verdict = r.verdict;
+                let unsupported = r.parameter;
+                q.unsupported = unsupported;
+                let faults = r.faults;
+                q.faults = faults;
+                at = r.next;
+            }
+            RequestParameter::Unknown => {
+                q.passed += 1;
                 at = item_end(s, pair.value);
             }
         }
@@ -131,30 +94,44 @@ fn take_pairs(s: &[u8], mut at: usize, mut left: u64) -> RequestRead
         }
         left -= 1;
     }
-    settled_request(role, network, passed)
+    settled_request(q, version)
 }
 
-// Reads a join request from a payload, strictly or not.
-fn read_by(payload: &[u8], strict: bool) -> RequestRead
-    ensures { λ r. ⌜ r ≡ readRequestBy (headBy strict) (now (payload .entry)) ⌝ }
+// Reads a join request of a form from a payload, strictly or not.
+fn read_by(payload: &[u8], version: Version, strict: bool) -> RequestRead
+    ensures { λ r. ⌜ r ≡ readRequestBy version (headBy strict) (now (payload .entry)) ⌝ }
 {
     let opened = open_payload(payload, strict);
     match opened {
         Start::Refused(k) => refused_request(k),
-        Start::Pairs { count, start } => take_pairs(payload, start, count),
+        Start::Pairs { count, start } => take_pairs(payload, start, count, version),
     }
 }
 
-// Reads a join request from a payload.
+// Reads a join request of document 01's form from a payload.
 pub fn read_request(payload: &[u8]) -> RequestRead
     ensures { λ r. ⌜ r ≡ readRequest (now (payload .entry)) ⌝ }
 {
-    read_by(payload, false)
+    read_by(payload, Version::Draft, false)
 }
 
-// Reads a join request from a payload whose heads must all be the shortest: else LOOSE.
+// Reads a join request of document 01's form from a payload whose heads must all be the shortest: else LOOSE.
 pub fn read_strict_request(payload: &[u8]) -> RequestRead
     ensures { λ r. ⌜ r ≡ readStrictRequest (now (payload .entry)) ⌝ }
 {
-    read_by(payload, true)
+    read_by(payload, Version::Draft, true)
+}
+
+// Reads a join request of a form from a payload.
+pub fn read_request_as(payload: &[u8], version: Version) -> RequestRead
+    ensures { λ r. ⌜ r ≡ readRequestAs version (now (payload .entry)) ⌝ }
+{
+    read_by(payload, version, false)
+}
+
+// Reads a join request of a form from a payload whose heads must all be the shortest: else LOOSE.
+pub fn read_strict_request_as(payload: &[u8], version: Version) -> RequestRead
+    ensures { λ r. ⌜ r ≡ readStrictRequestAs version (now (payload .entry)) ⌝ }
+{
+    read_by(payload, version, true)
 }

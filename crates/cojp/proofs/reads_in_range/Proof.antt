@@ -7,8 +7,11 @@ use Rattle.cojp.proofs.reads_in_range.Tie as tie
 laws-requires : tie.Need-laws-requires
 laws-requires c κs = search needs
 
+laws-requires-2 : tie.Need-laws-requires-2
+laws-requires-2 c κs = search needs
+
 returns : tie.Need-returns
-returns c = reads-in-range (c .laws .ensures)
+returns c = reads-in-range (c .laws2 .ensures) (c .before .laws .ensures)
 
 pub reads-in-range-spec : {M : Type 1} → statement M
-reads-in-range-spec = tie.close (tie.spec laws-requires returns)
+reads-in-range-spec = tie.close (tie.spec laws-requires laws-requires-2 returns)

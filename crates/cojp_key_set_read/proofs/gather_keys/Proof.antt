@@ -16,10 +16,10 @@ use Rattle.cojp_key_set_read.proofs.gather_keys.Statement.{statement}
 use Rattle.cojp_key_set_read.proofs.gather_keys.Tie as tie
 
 abbrev Inv-loop : tie.InvT-loop
-Inv-loop s from count at₀ remaining₀ n₀ keys₀ seen₀ at remaining n keys seen = Gathering s from count at remaining (record { count = n; keys = keys }) seen
+Inv-loop s from count informed at₀ remaining₀ n₀ keys₀ seen₀ at remaining n keys seen = Gathering informed s from count at remaining (record { count = n; keys = keys }) seen
 
 abbrev μ-loop : tie.MeasureT-loop
-μ-loop s from count at₀ remaining₀ n₀ keys₀ seen₀ at remaining n keys seen = remaining
+μ-loop s from count informed at₀ remaining₀ n₀ keys₀ seen₀ at remaining n keys seen = remaining
 
 no-key-requires : tie.Need-no-key-requires Inv-loop μ-loop
 no-key-requires c κs = search needs
@@ -31,7 +31,7 @@ loop-holds : tie.Need-loop-holds Inv-loop μ-loop
 loop-holds c =
     let start = c .before .before .before in
     let a = start .args in
-    gathering-none (a .s .now) (a .from) (a .count) _ (c .none-seen .result) (start .pre) (rw (c .before .no-key .ensures))
+    gathering-none (a .informed) (a .s .now) (a .from) (a .count) _ (c .none-seen .result) (start .pre) (rw (c .before .no-key .ensures))
     (c .none-seen .ensures .1)
 
 sub-part : tie.Need-sub-part Inv-loop μ-loop
@@ -62,7 +62,7 @@ returns c =
     let k : KeySet = record { count = l .n; keys = l .keys } in
     let r = read-group .read-group in
     let broken =
-    gathering-broken (a .s .now) (a .from) (a .count) (l .at) (l .remaining) k (l .seen) (l .inv) (r .result) (r .ensures .0)
+    gathering-broken (a .informed) (a .s .now) (a .from) (a .count) (l .at) (l .remaining) k (l .seen) (l .inv) (r .result) (r .ensures .0)
     (c .before .enum-told .given .1) _ refl in
     (keys-settled (c .refused-keys .result) _ 0 (c .refused-keys .ensures) _ broken, rw (c .refused-keys .ensures) tt)
 
@@ -85,8 +85,8 @@ group-key-requires c κs =
     let g = g-2 .g .given in
     let fit = is-true (c .before .is-storable .ensures) (c .if1 .taken) in (
       both-right (ltb (l .n) 8) (storable (g .0 .0) (g .0 .1 .0) (g .0 .1 .1 .1 .0)) fit,
-      group-within (a .s .now) (a .from) (a .count) (l .at) (l .remaining) k (l .seen) (l .inv) (r .result) (r .ensures .0) (g .0 .0)
-          (g .0 .1 .0) (g .0 .1 .1 .0) (g .0 .1 .1 .1 .0) (g .0 .1 .1 .1 .1 .0) (g .1),
+      group-within (a .informed) (a .s .now) (a .from) (a .count) (l .at) (l .remaining) k (l .seen) (l .inv) (r .result) (r .ensures .0) (g .0 .0)
+          (g .0 .1 .0) (g .0 .1 .1 .0) (g .0 .1 .1 .1 .0) (g .0 .1 .1 .1 .1 .0) (g .0 .1 .1 .1 .1 .1 .0) (g .0 .1 .1 .1 .1 .1 .1 .0) (g .1),
     )
 
 mul-keys : tie.Need-mul-keys Inv-loop μ-loop
@@ -128,24 +128,8 @@ add-at c =
     let r = read-group .read-group in
     let g = g-2 .g .given in
     let inside =
-    group-inside (a .s .now) (a .from) (a .count) (l .at) (l .remaining) k (l .seen) (l .inv) (r .result) (r .ensures .0) (g .0 .0)
-    (g .0 .1 .0) (g .0 .1 .1 .0) (g .0 .1 .1 .1 .0) (g .0 .1 .1 .1 .1 .0) (g .1) in
-    omega (arith, inside .0, start .good)
-
-add-at-2 : tie.Need-add-at-2 Inv-loop μ-loop
-add-at-2 c =
-    let g-2 = c .before .before .before in
-    let read-group = g-2 .before .before in
-    let turn = c .before .before .before .before .before .before .before .before in
-    let start = turn .before .before .before .before in
-    let a = start .args in
-    let l = turn .loop in
-    let k : KeySet = record { count = l .n; keys = l .keys } in
-    let r = read-group .read-group in
-    let g = g-2 .g .given in
-    let inside =
-    group-inside (a .s .now) (a .from) (a .count) (l .at) (l .remaining) k (l .seen) (l .inv) (r .result) (r .ensures .0) (g .0 .0)
-    (g .0 .1 .0) (g .0 .1 .1 .0) (g .0 .1 .1 .1 .0) (g .0 .1 .1 .1 .1 .0) (g .1) in
+    group-inside (a .informed) (a .s .now) (a .from) (a .count) (l .at) (l .remaining) k (l .seen) (l .inv) (r .result) (r .ensures .0) (g .0 .0)
+    (g .0 .1 .0) (g .0 .1 .1 .0) (g .0 .1 .1 .1 .0) (g .0 .1 .1 .1 .1 .0) (g .0 .1 .1 .1 .1 .1 .0) (g .0 .1 .1 .1 .1 .1 .1 .0) (g .1) in
     omega (arith, inside .0, start .good)
 
 loop-less : tie.Need-loop-less Inv-loop μ-loop
@@ -160,8 +144,8 @@ loop-less c =
     let r = read-group .read-group in
     let g = g-2 .g .given in
     let inside =
-    group-inside (a .s .now) (a .from) (a .count) (l .at) (l .remaining) k (l .seen) (l .inv) (r .result) (r .ensures .0) (g .0 .0)
-    (g .0 .1 .0) (g .0 .1 .1 .0) (g .0 .1 .1 .1 .0) (g .0 .1 .1 .1 .1 .0) (g .1) in
+    group-inside (a .informed) (a .s .now) (a .from) (a .count) (l .at) (l .remaining) k (l .seen) (l .inv) (r .result) (r .ensures .0) (g .0 .0)
+    (g .0 .1 .0) (g .0 .1 .1 .0) (g .0 .1 .1 .1 .0) (g .0 .1 .1 .1 .1 .0) (g .0 .1 .1 .1 .1 .1 .0) (g .0 .1 .1 .1 .1 .1 .1 .0) (g .1) in
     inside .1
 
 loop-again : tie.Need-loop-again Inv-loop μ-loop
@@ -180,11 +164,11 @@ loop-again c =
     ⊎-elim
     (λ w.
     rw (w .4, w .5, w .6)
-    (gathering-stored (a .s .now) (a .from) (a .count) (l .at) (l .remaining) k (l .seen) (l .inv) (r .result) (r .ensures .0) (g .0 .0)
-    (g .0 .1 .0) (g .0 .1 .1 .0) (g .0 .1 .1 .1 .0) (g .0 .1 .1 .1 .1 .0) (g .1) (r .ensures .1)
+    (gathering-stored (a .informed) (a .s .now) (a .from) (a .count) (l .at) (l .remaining) k (l .seen) (l .inv) (r .result) (r .ensures .0) (g .0 .0)
+    (g .0 .1 .0) (g .0 .1 .1 .0) (g .0 .1 .1 .1 .0) (g .0 .1 .1 .1 .1 .0) (g .0 .1 .1 .1 .1 .1 .0) (g .0 .1 .1 .1 .1 .1 .1 .0) (g .1) (r .ensures .1)
     (ltb-true (l .n) 8 (both-left (ltb (l .n) 8) storing (is-true told (w .0 .taken))))
     (w .1 .result) (w .1 .ensures) (w .3 .last .0) (w .3 .ensures .1) (w .3 .result) (w .3 .ensures .0)))
-    (λ w. rw (w .1, w .2, w .3) (gathering-nine (a .s .now) (a .from) (a .count) (l .at) (l .remaining) k (l .seen) (l .inv) (r .result) (r .ensures .0) (g .0 .0) (g .0 .1 .0) (g .0 .1 .1 .0) (g .0 .1 .1 .1 .0) (g .0 .1 .1 .1 .1 .0) (g .1) (r .ensures .1) (is-false told (w .0 .left))))
+    (λ w. rw (w .1, w .2, w .3) (gathering-nine (a .informed) (a .s .now) (a .from) (a .count) (l .at) (l .remaining) k (l .seen) (l .inv) (r .result) (r .ensures .0) (g .0 .0) (g .0 .1 .0) (g .0 .1 .1 .0) (g .0 .1 .1 .1 .0) (g .0 .1 .1 .1 .1 .0) (g .0 .1 .1 .1 .1 .1 .0) (g .0 .1 .1 .1 .1 .1 .1 .0) (g .1) (r .ensures .1) (is-false told (w .0 .left))))
     (c .if1 .came)
 
 close-set-requires : tie.Need-close-set-requires Inv-loop μ-loop
@@ -198,10 +182,10 @@ returns-2 c =
     let l = turn .loop in
     let k : KeySet = record { count = l .n; keys = l .keys } in
     let none : l .remaining ≤ 0 = omega (arith, c .before .loop-test .left) in
-    let done = gathering-done (a .s .now) (a .from) (a .count) (l .at) (l .remaining) k (l .seen) (l .inv) none _ refl in (
+    let done = gathering-done (a .informed) (a .s .now) (a .from) (a .count) (l .at) (l .remaining) k (l .seen) (l .inv) none _ refl in (
       keys-settled (c .close-set .result) _ (c .close-set .result .next) (c .close-set .ensures .0) _ done,
       accepting-on (c .close-set .result .verdict)
-          (λ e. rw e (gathering-end (a .s .now) (a .from) (a .count) (l .at) (l .remaining) k (l .seen) (l .inv) none))
+          (λ e. rw e (gathering-end (a .informed) (a .s .now) (a .from) (a .count) (l .at) (l .remaining) k (l .seen) (l .inv) none))
           (c .close-set .ensures .1),
     )
 
@@ -228,7 +212,6 @@ gather-keys-spec =
     array-set-from-keys
     count-with-requires
     add-at
-    add-at-2
     loop-less
     loop-again
     close-set-requires

@@ -12,9 +12,28 @@ no-address-requires c κs = search needs
 no-octets-requires : tie.Need-no-octets-requires
 no-octets-requires c κs = search needs
 
+no-list-requires : tie.Need-no-list-requires
+no-list-requires c κs = search needs
+
+no-rate-requires : tie.Need-no-rate-requires
+no-rate-requires c κs = search needs
+
+no-faults-requires : tie.Need-no-faults-requires
+no-faults-requires c κs = search needs
+
 returns : tie.Need-returns
-returns c = rw (c .before .before .no-key-set .ensures, c .before .no-address .ensures, c .no-octets .ensures)
+returns c =
+    rw
+    (c .before .before .before .before .before .no-key-set .ensures, c .before .before .before .before .no-address .ensures, c .before .before .before .no-octets .ensures, c .before .before .no-list .ensures, c .before .no-rate .ensures, c .no-faults .ensures)
 
 pub empty-configuration-spec : {M : Type 1} → statement M
 empty-configuration-spec =
-    tie.close (tie.spec no-key-set-requires no-address-requires no-octets-requires returns)
+    tie.close
+    (tie.spec
+    no-key-set-requires
+    no-address-requires
+    no-octets-requires
+    no-list-requires
+    no-rate-requires
+    no-faults-requires
+    returns)

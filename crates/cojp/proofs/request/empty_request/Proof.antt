@@ -6,8 +6,15 @@ use Rattle.cojp.proofs.request.empty_request.Tie as tie
 no-octets-requires : tie.Need-no-octets-requires
 no-octets-requires c κs = search needs
 
+no-list-requires : tie.Need-no-list-requires
+no-list-requires c κs = search needs
+
+no-faults-requires : tie.Need-no-faults-requires
+no-faults-requires c κs = search needs
+
 returns : tie.Need-returns
-returns c = rw (c .no-octets .ensures)
+returns c = rw (c .before .before .no-octets .ensures, c .before .no-list .ensures, c .no-faults .ensures)
 
 pub empty-request-spec : {M : Type 1} → statement M
-empty-request-spec = tie.close (tie.spec no-octets-requires returns)
+empty-request-spec =
+    tie.close (tie.spec no-octets-requires no-list-requires no-faults-requires returns)

@@ -26,7 +26,7 @@ returns c =
     let told = c .before .before .opened .given in
     let opening = c .before .before .before .before .open-payload in
     let given = c .before .before .before .before .before .before .args in
-    let read = read-refused configurationForm (given .strict) emptyConfiguration (given .payload .now) (opening .result) (opening .ensures) (told .0 .0) (told .1) in
+    let read = read-refused (configurationForm (given .version)) (given .strict) emptyConfiguration (given .payload .now) (opening .result) (opening .ensures) (told .0 .0) (told .1) in
     c .refused-configuration .ensures ∙ ap configurationAnswer (sym read)
 
 returns-2 : tie.Need-returns-2
@@ -34,7 +34,7 @@ returns-2 c =
     let told = c .before .before .opened2 .given in
     let opening = c .before .before .before .before .open-payload in
     let given = c .before .before .before .before .before .before .args in
-    let read = read-pairs configurationForm (given .strict) emptyConfiguration (given .payload .now) (opening .result) (opening .ensures) (told .0 .0) (told .0 .1 .0) (told .1) in
+    let read = read-pairs (configurationForm (given .version)) (given .strict) emptyConfiguration (given .payload .now) (opening .result) (opening .ensures) (told .0 .0) (told .0 .1 .0) (told .1) in
     c .take-pairs .ensures ∙ ap configurationAnswer (sym read)
 
 pub read-by-spec : {M : Type 1} → statement M

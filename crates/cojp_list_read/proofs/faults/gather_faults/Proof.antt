@@ -1,14 +1,17 @@
 -- What was kept so far stands in front of the destination; each turn adds one report, or finds none or no room.
 use Rattle.cojp_list_read.proofs.Reports.{faults-none, faults-broken, faults-less, faults-turn}
-use Rattle.cojp_list_read.proofs.Gathering.{Gathering, gathering-none, gathering-length, gathering-within, gathering-bad, gathering-done, turn-length, turn-full, turn-count, turn-more}
+use Rattle.cojp_list_read.proofs.Gathering.{Gathering, gathering-none, gathering-length, gathering-within, gathering-bad, gathering-done, gathering-ended, turn-length, turn-full, turn-count, turn-more}
 use Rattle.cojp.specs.Lists.{faultsIn}
+use Rattle.cojp.specs.Bytes.{membersAt}
+use lib.ListN.{drop}
 use native.Mathlib.Omega.{arith}
 use borrow.Author.Needs.{needs}
 use Rattle.cojp_list_read.proofs.faults.gather_faults.Statement.{statement}
 use Rattle.cojp_list_read.proofs.faults.gather_faults.Tie as tie
 
 abbrev Inv-loop : tie.InvT-loop
-Inv-loop s from count dst₀ at₀ left₀ len₀ members₀ dst at left len members = Gathering faultsIn s from count dst₀ at left len members dst
+Inv-loop s from count dst₀ at₀ left₀ len₀ members₀ dst at left len members =
+    Gathering (faultsIn (membersAt count (drop from s))) dst₀ (faultsIn (membersAt left (drop at s))) len members dst
 
 abbrev μ-loop : tie.MeasureT-loop
 μ-loop s from count dst₀ at₀ left₀ len₀ members₀ dst at left len members = left
@@ -19,7 +22,7 @@ head-laws-requires c κs = search needs
 loop-holds : tie.Need-loop-holds Inv-loop μ-loop
 loop-holds c =
     let begun = c .before .before .before in
-    gathering-none faultsIn (begun .args .s .now) (begun .args .from) (begun .args .count) (begun .args .dst .now)
+    gathering-none (faultsIn (membersAt (begun .args .count) (drop (begun .args .from) (begun .args .s .now)))) (begun .args .dst .now)
 
 fault-at-requires : tie.Need-fault-at-requires Inv-loop μ-loop
 fault-at-requires c κs = search needs
@@ -36,8 +39,9 @@ returns : tie.Need-returns Inv-loop μ-loop
 returns c =
     let fault-at = c .before .before in
     let turn = fault-at .before .before in
+    let s = turn .before .before .before .before .args .s .now in
     gathering-bad (turn .loop .inv)
-    (faults-broken (turn .loop .inv) (fault-at .fault-at .result) (fault-at .fault-at .ensures) (c .enum-told .given .1))
+    (faults-broken s (turn .loop .at) (turn .loop .left) (turn .loop .inv) (fault-at .fault-at .result) (fault-at .fault-at .ensures) (c .enum-told .given .1))
 
 enum-known-f : tie.Need-enum-known-f Inv-loop μ-loop
 enum-known-f c = search needs
@@ -69,7 +73,8 @@ same-length-2 c =
     let f = write-fault .before .before .before in
     let fault-at = f .before .before in
     let turn = fault-at .before .before in
-    turn-length (faults-turn (turn .loop .inv) (fault-at .fault-at .result) (fault-at .fault-at .ensures) (f .f .given .1) (write-fault .write-fault .ensures))
+    let s = turn .before .before .before .before .args .s .now in
+    turn-length (faults-turn s (turn .loop .at) (turn .loop .left) (turn .loop .inv) (fault-at .fault-at .result) (fault-at .fault-at .ensures) (f .f .given .1) (write-fault .write-fault .ensures))
 
 returns-2 : tie.Need-returns-2 Inv-loop μ-loop
 returns-2 c =
@@ -77,7 +82,8 @@ returns-2 c =
     let f = write-fault .before .before .before in
     let fault-at = f .before .before in
     let turn = fault-at .before .before in
-    turn-full (faults-turn (turn .loop .inv) (fault-at .fault-at .result) (fault-at .fault-at .ensures) (f .f .given .1) (write-fault .write-fault .ensures))
+    let s = turn .before .before .before .before .args .s .now in
+    turn-full (faults-turn s (turn .loop .at) (turn .loop .left) (turn .loop .inv) (fault-at .fault-at .result) (fault-at .fault-at .ensures) (f .f .given .1) (write-fault .write-fault .ensures))
     (c .enum-told2 .given .0 .0) (c .enum-told2 .given .1)
 
 enum-known-w : tie.Need-enum-known-w Inv-loop μ-loop
@@ -89,8 +95,9 @@ add-len c =
     let f = write-fault .before .before .before in
     let fault-at = f .before .before in
     let turn = fault-at .before .before in
+    let s = turn .before .before .before .before .args .s .now in
     let begun = turn .before .before .before .before in
-    let put = faults-turn (turn .loop .inv) (fault-at .fault-at .result) (fault-at .fault-at .ensures) (f .f .given .1) (write-fault .write-fault .ensures) in
+    let put = faults-turn s (turn .loop .at) (turn .loop .left) (turn .loop .inv) (fault-at .fault-at .result) (fault-at .fault-at .ensures) (f .f .given .1) (write-fault .write-fault .ensures) in
     let counts = turn-count put (c .before .w .given .0 .0) (c .before .w .given .1) (turn .before .head-laws .ensures) in
     omega (arith, counts .0, begun)
 
@@ -100,8 +107,9 @@ add-members c =
     let f = write-fault .before .before .before in
     let fault-at = f .before .before in
     let turn = fault-at .before .before in
+    let s = turn .before .before .before .before .args .s .now in
     let begun = turn .before .before .before .before in
-    let put = faults-turn (turn .loop .inv) (fault-at .fault-at .result) (fault-at .fault-at .ensures) (f .f .given .1) (write-fault .write-fault .ensures) in
+    let put = faults-turn s (turn .loop .at) (turn .loop .left) (turn .loop .inv) (fault-at .fault-at .result) (fault-at .fault-at .ensures) (f .f .given .1) (write-fault .write-fault .ensures) in
     let counts = turn-count put (c .before .w .given .0 .0) (c .before .w .given .1) (turn .before .head-laws .ensures) in
     omega (arith, counts .1, begun)
 
@@ -110,7 +118,8 @@ loop-less c =
     let f = c .before .before .before .before .before .before .before .before in
     let fault-at = f .before .before in
     let turn = fault-at .before .before in
-    faults-less (turn .loop .inv) (fault-at .fault-at .result) (fault-at .fault-at .ensures) (f .f .given .1)
+    let s = turn .before .before .before .before .args .s .now in
+    faults-less s (turn .loop .at) (turn .loop .left) (turn .loop .inv) (fault-at .fault-at .result) (fault-at .fault-at .ensures) (f .f .given .1)
 
 loop-again : tie.Need-loop-again Inv-loop μ-loop
 loop-again c =
@@ -118,7 +127,8 @@ loop-again c =
     let f = write-fault .before .before .before in
     let fault-at = f .before .before in
     let turn = fault-at .before .before in
-    turn-more (faults-turn (turn .loop .inv) (fault-at .fault-at .result) (fault-at .fault-at .ensures) (f .f .given .1) (write-fault .write-fault .ensures))
+    let s = turn .before .before .before .before .args .s .now in
+    turn-more (faults-turn s (turn .loop .at) (turn .loop .left) (turn .loop .inv) (fault-at .fault-at .result) (fault-at .fault-at .ensures) (f .f .given .1) (write-fault .write-fault .ensures))
     (c .before .w .given .0 .0) (c .before .w .given .1)
 
 same-length-3 : tie.Need-same-length-3 Inv-loop μ-loop
@@ -127,8 +137,9 @@ same-length-3 c =
 
 returns-3 : tie.Need-returns-3 Inv-loop μ-loop
 returns-3 c =
-    gathering-done (c .before .loop .inv)
-    faults-none (c .loop-test .left)
+    let turn = c .before .loop in
+    gathering-done (turn .inv)
+    (gathering-ended faultsIn (turn .left) (drop (turn .at) (c .before .before .before .before .before .args .s .now)) faults-none (c .loop-test .left))
 
 pub gather-faults-spec : {M : Type 1} → statement M
 gather-faults-spec =

@@ -2,8 +2,10 @@
 use Rattle.cojp_list_read.proofs.Gathering.{turn-length, turn-full, turn-count, turn-more}
 use Rattle.cojp_list_read.proofs.ByteStrings.{strings-broken, strings-turn}
 use Rattle.cojp_list_read.proofs.ByteStrings.{string-inside, strings-none}
-use Rattle.cojp_list_read.proofs.Gathering.{Gathering, gathering-none, gathering-length, gathering-within, gathering-done}
+use Rattle.cojp_list_read.proofs.Gathering.{Gathering, gathering-none, gathering-length, gathering-within, gathering-done, gathering-ended}
 use Rattle.cojp.specs.Lists.{stringsIn}
+use Rattle.cojp.specs.Bytes.{membersAt}
+use lib.ListN.{drop}
 use Prim.Native.Nat.{_+_, _-_}
 use native.Mathlib.Omega.{arith}
 use borrow.Author.Needs.{needs}
@@ -11,7 +13,8 @@ use Rattle.cojp_list_read.proofs.strings.gather_strings.Statement.{stat
 use Rattle.cojp_list_read.proofs.strings.gather_strings.Tie as tie
 
 abbrev Inv-loop : tie.InvT-loop
-Inv-loop s from count dst₀ at₀ left₀ len₀ members₀ dst at left len members = Gathering stringsIn s from count dst₀ at left len members dst
+Inv-loop s from count dst₀ at₀ left₀ len₀ members₀ dst at left len members =
+    Gathering (stringsIn (membersAt count (drop from s))) dst₀ (stringsIn (membersAt left (drop at s))) len members dst
 
 abbrev μ-loop : tie.MeasureT-loop
 μ-loop s from count dst₀ at₀ left₀ len₀ members₀ dst at left len members = left
@@ -22,7 +25,7 @@ head-laws-requires c κs = search needs
 loop-holds : tie.Need-loop-holds Inv-loop μ-loop
 loop-holds c =
     let begun = c .before .before .before in
-    gathering-none stringsIn (begun .args .s .now) (begun .args .from) (begun .args .count) (begun .args .dst .now)
+    gathering-none (stringsIn (membersAt (begun .args .count) (drop (begun .args .from) (begun .args .s .now)))) (begun .args .dst .now)
 
 member-at-requires : tie.Need-member-at-requires Inv-loop μ-loop
 member-at-requires c κs = search needs
@@ -153,8 +156,9 @@ same-length-3 c =
 
 returns-3 : tie.Need-returns-3 Inv-loop μ-loop
 returns-3 c =
-    gathering-done (c .before .loop .inv)
-    strings-none (c .loop-test .left)
+    let turn = c .before .loop in
+    gathering-done (turn .inv)
+    (gathering-ended stringsIn (turn .left) (drop (turn .at) (c .before .before .before .before .before .args .s .now)) strings-none (c .loop-test .left))
 
 pub gather-strings-spec : {M : Type 1} → statement M
 gather-strings-spec =

@@ -17,5 +17,4 @@ returns-2 : tie.Need-returns-2
 returns-2 c = rw (← c .before .is-owing .ensures, c .if1 .left)
 
 pub settled-request-spec : {M : Type 1} → statement M
-settled-request-spec =
-    tie.close (tie.spec is-owing-requires refused-request-requires returns returns-2)
+settled-request-spec = tie.close (tie.spec is-owing-requires refused-request-requires returns returns-2)

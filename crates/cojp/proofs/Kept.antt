@@ -1,0 +1,102 @@
+-- A list that was read is kept: what is written of its members reads back as them, one after the other.
+use Prim.Native.Nat.{ℕ, _-_, _≤_}
+use native.Mathlib.Omega.{arith}
+use mathlib.Core.Path.{_≡_, refl, ap, sym, _∙_}
+use mathlib.Core.Bool.{Bool, true, false, cond, _&&_}
+use mathlib.Core.List.{List, [], _∷_, _++_}
+use lib.Dec.{leb, eqb}
+use lib.ListN.{length, take, replicate, length-append}
+use lib.Seq.{take-append-seam}
+use borrow.Author.Tests.{leb-true, le-leb, eq-eqb}
+use Rattle.byte_lists.specs.Same.{same, same-refl}
+use Rattle.logic_facts.specs.Tests.{both}
+use Rattle.cbor.specs.Decode.{decode, got}
+use Rattle.cbor.specs.Encode.{encode, encodes, shortest}
+use Rattle.cbor.specs.Item.{Fit, depth}
+use Rattle.cbor.specs.Laws.{ItemLaws}
+use Rattle.cbor.specs.View.{Plain, number, minus, string, other, View, plain, list, plainOf, plainAt, andOn}
+use Rattle.cojp.specs.Bytes.{membersAt}
+use Rattle.cojp.specs.Lists.{Picked, nothing, picked, before, plainItem, itemsOf, written, stringsIn, fitting, inArray, listOf, listAnswer}
+use Rattle.cojp.specs.Lists.{bytesIn, sameAs, kept, listTaken, blacklistTaken}
+use Rattle.cojp.specs.Octets.{padded}
+use Rattle.cojp.specs.Writing.{listInRange}
+
+-- ---- members that a head can hold
+abbrev pub Small : List Plain → Type 0
+Small [] = Unit {0}
+Small (p ∷ ps) = Fit (plainItem p) × Small ps
+
+plain-back : (p : Plain) → plainOf (plainItem p) ≡ p
+plain-back (number n) = refl
+plain-back (minus n) = refl
+plain-back (string s) = refl
+plain-back other = refl
+
+shallow : (p : Plain) → depth (plainItem p) ≤ 6
+shallow (number n) = omega arith
+shallow (minus n) = omega arith
+shallow (string s) = omega arith
+shallow other = omega arith
+
+module _ (laws : ItemLaws) where
+  -- what is written of them reads back
+  pub members-back : (ps : List Plain) → Small ps → membersAt (length ps) (written ps) ≡ ps
+  members-back [] h = refl
+  members-back (p ∷ ps) h =
+      let l = encode (plainItem p) ++ encodes (itemsOf ps) in
+      let got-it = laws .round-trip (plainItem p) 6 (encodes (itemsOf ps)) (shallow p) (h .0) in
+      let here = laws .item-plain 5 l (plainItem p) (encodes (itemsOf ps)) got-it ∙ plain-back p in
+      rw (got-it, here, members-back ps (h .1))
+
+  -- so a list of them is kept, if they are what would be picked of them and have room
+  pub listed-kept : (f : List Plain → Picked) (ps : List Plain) → Small ps → f ps ≡ picked ps → length (written ps) ≤ 253 → kept f (listOf ps) ≡ true
+  unfolding kept sameAs padded
+  listed-kept f ps h e r =
+      let w = written ps in
+      let bytes = take-append-seam w (replicate (253 - length w) 0) in
+      rw (bytes, members-back ps h, e, le-leb (length w) 253 r, bytes, eq-eqb (length ps) (length ps) refl) (same-refl w)
+
+-- ---- byte strings
+-- picked ones are byte strings, and would be picked again
+pub record Strings (ps : List Plain) : Type 0 where
+  pub again : stringsIn ps ≡ picked ps
+  pub small : length (written ps) ≤ 253 → Small ps
+
+abbrev Stringy : Picked → Type 0
+Stringy nothing = Unit {0}
+Stringy (picked ps) = Strings ps
+
+one-more : (s : List ℕ) (q : Picked) → Stringy q → Stringy (before (string s ∷ []) q)
+unfolding stringsIn
+one-more s nothing h = tt
+one-more s (picked ps) h = record {
+  again = rw (h .again);
+  small = λ r.
+      let parts = length-append (encode (plainItem (string s))) (written ps) in
+      let text = length-append (shortest 2 (length s)) s in
+      (omega (arith, r, parts, text), h .small (omega (arith, r, parts)));
+}
+
+strings-picked : (ms : List Plain) → Stringy (stringsIn ms)
+unfolding stringsIn
+strings-picked [] = record { again = refl; small = λ r. tt }
+strings-picked (number n ∷ r) = tt
+strings-picked (minus n ∷ r) = tt
+strings-picked (string s ∷ r) = one-more s (stringsIn r) (strings-picked r)
+strings-picked (other ∷ r) = tt
+
+-- ---- a blacklist that is taken is in range
+pub blacklist-good : ItemLaws → (x : View) → listInRange stringsIn (blacklistTaken x) ≡ true
+blacklist-good laws (plain p) = refl
+blacklist-good laws (list ms) = go (stringsIn ms) (strings-picked ms)
+  where
+    by : (ps : List Plain) → Strings ps → (b : Bool) → leb (length (written ps)) 253 ≡ b
+        → listInRange stringsIn (listTaken (listAnswer (cond b (picked ps) nothing))) ≡ true
+    by ps h false e = refl
+    by ps h true e =
+        let r = leb-true (length (written ps)) 253 e in
+        listed-kept laws stringsIn ps (h .small r) (h .again) r
+
+    go : (q : Picked) → Stringy q → listInRange stringsIn (listTaken (listAnswer (fitting 253 q))) ≡ true
+    go nothing h = refl
+    go (picked ps) h = by ps h (leb (length (written ps)) 253) refl

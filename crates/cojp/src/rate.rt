@@ -1,0 +1,38 @@
+// Join rates (RFC 9031): how many bytes of join traffic a proxy forwards in a second.
+use crate::report::Report;
+use cbor::Value;
+use cbor::value_at;
+ghost use mathlib.Core.Path.{_≡_};
+ghost use lib.ListN.{drop};
+ghost use Rattle.cojp.specs.Bytes.{valueView};
+ghost use Rattle.cojp.specs.Rate.{noRateParameter, rateTaken};
+
+// The value counts where it is taken.
+pub struct RateParameter {
+    pub report: Report,
+    pub value: u64,
+}
+
+// A parameter with no value.
+pub fn no_rate(report: Report) -> RateParameter
+    ensures { λ r. ⌜ r ≡ noRateParameter report ⌝ }
+{
+    RateParameter {
+        report: report,
+        value: 0,
+    }
+}
+
+// The join rate at a place of a payload that passed the item scan; what is no unsigned number is bad.
+pub fn read_rate(s: &[u8], at: usize) -> RateParameter
+    ensures { λ r. ⌜ r ≡ rateTaken (valueView (drop at (now (s .entry)))) ⌝ }
+{
+    let v = value_at(s, at);
+    match v {
+        Value::Number { number, next: _ } => RateParameter {
+            report: Report::Taken,
+            value: number,
+        },
+        _ => no_rate(Report::Discarded),
+    }
+}

@@ -1,0 +1,25 @@
+-- What the walk notes of a pair's label before it reads the value: what `noted` of Configuration notes after it.
+use Prim.Native.Nat.{ℕ}
+use mathlib.Core.Bool.{Bool, true, false, cond}
+use Rattle.cojp.specs.Faults.{added}
+use Rattle.cojp.specs.Parameter.{parameterOf}
+use Rattle.cojp.specs.Version.{byVersion}
+use Rattle.cojp.specs.declared.fault.Faults.{Faults}
+use Rattle.cojp.specs.declared.parameter.Parameter.{Parameter}
+use Rattle.cojp.specs.declared.parameter.Parameter.the-variants as name
+use Rattle.cojp.specs.declared.version.Version.{Version}
+
+-- whether a label names a parameter
+abbrev pub isNamed : Parameter → Bool
+isNamed name.Keys = true
+isNamed name.Address = true
+isNamed name.Jrc = true
+isNamed name.Network = true
+isNamed name.Prefix = true
+isNamed name.Blacklist = true
+isNamed name.Rate = true
+isNamed name.Unknown = false
+
+-- the known labels that came, this one among them
+abbrev pub cameWith : Version → ℕ → Faults → Faults
+cameWith v n f = byVersion v f (cond (isNamed (parameterOf v n)) (added f 1 n) f)

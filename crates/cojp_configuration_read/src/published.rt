@@ -1,0 +1,102 @@
+// What only the published form (RFC 9031) has: blacklist, join rate, and the labels that came.
+use cojp::Faults;
+use cojp::ListParameter;
+use cojp::Parameter;
+use cojp::RateParameter;
+use cojp::Report;
+use cojp::Version;
+use cojp::no_list;
+use cojp::no_rate;
+use cojp::parameter_of;
+use cojp::read_rate;
+use cojp_list_read::read_blacklist;
+use cojp_list_read::taken_list;
+use cojp_map::is_seen;
+use cojp_map::item_end;
+use refusal::Refusal;
+use refusal::Verdict;
+ghost use mathlib.Core.Path.{_≡_};
+ghost use lib.ListN.{drop};
+ghost use Rattle.cojp.specs.Bytes.{valueView, afterValue};
+ghost use Rattle.cojp.specs.Lists.{blacklistTaken};
+ghost use Rattle.cojp.specs.Rate.{rateTaken};
+ghost use Rattle.cojp.specs.Reading.{read, said, Accepting};
+ghost use Rattle.cojp_map.specs.Pairs.{seen, once};
+ghost use Rattle.cojp_configuration_read.specs.Noted.{cameWith};
+
+// `next` is where the bytes go on after the value. Beside a refusal nothing else says anything.
+pub(crate) struct BlacklistRead {
+    pub verdict: Verdict,
+    pub parameter: ListParameter,
+    pub next: usize,
+}
+
+// `next` is where the bytes go on after the value. Beside a refusal nothing else says anything.
+pub(crate) struct RateRead {
+    pub verdict: Verdict,
+    pub parameter: RateParameter,
+    pub next: usize,
+}
+
+// The blacklist at a place: TWICE where its label came before, with what is held.
+pub(crate) fn blacklist_once(s: &[u8], at: usize, held: ListParameter) -> BlacklistRead
+    ensures { λ r. ⌜ said (r .verdict) (r .parameter) ≡ once (seen (held .report)) (read (blacklistTaken (valueView (drop at (now (s .entry)))))) ⌝ }
+    ensures rest { λ r. ⌜ Accepting (r .verdict) (drop (r .next) (now (s .entry)) ≡ afterValue (drop at (now (s .entry)))) ⌝ }
+{
+    let report = held.report;
+    if is_seen(report) {
+        let none = no_list(Report::Absent);
+        return BlacklistRead {
+            verdict: Verdict::Refused(Refusal::Twice),
+            parameter: none,
+            next: 0,
+        };
+    }
+    let next = item_end(s, at);
+    let list = read_blacklist(s, at);
+    let parameter = taken_list(list);
+    BlacklistRead {
+        verdict: Verdict::Accepted,
+        parameter: parameter,
+        next: next,
+    }
+}
+
+// The join rate at a place: TWICE where its label came before, with what is held.
+pub(crate) fn rate_once(s: &[u8], at: usize, held: RateParameter) -> RateRead
+    ensures { λ r. ⌜ said (r .verdict) (r .parameter) ≡ once (seen (held .report)) (read (rateTaken (valueView (drop at (now (s .entry)))))) ⌝ }
+    ensures rest { λ r. ⌜ Accepting (r .verdict) (drop (r .next) (now (s .entry)) ≡ afterValue (drop at (now (s .entry)))) ⌝ }
+{
+    let report = held.report;
+    if is_seen(report) {
+        let none = no_rate(Report::Absent);
+        return RateRead {
+            verdict: Verdict::Refused(Refusal::Twice),
+            parameter: none,
+            next: 0,
+        };
+    }
+    let parameter = read_rate(s, at);
+    let next = item_end(s, at);
+    RateRead {
+        verdict: Verdict::Accepted,
+        parameter: parameter,
+        next: next,
+    }
+}
+
+// The known labels that came, this one among them, each with the code of a malformed parameter (1), which is what a bad one is reported as.
+pub(crate) fn noted_label(came: Faults, version: Version, label: u64) -> Faults
+    ensures { λ r. ⌜ r ≡ cameWith version label came ⌝ }
+{
+    match version {
+        Version::Draft => came,
+        Version::Published => {
+            let parameter = parameter_of(version, label);
+            match parameter {
+                Parameter::Unknown => came,
+                _ => came.add(1, label as u8),
+            }
+        }
+    }
+}
