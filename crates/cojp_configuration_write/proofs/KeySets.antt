@@ -2,7 +2,7 @@
 use Prim.Native.Nat.{ℕ, _+_, _*_, _-_, _≤_, _<_}
 use mathlib.Core.Path.{_≡_, refl, ap, sym, _∙_}
 use mathlib.Core.Bool.{Bool, true, false, cond, not}
-use mathlib.Core.List.{List, [], _∷_, _++_, append-nil}
+use mathlib.Core.List.{List, [], _∷_, _++_, append-assoc}
 use native.Mathlib.Omega.{arith}
 use native.Mathlib.Numerals.{add-one}
 use lib.Dec.{eqb}
@@ -15,9 +15,10 @@ use Rattle.cbor.specs.Item.{Items, unsigned, bytes, array, none, more, empty, c
 use Rattle.cbor.specs.Writing.{seam}
 use Rattle.link_key_set.specs.KeySet.{keysOf}
 use Rattle.link_key.specs.declared.Key.{Key}
+use Rattle.link_key.specs.declared.info.Info.the-variants.{Absent}
 use Rattle.link_key_set.specs.declared.key_set.KeySet.{KeySet}
 use Rattle.cojp.specs.Reading.{ifTaken}
-use Rattle.cojp.specs.Writing.{labelled, chain, leaseItems, usageItems, groupItems, groupsItems, keysPairs}
+use Rattle.cojp.specs.Writing.{labelled, chain, leaseItems, usageItems, infoItems, groupItems, groupsItems, keysPairs}
 use Rattle.cojp.specs.declared.key_set.KeysParameter.{KeysParameter}
 use Rattle.cojp_configuration_write.specs.Room.{usedItems, keyLength, setLength}
 use Rattle.cojp_octets_write.specs.Size.{ItemsSize, PairsSize, Sum}
@@ -36,41 +37,50 @@ usage-items u = go (eqb u 0)
     go false = refl
 
 module _ (k : Key) where
-  group-bytes : encodes (groupItems k) ≡ (shortest 0 (k .identifier) ++ encodes (usedItems (k .usage))) ++ encode (bytes (k .value))
+  abbrev front : List ℕ
+  front = (shortest 0 (k .identifier) ++ encodes (usedItems (k .usage))) ++ encode (bytes (k .value))
+
+  group-bytes : encodes (groupItems k) ≡ front ++ encodes (infoItems (k .info))
   group-bytes =
-      chain-bytes (more (unsigned (k .identifier)) (usageItems (k .usage))) (more (bytes (k .value)) none)
-      ∙ rw (append-nil (encode (bytes (k .value))), usage-items (k .usage))
+      chain-bytes (more (unsigned (k .identifier)) (usageItems (k .usage))) (more (bytes (k .value)) (infoItems (k .info)))
+      ∙ rw (usage-items (k .usage))
+      (sym (append-assoc (shortest 0 (k .identifier) ++ encodes (usedItems (k .usage))) (encode (bytes (k .value))) (encodes (infoItems (k .info)))))
+
+  front-length : length front ≡ length (shortest 0 (k .identifier)) + (length (encodes (usedItems (k .usage))) + length (encode (bytes (k .value))))
+  front-length =
+      omega (
+        arith,
+        length-append (shortest 0 (k .identifier) ++ encodes (usedItems (k .usage))) (encode (bytes (k .value))),
+        length-append (shortest 0 (k .identifier)) (encodes (usedItems (k .usage))),
+      )
 
   pub group-length : length (encodes (groupItems k)) ≡ keyLength k
-  group-length =
-      ap length group-bytes
-      ∙ length-append (shortest 0 (k .identifier) ++ encodes (usedItems (k .usage))) (encode (bytes (k .value)))
-      ∙ omega (arith, length-append (shortest 0 (k .identifier)) (encodes (usedItems (k .usage))))
+  group-length = ap length group-bytes ∙ omega (arith, length-append front (encodes (infoItems (k .info))), front-length)
 
-  group-count : count (groupItems k) ≡ 2 + count (usedItems (k .usage))
+  group-count : count (groupItems k) ≡ 2 + count (usedItems (k .usage)) + count (infoItems (k .info))
   group-count =
-      chain-count (more (unsigned (k .identifier)) (usageItems (k .usage))) (more (bytes (k .value)) none)
+      chain-count (more (unsigned (k .identifier)) (usageItems (k .usage))) (more (bytes (k .value)) (infoItems (k .info)))
       ∙ rw (usage-items (k .usage)) (omega arith)
 
-  pub group-seam : {d d′ e : List ℕ} {n m : ℕ} → keyLength k ≤ length d
-      → Wrote (shortest 0 (k .identifier) ++ encodes (usedItems (k .usage))) d n d′
-      → Wrote (encode (bytes (k .value))) (take (length d′ - n) (drop n d′)) m e
+  pub group-seam : {d d′ e : List ℕ} {n m : ℕ} → keyLength k ≤ length d → Wrote front d n d′
+      → Wrote (encodes (infoItems (k .info))) (take (length d′ - n) (drop n d′)) m e
       → Wrote (encodes (groupItems k)) d (n + m) (take n d′ ++ (e ++ drop (length d′ - n) (drop n d′)))
-  group-seam h w v = rw group-bytes (seam (omega (arith, length-append (shortest 0 (k .identifier)) (encodes (usedItems (k .usage))))) w v)
+  group-seam h w v = rw group-bytes (seam (omega (arith, front-length)) w v)
 
-  pub group-size : HeadLaws → {n : ℕ} {r : Size} → n ≡ extraOf (k .identifier) + 1 → k .identifier ≤ 255 → length (k .value) ≡ 16
-      → ItemsSize (usedItems (k .usage)) 1 9 r → ItemsSize (groupItems k) 3 28 (record { members = 2 + r .members; bytes = n + r .bytes + 17 })
-  group-size heads e i v z = record {
-    members = omega (arith, group-count, z .members);
-    bytes = omega (arith, group-length, heads .length-head 0 (k .identifier), string-length heads (k .value) (omega arith), z .bytes);
-    few = omega (arith, z .few);
-    small = omega (arith, z .small, heads .byte-head (k .identifier) i);
+  pub group-size : HeadLaws → {n : ℕ} {r s : Size} → n ≡ extraOf (k .identifier) + 1 → k .identifier ≤ 255 → length (k .value) ≡ 16
+      → ItemsSize (usedItems (k .usage)) 1 9 r → ItemsSize (infoItems (k .info)) 1 9 s
+      → ItemsSize (groupItems k) 4 37 (record { members = 2 + r .members + s .members; bytes = n + r .bytes + 17 + s .bytes })
+  group-size heads e i v z y = record {
+    members = omega (arith, group-count, z .members, y .members);
+    bytes = omega (arith, group-length, heads .length-head 0 (k .identifier), string-length heads (k .value) (omega arith), z .bytes, y .bytes);
+    few = omega (arith, z .few, y .few);
+    small = omega (arith, z .small, y .small, heads .byte-head (k .identifier) i);
   }
 
 -- ---- the groups of the first keys
 -- what a read past the end of an array of keys would give
 abbrev pub past : Key
-past = record { identifier = 0; usage = 0; value = [] }
+past = record { identifier = 0; usage = 0; value = []; info = Absent }
 
 groups-append : (ks ls : List Key) → groupsItems (ks ++ ls) ≡ chain (groupsItems ks) (groupsItems ls)
 groups-append [] ls = refl
@@ -90,8 +100,8 @@ module _ (set : KeySet) (i : ℕ) (d : Key) (h : i < length (keysOf set)) where
       rw (add-one i, take-suc (keysOf set) i d h, k)
       (groups-append (take i (keysOf set)) (getD (set .keys) i d ∷ []) ∙ rw (chain-none (groupItems (getD (set .keys) i d))))
 
-  pub sizes-step : {r s t : Size} → ItemsSize (groupsItems (take i (keysOf set))) (3 * i) (28 * i) r → ItemsSize (groupItems (getD (set .keys) i d)) 3 28 s → Sum r s t
-      → ItemsSize (groupsItems (take (i + 1) (keysOf set))) (3 * (i + 1)) (28 * (i + 1)) t
+  pub sizes-step : {r s t : Size} → ItemsSize (groupsItems (take i (keysOf set))) (4 * i) (37 * i) r → ItemsSize (groupItems (getD (set .keys) i d)) 4 37 s → Sum r s t
+      → ItemsSize (groupsItems (take (i + 1) (keysOf set))) (4 * (i + 1)) (37 * (i + 1)) t
   sizes-step x y z =
       let w = sizes-chain (groupsItems (take i (keysOf set))) (groupItems (getD (set .keys) i d)) x y z in
       rw next (record { members = w .members; bytes = w .bytes; few = omega (arith, w .few); small = omega (arith, w .small) })
@@ -136,8 +146,8 @@ module _ (p : KeysParameter) (t : Bool) (e : t ≡ ifTaken (p .report) true fals
   pub keys-taken : keysPairs p ≡ labelled 2 (array (groupsItems (keysOf (p .value))))
   keys-taken = taken-is (p .report) (labelled 2 (array (groupsItems (keysOf (p .value))))) empty t e h
 
-  pub keys-size : HeadLaws → {n : ℕ} {r : Size} → n ≡ extraOf (r .members) + 1 → ItemsSize (groupsItems (keysOf (p .value))) 24 224 r
-      → PairsSize (keysPairs p) 1 227 (record { members = 1; bytes = 1 + n + r .bytes })
+  pub keys-size : HeadLaws → {n : ℕ} {r : Size} → n ≡ extraOf (r .members) + 1 → ItemsSize (groupsItems (keysOf (p .value))) 32 296 r
+      → PairsSize (keysPairs p) 1 299 (record { members = 1; bytes = 1 + n + r .bytes })
   keys-size heads {n} {r} l z =
       let ks = keysOf (p .value) in
       let b : 1 + n + r .bytes ≡ length (encodePairs (labelled 2 (array (groupsItems ks)))) = omega (

@@ -1,4 +1,6 @@
 mod Addresses
+mod Infos
 mod KeySets
+mod Rates
 mod Configurations
 mod Plans

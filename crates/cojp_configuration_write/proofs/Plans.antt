@@ -1,24 +1,25 @@
--- The plan of a configuration: RANGE, or the bytes of the map.
+-- The plan of a configuration: RANGE, or what is in range.
 use mathlib.Core.Path.{_≡_}
 use mathlib.Core.Bool.{true, false}
 use mathlib.Core.List.{List}
 use Prim.Native.Nat.{ℕ}
 use Rattle.refusal.specs.declared.Refusal.the-variants.{Range}
-use Rattle.cbor.specs.Answer.{Did, emit}
+use Rattle.cbor.specs.Answer.{Did}
 use Rattle.cbor.specs.Encode.{encode}
 use Rattle.cbor.specs.Item.{map}
 use Rattle.cbor.specs.declared.write.Written.{Written}
 use Rattle.cbor.specs.declared.write.Written.the-variants.{Refused}
 use Rattle.cbor.specs.Writing.{did-refuse}
-use Rattle.cojp.specs.Writing.{configurationPairs, configurationInRange, configurationPlan}
+use Rattle.cojp.specs.Writing.{fits, configurationPairs, configurationInRange, configurationPlan}
 use Rattle.cojp.specs.declared.configuration.Configuration.{Configuration}
+use Rattle.cojp.specs.declared.version.Version.{Version}
 
-module _ (c : Configuration) where
-  pub configuration-range : (d : List ℕ) → configurationInRange c ≡ false → Did (configurationPlan c) d (Refused Range) d
+module _ (v : Version) (c : Configuration) where
+  pub configuration-range : (d : List ℕ) → configurationInRange v c ≡ false → Did (configurationPlan v c) d (Refused Range) d
   unfolding configurationPlan
   configuration-range d h = simp h (did-refuse Range d)
 
-  pub configuration-emit : {d d′ : List ℕ} {r : Written} → configurationInRange c ≡ true → Did (emit (encode (map (configurationPairs c)))) d r d′
-      → Did (configurationPlan c) d r d′
+  pub configuration-emit : {d d′ : List ℕ} {r : Written} → configurationInRange v c ≡ true → Did (fits (encode (map (configurationPairs c)))) d r d′
+      → Did (configurationPlan v c) d r d′
   unfolding configurationPlan
   configuration-emit h w = simp h w

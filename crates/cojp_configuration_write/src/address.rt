@@ -1,6 +1,6 @@
 // Short addresses, with their lease.
-use crate::item::put_array;
 use crate::item::put_bytes;
+use crate::item::put_labelled;
 use crate::item::put_optional;
 use crate::size::optional_size;
 use cojp::AddressParameter;
@@ -39,7 +39,7 @@ fn put_place(dst: &mut [u8], a: ShortAddress, members: u64) -> usize
     ensures { λ r. ⌜ Wrote (encodePairs (labelled 3 (array (addressItems a)))) (now (dst .entry)) r (now (dst .exit)) ⌝ }
 {
     let bytes = a.bytes;
-    let n1 = put_array(dst, 3, members);
+    let n1 = put_labelled(dst, 3, 4, members);
     let n2 = n1 + put_bytes(&mut dst[n1..], &bytes);
     n2 + put_optional(&mut dst[n2..], a.leased, a.lease)
 }

@@ -1,14 +1,16 @@
 // Link-layer key sets: one flat array of groups.
-use crate::item::put_array;
+use crate::info::info_size;
+use crate::info::put_info;
 use crate::item::put_bytes;
-use crate::item::put_head;
+use crate::item::put_labelled;
 use crate::item::put_optional;
 use crate::size::optional_size;
-use crate::size::plus;
 use cbor_write::head_len;
 use cojp::KeysParameter;
 use cojp_octets_write::Size;
 use cojp_octets_write::no_size;
+use cojp_octets_write::plus;
+use cojp_octets_write::put_head;
 use cojp_range::is_taken;
 use link_key::Key;
 use link_key_set::KeySet;
@@ -23,22 +25,26 @@ ghost use Rattle.link_key_set.specs.KeySet.{keysOf};
 ghost use Rattle.cojp_octets_write.specs.Size.{ItemsSize, PairsSize};
 ghost use Rattle.cojp_configuration_write.specs.Room.{keyLength, setLength};
 
-// A group: identifier, usage unless it is 0, value.
+// A group: identifier, usage unless it is 0, value, additional information where there is any.
 fn key_size(k: Key) -> Size
-    ensures { λ r. ⌜ ItemsSize (groupItems k) 3 28 r ⌝ }
+    ensures { λ r. ⌜ ItemsSize (groupItems k) 4 37 r ⌝ }
 {
     cbor::head_laws();
     let name = head_len(k.identifier as u64);
     let usage = k.usage;
+    let info = k.info;
     let used = optional_size(usage != 0, usage as u64);
+    let source = info_size(info);
+    let members = 2 + used.members + source.members;
+    let bytes = name + used.bytes + 17 + source.bytes;
     Size {
-        members: 2 + used.members,
-        bytes: name + used.bytes + 17,
+        members: members,
+        bytes: bytes,
     }
 }
 
 fn groups_size(set: KeySet) -> Size
-    ensures { λ r. ⌜ ItemsSize (groupsItems (keysOf set)) 24 224 r ⌝ }
+    ensures { λ r. ⌜ ItemsSize (groupsItems (keysOf set)) 32 296 r ⌝ }
 {
     let n = set.len();
     let mut size = no_size();
@@ -52,7 +58,7 @@ fn groups_size(set: KeySet) -> Size
 }
 
 pub(crate) fn keys_size(p: KeysParameter) -> Size
-    ensures { λ r. ⌜ PairsSize (keysPairs p) 1 227 r ⌝ }
+    ensures { λ r. ⌜ PairsSize (keysPairs p) 1 299 r ⌝ }
 {
     cbor::head_laws();
     let report = p.report;
@@ -73,9 +79,11 @@ fn put_key(dst: &mut [u8], k: Key) -> usize
 {
     let usage = k.usage;
     let value = k.value;
+    let info = k.info;
     let n1 = put_head(dst, 0, k.identifier as u64);
     let n2 = n1 + put_optional(&mut dst[n1..], usage != 0, usage as u64);
-    n2 + put_bytes(&mut dst[n2..], &value)
+    let n3 = n2 + put_bytes(&mut dst[n2..], &value);
+    n3 + put_info(&mut dst[n3..], info)
 }
 
 fn put_groups(dst: &mut [u8], set: KeySet) -> usize
@@ -98,7 +106,7 @@ fn put_set(dst: &mut [u8], set: KeySet, members: u64) -> usize
     requires { ⌜ (members ≡ count (groupsItems (keysOf set))) × (setLength (keysOf set) members ≤ length (now dst)) ⌝ }
     ensures { λ r. ⌜ Wrote (encodePairs (labelled 2 (array (groupsItems (keysOf set))))) (now (dst .entry)) r (now (dst .exit)) ⌝ }
 {
-    let n = put_array(dst, 2, members);
+    let n = put_labelled(dst, 2, 4, members);
     n + put_groups(&mut dst[n..], set)
 }
 

@@ -2,20 +2,8 @@
 use cbor_write::head_len;
 use cojp_octets_write::Size;
 use cojp_octets_write::no_size;
-ghost use Prim.Native.Nat.{_+_, _≤_};
 ghost use Rattle.cojp.specs.Writing.{leaseItems};
-ghost use Rattle.cojp_octets_write.specs.Size.{ItemsSize, Sum};
-
-// The one after the other.
-pub(crate) fn plus(a: Size, b: Size) -> Size
-    requires { ⌜ (a .members + b .members ≤ 1000) × (a .bytes + b .bytes ≤ 1000) ⌝ }
-    ensures { λ r. ⌜ Sum a b r ⌝ }
-{
-    Size {
-        members: a.members + b.members,
-        bytes: a.bytes + b.bytes,
-    }
-}
+ghost use Rattle.cojp_octets_write.specs.Size.{ItemsSize};
 
 // A number, where there is one.
 pub(crate) fn optional_size(given: bool, number: u64) -> Size

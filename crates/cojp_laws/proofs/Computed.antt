@@ -1,20 +1,59 @@
 -- The witness of 232 bytes and the written examples are computed.
 use mathlib.Core.Path.{refl}
+use Rattle.byte_lists.specs.Same.{same}
+use Rattle.cbor.specs.Decode.{decodeBy, heading, argument, next, digits, majorOf}
+use Rattle.cbor.specs.View.{plainAt}
 use Rattle.cbor.specs.Encode.{bytesOf, infoOf, extraOf, shortest}
-use Rattle.link_key.specs.Key.{validKey}
+use Rattle.link_key.specs.Key.{validKey, plainKey}
 use Rattle.link_key_set.specs.KeySet.{validKeys, validSet}
 use Rattle.short_address.specs.Address.{isAddress}
+use Rattle.cojp.specs.Lists.{stringsIn, faultsIn, sameAs, kept}
 use Rattle.cojp.specs.Octets.{padded}
 use Rattle.cojp.specs.Request.{owing}
-use Rattle.cojp.specs.Writing.{requestInRange, requestPlan, configurationInRange, configurationPlan}
+use Rattle.cojp.specs.Writing.{requestInRange, requestPlan, ofForm, configurationInRange, configurationPlan}
 use Rattle.cojp_laws.specs.Largest.{LargestAttained}
-use Rattle.cojp_laws.specs.Written.{WrittenExamples}
+use Rattle.cojp_laws.specs.Written.{AllShown, writtenExamples, publishedExamples, WrittenExamples}
 
 pub largest-attained : LargestAttained
-unfolding configurationPlan configurationInRange validSet validKeys validKey isAddress padded bytesOf infoOf extraOf shortest
+unfolding configurationPlan configurationInRange ofForm validSet validKeys validKey plainKey isAddress padded bytesOf infoOf extraOf shortest
 largest-attained = record { written = refl; no-less = refl }
 
-pub written-examples : WrittenExamples
-unfolding requestPlan requestInRange owing configurationPlan configurationInRange isAddress bytesOf infoOf extraOf shortest
-written-examples =
+marked : AllShown writtenExamples
+unfolding requestPlan requestInRange owing configurationPlan configurationInRange ofForm isAddress bytesOf infoOf extraOf shortest
+marked =
     ((refl, refl), ((refl, refl), ((refl, refl), ((refl, refl), ((refl, refl), ((refl, refl), ((refl, refl), ((refl, refl), ((refl, refl), tt)))))))))
+
+published : AllShown publishedExamples
+unfolding requestPlan requestInRange owing configurationPlan configurationInRange ofForm validSet validKeys validKey plainKey padded bytesOf infoOf extraOf shortest
+    kept sameAs same stringsIn faultsIn plainAt decodeBy heading argument next digits majorOf
+published = (
+  (refl, refl),
+  (
+    (refl, refl),
+    (
+      (refl, refl),
+      (
+        (refl, refl),
+        (
+          (refl, refl),
+          (
+            (refl, refl),
+            (
+              (refl, refl),
+              (
+                (refl, refl),
+                (
+                  (refl, refl),
+                  ((refl, refl), ((refl, refl), ((refl, refl), tt))),
+                ),
+              ),
+            ),
+          ),
+        ),
+      ),
+    ),
+  ),
+)
+
+pub written-examples : WrittenExamples
+written-examples = (marked, published)

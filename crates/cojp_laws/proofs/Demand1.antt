@@ -9,16 +9,20 @@ use lib.Dec.{leb, ltb}
 use lib.ListN.{length, drop}
 use Rattle.refusal.specs.Order.{refusedIf, inOrder}
 use Rattle.refusal.specs.declared.Refusal.{Refusal}
-use Rattle.refusal.specs.declared.Refusal.the-variants.{Room, Range, Owed}
+use Rattle.refusal.specs.declared.Refusal.the-variants.{Room, Range}
 use Rattle.cbor.specs.Answer.{Plan, refuse, emit, answer}
 use Rattle.cbor.specs.Encode.{shortest, encode, encodePairs}
 use Rattle.cbor.specs.Item.{map}
 use Rattle.cbor.specs.Written.{writtenSays}
 use Rattle.cbor.specs.declared.write.Written.the-variants.{Refused, Length}
+use Rattle.cojp.specs.Reading.{ifTaken}
 use Rattle.cojp.specs.Request.{owing}
-use Rattle.cojp.specs.Writing.{octetsPairs, requestPairs, requestInRange, requestPlan, configurationPairs, configurationInRange, configurationPlan}
-use Rattle.cojp_octets_write.specs.Plan.{stringInRange, octetsPlan}
-use Rattle.cojp_laws.specs.Demand1.{numberSaid, noRoom, Refusing, WritersDemand1}
+use Rattle.cojp.specs.Writing.{octetsPairs, owingPlan, fits, requestPairs, requestInRange, requestPlan, configurationPairs, configurationInRange, configurationPlan}
+use Rattle.cojp.specs.declared.list.ListParameter.{ListParameter}
+use Rattle.cojp.specs.declared.report.Report.{Report}
+use Rattle.cojp.specs.declared.report.Report.the-variants.{Absent, Taken, Discarded}
+use Rattle.cojp_octets_write.specs.Plan.{stringInRange, octetsPlan, arrayBytes, listBytes, listFits, arrayPlan, listParameterPlan}
+use Rattle.cojp_laws.specs.Demand1.{numberSaid, noRoom, tooLong, Refusing, WritersDemand1}
 
 kept : (b : Bool) (n : ℕ) (k : Refusal) (d e : List ℕ) → cond b (Length n) (Refused Room) ≡ Refused k → cond b e d ≡ d
 kept true n k d e h = absurd (let z : _≡_ {A = ℕ} 0 1 = cc in omega arith)
@@ -38,6 +42,11 @@ room-by : (p d : List ℕ) (b : Bool) → noRoom p d ≡ b → numberSaid (emit 
 room-by p d true e = ap (said p) (lt-leb (length p) (length d) (ltb-true (length d) (length p) e))
 room-by p d false e = ap (said p) (le-leb (length p) (length d) (ltb-false (length d) (length p) e))
 
+-- what has room in a payload is not too long
+long-by : (p : List ℕ) (b : Bool) → tooLong p ≡ b → leb (length p) 256 ≡ not b
+long-by p true e = lt-leb (length p) 256 (ltb-true 256 (length p) e)
+long-by p false e = le-leb (length p) 256 (ltb-false 256 (length p) e)
+
 -- RANGE before ROOM, r being the test that refuses
 module _ (p d : List ℕ) where
   range-room : (r : Bool) → numberSaid (cond r (refuse Range) (emit p)) d ≡ inOrder (refusedIf r 13 ∷ refusedIf (noRoom p d) 12 ∷ [])
@@ -48,12 +57,34 @@ module _ (p d : List ℕ) where
   in-range-room true = room-by p d (noRoom p d) refl
   in-range-room false = refl
 
-  -- with OWED between them
-  owed-room : (r o : Bool)
-      → numberSaid (cond r (refuse Range) (cond o (refuse Owed) (emit p))) d ≡ inOrder (refusedIf r 13 ∷ refusedIf o 9 ∷ refusedIf (noRoom p d) 12 ∷ [])
-  owed-room true o = refl
-  owed-room false true = refl
-  owed-room false false = room-by p d (noRoom p d) refl
+  -- and of an object that would be too long
+  long-room : (r l : Bool) → tooLong p ≡ l
+      → numberSaid (cond r (refuse Range) (fits p)) d ≡ inOrder (refusedIf r 13 ∷ refusedIf l 13 ∷ refusedIf (noRoom p d) 12 ∷ [])
+  long-room true l e = refl
+  long-room false true e = rw (long-by p true e)
+  long-room false false e = rw (long-by p false e) (room-by p d (noRoom p d) refl)
+
+  -- with OWED before ROOM
+  owed-room : (r l o : Bool) → tooLong p ≡ l
+      → numberSaid (cond r (refuse Range) (owingPlan o (fits p))) d
+      ≡ inOrder (refusedIf r 13 ∷ refusedIf l 13 ∷ refusedIf o 9 ∷ refusedIf (noRoom p d) 12 ∷ [])
+  owed-room true l o e = refl
+  owed-room false true o e = rw (long-by p true e)
+  owed-room false false true e = rw (long-by p false e)
+  owed-room false false false e = rw (long-by p false e) (room-by p d (noRoom p d) refl)
+
+-- a list that is not taken is no byte
+list-said : (label : ℕ) (p : ListParameter) (d : List ℕ)
+    → numberSaid (listParameterPlan label p) d ≡ inOrder (refusedIf (not (listFits p)) 13 ∷ refusedIf (noRoom (listBytes label p) d) 12 ∷ [])
+unfolding arrayPlan
+list-said label p d = go (p .report)
+  where
+    go : (r : Report)
+        → numberSaid (ifTaken r (arrayPlan label (p .value)) (emit [])) d
+        ≡ inOrder (refusedIf (not (ifTaken r (leb (p .value .len) 253) true)) 13 ∷ refusedIf (noRoom (ifTaken r (arrayBytes label (p .value)) []) d) 12 ∷ [])
+    go Absent = in-range-room [] d true
+    go Taken = in-range-room (arrayBytes label (p .value)) d (leb (p .value .len) 253)
+    go Discarded = in-range-room [] d true
 
 pub writers-demand1 : WritersDemand1
 unfolding requestPlan configurationPlan octetsPlan
@@ -61,6 +92,7 @@ writers-demand1 = record {
   refusing = unchanged;
   head-number = λ major n d. range-room (shortest major n) d (ltb 7 major);
   string-number = λ label p d. in-range-room (encodePairs (octetsPairs label p)) d (stringInRange label p);
-  request-number = λ q d. owed-room (encode (map (requestPairs q))) d (not (requestInRange q)) (owing (q .role) (q .network .report));
-  configuration-number = λ c d. range-room (encode (map (configurationPairs c))) d (not (configurationInRange c));
+  list-number = list-said;
+  request-number = λ v q d. let p = encode (map (requestPairs q)) in owed-room p d (not (requestInRange v q)) (tooLong p) (owing v (q .role) (q .network .report)) refl;
+  configuration-number = λ v c d. let p = encode (map (configurationPairs c)) in long-room p d (not (configurationInRange v c)) (tooLong p) refl;
 }

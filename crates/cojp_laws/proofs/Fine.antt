@@ -1,5 +1,5 @@
 -- What is in range takes few bytes and few levels, and its numbers fit their heads.
-use Prim.Native.Nat.{ℕ, _+_, _*_, _^_, _≤_, _<_}
+use Prim.Native.Nat.{ℕ, suc, _+_, _*_, _^_, _≤_, _<_}
 use mathlib.Core.Path.{_≡_, refl, ap}
 use mathlib.Core.Bool.{Bool, true, false, cond}
 use mathlib.Core.List.{List, [], _∷_, append-nil, List·Memᴰ, List·Memᴰ·head, List·Memᴰ·tail}
@@ -11,24 +11,29 @@ use Rattle.cbor.specs.Encode.{extraOf, shortest, encode, encodes, encodePairs}
 use Rattle.cbor.specs.HeadLaws.{HeadLaws}
 use Rattle.cbor.specs.Item.{Item, Items, Pairs, unsigned, bytes, array, none, more, empty, pair, count, countPairs, depth, depths, depthPairs}
 use Rattle.cbor.specs.Item.{Fit, Fits, FitPairs}
+use Rattle.link_key.specs.Info.{infoBytes}
 use Rattle.link_key.specs.Key.{validKey}
 use Rattle.link_key_set.specs.KeyLaws.{KeyLaws}
 use Rattle.link_key_set.specs.KeySet.{keysOf}
 use Rattle.link_key.specs.declared.Key.{Key}
+use Rattle.link_key.specs.declared.info.Info.{Info}
+use Rattle.link_key.specs.declared.info.Info.the-variants as info
 use Rattle.cojp.specs.Octets.{bytesIn}
 use Rattle.cojp.specs.Reading.{ifTaken}
-use Rattle.cojp.specs.Writing.{join, chain, labelled, rolePairs, octetsPairs, leaseItems, addressPairs, usageItems, groupItems, groupsItems, keysPairs}
-use Rattle.cojp.specs.Writing.{octetsInRange, jrcInRange, keysInRange, requestPairs, configurationPairs, requestInRange, configurationInRange}
+use Rattle.cojp.specs.Version.{byVersion}
+use Rattle.cojp.specs.Writing.{join, chain, labelled, rolePairs, octetsPairs, leaseItems, addressPairs, usageItems, infoItems, groupItems, groupsItems, keysPairs, ratePairs}
+use Rattle.cojp.specs.Writing.{octetsInRange, jrcInRange, keysInRange, missing}
 use Rattle.cojp.specs.declared.address.AddressParameter.{AddressParameter}
-use Rattle.cojp.specs.declared.configuration.Configuration.{Configuration}
 use Rattle.cojp.specs.declared.key_set.KeysParameter.{KeysParameter}
 use Rattle.cojp.specs.declared.octets.OctetsParameter.{OctetsParameter}
+use Rattle.cojp.specs.declared.rate.RateParameter.{RateParameter}
 use Rattle.cojp.specs.declared.report.Report.{Report}
 use Rattle.cojp.specs.declared.report.Report.the-variants.{Absent, Taken, Discarded}
-use Rattle.cojp.specs.declared.request.JoinRequest.{JoinRequest}
+use Rattle.cojp.specs.declared.version.Version.{Version}
+use Rattle.cojp.specs.declared.version.Version.the-variants.{Draft, Published}
 use Rattle.cojp_octets_write.proofs.Joined.{join-count, join-length, chain-count, chain-length, labelled-length, array-length}
-use Rattle.cojp_octets_write.proofs.Limits.{request-fits, configuration-fits}
 use Rattle.cojp_octets_write.proofs.Strings.{string-length}
+use Rattle.cojp_laws.proofs.Forms.{not-taken, Fitting}
 
 -- ---- at most k members in at most m bytes
 pub record Fine (ps : Pairs) (k m : ℕ) : Type 0 where
@@ -51,7 +56,7 @@ level-join : (a b : Pairs) → depthPairs a ≤ 2 → depthPairs b ≤ 2 → dep
 level-join empty b f g = g
 level-join (pair k v a) b f g = omega (arith, level-join a b (omega arith) g)
 
-fine-join : {a b : Pairs} {k l m n : ℕ} → Fine a k m → Fine b l n → Fine (join a b) (k + l) (m + n)
+pub fine-join : {a b : Pairs} {k l m n : ℕ} → Fine a k m → Fine b l n → Fine (join a b) (k + l) (m + n)
 fine-join {a} {b} f g = record {
   few = omega (arith, join-count a b, f .few, g .few);
   small = omega (arith, join-length a b, f .small, g .small);
@@ -75,6 +80,19 @@ fine-chain {a} {b} f g = record {
   fit = fit-chain a b (f .fit) (g .fit);
 }
 
+-- the bytes of n groups of keys that may have additional information, or have none
+abbrev pub groupsRoom : Bool → ℕ → ℕ
+groupsRoom true n = 29 * n
+groupsRoom false n = 20 * n
+
+one-more : (b : Bool) (n : ℕ) → 20 + cond b 9 0 + groupsRoom b n ≤ groupsRoom b (suc n)
+one-more true n = omega arith
+one-more false n = omega arith
+
+eight-most : (b : Bool) (n : ℕ) → n ≤ 8 → groupsRoom b n ≤ groupsRoom b 8
+eight-most true n h = omega arith
+eight-most false n h = omega arith
+
 -- ---- single values
 fine-item : (i : Item) (m : ℕ) → length (encode i) ≤ m → depth i ≤ 1 → Fit i → FineItems (more i none) 1 m
 fine-item i m h l f = record { few = omega arith; small = omega (arith, ap length (append-nil (encode i))); level = omega arith; fit = (f, tt) }
@@ -83,10 +101,14 @@ fine-missing : (m : ℕ) → FineItems none 1 m
 fine-missing m = record { few = omega arith; small = omega arith; level = omega arith; fit = tt }
 
 -- a parameter that may not be taken
-fine-if : (r : Report) (ps : Pairs) (m : ℕ) → (r ≡ Taken → Fine ps 1 m) → Fine (ifTaken r ps empty) 1 m
+pub fine-if : (r : Report) (ps : Pairs) (m : ℕ) → (r ≡ Taken → Fine ps 1 m) → Fine (ifTaken r ps empty) 1 m
 fine-if Absent ps m f = record { few = omega arith; small = omega arith; level = omega arith; fit = tt }
 fine-if Taken ps m f = f refl
 fine-if Discarded ps m f = record { few = omega arith; small = omega arith; level = omega arith; fit = tt }
+
+-- one of the other form is missing
+pub fine-none : (r : Report) (ps : Pairs) → missing r ≡ true → Fine (ifTaken r ps empty) 1 0
+fine-none r ps h = fine-if r ps 0 (λ e. absurd (not-taken r h e))
 
 -- a taken one has as many bytes as it says, or fewer
 pub octets-few : (p : OctetsParameter) → octetsInRange p ≡ true → p .report ≡ Taken → p .value .len ≤ 16
@@ -97,7 +119,7 @@ jrc-octets Absent n h = refl
 jrc-octets Taken n h = rw (eqb-true n 16 h)
 jrc-octets Discarded n h = refl
 
-jrc-in-range : (p : OctetsParameter) → jrcInRange p ≡ true → octetsInRange p ≡ true
+pub jrc-in-range : (p : OctetsParameter) → jrcInRange p ≡ true → octetsInRange p ≡ true
 jrc-in-range p h = jrc-octets (p .report) (p .value .len) h
 
 module _ (heads : HeadLaws) where
@@ -110,14 +132,14 @@ module _ (heads : HeadLaws) where
   }
 
   -- ---- byte strings
-  fine-octets : (n : ℕ) (p : OctetsParameter) → n ≤ 23 → octetsInRange p ≡ true → Fine (octetsPairs n p) 1 18
+  pub fine-octets : (n : ℕ) (p : OctetsParameter) → n ≤ 23 → octetsInRange p ≡ true → Fine (octetsPairs n p) 1 18
   fine-octets n p l h = fine-if (p .report) (labelled n (bytes (bytesIn (p .value)))) 18 (λ e.
       let s = bytesIn (p .value) in
       let k : length s ≤ 16 = omega (arith, octets-few p h e, length-take (p .value .len) (p .value .bytes)) in
       fine-labelled n (bytes s) 17 l (omega (arith, string-length heads s (omega arith))) (omega arith) (omega arith))
 
   -- ---- the role
-  fine-role : (n : ℕ) → n ≤ 1 → Fine (rolePairs n) 1 2
+  pub fine-role : (n : ℕ) → n ≤ 1 → Fine (rolePairs n) 1 2
   fine-role n h = go (eqb n 0)
     where
       go : (b : Bool) → Fine (cond b empty (labelled 1 (unsigned n))) 1 2
@@ -125,7 +147,7 @@ module _ (heads : HeadLaws) where
       go false = fine-labelled 1 (unsigned n) 1 (omega arith) (omega (arith, heads .short-head 0 n (omega arith))) (omega arith) (omega arith)
 
   -- ---- arrays, with a head of at most j bytes
-  fine-array : (n : ℕ) (is : Items) (k m j : ℕ) → n ≤ 23 → k ≤ 255 → length (shortest 4 (count is)) ≤ j → FineItems is k m → Fine (labelled n (array is)) 1 (1 + j + m)
+  pub fine-array : (n : ℕ) (is : Items) (k m j : ℕ) → n ≤ 23 → k ≤ 65535 → length (shortest 4 (count is)) ≤ j → FineItems is k m → Fine (labelled n (array is)) 1 (1 + j + m)
   fine-array n is k m j h c l f = record {
     few = omega arith;
     small = omega (arith, array-length n is, length-append (shortest 0 n) (shortest 4 (count is)), heads .short-head 0 n h, f .small);
@@ -138,7 +160,7 @@ module _ (heads : HeadLaws) where
   fine-lease true n h = fine-item (unsigned n) 9 (omega (arith, heads .length-head 0 n, heads .extra-most n)) (omega arith) h
   fine-lease false n h = fine-missing 9
 
-  fine-address : (p : AddressParameter) → length (p .value .bytes) ≡ 2 → p .value .lease < 2 ^ 64 → Fine (addressPairs p) 1 14
+  pub fine-address : (p : AddressParameter) → length (p .value .bytes) ≡ 2 → p .value .lease < 2 ^ 64 → Fine (addressPairs p) 1 14
   fine-address p two l =
       let s = p .value .bytes in
       let lease = leaseItems (p .value .leased) (p .value .lease) in
@@ -156,46 +178,51 @@ module _ (heads : HeadLaws) where
       go true = fine-missing 1
       go false = fine-item (unsigned u) 1 (omega (arith, heads .short-head 0 u (omega arith))) (omega arith) (omega arith)
 
-  -- ---- the join request
-  pub fine-request : (q : JoinRequest) → requestInRange q ≡ true → Fine (requestPairs q) 2 20
-  fine-request q h =
-      let f = request-fits q h in
-      fine-join (fine-role (q .role) (f .role)) (fine-octets 5 (q .network) (omega arith) (f .network))
+  fine-info : (b : Bool) (n : Info) → Fitting b n → FineItems (infoItems n) 1 (cond b 9 0)
+  fine-info b info.Absent f = fine-missing (cond b 9 0)
+  fine-info true (info.Four p q r t) f =
+      let s = infoBytes (info.Four p q r t) in fine-item (bytes s) 9 (omega (arith, string-length heads s (omega arith))) (omega arith) (omega arith)
+  fine-info true (info.Eight p q r t u v w x) f =
+      let s = infoBytes (info.Eight p q r t u v w x) in fine-item (bytes s) 9 (omega (arith, string-length heads s (omega arith))) (omega arith) (omega arith)
+  fine-info false (info.Four p q r t) f = absurd (let z : _≡_ {A = ℕ} 0 1 = cc in omega arith)
+  fine-info false (info.Eight p q r t u v w x) f = absurd (let z : _≡_ {A = ℕ} 0 1 = cc in omega arith)
 
-  module _ (keys : KeyLaws) where
-    fine-group : (k : Key) → validKey k ≡ true → FineItems (groupItems k) 3 20
-    fine-group k h =
+  -- ---- join rates
+  pub fine-rate : (v : Version) (p : RateParameter) → byVersion v (missing (p .report)) true ≡ true → p .value < 2 ^ 64
+      → Fine (ratePairs p) 1 (byVersion v 0 10)
+  fine-rate Draft p h l = fine-none (p .report) (labelled 7 (unsigned (p .value))) h
+  fine-rate Published p h l = fine-if (p .report) (labelled 7 (unsigned (p .value))) 10 (λ e.
+      fine-labelled 7 (unsigned (p .value)) 9 (omega arith) (omega (arith, heads .length-head 0 (p .value), heads .extra-most (p .value))) (omega arith) l)
+
+  module _ (keys : KeyLaws) (b : Bool) where
+    fine-group : (k : Key) → validKey k ≡ true → Fitting b (k .info) → FineItems (groupItems k) 4 (20 + cond b 9 0)
+    fine-group k h g =
         let (i, u, v) = keys .limits-fit k h in
         let head : extraOf (k .identifier) ≤ 1 = heads .byte-head (k .identifier) i in
         let name = fine-item (unsigned (k .identifier)) 2 (omega (arith, heads .length-head 0 (k .identifier))) (omega arith) (omega arith) in
         let value = fine-item (bytes (k .value)) 17 (omega (arith, string-length heads (k .value) (omega arith))) (omega arith) (omega arith) in
-        fine-chain (fine-chain name (fine-usage (k .usage) u)) value
+        let f = fine-chain (fine-chain name (fine-usage (k .usage) u)) (fine-chain value (fine-info b (k .info) g)) in
+        record { few = f .few; small = omega (arith, f .small); level = f .level; fit = f .fit }
 
-    fine-groups : (ks : List Key) → ((k : Key) → List·Memᴰ k ks → validKey k ≡ true) → FineItems (groupsItems ks) (3 * length ks) (20 * length ks)
-    fine-groups [] h = record { few = omega arith; small = omega arith; level = omega arith; fit = tt }
-    fine-groups (k ∷ ks) h =
-        let f = fine-chain (fine-group k (h k (List·Memᴰ·head refl))) (fine-groups ks (λ l m. h l (List·Memᴰ·tail m))) in
-        record { few = omega (arith, f .few); small = omega (arith, f .small); level = f .level; fit = f .fit }
+    fine-groups : (ks : List Key) → ((k : Key) → List·Memᴰ k ks → validKey k ≡ true) → ((k : Key) → List·Memᴰ k ks → Fitting b (k .info))
+        → FineItems (groupsItems ks) (4 * length ks) (groupsRoom b (length ks))
+    fine-groups [] h g = record { few = omega arith; small = omega arith; level = omega arith; fit = tt }
+    fine-groups (k ∷ ks) h g =
+        let first : List·Memᴰ k (k ∷ ks) = List·Memᴰ·head refl in
+        let f = fine-chain (fine-group k (h k first) (g k first)) (fine-groups ks (λ l m. h l (List·Memᴰ·tail m)) (λ l m. g l (List·Memᴰ·tail m))) in
+        let small : length (encodes (groupsItems (k ∷ ks))) ≤ groupsRoom b (suc (length ks)) = omega (arith, f .small, one-more b (length ks)) in
+        record { few = omega (arith, f .few); small = small; level = f .level; fit = f .fit }
 
-    fine-keys : (p : KeysParameter) → keysInRange p ≡ true → Fine (keysPairs p) 1 163
-    fine-keys p h =
+    pub fine-keys : (p : KeysParameter) → keysInRange p ≡ true → (p .report ≡ Taken → (k : Key) → List·Memᴰ k (keysOf (p .value)) → Fitting b (k .info))
+        → Fine (keysPairs p) 1 (3 + groupsRoom b 8)
+    fine-keys p h g =
         let ks = keysOf (p .value) in
         let is = groupsItems ks in
-        fine-if (p .report) (labelled 2 (array is)) 163 (λ e.
+        let m = groupsRoom b 8 in
+        fine-if (p .report) (labelled 2 (array is)) (3 + m) (λ e.
         let ok = keys .valid-set (p .value) (simp e at h) .1 in
-        let f = fine-groups ks (keys .valid-each ks ok) in
+        let f = fine-groups ks (keys .valid-each ks ok) (g e) in
         let eight = keys .valid-few ks ok in
-        let g : FineItems is 24 160 = record { few = omega (arith, f .few); small = omega (arith, f .small); level = f .level; fit = f .fit } in
-        let head = heads .byte-head (count is) (omega (arith, g .few)) in
-        fine-array 2 is 24 160 2 (omega arith) (omega arith) (omega (arith, heads .length-head 4 (count is))) g)
-
-    -- ---- the configuration
-    pub fine-configuration : (c : Configuration) → configurationInRange c ≡ true → length (c .address .value .bytes) ≡ 2 → c .address .value .lease < 2 ^ 64
-        → Fine (configurationPairs c) 5 231
-    fine-configuration c h two l =
-        let f = configuration-fits c h in
-        let k = fine-keys (c .keys) (f .keys) in
-        let a = fine-address (c .address) two l in
-        let j = fine-octets 4 (c .jrc) (omega arith) (jrc-in-range (c .jrc) (f .jrc)) in
-        let n = fine-octets 5 (c .network) (omega arith) (f .network) in
-        fine-join (fine-join (fine-join (fine-join k a) j) n) (fine-octets 6 (c .prefix) (omega arith) (f .prefix))
+        let i : FineItems is 32 m = record { few = omega (arith, f .few); small = omega (arith, f .small, eight-most b (length ks) eight); level = f .level; fit = f .fit } in
+        let head = heads .byte-head (count is) (omega (arith, i .few)) in
+        fine-array 2 is 32 m 2 (omega arith) (omega arith) (omega (arith, heads .length-head 4 (count is))) i)

@@ -24,7 +24,7 @@ in-front (refuse k) d n e = absurd (let z : _≡_ {A = ℕ} 0 1 = cc in omega ar
 in-front (emit p) d n e = ap emit (front (leb (length p) (length d)) p d n e)
 
 pub request-in-place : (q : JoinRequest) → RequestRoundTrip q → RequestInPlace q
-request-in-place q back d n e b = back (take n (after (requestPlan q) d)) (in-front (requestPlan q) d n e) b
+request-in-place q back v d n e b = back v (take n (after (requestPlan v q) d)) (in-front (requestPlan v q) d n e) b
 
 pub configuration-in-place : (c : Configuration) → ConfigurationRoundTrip c → ConfigurationInPlace c
-configuration-in-place c back d n e b = back (take n (after (configurationPlan c) d)) (in-front (configurationPlan c) d n e) b
+configuration-in-place c back v d n e b = back v (take n (after (configurationPlan v c) d)) (in-front (configurationPlan v c) d n e) b

@@ -1,7 +1,12 @@
 mod Demand1
 mod Computed
+mod Forms
 mod Fine
+mod FineLists
+mod Typed
+mod Sizes
 mod ReadBack
-mod RoundTrip
+mod Requests
+mod Configurations
 mod Reserved
 mod InPlace

@@ -2,7 +2,7 @@
 use Prim.Native.Nat.{ℕ, _≤_}
 use mathlib.Core.Path.{_≡_, refl, ap, _∙_}
 use mathlib.Core.Bool.{Bool, true, false, cond}
-use mathlib.Core.List.{List, [], _∷_}
+use mathlib.Core.List.{List, [], _∷_, List·Memᴰ, List·Memᴰ·head, List·Memᴰ·tail}
 use mathlib.Core.Option.{Option, none, some}
 use native.Mathlib.Omega.{arith}
 use borrow.Author.Tests.{le-ltb, le-leb, eqb-true}
@@ -11,32 +11,41 @@ use lib.ListN.{length, length-take}
 use lib.Seq.{take-append-seam, length-take-le}
 use Rattle.cbor.specs.Encode.{encode}
 use Rattle.cbor.specs.Item.{Item, Items, Pairs, bytes, array, map, more, empty, pair}
-use Rattle.cbor.specs.View.{string, View, plain, labelOf, viewOf, plainsOf}
-use Rattle.cbor.specs.HeadLaws.{HeadLaws}
+use Rattle.cbor.specs.View.{Plain, string, plain, labelOf, viewOf, plainsOf}
+use Rattle.cbor.specs.declared.value.Label.the-variants as label
 use Rattle.cbor.specs.Laws.{ItemLaws}
 use Rattle.cbor.specs.Strict.{headBy}
 use Rattle.link_key_set.specs.KeySet.{keysOf}
 use Rattle.link_key.specs.declared.Key.{Key}
+use Rattle.link_key.specs.declared.info.Info.{Info}
+use Rattle.link_key.specs.declared.info.Info.the-variants as info
 use Rattle.link_key_set.specs.KeyLaws.{KeyLaws}
 use Rattle.short_address.specs.Address.{isAddress}
 use Rattle.cojp.specs.Address.{addressOf, addressParameter, noAddressParameter, addressIn, addressRead}
-use Rattle.link_key.specs.Key.{keyOf}
-use Rattle.cojp.specs.KeySet.{keySetOf, keysParameter, noKeysParameter, groups, groupsOf, keysRead}
+use Rattle.cojp.specs.KeySet.{keySetOf, keysParameter, noKeysParameter, group, further, groups, valued, groupsOf, keysReadAs}
+use Rattle.cojp.specs.Lists.{Picked, inArray, fitting, listAnswer, listParameter, noListParameter, listTaken, kept, itemsIn, bytesIn as bytesOf}
 use Rattle.cojp_laws.specs.RoundTrip.{Kept}
 use Rattle.cojp.specs.Octets.{bytesIn, padded, octetsOf, octetsParameter, noOctetsParameter, octetsJudged, octetsRead}
-use Rattle.cojp.specs.Reading.{Reading, refused, read, onward, put, ifTaken}
-use Rattle.cojp.specs.Same.{octetsTaken, leaseOf, addressTaken, keysTaken}
+use Rattle.cojp.specs.Rate.{rateParameter, noRateParameter}
+use Rattle.cojp.specs.Reading.{Reading, refused, read, onward, following, ifTaken}
+use Rattle.cojp.specs.Same.{octetsTaken, leaseOf, addressTaken, keysTaken, listTaken as tookList, rateTaken as tookRate}
 use Rattle.cojp.specs.Walk.{Form, pairRead, pairsRead, payloadReadBy}
-use Rattle.cojp.specs.Writing.{join, labelled, leaseItems, groupsItems, octetsInRange, jrcInRange, addressInRange, keysInRange}
+use Rattle.cojp.specs.Writing.{join, chain, labelled, leaseItems, infoItems, groupsItems, octetsInRange, jrcInRange, addressInRange, keysInRange}
 use Rattle.cojp.specs.declared.address.AddressParameter.{AddressParameter}
 use Rattle.cojp.specs.declared.address.ShortAddress.{ShortAddress}
 use Rattle.cojp.specs.declared.key_set.KeysParameter.{KeysParameter}
+use Rattle.cojp.specs.declared.list.ItemList.{ItemList}
+use Rattle.cojp.specs.declared.list.ListParameter.{ListParameter}
+use Rattle.cojp.specs.declared.list.ListRead.{ListRead}
 use Rattle.cojp.specs.declared.octets.OctetsParameter.{OctetsParameter}
+use Rattle.cojp.specs.declared.rate.RateParameter.{RateParameter}
 use Rattle.cojp.specs.declared.report.Report.{Report}
 use Rattle.cojp.specs.declared.report.Report.the-variants.{Absent, Taken, Discarded}
-use Rattle.cojp.specs.declared.walk.Standing.the-variants.{Fresh}
-use Rattle.cojp_octets_write.proofs.Maps.{map-length}
+use Rattle.cojp.specs.declared.version.Version.{Version}
+use Rattle.cojp.specs.declared.version.Version.the-variants.{Draft, Published}
+use Rattle.cojp_list_read.specs.Laws.{ListRoundTrip}
 use Rattle.cojp_laws.proofs.Fine.{Fine, octets-few}
+use Rattle.cojp_laws.proofs.Forms.{Fitting}
 
 -- ---- pairs one after the other
 module _ {S : Type 0} (F : Form S) where
@@ -52,21 +61,25 @@ module _ {S : Type 0} (F : Form S) where
   pub then : (a b : Pairs) (s t u : S) → pairsRead F s a ≡ read t → pairsRead F t b ≡ read u → pairsRead F s (join a b) ≡ read u
   then a b s t u e f = pairs-join a b s ∙ rw e f
 
-  -- a parameter, where its label was not seen before
-  pub parameter-read : {P : Type 0} (s : S) (n : ℕ) (r : Report) (v : Item) (rd : View → Reading P) (set : P → S) (back left : P)
-      → F .standing s n ≡ Fresh → F .taking s n (viewOf v) ≡ put set (rd (viewOf v)) → s ≡ set left → (r ≡ Taken → rd (viewOf v) ≡ read back)
-      → pairsRead F s (ifTaken r (labelled n v) empty) ≡ read (set (ifTaken r back left))
-  parameter-read s n Absent v rd set back left f t e g = ap read e
-  parameter-read s n Taken v rd set back left f t e g = rw (f, t, g refl)
-  parameter-read s n Discarded v rd set back left f t e g = ap read e
+  -- a parameter, where its label was not seen before; what else changes where it is taken is `held`, which becomes `moved`
+  pub parameter-read : {P Q : Type 0} (s : S) (n : ℕ) (r : Report) (v : Item) (set : P → Q → S) (back left : P) (moved held : Q)
+      → s ≡ set left held → (r ≡ Taken → pairRead F s (label.Number n) (viewOf v) ≡ read (set back moved))
+      → pairsRead F s (ifTaken r (labelled n v) empty) ≡ read (set (ifTaken r back left) (ifTaken r moved held))
+  parameter-read s n Absent v set back left moved held e g = ap read e
+  parameter-read s n Taken v set back left moved held e g = rw (g refl)
+  parameter-read s n Discarded v set back left moved held e g = ap read e
 
   -- the payload
-  pub payload-read : ItemLaws → HeadLaws → (b : Bool) (ps : Pairs) (s : S) {k m : ℕ} → Fine ps k m → k ≤ 23 → m ≤ 255
+  pub payload-read : ItemLaws → (b : Bool) (ps : Pairs) (s : S) {k m : ℕ} → Fine ps k m → k ≤ 23 → length (encode (map ps)) ≤ 256
       → payloadReadBy F (headBy b) s (encode (map ps)) ≡ pairsRead F s ps
   unfolding payloadReadBy
-  payload-read laws heads b ps s f h l =
-      let n : length (encode (map ps)) ≤ 256 = omega (arith, map-length heads ps (omega (arith, f .few)), f .small) in
+  payload-read laws b ps s f h n =
       rw (le-ltb 256 (length (encode (map ps))) n, laws .payload-round-trip b (map ps) (omega (arith, f .level)) (omega (arith, f .few), f .fit))
+
+-- what is good is taken in both forms
+pub following-good : {P : Type 0} (v : Version) (bad p : P) (r : Reading P) → r ≡ read p → following v bad r ≡ read p
+following-good Draft bad p r e = e
+following-good Published bad p r e = rw e
 
 -- ---- what a taken parameter reads back as, and that it is the same and not discarded
 pub kept-if : {P : Type 0} (report : P → Report) (a b : P) (r : Report) → report a ≡ Taken → report b ≡ Absent → Kept (report (ifTaken r a b))
@@ -74,9 +87,10 @@ kept-if report a b Absent e f h = let z : _≡_ {A = ℕ} 0 1 = cc in omega arit
 kept-if report a b Taken e f h = let z : _≡_ {A = ℕ} 0 1 = cc in omega arith
 kept-if report a b Discarded e f h = let z : _≡_ {A = ℕ} 0 1 = cc in omega arith
 
-same-if : {P A : Type 0} (taken : P → Option A) (a b : P) (x : A) (r : Report) → taken a ≡ some x → taken b ≡ none → taken (ifTaken r a b) ≡ ifTaken r (some x) none
+same-if : {P A : Type 0} (taken : P → Option A) (a b : P) (x : A) (r : Report) → (r ≡ Taken → taken a ≡ some x) → taken b ≡ none
+    → taken (ifTaken r a b) ≡ ifTaken r (some x) none
 same-if taken a b x Absent e f = f
-same-if taken a b x Taken e f = e
+same-if taken a b x Taken e f = e refl
 same-if taken a b x Discarded e f = f
 
 -- ---- byte strings
@@ -106,7 +120,7 @@ unfolding padded
 padded-bytes s = take-append-seam s _
 
 pub octets-same : (p : OctetsParameter) → octetsTaken (octetsBack p) ≡ octetsTaken p
-octets-same p = same-if octetsTaken (octetsGood p) (noOctetsParameter Absent) (bytesIn (p .value)) (p .report) (ap some (padded-bytes (bytesIn (p .value)))) refl
+octets-same p = same-if octetsTaken (octetsGood p) (noOctetsParameter Absent) (bytesIn (p .value)) (p .report) (λ t. ap some (padded-bytes (bytesIn (p .value)))) refl
 
 -- ---- short addresses
 -- the members of its array
@@ -137,7 +151,7 @@ pub address-same : (p : AddressParameter) → addressTaken (addressBack p) ≡ a
 address-same p =
     let a = p .value in
     same-if addressTaken (addressGood p) (noAddressParameter Absent) (a .bytes, leaseOf a) (p .report)
-    (ap (λ (l : Option ℕ). some (a .bytes, l)) (lease-same (a .bytes) (a .leased) (a .lease))) refl
+    (λ t. ap (λ (l : Option ℕ). some (a .bytes, l)) (lease-same (a .bytes) (a .leased) (a .lease))) refl
 
 -- ---- key sets
 abbrev pub keysGood : KeysParameter → KeysParameter
@@ -146,23 +160,86 @@ keysGood p = keysParameter Taken (keySetOf (keysOf (p .value)))
 abbrev pub keysBack : KeysParameter → KeysParameter
 keysBack p = ifTaken (p .report) (keysGood p) (noKeysParameter Absent)
 
-same-key : (k : Key) (u : ℕ) → k .usage ≡ u → keyOf (k .identifier) u (k .value) ≡ k
-same-key k u e = rw (← e)
+-- what comes after a value: its additional information, and the groups that follow
+module _ (b : Bool) (i u : ℕ) (s : List ℕ) where
+  value-last : (ks : List Key) → valued b i u s (plainsOf (groupsItems ks)) ≡ group i u s info.Absent (groups b (plainsOf (groupsItems ks)))
+  unfolding groups
+  value-last [] = refl
+  value-last (k ∷ ks) = refl
 
-group-read : (k : Key) (ks : List Key) (b : Bool) → eqb (k .usage) 0 ≡ b → groups (plainsOf (groupsItems ks)) ≡ groupsOf ks
-    → groups (plainsOf (groupsItems (k ∷ ks))) ≡ groupsOf (k ∷ ks)
-unfolding groups
-group-read k ks true e h = simp (e, h) (ap (λ (l : Key). groupsOf (l ∷ ks)) (same-key k 0 (eqb-true (k .usage) 0 e)))
-group-read k ks false e h = simp (e, h)
+  info-read : (n : Info) (ks : List Key) → Fitting b n
+      → valued b i u s (plainsOf (chain (infoItems n) (groupsItems ks))) ≡ group i u s n (groups b (plainsOf (groupsItems ks)))
+  unfolding groups
+  info-read info.Absent ks f = value-last ks
+  info-read (info.Four p q r t) ks f = go b f
+    where
+      go : (c : Bool) → Fitting c (info.Four p q r t) → further c i u s (some (info.Four p q r t)) (groups b (plainsOf (groupsItems ks)))
+          ≡ group i u s (info.Four p q r t) (groups b (plainsOf (groupsItems ks)))
+      go true f = refl
+      go false f = absurd (let z : _≡_ {A = ℕ} 0 1 = cc in omega arith)
+  info-read (info.Eight p q r t w x y z) ks f = go b f
+    where
+      go : (c : Bool) → Fitting c (info.Eight p q r t w x y z) → further c i u s (some (info.Eight p q r t w x y z)) (groups b (plainsOf (groupsItems ks)))
+          ≡ group i u s (info.Eight p q r t w x y z) (groups b (plainsOf (groupsItems ks)))
+      go true f = refl
+      go false f = absurd (let z : _≡_ {A = ℕ} 0 1 = cc in omega arith)
 
-groups-read : (ks : List Key) → groups (plainsOf (groupsItems ks)) ≡ groupsOf ks
-unfolding groups
-groups-read [] = refl
-groups-read (k ∷ ks) = group-read k ks (eqb (k .usage) 0) refl (groups-read ks)
+module _ (b : Bool) where
+  group-read : (k : Key) (ks : List Key) (z : Bool) → eqb (k .usage) 0 ≡ z → Fitting b (k .info) → groups b (plainsOf (groupsItems ks)) ≡ groupsOf ks
+      → groups b (plainsOf (groupsItems (k ∷ ks))) ≡ groupsOf (k ∷ ks)
+  unfolding groups
+  group-read k ks true e f h =
+      let u : k .usage ≡ 0 = eqb-true (k .usage) 0 e in
+      simp e (info-read b (k .identifier) 0 (k .value) (k .info) ks f ∙ rw (h, ← u))
+  group-read k ks false e f h = simp e (info-read b (k .identifier) (k .usage) (k .value) (k .info) ks f ∙ rw h)
 
-pub keys-back : KeyLaws → (p : KeysParameter) → keysInRange p ≡ true → p .report ≡ Taken
-    → keysRead (viewOf (array (groupsItems (keysOf (p .value))))) ≡ read (keysGood p)
-keys-back keys p h e = rw (groups-read (keysOf (p .value)), keys .valid-set (p .value) (simp e at h) .1)
+  groups-read : (ks : List Key) → ((k : Key) → List·Memᴰ k ks → Fitting b (k .info)) → groups b (plainsOf (groupsItems ks)) ≡ groupsOf ks
+  unfolding groups
+  groups-read [] f = refl
+  groups-read (k ∷ ks) f =
+      group-read k ks (eqb (k .usage) 0) refl (f k (List·Memᴰ·head refl)) (groups-read ks (λ l m. f l (List·Memᴰ·tail m)))
+
+  pub keys-back : KeyLaws → (p : KeysParameter) → keysInRange p ≡ true → ((k : Key) → List·Memᴰ k (keysOf (p .value)) → Fitting b (k .info))
+      → p .report ≡ Taken → keysReadAs b (viewOf (array (groupsItems (keysOf (p .value))))) ≡ read (keysGood p)
+  keys-back keys p h f e = rw (groups-read (keysOf (p .value)) f, keys .valid-set (p .value) (simp e at h) .1)
 
 pub keys-same : (p : KeysParameter) → keysTaken (keysBack p) ≡ keysTaken p
-keys-same p = same-if keysTaken (keysGood p) (noKeysParameter Absent) (keysOf (p .value)) (p .report) (ap some (take-append-seam (keysOf (p .value)) _)) refl
+keys-same p =
+    same-if keysTaken (keysGood p) (noKeysParameter Absent) (keysOf (p .value)) (p .report) (λ t. ap some (take-append-seam (keysOf (p .value)) _)) refl
+
+-- ---- lists that are kept
+module _ (f : List Plain → Picked) where
+  -- what the array of a list is read as
+  abbrev listAgain : ItemList → ListRead
+  listAgain l = listAnswer (fitting 253 (inArray f (viewOf (array (itemsIn f l)))))
+
+  abbrev pub listGood : ListParameter → ListParameter
+  listGood p = listParameter Taken (listAgain (p .value) .value)
+
+  abbrev pub listBack : ListParameter → ListParameter
+  listBack p = ifTaken (p .report) (listGood p) (noListParameter Absent)
+
+  module _ (law : ListRoundTrip f) (p : ListParameter) (h : p .report ≡ Taken → kept f (p .value) ≡ true) where
+    pub list-back : p .report ≡ Taken → listTaken (listAgain (p .value)) ≡ listGood p
+    list-back e =
+        let (r, a, g, n, s) = law (p .value) (h e) in
+        rw (ap (λ (x : ListRead). x .good) a ∙ g)
+
+    pub list-same : tookList (listBack p) ≡ tookList p
+    list-same =
+        let l = p .value in
+        same-if tookList (listGood p) (noListParameter Absent) (l .count, bytesOf l) (p .report) (λ e.
+        let (r, a, g, n, s) = law l (h e) in
+        let count : listAgain l .value .count ≡ l .count = ap (λ (x : ListRead). x .value .count) a ∙ n in
+        let bytes : bytesOf (listAgain l .value) ≡ bytesOf l = ap (λ (x : ListRead). bytesOf (x .value)) a ∙ s in
+        rw (count, bytes)) refl
+
+-- ---- join rates
+abbrev pub rateGood : RateParameter → RateParameter
+rateGood p = rateParameter Taken (p .value)
+
+abbrev pub rateBack : RateParameter → RateParameter
+rateBack p = ifTaken (p .report) (rateGood p) (noRateParameter Absent)
+
+pub rate-same : (p : RateParameter) → tookRate (rateBack p) ≡ tookRate p
+rate-same p = same-if tookRate (rateGood p) (noRateParameter Absent) (p .value) (p .report) (λ t. refl) refl

@@ -1,4 +1,4 @@
--- FFFE and FFFF are in no configuration that is read, strictly or not, and in none that is written.
+-- FFFE and FFFF are in no configuration that is read, strictly or not, and in none that is written, in either form.
 use mathlib.Core.Path.{_≡_}
 use mathlib.Core.Bool.{Bool}
 use mathlib.Core.List.{List}
@@ -11,6 +11,7 @@ use Rattle.cojp.specs.Configuration.{readConfigurationBy}
 use Rattle.cojp.specs.Writing.{configurationPlan}
 use Rattle.cojp.specs.declared.configuration.Configuration.{Configuration}
 use Rattle.cojp.specs.declared.report.Report.the-variants.{Taken}
+use Rattle.cojp.specs.declared.version.Version.{Version}
 
 -- the configuration holds one of the two
 pub record HoldsReserved (c : Configuration) : Type 0 where
@@ -18,7 +19,7 @@ pub record HoldsReserved (c : Configuration) : Type 0 where
   pub reserved : Reserved (c .address .value .bytes)
 
 pub record ObjectAddresses : Type 0 where
-  pub none-read : (b : Bool) (p : List ℕ) → HoldsReserved (readConfigurationBy (headBy b) p .configuration) → ⊥
-  pub none-written : (c : Configuration) (p : List ℕ) → configurationPlan c ≡ emit p → HoldsReserved c → ⊥
+  pub none-read : (v : Version) (b : Bool) (p : List ℕ) → HoldsReserved (readConfigurationBy v (headBy b) p .configuration) → ⊥
+  pub none-written : (v : Version) (c : Configuration) (p : List ℕ) → configurationPlan v c ≡ emit p → HoldsReserved c → ⊥
   -- the writer answers RANGE to such a configuration, whatever else it holds
-  pub range : (c : Configuration) → HoldsReserved c → configurationPlan c ≡ refuse Range
+  pub range : (v : Version) (c : Configuration) → HoldsReserved c → configurationPlan v c ≡ refuse Range

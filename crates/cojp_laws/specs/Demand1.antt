@@ -16,9 +16,11 @@ use Rattle.cbor.specs.declared.write.Written.the-variants.{Refused}
 use Rattle.cojp.specs.Request.{owing}
 use Rattle.cojp.specs.Writing.{octetsPairs, requestPairs, requestInRange, requestPlan, configurationPairs, configurationInRange, configurationPlan}
 use Rattle.cojp.specs.declared.configuration.Configuration.{Configuration}
+use Rattle.cojp.specs.declared.list.ListParameter.{ListParameter}
 use Rattle.cojp.specs.declared.octets.OctetsParameter.{OctetsParameter}
 use Rattle.cojp.specs.declared.request.JoinRequest.{JoinRequest}
-use Rattle.cojp_octets_write.specs.Plan.{stringInRange, octetsPlan}
+use Rattle.cojp.specs.declared.version.Version.{Version}
+use Rattle.cojp_octets_write.specs.Plan.{stringInRange, octetsPlan, listBytes, listFits, listParameterPlan}
 
 -- the number that is answered to a plan, the destination holding d
 abbrev pub numberSaid : Plan → List ℕ → ℕ
@@ -28,6 +30,10 @@ numberSaid plan d = writtenSays (answer plan d) .0
 abbrev pub noRoom : List ℕ → List ℕ → Bool
 noRoom p d = ltb (length d) (length p)
 
+-- a payload has at most 256 bytes
+abbrev pub tooLong : List ℕ → Bool
+tooLong p = ltb 256 (length p)
+
 pub record Refusing (plan : Plan) (d : List ℕ) (k : Refusal) : Type 0 where
   pub says : writtenSays (answer plan d) ≡ (numberOf k, 0)
   pub holds : after plan d ≡ d
@@ -35,7 +41,7 @@ pub record Refusing (plan : Plan) (d : List ℕ) (k : Refusal) : Type 0 where
 pub record WritersDemand1 : Type 0 where
   -- whatever a writer is asked for
   pub refusing : (plan : Plan) (d : List ℕ) (k : Refusal) → answer plan d ≡ Refused k → Refusing plan d k
-  -- ---- the numbers, in the order of the tests: RANGE 13, OWED 9, ROOM 12
+  -- ---- the numbers, in the order of the tests: RANGE 13, also of an object that would take more than 256 bytes, OWED 9, ROOM 12
   pub head-number :
       (major n : ℕ) (d : List ℕ) →
       numberSaid (headPlan major n) d ≡ inOrder (refusedIf (ltb 7 major) 13 ∷ refusedIf (noRoom (shortest major n) d) 12 ∷ [])
@@ -43,15 +49,24 @@ pub record WritersDemand1 : Type 0 where
       (label : ℕ) (p : OctetsParameter) (d : List ℕ) →
       numberSaid (octetsPlan label p) d
       ≡ inOrder (refusedIf (not (stringInRange label p)) 13 ∷ refusedIf (noRoom (encodePairs (octetsPairs label p)) d) 12 ∷ [])
+  pub list-number :
+      (label : ℕ) (p : ListParameter) (d : List ℕ) →
+      numberSaid (listParameterPlan label p) d
+      ≡ inOrder (refusedIf (not (listFits p)) 13 ∷ refusedIf (noRoom (listBytes label p) d) 12 ∷ [])
   pub request-number :
-      (q : JoinRequest) (d : List ℕ) →
-      numberSaid (requestPlan q) d
+      (v : Version) (q : JoinRequest) (d : List ℕ) →
+      numberSaid (requestPlan v q) d
       ≡ inOrder
-      (refusedIf (not (requestInRange q)) 13
-      ∷ refusedIf (owing (q .role) (q .network .report)) 9
+      (refusedIf (not (requestInRange v q)) 13
+      ∷ refusedIf (tooLong (encode (map (requestPairs q)))) 13
+      ∷ refusedIf (owing v (q .role) (q .network .report)) 9
       ∷ refusedIf (noRoom (encode (map (requestPairs q))) d) 12
       ∷ [])
   pub configuration-number :
-      (c : Configuration) (d : List ℕ) →
-      numberSaid (configurationPlan c) d
-      ≡ inOrder (refusedIf (not (configurationInRange c)) 13 ∷ refusedIf (noRoom (encode (map (configurationPairs c))) d) 12 ∷ [])
+      (v : Version) (c : Configuration) (d : List ℕ) →
+      numberSaid (configurationPlan v c) d
+      ≡ inOrder
+      (refusedIf (not (configurationInRange v c)) 13
+      ∷ refusedIf (tooLong (encode (map (configurationPairs c)))) 13
+      ∷ refusedIf (noRoom (encode (map (configurationPairs c))) d) 12
+      ∷ [])

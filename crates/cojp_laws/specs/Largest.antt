@@ -1,24 +1,35 @@
--- The largest configuration is 232 bytes: none takes more, and one takes as many.
+-- The largest configuration of the draft is 232 bytes: none takes more, and one takes as many. One of the published form is RANGE where it would
+-- take more than 256.
 use Prim.Native.Nat.{ℕ, _≤_}
 use mathlib.Core.Path.{_≡_}
 use mathlib.Core.Bool.{true}
 use mathlib.Core.List.{List, [], _∷_}
 use lib.ListN.{length, replicate}
 use Rattle.cbor.specs.Answer.{emit, answer}
+use Rattle.cbor.specs.Encode.{encode}
+use Rattle.cbor.specs.Item.{map}
 use Rattle.cbor.specs.Written.{writtenSays}
 use Rattle.link_key.specs.Key.{keyOf}
 use Rattle.link_key.specs.declared.Key.{Key}
 use Rattle.cojp.specs.Address.{addressOf, addressParameter}
 use Rattle.cojp.specs.KeySet.{keySetOf, keysParameter}
+use Rattle.cojp.specs.Faults.{noFaults}
+use Rattle.cojp.specs.Lists.{noListParameter}
 use Rattle.cojp.specs.Octets.{octetsOf, octetsParameter}
-use Rattle.cojp.specs.Writing.{configurationPlan}
+use Rattle.cojp.specs.Rate.{noRateParameter}
+use Rattle.cojp.specs.Writing.{configurationPairs, configurationInRange, configurationPlan}
 use Rattle.cojp.specs.declared.configuration.Configuration.{Configuration}
 use Rattle.cojp.specs.declared.octets.OctetsParameter.{OctetsParameter}
-use Rattle.cojp.specs.declared.report.Report.the-variants.{Taken}
+use Rattle.cojp.specs.declared.report.Report.the-variants.{Absent, Taken}
+use Rattle.cojp.specs.declared.version.Version.the-variants.{Draft}
 
--- what is written of a configuration has at most 232 bytes
+-- what is written of a configuration in the draft has at most 232 bytes
 abbrev pub LargestConfiguration : Configuration → Type 0
-LargestConfiguration c = (p : List ℕ) → configurationPlan c ≡ emit p → length p ≤ 232
+LargestConfiguration c = (p : List ℕ) → configurationPlan Draft c ≡ emit p → length p ≤ 232
+
+-- so none within its limits is too long to be written
+abbrev pub DraftWritten : Configuration → Type 0
+DraftWritten c = configurationInRange Draft c ≡ true → configurationPlan Draft c ≡ emit (encode (map (configurationPairs c)))
 
 -- ---- the witness: eight keys, each with an identifier of two bytes and a usage; a lease of nine bytes; three byte strings of sixteen
 abbrev longKey : ℕ → Key
@@ -37,10 +48,13 @@ fullConfiguration = record {
   jrc = longString;
   network = longString;
   prefix = longString;
+  blacklist = noListParameter Absent;
+  rate = noRateParameter Absent;
+  came = noFaults;
   passed = 0;
 }
 
 -- 232 bytes are written where there is room for them, and one byte less has no ROOM (12)
 pub record LargestAttained : Type 0 where
-  pub written : writtenSays (answer (configurationPlan fullConfiguration) (replicate 232 0)) ≡ (0, 232)
-  pub no-less : writtenSays (answer (configurationPlan fullConfiguration) (replicate 231 0)) ≡ (12, 0)
+  pub written : writtenSays (answer (configurationPlan Draft fullConfiguration) (replicate 232 0)) ≡ (0, 232)
+  pub no-less : writtenSays (answer (configurationPlan Draft fullConfiguration) (replicate 231 0)) ≡ (12, 0)

@@ -1,4 +1,5 @@
--- The round trip: what is written, read strictly or not, reads back as the same object, nothing discarded and none passed over.
+-- The round trip, in either form: what is written, read strictly or not, reads back as the same object, nothing discarded, reported or
+-- passed over.
 use Prim.Native.Nat.{ℕ}
 use mathlib.Core.Path.{_≡_}
 use mathlib.Core.List.{List}
@@ -8,6 +9,7 @@ use Rattle.refusal.specs.declared.Verdict.the-variants.{Accepted}
 use Rattle.cbor.specs.Strict.{headBy}
 use Rattle.cbor.specs.Answer.{emit, answer, after}
 use Rattle.cbor.specs.declared.write.Written.the-variants.{Length}
+use Rattle.cojp.specs.Faults.{noFaults}
 use Rattle.cojp.specs.Request.{readRequestBy}
 use Rattle.cojp.specs.Configuration.{readConfigurationBy}
 use Rattle.cojp.specs.Writing.{requestPlan, configurationPlan}
@@ -18,6 +20,7 @@ use Rattle.cojp.specs.declared.report.Report.{Report}
 use Rattle.cojp.specs.declared.report.Report.the-variants.{Discarded}
 use Rattle.cojp.specs.declared.request.JoinRequest.{JoinRequest}
 use Rattle.cojp.specs.declared.request.RequestRead.{RequestRead}
+use Rattle.cojp.specs.declared.version.Version.{Version}
 
 abbrev pub Kept : Report → Type 0
 Kept r = r ≡ Discarded → ⊥
@@ -26,7 +29,9 @@ Kept r = r ≡ Discarded → ⊥
 pub record RequestBack (q : JoinRequest) (r : RequestRead) : Type 0 where
   pub accepted : r .verdict ≡ Accepted
   pub same : SameRequest (r .request) q
-  pub kept : Kept (r .request .network .report)
+  pub network-kept : Kept (r .request .network .report)
+  pub unsupported-kept : Kept (r .request .unsupported .report)
+  pub unreported : r .request .faults ≡ noFaults
   pub passed : r .request .passed ≡ 0
 
 pub record ConfigurationBack (c : Configuration) (r : ConfigurationRead) : Type 0 where
@@ -37,23 +42,26 @@ pub record ConfigurationBack (c : Configuration) (r : ConfigurationRead) : Type 
   pub jrc-kept : Kept (r .configuration .jrc .report)
   pub network-kept : Kept (r .configuration .network .report)
   pub prefix-kept : Kept (r .configuration .prefix .report)
+  pub blacklist-kept : Kept (r .configuration .blacklist .report)
+  pub rate-kept : Kept (r .configuration .rate .report)
   pub passed : r .configuration .passed ≡ 0
 
 -- ---- the bytes of the plan
 abbrev pub RequestRoundTrip : JoinRequest → Type 0
-RequestRoundTrip q = (p : List ℕ) → requestPlan q ≡ emit p → (b : Bool) → RequestBack q (readRequestBy (headBy b) p)
+RequestRoundTrip q =
+    (v : Version) (p : List ℕ) → requestPlan v q ≡ emit p → (b : Bool) → RequestBack q (readRequestBy v (headBy b) p)
 
 abbrev pub ConfigurationRoundTrip : Configuration → Type 0
 ConfigurationRoundTrip c =
-    (p : List ℕ) → configurationPlan c ≡ emit p → (b : Bool) → ConfigurationBack c (readConfigurationBy (headBy b) p)
+    (v : Version) (p : List ℕ) → configurationPlan v c ≡ emit p → (b : Bool) → ConfigurationBack c (readConfigurationBy v (headBy b) p)
 
 -- ---- any destination: where n bytes were written, its first n bytes afterwards
 abbrev pub RequestInPlace : JoinRequest → Type 0
 RequestInPlace q =
-    (d : List ℕ) (n : ℕ) → answer (requestPlan q) d ≡ Length n → (b : Bool) →
-    RequestBack q (readRequestBy (headBy b) (take n (after (requestPlan q) d)))
+    (v : Version) (d : List ℕ) (n : ℕ) → answer (requestPlan v q) d ≡ Length n → (b : Bool) →
+    RequestBack q (readRequestBy v (headBy b) (take n (after (requestPlan v q) d)))
 
 abbrev pub ConfigurationInPlace : Configuration → Type 0
 ConfigurationInPlace c =
-    (d : List ℕ) (n : ℕ) → answer (configurationPlan c) d ≡ Length n → (b : Bool) →
-    ConfigurationBack c (readConfigurationBy (headBy b) (take n (after (configurationPlan c) d)))
+    (v : Version) (d : List ℕ) (n : ℕ) → answer (configurationPlan v c) d ≡ Length n → (b : Bool) →
+    ConfigurationBack c (readConfigurationBy v (headBy b) (take n (after (configurationPlan v c) d)))

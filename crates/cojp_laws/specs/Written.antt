@@ -1,4 +1,5 @@
 -- Document 01's marked examples, written: the objects that its payloads are read as, the numbers and the bytes that the writers answer.
+-- Beside them objects of the published form (docs/RFC9031.md), in both forms where that tells them apart.
 use Prim.Native.Nat.{ℕ}
 use mathlib.Core.Path.{_≡_}
 use mathlib.Core.Bool.{true}
@@ -6,13 +7,23 @@ use mathlib.Core.List.{List, [], _∷_, _++_}
 use lib.ListN.{length, drop, replicate}
 use Rattle.cbor.specs.Answer.{Plan, answer, after}
 use Rattle.cbor.specs.Written.{writtenSays}
+use Rattle.link_key.specs.Key.{informedKey}
+use Rattle.link_key.specs.declared.info.Info.the-variants as info
 use Rattle.cojp.specs.Address.{addressOf, addressParameter, noAddressParameter}
-use Rattle.cojp.specs.Configuration.{emptyConfiguration, withAddress, withPassed}
+use Rattle.cojp.specs.Configuration.{emptyConfiguration, withKeys, withAddress, withPrefix, withBlacklist, withRate, withPassed}
 use Rattle.cojp.specs.Examples.{cafe}
-use Rattle.cojp.specs.Octets.{noOctetsParameter}
+use Rattle.cojp.specs.Faults.{noFaults}
+use Rattle.cojp.specs.KeySet.{keySetOf, keysParameter}
+use Rattle.cojp.specs.Lists.{listParameter, noListParameter}
+use Rattle.cojp.specs.Octets.{noOctetsParameter, padded}
+use Rattle.cojp.specs.Rate.{rateParameter}
 use Rattle.cojp.specs.Writing.{requestPlan, configurationPlan}
+use Rattle.cojp.specs.declared.configuration.Configuration.{Configuration}
+use Rattle.cojp.specs.declared.list.ListParameter.{ListParameter}
 use Rattle.cojp.specs.declared.octets.OctetsParameter.{OctetsParameter}
 use Rattle.cojp.specs.declared.report.Report.the-variants.{Absent, Taken, Discarded}
+use Rattle.cojp.specs.declared.version.Version.{Version}
+use Rattle.cojp.specs.declared.version.Version.the-variants.{Draft, Published}
 
 -- what is asked, how many bytes there are to write to, the number that is answered, and the bytes that are written
 pub record Example : Type 0 where
@@ -31,8 +42,12 @@ abbrev pub AllShown : List Example → Type 0
 AllShown [] = Unit {0}
 AllShown (e ∷ es) = Shown e × AllShown es
 
+abbrev reporting : Version → ℕ → OctetsParameter → ListParameter → Plan
+reporting v role network unsupported =
+    requestPlan v (record { role = role; network = network; unsupported = unsupported; faults = noFaults; passed = 0 })
+
 abbrev asking : ℕ → OctetsParameter → Plan
-asking role network = requestPlan (record { role = role; network = network; passed = 0 })
+asking role network = reporting Draft role network (noListParameter Absent)
 
 abbrev writes : Plan → List ℕ → Example
 writes plan payload = record { plan = plan; room = 16; number = 0; payload = payload }
@@ -51,12 +66,47 @@ writtenExamples =
     ∷ refuses (asking 0 none) 16 9  -- M3
     ∷ writes (asking 1 none) (0xA1 ∷ 0x01 ∷ 0x01 ∷ [])  -- M4
     ∷ refuses (asking 2 none) 16 13  -- M5
-    ∷ writes (configurationPlan emptyConfiguration) (0xA0 ∷ [])  -- M7
-    ∷ writes (configurationPlan (withAddress emptyConfiguration (addressParameter Taken (addressOf (0x12 ∷ 0x34 ∷ []) true 3600))))
+    ∷ writes (configurationPlan Draft emptyConfiguration) (0xA0 ∷ [])  -- M7
+    ∷ writes (configurationPlan Draft (withAddress emptyConfiguration (addressParameter Taken (addressOf (0x12 ∷ 0x34 ∷ []) true 3600))))
     (0xA1 ∷ 0x03 ∷ 0x82 ∷ 0x42 ∷ 0x12 ∷ 0x34 ∷ 0x19 ∷ 0x0E ∷ 0x10 ∷ [])  -- M8
-    ∷ writes (configurationPlan (withAddress emptyConfiguration (noAddressParameter Discarded))) (0xA0 ∷ [])  -- M9
-    ∷ writes (configurationPlan (withPassed emptyConfiguration 1)) (0xA0 ∷ [])  -- M12
+    ∷ writes (configurationPlan Draft (withAddress emptyConfiguration (noAddressParameter Discarded))) (0xA0 ∷ [])  -- M9
+    ∷ writes (configurationPlan Draft (withPassed emptyConfiguration 1)) (0xA0 ∷ [])  -- M12
+    ∷ []
+
+-- ---- objects of the published form
+-- a list of so many members, in these bytes
+abbrev listed : ℕ → List ℕ → ListParameter
+listed n s = listParameter Taken (record { count = n; len = length s; bytes = padded 253 s })
+
+-- join rate 5; a blacklist; a key with additional information; two reports
+abbrev rated : Configuration
+rated = withRate emptyConfiguration (rateParameter Taken 5)
+
+abbrev blacklisting : ListParameter → Configuration
+blacklisting l = withBlacklist emptyConfiguration l
+
+abbrev sourced : Configuration
+sourced =
+    withKeys emptyConfiguration (keysParameter Taken (keySetOf (informedKey 1 0 (replicate 16 0x50) (info.Four 0xD0 0xD1 0xD2 0xD3) ∷ [])))
+
+abbrev reports : ListParameter
+reports = listed 3 (0x01 ∷ 0x06 ∷ 0xF6 ∷ [])
+
+abbrev pub publishedExamples : List Example
+publishedExamples =
+    writes (configurationPlan Published rated) (0xA1 ∷ 0x07 ∷ 0x05 ∷ [])
+    ∷ refuses (configurationPlan Draft rated) 16 13
+    ∷ writes (configurationPlan Published (blacklisting (listed 1 (0x42 ∷ 0xCA ∷ 0xFE ∷ [])))) (0xA1 ∷ 0x06 ∷ 0x81 ∷ 0x42 ∷ 0xCA ∷ 0xFE ∷ [])
+    ∷ writes (configurationPlan Published (blacklisting (listed 0 []))) (0xA1 ∷ 0x06 ∷ 0x80 ∷ [])
+    ∷ refuses (configurationPlan Published (blacklisting (listed 2 (0x42 ∷ 0xCA ∷ 0xFE ∷ [])))) 16 13
+    ∷ refuses (configurationPlan Published (withPrefix emptyConfiguration cafe)) 16 13
+    ∷ refuses (configurationPlan Published sourced) 16 12
+    ∷ refuses (configurationPlan Draft sourced) 16 13
+    ∷ refuses (reporting Published 1 none (noListParameter Absent)) 16 9
+    ∷ writes (reporting Published 1 cafe reports) (0xA3 ∷ 0x01 ∷ 0x01 ∷ 0x05 ∷ 0x42 ∷ 0xCA ∷ 0xFE ∷ 0x08 ∷ 0x83 ∷ 0x01 ∷ 0x06 ∷ 0xF6 ∷ [])
+    ∷ refuses (reporting Published 0 cafe (listed 0 [])) 16 13
+    ∷ refuses (reporting Draft 0 cafe reports) 16 13
     ∷ []
 
 abbrev pub WrittenExamples : Type 0
-WrittenExamples = AllShown writtenExamples
+WrittenExamples = AllShown writtenExamples × AllShown publishedExamples

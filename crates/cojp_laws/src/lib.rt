@@ -5,6 +5,7 @@ pub mod round_trip;
 pub mod writers;
 
 pub use addresses::addresses_alone;
+pub use largest::draft_written;
 pub use largest::largest_attained;
 pub use largest::largest_configuration;
 pub use round_trip::configuration_in_place;

@@ -3,20 +3,22 @@ use cojp::Configuration;
 use cojp::JoinRequest;
 ghost use Rattle.cojp_laws.specs.RoundTrip.{RequestRoundTrip, ConfigurationRoundTrip, RequestInPlace, ConfigurationInPlace};
 
-// What is written of a join request reads back as the same request, read strictly or not.
+// What is written of a join request in either form reads back as the same request, read strictly or not.
 pub fn request_round_trip(q: JoinRequest)
     ensures { λ r. ⌜ RequestRoundTrip q ⌝ }
 {
     cbor::laws();
     cbor::head_laws();
+    cojp_list_read::laws();
 }
 
-// What is written of a configuration reads back as the same configuration, read strictly or not.
+// What is written of a configuration in either form reads back as the same configuration, read strictly or not.
 pub fn configuration_round_trip(c: Configuration)
     ensures { λ r. ⌜ ConfigurationRoundTrip c ⌝ }
 {
     cbor::laws();
     cbor::head_laws();
+    cojp_list_read::laws();
     link_key_set::laws();
 }
 

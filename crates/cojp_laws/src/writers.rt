@@ -7,7 +7,7 @@ pub fn writers_demand1()
     ensures { λ r. ⌜ WritersDemand1 ⌝ }
 {}
 
-// Document 01's marked examples hold of the definitions, written.
+// Document 01's marked examples, and objects of the published form, hold of the definitions, written.
 pub fn written_examples()
     ensures { λ r. ⌜ WrittenExamples ⌝ }
 {}

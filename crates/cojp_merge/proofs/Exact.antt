@@ -15,9 +15,10 @@ use Rattle.link_key_set.specs.KeySet.{keysOf, validKeys}
 use Rattle.link_key.specs.declared.Key.{Key}
 use Rattle.cojp.specs.Address.{addressIn, addressOf, addressConcluded, addressRead}
 use Rattle.cojp.specs.Configuration.{emptyConfiguration, withKeys, withAddress, withJrc, withNetwork, withPrefix, withPassed}
-use Rattle.cojp.specs.Configuration.{configurationTaking, configurationForm, configurationAnswer, readConfiguration}
+use Rattle.cojp.specs.Configuration.{takingFor, noted, configurationTaking, configurationForm, configurationAnswer, readConfiguration}
 use Rattle.cojp.specs.KeySet.{Groups, notGroups, groupsOf, groups, keysIn, keySetOf, keysConcluded, keysRead}
 use Rattle.cojp.specs.Octets.{bytesIn, octetsOf, octetsJudged, octetsParameter, noOctetsParameter, octetsRead, padded}
+use Rattle.cojp.specs.Parameter.{parameterOf, laterParameter}
 use Rattle.cojp.specs.Reading.{Reading, refused, read, put, unfit, good, concluded, ifTaken}
 use Rattle.cojp.specs.Same.{leaseOf, SameConfiguration}
 use Rattle.cojp.specs.Walk.{payloadRead}
@@ -26,8 +27,11 @@ use Rattle.cojp.specs.declared.address.ShortAddress.{ShortAddress}
 use Rattle.cojp.specs.declared.configuration.Configuration.{Configuration}
 use Rattle.cojp.specs.declared.key_set.KeysParameter.{KeysParameter}
 use Rattle.cojp.specs.declared.octets.OctetsParameter.{OctetsParameter}
+use Rattle.cojp.specs.declared.parameter.Parameter.{Parameter}
+use Rattle.cojp.specs.declared.parameter.Parameter.the-variants as name
 use Rattle.cojp.specs.declared.report.Report.{Report}
 use Rattle.cojp.specs.declared.report.Report.the-variants.{Absent, Taken, Discarded}
+use Rattle.cojp.specs.declared.version.Version.the-variants.{Draft}
 use Rattle.cojp.proofs.Walks.{Gives, payload-gives}
 use Rattle.cojp_merge.specs.Laws.{TakesEqual, ReadsExactly}
 use Rattle.cojp_merge.specs.Merge.{merged}
@@ -53,11 +57,13 @@ record Told (c : Configuration) : Type 0 where
   jrc : OctetsTold (c .jrc)
   network : OctetsTold (c .network)
   prefix : OctetsTold (c .prefix)
+  blacklist : c .blacklist .report ≡ Absent
+  rate : c .rate .report ≡ Absent
 
 -- ---- what a reader makes of a value
 keys-told : (v : View) → Gives SetTold (keysRead v)
 keys-told (plain p) = tt
-keys-told (list ps) = by-groups (groups ps)
+keys-told (list ps) = by-groups (groups false ps)
   where
     by-limits : (b : Bool) (ks : List Key) → Gives SetTold (keysConcluded (cond b (good (keySetOf ks)) unfit))
     by-limits true ks = ap keySetOf (sym (take-at ks (replicate (8 - length ks) noKey) (length ks) refl))
@@ -107,40 +113,117 @@ put-told : {A : Type 0} (P : A → Type 0) (f : A → Configuration) (r : Readin
 put-told P f (refused k) g h = tt
 put-told P f (read a) g h = h a g
 
+-- the parameters of the draft
+abbrev Drafts : Parameter → Type 0
+Drafts name.Keys = Unit {0}
+Drafts name.Address = Unit {0}
+Drafts name.Jrc = Unit {0}
+Drafts name.Network = Unit {0}
+Drafts name.Prefix = Unit {0}
+Drafts name.Blacklist = ⊥
+Drafts name.Rate = ⊥
+Drafts name.Unknown = Unit {0}
+
+drafts : (n : ℕ) → Drafts (parameterOf Draft n)
+unfolding parameterOf laterParameter
+drafts n = go (eqb n 2) (eqb n 3) (eqb n 4) (eqb n 5) (eqb n 6)
+  where
+    go : (a b c d e : Bool)
+        → Drafts (cond a name.Keys (cond b name.Address (cond c name.Jrc (cond d name.Network (cond e name.Prefix name.Unknown)))))
+    go true b c d e = tt
+    go false true c d e = tt
+    go false false true d e = tt
+    go false false false true e = tt
+    go false false false false true = tt
+    go false false false false false = tt
+
 module _ (c : Configuration) (h : Told c) where
   passing-told : (m : ℕ) → Told (withPassed c m)
-  passing-told m = record { keys = h .keys; address = h .address; jrc = h .jrc; network = h .network; prefix = h .prefix }
+  passing-told m = record {
+    keys = h .keys;
+    address = h .address;
+    jrc = h .jrc;
+    network = h .network;
+    prefix = h .prefix;
+    blacklist = h .blacklist;
+    rate = h .rate;
+  }
 
-  either-told : (b : Bool) (x y : Reading Configuration) → Gives Told x → Gives Told y → Gives Told (cond b x y)
-  either-told true x y p q = p
-  either-told false x y p q = q
+  parameter-told : (p : Parameter) → Drafts p → (v : View) → Gives Told (takingFor Draft c p v)
+  parameter-told name.Keys d v = put-told SetTold (withKeys c) (keysRead v) (keys-told v) (λ p e. record {
+    keys = e;
+    address = h .address;
+    jrc = h .jrc;
+    network = h .network;
+    prefix = h .prefix;
+    blacklist = h .blacklist;
+    rate = h .rate;
+  })
+  parameter-told name.Address d v = put-told AddressTold (withAddress c) (addressRead v) (address-told v) (λ p e. record {
+    keys = h .keys;
+    address = e;
+    jrc = h .jrc;
+    network = h .network;
+    prefix = h .prefix;
+    blacklist = h .blacklist;
+    rate = h .rate;
+  })
+  parameter-told name.Jrc d v = put-told OctetsTold (withJrc c) (octetsRead 16 v) (octets-told 16 v) (λ p e. record {
+    keys = h .keys;
+    address = h .address;
+    jrc = e;
+    network = h .network;
+    prefix = h .prefix;
+    blacklist = h .blacklist;
+    rate = h .rate;
+  })
+  parameter-told name.Network d v = put-told OctetsTold (withNetwork c) (octetsRead 0 v) (octets-told 0 v) (λ p e. record {
+    keys = h .keys;
+    address = h .address;
+    jrc = h .jrc;
+    network = e;
+    prefix = h .prefix;
+    blacklist = h .blacklist;
+    rate = h .rate;
+  })
+  parameter-told name.Prefix d v = put-told OctetsTold (withPrefix c) (octetsRead 0 v) (octets-told 0 v) (λ p e. record {
+    keys = h .keys;
+    address = h .address;
+    jrc = h .jrc;
+    network = h .network;
+    prefix = e;
+    blacklist = h .blacklist;
+    rate = h .rate;
+  })
+  parameter-told name.Blacklist d v = absurd d
+  parameter-told name.Rate d v = absurd d
+  parameter-told name.Unknown d v = h
 
-  taking-told : (n : ℕ) (v : View) → Gives Told (configurationTaking c n v)
-  unfolding configurationTaking
-  taking-told n v =
-      either-told (eqb n 2) _ _
-      (put-told SetTold (withKeys c) (keysRead v) (keys-told v)
-      (λ p e. record { keys = e; address = h .address; jrc = h .jrc; network = h .network; prefix = h .prefix }))
-      (either-told (eqb n 3) _ _
-      (put-told AddressTold (withAddress c) (addressRead v) (address-told v)
-      (λ p e. record { keys = h .keys; address = e; jrc = h .jrc; network = h .network; prefix = h .prefix }))
-      (either-told (eqb n 4) _ _
-      (put-told OctetsTold (withJrc c) (octetsRead 16 v) (octets-told 16 v)
-      (λ p e. record { keys = h .keys; address = h .address; jrc = e; network = h .network; prefix = h .prefix }))
-      (either-told (eqb n 5) _ _
-      (put-told OctetsTold (withNetwork c) (octetsRead 0 v) (octets-told 0 v)
-      (λ p e. record { keys = h .keys; address = h .address; jrc = h .jrc; network = e; prefix = h .prefix }))
-      (put-told OctetsTold (withPrefix c) (octetsRead 0 v) (octets-told 0 v)
-      (λ p e. record { keys = h .keys; address = h .address; jrc = h .jrc; network = h .network; prefix = e })))))
+-- what is noted of a label is no parameter
+noted-told : (n : ℕ) (c : Configuration) → Told c → Told (noted Draft n c)
+noted-told n c h = record {
+  keys = h .keys;
+  address = h .address;
+  jrc = h .jrc;
+  network = h .network;
+  prefix = h .prefix;
+  blacklist = h .blacklist;
+  rate = h .rate;
+}
+
+taking-told : (c : Configuration) → Told c → (n : ℕ) (v : View) → Gives Told (configurationTaking Draft c n v)
+unfolding configurationTaking
+taking-told c h n v =
+    put-told Told (noted Draft n) (takingFor Draft c (parameterOf Draft n) v) (parameter-told c h (parameterOf Draft n) (drafts n) v) (noted-told n)
 
 empty-told : Told emptyConfiguration
 unfolding leased padded
-empty-told = record { keys = refl; address = refl; jrc = refl; network = refl; prefix = refl }
+empty-told = record { keys = refl; address = refl; jrc = refl; network = refl; prefix = refl; blacklist = refl; rate = refl }
 
 read-told : (p : List ℕ) → Told (readConfiguration p .configuration)
 read-told p =
-    go (payloadRead configurationForm emptyConfiguration p)
-    (payload-gives configurationForm Told (λ c h. passing-told c h (c .passed + 1)) taking-told heading emptyConfiguration empty-told p)
+    go (payloadRead (configurationForm Draft) emptyConfiguration p)
+    (payload-gives (configurationForm Draft) Told (λ c h. passing-told c h (c .passed + 1)) (λ c h n fresh. taking-told c h n) heading emptyConfiguration empty-told p)
   where
     go : (r : Reading Configuration) → Gives Told r → Told (configurationAnswer r .configuration)
     go (refused k) h = empty-told
@@ -153,6 +236,8 @@ merged-told a b x y = record {
   jrc = of-both OctetsTold (a .jrc) (b .jrc) (b .jrc .report) (x .jrc) (y .jrc);
   network = of-both OctetsTold (a .network) (b .network) (b .network .report) (x .network) (y .network);
   prefix = of-both OctetsTold (a .prefix) (b .prefix) (b .prefix .report) (x .prefix) (y .prefix);
+  blacklist = refl;
+  rate = refl;
 }
 
 -- ---- two that mean the same are equal where they are taken
@@ -182,6 +267,9 @@ octets-equal : (p q : OctetsParameter) → OctetsTold p → OctetsTold q
     → ifTaken (p .report) (some (p .value)) none ≡ ifTaken (q .report) (some (q .value)) none
 octets-equal p q e f g = equal bytesIn octetsOf (p .value) (q .value) (p .report) (q .report) e f g
 
+both-absent : {A : Type 0} (x y : A) {r s : Report} → r ≡ Absent → s ≡ Absent → ifTaken r (some x) none ≡ ifTaken s (some y) none
+both-absent x y e f = rw (e, f)
+
 exactly : (c d : Configuration) → Told c → Told d → SameConfiguration c d → TakesEqual c d
 exactly c d x y same = record {
   keys = equal keysOf keySetOf (c .keys .value) (d .keys .value) (c .keys .report) (d .keys .report) (x .keys) (y .keys) (same .keys);
@@ -191,6 +279,8 @@ exactly c d x y same = record {
   jrc = octets-equal (c .jrc) (d .jrc) (x .jrc) (y .jrc) (same .jrc);
   network = octets-equal (c .network) (d .network) (x .network) (y .network) (same .network);
   prefix = octets-equal (c .prefix) (d .prefix) (x .prefix) (y .prefix) (same .prefix);
+  blacklist = both-absent (c .blacklist .value) (d .blacklist .value) (x .blacklist) (y .blacklist);
+  rate = both-absent (c .rate .value) (d .rate .value) (x .rate) (y .rate);
 }
 
 pub reads-exactly : ReadsExactly

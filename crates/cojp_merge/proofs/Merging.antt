@@ -8,16 +8,22 @@ use Rattle.refusal.specs.declared.Refusal.{Refusal}
 use Rattle.refusal.specs.declared.Verdict.the-variants.{Accepted, Refused}
 use Rattle.cojp.specs.Configuration.{emptyConfiguration}
 use Rattle.link_key_set.specs.KeySet.{keysOf}
+use Rattle.cojp.specs.Faults.{noFaults}
+use Rattle.cojp.specs.Lists.{noListParameter, bytesIn as listBytes}
 use Rattle.cojp.specs.Octets.{bytesIn, noOctetsParameter}
+use Rattle.cojp.specs.Rate.{noRateParameter}
 use Rattle.cojp.specs.Reading.{ifTaken}
 use Rattle.cojp.specs.Same.{leaseOf, octetsTaken, SameConfiguration}
-use Rattle.cojp.specs.Writing.{keysInRange, addressInRange, jrcInRange, octetsInRange, configurationInRange}
+use Rattle.cojp.specs.Writing.{keysInRange, addressInRange, jrcInRange, octetsInRange, keysPlain, missing, ofForm, configurationInRange}
 use Rattle.cojp.specs.declared.address.AddressParameter.{AddressParameter}
 use Rattle.cojp.specs.declared.configuration.Configuration.{Configuration}
 use Rattle.cojp.specs.declared.key_set.KeysParameter.{KeysParameter}
 use Rattle.cojp.specs.declared.octets.OctetsParameter.{OctetsParameter}
 use Rattle.cojp.specs.declared.report.Report.{Report}
 use Rattle.cojp.specs.declared.report.Report.the-variants.{Absent, Taken, Discarded}
+use Rattle.cojp.specs.declared.version.Version.the-variants.{Draft}
+use Rattle.cojp_octets_write.proofs.Limits.{configuration-fits}
+use Rattle.logic_facts.specs.Tests.{both-left, both-right}
 use Rattle.cojp_merge.specs.Laws.{Associative, NeutralFirst, NeutralSecond, StaysInRange, RefusedEmpty}
 use Rattle.cojp_merge.specs.Merge.{merged, mergeAnswer, outsideLimits}
 use Rattle.cojp_merge.specs.declared.Merged.{Merged}
@@ -43,10 +49,22 @@ of-both P x y Absent p q = p
 of-both P x y Taken p q = q
 of-both P x y Discarded p q = p
 
--- ---- five parameters
+-- ---- the draft's five parameters
+abbrev of-five : KeysParameter → AddressParameter → OctetsParameter → OctetsParameter → OctetsParameter → Configuration
+of-five keys address jrc network prefix = record {
+  keys = keys;
+  address = address;
+  jrc = jrc;
+  network = network;
+  prefix = prefix;
+  blacklist = noListParameter Absent;
+  rate = noRateParameter Absent;
+  came = noFaults;
+  passed = 0;
+}
+
 from-five : {k l : KeysParameter} {a b : AddressParameter} {j i n m p q : OctetsParameter} → k ≡ l → a ≡ b → j ≡ i → n ≡ m → p ≡ q
-    → _≡_ {A = Configuration} (record { keys = k; address = a; jrc = j; network = n; prefix = p; passed = 0 })
-    (record { keys = l; address = b; jrc = i; network = m; prefix = q; passed = 0 })
+    → of-five k a j n p ≡ of-five l b i m q
 from-five e f g h o = rw (e, f, g, h, o)
 
 brackets : (a b c : Configuration) → merged (merged a b) c ≡ merged a (merged b c)
@@ -58,28 +76,43 @@ brackets a b c =
     (bracket (λ (x : OctetsParameter). x .report) (a .network) (b .network) (c .network) (c .network .report) refl)
     (bracket (λ (x : OctetsParameter). x .report) (a .prefix) (b .prefix) (c .prefix) (c .prefix .report) refl)
 
-all-five : (k a j n p : Bool) → (k && a && j && n && p) ≡ true → (k ≡ true) × (a ≡ true) × (j ≡ true) × (n ≡ true) × (p ≡ true)
-all-five false a j n p e = absurd (let z : _≡_ {A = ℕ} 0 1 = cc in omega arith)
-all-five true false j n p e = absurd (let z : _≡_ {A = ℕ} 0 1 = cc in omega arith)
-all-five true true false n p e = absurd (let z : _≡_ {A = ℕ} 0 1 = cc in omega arith)
-all-five true true true false p e = absurd (let z : _≡_ {A = ℕ} 0 1 = cc in omega arith)
-all-five true true true true false e = absurd (let z : _≡_ {A = ℕ} 0 1 = cc in omega arith)
-all-five true true true true true e = (refl, refl, refl, refl, refl)
+-- what else the draft asks: plain keys, no blacklist, no join rate
+record Drafted (c : Configuration) : Type 0 where
+  keys : keysPlain (c .keys) ≡ true
+  blacklist : missing (c .blacklist .report) ≡ true
+  rate : missing (c .rate .report) ≡ true
 
-merged-in-range : (a b : Configuration) → configurationInRange a ≡ true → configurationInRange b ≡ true → configurationInRange (merged a b) ≡ true
-unfolding configurationInRange
+drafted : (c : Configuration) → ofForm Draft c ≡ true → Drafted c
+unfolding ofForm
+drafted c e =
+    let k = keysPlain (c .keys) in
+    let b = missing (c .blacklist .report) in
+    let r = missing (c .rate .report) in
+    let f = both-left (k && b) r e in
+    record { keys = both-left k b f; blacklist = both-right k b f; rate = both-right (k && b) r e }
+
+merged-in-range : (a b : Configuration) → configurationInRange Draft a ≡ true → configurationInRange Draft b ≡ true
+    → configurationInRange Draft (merged a b) ≡ true
+unfolding configurationInRange ofForm
 merged-in-range a b e f =
-    let x = all-five (keysInRange (a .keys)) (addressInRange (a .address)) (jrcInRange (a .jrc)) (octetsInRange (a .network)) (octetsInRange (a .prefix)) e in
-    let y = all-five (keysInRange (b .keys)) (addressInRange (b .address)) (jrcInRange (b .jrc)) (octetsInRange (b .network)) (octetsInRange (b .prefix)) f in
-    let k = of-both (λ (p : KeysParameter). keysInRange p ≡ true) (a .keys) (b .keys) (b .keys .report) (x .0) (y .0) in
-    let l = of-both (λ (p : AddressParameter). addressInRange p ≡ true) (a .address) (b .address) (b .address .report) (x .1) (y .1) in
-    let j = of-both (λ (p : OctetsParameter). jrcInRange p ≡ true) (a .jrc) (b .jrc) (b .jrc .report) (x .2) (y .2) in
-    let n = of-both (λ (p : OctetsParameter). octetsInRange p ≡ true) (a .network) (b .network) (b .network .report) (x .3) (y .3) in
-    let p = of-both (λ (q : OctetsParameter). octetsInRange q ≡ true) (a .prefix) (b .prefix) (b .prefix .report) (x .4) (y .4) in
-    five k l j n p
+    let x = configuration-fits Draft a e in
+    let y = configuration-fits Draft b f in
+    let k = of-both (λ (p : KeysParameter). keysInRange p ≡ true) (a .keys) (b .keys) (b .keys .report) (x .keys) (y .keys) in
+    let l = of-both (λ (p : AddressParameter). addressInRange p ≡ true) (a .address) (b .address) (b .address .report) (x .address) (y .address) in
+    let j = of-both (λ (p : OctetsParameter). jrcInRange p ≡ true) (a .jrc) (b .jrc) (b .jrc .report) (x .jrc) (y .jrc) in
+    let n = of-both (λ (p : OctetsParameter). octetsInRange p ≡ true) (a .network) (b .network) (b .network .report) (x .network) (y .network) in
+    let p = of-both (λ (q : OctetsParameter). octetsInRange q ≡ true) (a .prefix) (b .prefix) (b .prefix .report) (x .prefix) (y .prefix) in
+    let o = of-both (λ (q : KeysParameter). keysPlain q ≡ true) (a .keys) (b .keys) (b .keys .report) (drafted a (x .form) .keys) (drafted b (y .form) .keys) in
+    six k l j n p o
   where
-    five : {k l j n p : Bool} → k ≡ true → l ≡ true → j ≡ true → n ≡ true → p ≡ true → (k && l && j && n && p) ≡ true
-    five e f g h o = rw (e, f, g, h, o)
+    six : {k l j n p o : Bool} → k ≡ true → l ≡ true → j ≡ true → n ≡ true → p ≡ true → o ≡ true → (k && l && j && n && p && (o && true && true)) ≡ true
+    six e f g h i o = rw (e, f, g, h, i, o)
+
+-- what is missing is seen as none
+none-seen : {A : Type 0} (x : A) (r : Report) → missing r ≡ true → none ≡ ifTaken r (some x) none
+none-seen x Absent e = refl
+none-seen x Taken e = absurd (let z : _≡_ {A = ℕ} 0 1 = cc in omega arith)
+none-seen x Discarded e = refl
 
 -- ---- the answer
 both-true : (a b : Bool) → (a && b) ≡ true → (a ≡ true) × (b ≡ true)
@@ -89,15 +122,15 @@ both-true true b e = (refl, e)
 abbrev pub answered : Configuration → Merged
 answered c = record { verdict = Accepted; configuration = c }
 
-pub merge-answered : (a b : Configuration) → configurationInRange a ≡ true → configurationInRange b ≡ true → answered (merged a b) ≡ mergeAnswer a b
+pub merge-answered : (a b : Configuration) → configurationInRange Draft a ≡ true → configurationInRange Draft b ≡ true → answered (merged a b) ≡ mergeAnswer a b
 unfolding mergeAnswer
 merge-answered a b e f = rw (e, f)
 
-pub merge-first-outside : (a b : Configuration) → configurationInRange a ≡ false → outsideLimits ≡ mergeAnswer a b
+pub merge-first-outside : (a b : Configuration) → configurationInRange Draft a ≡ false → outsideLimits ≡ mergeAnswer a b
 unfolding mergeAnswer
 merge-first-outside a b e = rw e
 
-pub merge-second-outside : (a b : Configuration) → configurationInRange a ≡ true → configurationInRange b ≡ false → outsideLimits ≡ mergeAnswer a b
+pub merge-second-outside : (a b : Configuration) → configurationInRange Draft a ≡ true → configurationInRange Draft b ≡ false → outsideLimits ≡ mergeAnswer a b
 unfolding mergeAnswer
 merge-second-outside a b e f = rw (e, f)
 
@@ -105,11 +138,11 @@ accepted-test : (t : Bool) (c : Configuration) → cond t (answered c) outsideLi
 accepted-test true c e = refl
 accepted-test false c e = absurd (let z : _≡_ {A = ℕ} 0 1 = cc in omega arith)
 
-accepted-in-range : (a b : Configuration) → mergeAnswer a b .verdict ≡ Accepted → (configurationInRange a ≡ true) × (configurationInRange b ≡ true)
+accepted-in-range : (a b : Configuration) → mergeAnswer a b .verdict ≡ Accepted → (configurationInRange Draft a ≡ true) × (configurationInRange Draft b ≡ true)
 unfolding mergeAnswer
 accepted-in-range a b e =
-    both-true (configurationInRange a) (configurationInRange b)
-    (accepted-test (configurationInRange a && configurationInRange b) (merged a b) e)
+    both-true (configurationInRange Draft a) (configurationInRange Draft b)
+    (accepted-test (configurationInRange Draft a && configurationInRange Draft b) (merged a b) e)
 
 accepted-is : (a b : Configuration) → mergeAnswer a b .verdict ≡ Accepted → mergeAnswer a b .configuration ≡ merged a b
 accepted-is a b e =
@@ -126,10 +159,11 @@ associative a b c e f =
     ∙ merge-answered a (merged b c) (r .0) (merged-in-range b c (s .0) (s .1)))
 
 pub neutral-first : NeutralFirst
-neutral-first c e = rw (accepted-is emptyConfiguration c e) same
+neutral-first c e =
+    rw (accepted-is emptyConfiguration c e) (same (drafted c (configuration-fits Draft c (accepted-in-range emptyConfiguration c e .1) .form)))
   where
-    same : SameConfiguration (merged emptyConfiguration c) c
-    same = record {
+    same : Drafted c → SameConfiguration (merged emptyConfiguration c) c
+    same d = record {
       keys = seen-after (λ (x : KeysParameter). x .report) (λ (x : KeysParameter). keysOf (x .value)) (emptyConfiguration .keys) (c .keys) (c .keys .report) refl refl;
       address =
           seen-after (λ (x : AddressParameter). x .report) (λ (x : AddressParameter). (x .value .bytes, leaseOf (x .value)))
@@ -137,13 +171,25 @@ neutral-first c e = rw (accepted-is emptyConfiguration c e) same
       jrc = octets (c .jrc);
       network = octets (c .network);
       prefix = octets (c .prefix);
+      blacklist = none-seen (c .blacklist .value .count, listBytes (c .blacklist .value)) (c .blacklist .report) (d .blacklist);
+      rate = none-seen (c .rate .value) (c .rate .report) (d .rate);
     }
       where
         octets : (p : OctetsParameter) → octetsTaken (ifTaken (p .report) p (noOctetsParameter Absent)) ≡ octetsTaken p
         octets p = seen-after (λ (x : OctetsParameter). x .report) (λ (x : OctetsParameter). bytesIn (x .value)) (noOctetsParameter Absent) p (p .report) refl refl
 
 pub neutral-second : NeutralSecond
-neutral-second c e = rw (accepted-is c emptyConfiguration e) (record { keys = refl; address = refl; jrc = refl; network = refl; prefix = refl })
+neutral-second c e =
+    let d = drafted c (configuration-fits Draft c (accepted-in-range c emptyConfiguration e .0) .form) in
+    rw (accepted-is c emptyConfiguration e) (record {
+      keys = refl;
+      address = refl;
+      jrc = refl;
+      network = refl;
+      prefix = refl;
+      blacklist = none-seen (c .blacklist .value .count, listBytes (c .blacklist .value)) (c .blacklist .report) (d .blacklist);
+      rate = none-seen (c .rate .value) (c .rate .report) (d .rate);
+    })
 
 pub in-range : StaysInRange
 in-range a b e f =
@@ -157,4 +203,4 @@ refused-test false c k e = refl
 
 pub refused : RefusedEmpty
 unfolding mergeAnswer
-refused a b k e = refused-test (configurationInRange a && configurationInRange b) (merged a b) k e
+refused a b k e = refused-test (configurationInRange Draft a && configurationInRange Draft b) (merged a b) k e

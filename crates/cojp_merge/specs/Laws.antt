@@ -11,6 +11,7 @@ use Rattle.cojp.specs.Reading.{ifTaken}
 use Rattle.cojp.specs.Same.{SameConfiguration}
 use Rattle.cojp.specs.Writing.{configurationInRange}
 use Rattle.cojp.specs.declared.configuration.Configuration.{Configuration}
+use Rattle.cojp.specs.declared.version.Version.the-variants.{Draft}
 use Rattle.cojp_merge.specs.Merge.{merged, mergeAnswer}
 
 -- ---- three configurations come to the same in either bracket, reports included
@@ -33,8 +34,8 @@ NeutralSecond =
 -- ---- whoever merges two that are within their limits gets one that is, so it can be written or merged again; a refusal comes with the empty one
 abbrev pub StaysInRange : Type 0
 StaysInRange =
-    (a b : Configuration) → configurationInRange a ≡ true → configurationInRange b ≡ true →
-    (mergeAnswer a b .verdict ≡ Accepted) × (configurationInRange (mergeAnswer a b .configuration) ≡ true)
+    (a b : Configuration) → configurationInRange Draft a ≡ true → configurationInRange Draft b ≡ true →
+    (mergeAnswer a b .verdict ≡ Accepted) × (configurationInRange Draft (mergeAnswer a b .configuration) ≡ true)
 
 abbrev pub RefusedEmpty : Type 0
 RefusedEmpty = (a b : Configuration) (k : Refusal) → mergeAnswer a b .verdict ≡ Refused k → mergeAnswer a b .configuration ≡ emptyConfiguration
@@ -46,6 +47,8 @@ pub record TakesEqual (c d : Configuration) : Type 0 where
   pub jrc : ifTaken (c .jrc .report) (some (c .jrc .value)) none ≡ ifTaken (d .jrc .report) (some (d .jrc .value)) none
   pub network : ifTaken (c .network .report) (some (c .network .value)) none ≡ ifTaken (d .network .report) (some (d .network .value)) none
   pub prefix : ifTaken (c .prefix .report) (some (c .prefix .value)) none ≡ ifTaken (d .prefix .report) (some (d .prefix .value)) none
+  pub blacklist : ifTaken (c .blacklist .report) (some (c .blacklist .value)) none ≡ ifTaken (d .blacklist .report) (some (d .blacklist .value)) none
+  pub rate : ifTaken (c .rate .report) (some (c .rate .value)) none ≡ ifTaken (d .rate .report) (some (d .rate .value)) none
 
 -- ---- readings leave nothing in those places: a payload w that says what two others say, merged, reads as exactly that
 abbrev pub ReadsExactly : Type 0

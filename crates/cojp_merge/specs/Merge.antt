@@ -1,15 +1,20 @@
--- Two configurations joined into one.
+-- Two configurations joined into one, in document 01's form: what only the published form has (docs/RFC9031.md) is outside its limits.
 use mathlib.Core.Bool.{cond, _&&_}
 use Rattle.refusal.specs.declared.Refusal.the-variants.{Range}
 use Rattle.refusal.specs.declared.Verdict.the-variants.{Accepted, Refused}
 use Rattle.cojp.specs.Configuration.{emptyConfiguration}
+use Rattle.cojp.specs.Faults.{noFaults}
+use Rattle.cojp.specs.Lists.{noListParameter}
+use Rattle.cojp.specs.Rate.{noRateParameter}
 use Rattle.cojp.specs.Reading.{ifTaken}
 use Rattle.cojp.specs.Writing.{configurationInRange}
 use Rattle.cojp.specs.declared.configuration.Configuration.{Configuration}
+use Rattle.cojp.specs.declared.report.Report.the-variants.{Absent}
+use Rattle.cojp.specs.declared.version.Version.the-variants.{Draft}
 use Rattle.cojp_merge.specs.declared.Merged.{Merged}
 
 -- each parameter with its report from the second where that is taken, else from the first; a key set whole, a lease with its address. What is
--- merged is ours to write, so no label was passed over
+-- merged is ours to write, so no label came or was passed over, and the draft has no blacklist and no join rate
 abbrev pub merged : Configuration → Configuration → Configuration
 merged first second = record {
   keys = ifTaken (second .keys .report) (second .keys) (first .keys);
@@ -17,6 +22,9 @@ merged first second = record {
   jrc = ifTaken (second .jrc .report) (second .jrc) (first .jrc);
   network = ifTaken (second .network .report) (second .network) (first .network);
   prefix = ifTaken (second .prefix .report) (second .prefix) (first .prefix);
+  blacklist = noListParameter Absent;
+  rate = noRateParameter Absent;
+  came = noFaults;
   passed = 0;
 }
 
@@ -26,6 +34,6 @@ outsideLimits = record { verdict = Refused Range; configuration = emptyConfigura
 
 unfoldable pub mergeAnswer : Configuration → Configuration → Merged
 mergeAnswer first second =
-    cond (configurationInRange first && configurationInRange second)
+    cond (configurationInRange Draft first && configurationInRange Draft second)
     (record { verdict = Accepted; configuration = merged first second })
     outsideLimits

@@ -1,12 +1,17 @@
 // Two configurations joined into one, so that two updates cost one frame: each parameter from the second where it is taken there, else from the
-// first. Nothing but values: no payload is read or written here.
+// first. Both are of document 01's form. Nothing but values: no payload is read or written here.
 mod address;
 mod keys;
 mod octets;
 
 use address::later_address;
 use cojp::Configuration;
+use cojp::Report;
+use cojp::Version;
 use cojp::empty_configuration;
+use cojp::no_faults;
+use cojp::no_list;
+use cojp::no_rate;
 use cojp_range::configuration_in_range;
 use keys::later_keys;
 use octets::later_octets;
@@ -41,24 +46,31 @@ fn merge_parameters(first: Configuration, second: Configuration) -> Configuratio
     let jrc = later_octets(first.jrc, second.jrc);
     let network = later_octets(first.network, second.network);
     let prefix = later_octets(first.prefix, second.prefix);
+    let blacklist = no_list(Report::Absent);
+    let rate = no_rate(Report::Absent);
+    let came = no_faults();
     Configuration {
         keys: keys,
         address: address,
         jrc: jrc,
         network: network,
         prefix: prefix,
+        blacklist: blacklist,
+        rate: rate,
+        came: came,
         passed: 0,
     }
 }
 
-// Joins two configurations. RANGE where either holds a taken parameter outside its limits, even one that the other overrides.
+// Joins two configurations. RANGE where either holds a taken parameter outside its limits, even one that the other overrides; what only the
+// published form has is outside them.
 pub fn merge(first: Configuration, second: Configuration) -> Merged
     ensures { λ r. ⌜ r ≡ mergeAnswer first second ⌝ }
 {
-    if !configuration_in_range(first) {
+    if !configuration_in_range(Version::Draft, first) {
         return outside_limits();
     }
-    if !configuration_in_range(second) {
+    if !configuration_in_range(Version::Draft, second) {
         return outside_limits();
     }
     let configuration = merge_parameters(first, second);

@@ -72,15 +72,3 @@ did-same e w = rw e w
 
 pub same-room : {ps qs : Pairs} (n : ℕ) → ps ≡ qs → length (encodePairs ps) ≤ n → length (encodePairs qs) ≤ n
 same-room n e h = rw e at h
-
--- ---- one pair more of a map that is being written
-module _ (h : List ℕ) (a b : Pairs) (d : List ℕ) (fits : length (h ++ encodePairs (join a b)) ≤ length d) where
-  both : h ++ encodePairs (join a b) ≡ (h ++ encodePairs a) ++ encodePairs b
-  both = rw (join-bytes a b, append-assoc h)
-
-  room : length (h ++ encodePairs a) + length (encodePairs b) ≤ length d
-  room = omega (arith, ap length both, length-append (h ++ encodePairs a) (encodePairs b))
-
-  pub join-seam : {d′ e : List ℕ} {n m : ℕ} → Wrote (h ++ encodePairs a) d n d′ → Wrote (encodePairs b) (take (length d′ - n) (drop n d′)) m e
-      → Wrote (h ++ encodePairs (join a b)) d (n + m) (take n d′ ++ (e ++ drop (length d′ - n) (drop n d′)))
-  join-seam w v = rw both (seam room w v)

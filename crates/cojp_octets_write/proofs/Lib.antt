@@ -4,3 +4,4 @@ pub mod Limits
 pub mod Strings
 pub mod Maps
 pub mod Plans
+pub mod Lists

@@ -1,17 +1,19 @@
--- An object is a map whose head takes one byte: ROOM, and what is written where there is room.
+-- An object is a map whose head takes one byte: RANGE over 256 bytes, ROOM, and what is written where there is room.
 use Prim.Native.Nat.{ℕ, _+_, _≤_, _<_}
 use mathlib.Core.Path.{_≡_, sym, _∙_}
-use mathlib.Core.List.{List}
+use mathlib.Core.List.{List, _++_}
 use native.Mathlib.Omega.{arith}
 use lib.ListN.{length, length-append}
-use Rattle.refusal.specs.declared.Refusal.the-variants.{Room}
-use Rattle.cbor.specs.Answer.{Did, Wrote, emit, headPlan}
+use borrow.Author.Tests.{le-leb, lt-leb}
+use Rattle.refusal.specs.declared.Refusal.the-variants.{Room, Range}
+use Rattle.cbor.specs.Answer.{Did, Wrote, emit, refuse, headPlan}
 use Rattle.cbor.specs.Encode.{shortest, encode, encodePairs}
 use Rattle.cbor.specs.HeadLaws.{HeadLaws}
 use Rattle.cbor.specs.Item.{Pairs, map, countPairs}
 use Rattle.cbor.specs.declared.write.Written.{Written}
 use Rattle.cbor.specs.declared.write.Written.the-variants as written
 use Rattle.cbor.specs.Writing.{did-room, did-emit, did-kept, head-did, wrote-as}
+use Rattle.cojp.specs.Writing.{fits}
 use Rattle.cojp_octets_write.specs.Size.{PairsSize}
 use Rattle.cojp_octets_write.specs.declared.size.Size.{Size}
 
@@ -29,20 +31,20 @@ module _ (heads : HeadLaws) where
     whole : length (encode (map ps)) ≡ 1 + s .bytes
     whole = map-length ps (omega (arith, z .members, z .few)) ∙ omega (arith, z .bytes)
 
+    -- RANGE over 256 bytes, whatever the room
+    pub map-over : 256 < 1 + s .bytes → fits (encode (map ps)) ≡ refuse Range
+    map-over h = rw (lt-leb (length (encode (map ps))) 256 (omega (arith, whole)))
+
+    pub map-within : 1 + s .bytes ≤ 256 → fits (encode (map ps)) ≡ emit (encode (map ps))
+    map-within h = rw (le-leb (length (encode (map ps))) 256 (omega (arith, whole)))
+
     pub map-room : length d < 1 + s .bytes → Did (emit (encode (map ps))) d (written.Refused Room) d
     map-room h = did-room (encode (map ps)) d (omega (arith, whole))
 
-    module _ (fits : 1 + s .bytes ≤ length d) where
-      -- the head and the pairs
-      pub map-fits : length (shortest 5 (s .members)) + length (encodePairs ps) ≤ length d
-      map-fits = omega (arith, z .bytes, heads .short-head 5 (s .members) (omega (arith, z .few)))
-
+    module _ (room : 1 + s .bytes ≤ length d) where
       pub map-emit : {n : ℕ} {d′ : List ℕ} → Wrote (encode (map ps)) d n d′ → Did (emit (encode (map ps))) d (written.Length n) d′
       map-emit w = did-emit (omega (arith, whole)) w
 
--- the same with the number of pairs by another name
-pub map-fitting : (ps : Pairs) (m : ℕ) (d : List ℕ) → m ≡ countPairs ps → length (shortest 5 m) + length (encodePairs ps) ≤ length d → length (encode (map ps)) ≤ length d
-map-fitting ps m d e h = rw (← e) (omega (arith, length-append (shortest 5 m) (encodePairs ps)))
-
-pub map-head : (n : ℕ) {m k : ℕ} {d d′ : List ℕ} → m ≡ n → Wrote (shortest 5 m) d k d′ → Wrote (shortest 5 n) d k d′
-map-head n e w = rw e at w
+-- the same with the number and the bytes of the pairs by other names
+pub map-wrote : (ps : Pairs) {m n : ℕ} {b d d′ : List ℕ} → m ≡ countPairs ps → encodePairs ps ≡ b → Wrote (shortest 5 m ++ b) d n d′ → Wrote (encode (map ps)) d n d′
+map-wrote ps e f w = rw (← e, f) w

@@ -1,10 +1,10 @@
--- The plan of a byte string: RANGE, or the bytes of its pair.
+-- The plan of a byte string: RANGE, or the bytes of its pair; and one plan for another that is equal to it.
 use mathlib.Core.Path.{_≡_}
 use mathlib.Core.Bool.{true, false}
 use mathlib.Core.List.{List}
 use Prim.Native.Nat.{ℕ}
 use Rattle.refusal.specs.declared.Refusal.the-variants.{Range}
-use Rattle.cbor.specs.Answer.{Did, emit}
+use Rattle.cbor.specs.Answer.{Plan, Did, emit}
 use Rattle.cbor.specs.Encode.{encodePairs}
 use Rattle.cbor.specs.declared.write.Written.{Written}
 use Rattle.cbor.specs.declared.write.Written.the-variants.{Refused}
@@ -27,3 +27,7 @@ module _ (label : ℕ) (p : OctetsParameter) where
     pub string-did : Did (octetsPlan label p) d r d′ → Did (emit (encodePairs (octetsPairs label p))) d r d′
     unfolding octetsPlan
     string-did w = rw h at w
+
+-- the same plan, otherwise put
+pub planned-as : {p q : Plan} {d d′ : List ℕ} {r : Written} → p ≡ q → Did q d r d′ → Did p d r d′
+planned-as e w = rw e w

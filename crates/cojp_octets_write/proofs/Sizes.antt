@@ -5,16 +5,16 @@ use mathlib.Core.Bool.{Bool, true, false}
 use mathlib.Core.List.{List, [], _++_, append-nil}
 use native.Mathlib.Omega.{arith}
 use lib.ListN.{length, length-append}
-use Rattle.cbor.specs.Encode.{encodes, extraOf, shortest}
+use Rattle.cbor.specs.Encode.{encodes, encodePairs, extraOf, shortest}
 use Rattle.cbor.specs.HeadLaws.{HeadLaws}
-use Rattle.cbor.specs.Item.{Items, Pairs, empty}
+use Rattle.cbor.specs.Item.{Items, Pairs, empty, countPairs}
 use Rattle.cojp.specs.Writing.{join, chain, leaseItems}
 use Rattle.cojp_octets_write.specs.Size.{Sizes, ItemsSize, PairsSize, Sum}
 use Rattle.cojp_octets_write.specs.declared.size.Size.{Size}
 use Rattle.cojp_octets_write.proofs.Joined.{join-bytes, join-count, chain-bytes, chain-count}
 
-append : {a b k l m n : ℕ} {p q : List ℕ} {r s t : Size} → Sizes a p k m r → Sizes b q l n s → Sum r s t → Sizes (a + b) (p ++ q) (k + l) (m + n) t
-append {p = p} {q = q} x y z = record {
+pub sizes-append : {a b k l m n : ℕ} {p q : List ℕ} {r s t : Size} → Sizes a p k m r → Sizes b q l n s → Sum r s t → Sizes (a + b) (p ++ q) (k + l) (m + n) t
+sizes-append {p = p} {q = q} x y z = record {
   members = omega (arith, x .members, y .members, z .members);
   bytes = omega (arith, x .bytes, y .bytes, z .bytes, length-append p q);
   few = omega (arith, x .few, y .few, z .members);
@@ -22,10 +22,14 @@ append {p = p} {q = q} x y z = record {
 }
 
 pub sizes-join : (a b : Pairs) {k l m n : ℕ} {r s t : Size} → PairsSize a k m r → PairsSize b l n s → Sum r s t → PairsSize (join a b) (k + l) (m + n) t
-sizes-join a b x y z = rw (join-count a b, join-bytes a b) (append x y z)
+sizes-join a b x y z = rw (join-count a b, join-bytes a b) (sizes-append x y z)
 
 pub sizes-chain : (a b : Items) {k l m n : ℕ} {r s t : Size} → ItemsSize a k m r → ItemsSize b l n s → Sum r s t → ItemsSize (chain a b) (k + l) (m + n) t
-sizes-chain a b x y z = rw (chain-count a b, chain-bytes a b) (append x y z)
+sizes-chain a b x y z = rw (chain-count a b, chain-bytes a b) (sizes-append x y z)
+
+-- the size of pairs by other names of their number and bytes
+pub pairs-size : (ps : Pairs) {n k m : ℕ} {b : List ℕ} {r : Size} → countPairs ps ≡ n → encodePairs ps ≡ b → Sizes n b k m r → PairsSize ps k m r
+pairs-size ps e f z = rw (e, f) z
 
 -- a looser bound
 pub sizes-most : {a k m : ℕ} {p : List ℕ} {r : Size} (l n : ℕ) → k ≤ l → m ≤ n → Sizes a p k m r → Sizes a p l n r

@@ -1,24 +1,90 @@
 // The objects' limits.
 use crate::parameter::address_in_range;
+use crate::parameter::blacklist_in_range;
 use crate::parameter::jrc_in_range;
 use crate::parameter::keys_in_range;
+use crate::parameter::keys_plain;
 use crate::parameter::octets_in_range;
+use crate::parameter::unsupported_in_range;
+use crate::report::is_missing;
 use cojp::Configuration;
 use cojp::JoinRequest;
+use cojp::ListParameter;
+use cojp::Version;
+ghost use mathlib.Core.Bool.{_&&_};
 ghost use mathlib.Core.Path.{_≡_};
-ghost use Rattle.cojp.specs.Writing.{requestInRange, configurationInRange};
+ghost use Rattle.cojp.specs.Lists.{stringsIn, faultsIn, some};
+ghost use Rattle.cojp.specs.Version.{byVersion};
+ghost use Rattle.cojp.specs.Writing.{missing, listInRange, keysPlain, ofForm, requestInRange, configurationInRange};
 
-pub fn request_in_range(q: JoinRequest) -> bool
-    ensures { λ r. ⌜ r ≡ requestInRange q ⌝ }
+// The draft has no reports of what a node could not act on.
+fn reports_in_range(version: Version, p: ListParameter) -> bool
+    ensures { λ r. ⌜ r ≡ byVersion version (missing (p .report)) (listInRange (some faultsIn) p) ⌝ }
+{
+    let report = p.report;
+    match version {
+        Version::Draft => is_missing(report),
+        Version::Published => unsupported_in_range(p),
+    }
+}
+
+pub fn request_in_range(version: Version, q: JoinRequest) -> bool
+    ensures { λ r. ⌜ r ≡ requestInRange version q ⌝ }
 {
     if 1 < q.role {
         return false;
     }
-    octets_in_range(q.network)
+    if !octets_in_range(q.network) {
+        return false;
+    }
+    reports_in_range(version, q.unsupported)
 }
 
-pub fn configuration_in_range(c: Configuration) -> bool
-    ensures { λ r. ⌜ r ≡ configurationInRange c ⌝ }
+// The draft's keys have no additional information, and it has no blacklist and no join rate.
+fn draft_form(c: Configuration) -> bool
+    ensures { λ r. ⌜ r ≡ (keysPlain (c .keys) && missing (c .blacklist .report) && missing (c .rate .report)) ⌝ }
+{
+    let blacklist = c.blacklist;
+    let listed = blacklist.report;
+    let rate = c.rate;
+    let rated = rate.report;
+    if !keys_plain(c.keys) {
+        return false;
+    }
+    if !is_missing(listed) {
+        return false;
+    }
+    is_missing(rated)
+}
+
+// The published form has no network identifier and no prefix in a configuration.
+fn published_form(c: Configuration) -> bool
+    ensures { λ r. ⌜ r ≡ (missing (c .network .report) && missing (c .prefix .report) && listInRange stringsIn (c .blacklist)) ⌝ }
+{
+    let network = c.network;
+    let named = network.report;
+    let prefix = c.prefix;
+    let prefixed = prefix.report;
+    if !is_missing(named) {
+        return false;
+    }
+    if !is_missing(prefixed) {
+        return false;
+    }
+    blacklist_in_range(c.blacklist)
+}
+
+fn of_form(version: Version, c: Configuration) -> bool
+    ensures { λ r. ⌜ r ≡ ofForm version c ⌝ }
+{
+    match version {
+        Version::Draft => draft_form(c),
+        Version::Published => published_form(c),
+    }
+}
+
+pub fn configuration_in_range(version: Version, c: Configuration) -> bool
+    ensures { λ r. ⌜ r ≡ configurationInRange version c ⌝ }
 {
     if !keys_in_range(c.keys) {
         return false;
@@ -32,5 +98,8 @@ pub fn configuration_in_range(c: Configuration) -> bool
     if !octets_in_range(c.network) {
         return false;
     }
-    octets_in_range(c.prefix)
+    if !octets_in_range(c.prefix) {
+        return false;
+    }
+    of_form(version, c)
 }

@@ -2,10 +2,14 @@
 use crate::report::is_taken;
 use cojp::AddressParameter;
 use cojp::KeysParameter;
+use cojp::ListParameter;
 use cojp::OctetsParameter;
+use cojp_list_read::is_blacklist;
+use cojp_list_read::is_unsupported;
 use short_address::is_address;
 ghost use mathlib.Core.Path.{_≡_};
-ghost use Rattle.cojp.specs.Writing.{octetsInRange, jrcInRange, addressInRange, keysInRange};
+ghost use Rattle.cojp.specs.Lists.{stringsIn, faultsIn, some};
+ghost use Rattle.cojp.specs.Writing.{octetsInRange, jrcInRange, addressInRange, keysInRange, keysPlain, listInRange};
 
 // An identifier or a prefix has at most 16 bytes.
 pub fn octets_in_range(p: OctetsParameter) -> bool
@@ -46,6 +50,39 @@ pub fn keys_in_range(p: KeysParameter) -> bool
     let report = p.report;
     if is_taken(report) {
         return p.value.valid();
+    }
+    true
+}
+
+// The draft's keys have no additional information.
+pub fn keys_plain(p: KeysParameter) -> bool
+    ensures { λ r. ⌜ r ≡ keysPlain p ⌝ }
+{
+    let report = p.report;
+    if is_taken(report) {
+        return p.value.is_plain();
+    }
+    true
+}
+
+// A blacklist is an array of byte strings.
+pub fn blacklist_in_range(p: ListParameter) -> bool
+    ensures { λ r. ⌜ r ≡ listInRange stringsIn p ⌝ }
+{
+    let report = p.report;
+    if is_taken(report) {
+        return is_blacklist(p.value);
+    }
+    true
+}
+
+// An unsupported configuration is an array of reports.
+pub fn unsupported_in_range(p: ListParameter) -> bool
+    ensures { λ r. ⌜ r ≡ listInRange (some faultsIn) p ⌝ }
+{
+    let report = p.report;
+    if is_taken(report) {
+        return is_unsupported(p.value);
     }
     true
 }

@@ -1,3 +1,3 @@
 mod Roles
-mod Plans
 mod Requests
+mod Plans

@@ -1,30 +1,38 @@
--- The plan of a join request: RANGE, OWED, or the bytes of the map.
+-- The plan of a join request: RANGE, also over 256 bytes, OWED, or the bytes of the map.
 use mathlib.Core.Path.{_≡_}
-use mathlib.Core.Bool.{true, false}
+use mathlib.Core.Bool.{Bool, true, false}
 use mathlib.Core.List.{List}
 use Prim.Native.Nat.{ℕ}
 use Rattle.refusal.specs.declared.Refusal.the-variants.{Range, Owed}
-use Rattle.cbor.specs.Answer.{Did, emit}
+use Rattle.cbor.specs.Answer.{Plan, Did, refuse, emit}
 use Rattle.cbor.specs.Encode.{encode}
 use Rattle.cbor.specs.Item.{map}
 use Rattle.cbor.specs.declared.write.Written.{Written}
 use Rattle.cbor.specs.declared.write.Written.the-variants.{Refused}
 use Rattle.cbor.specs.Writing.{did-refuse}
 use Rattle.cojp.specs.Request.{owing}
-use Rattle.cojp.specs.Writing.{requestPairs, requestInRange, requestPlan}
+use Rattle.cojp.specs.Writing.{fits, owingPlan, requestPairs, requestInRange, requestPlan}
 use Rattle.cojp.specs.declared.request.JoinRequest.{JoinRequest}
+use Rattle.cojp.specs.declared.version.Version.{Version}
 
-module _ (q : JoinRequest) where
-  pub request-range : (d : List ℕ) → requestInRange q ≡ false → Did (requestPlan q) d (Refused Range) d
+-- what is in range
+module _ (owed : Bool) {p : Plan} where
+  pub owing-over : (d : List ℕ) → p ≡ refuse Range → Did (owingPlan owed p) d (Refused Range) d
+  owing-over d e = rw e (did-refuse Range d)
+
+  module _ {s : List ℕ} (e : p ≡ emit s) where
+    pub owing-owed : (d : List ℕ) → owed ≡ true → Did (owingPlan owed p) d (Refused Owed) d
+    owing-owed d h = rw (e, h) (did-refuse Owed d)
+
+    pub owing-emit : {d d′ : List ℕ} {r : Written} → owed ≡ false → Did (emit s) d r d′ → Did (owingPlan owed p) d r d′
+    owing-emit h w = rw (e, h) w
+
+module _ (v : Version) (q : JoinRequest) where
+  pub request-range : (d : List ℕ) → requestInRange v q ≡ false → Did (requestPlan v q) d (Refused Range) d
   unfolding requestPlan
   request-range d h = simp h (did-refuse Range d)
 
-  module _ (h : requestInRange q ≡ true) where
-    pub request-owed : (d : List ℕ) → owing (q .role) (q .network .report) ≡ true → Did (requestPlan q) d (Refused Owed) d
-    unfolding requestPlan
-    request-owed d e = simp (h, e) (did-refuse Owed d)
-
-    pub request-emit : {d d′ : List ℕ} {r : Written} → owing (q .role) (q .network .report) ≡ false → Did (emit (encode (map (requestPairs q)))) d r d′
-        → Did (requestPlan q) d r d′
-    unfolding requestPlan
-    request-emit e w = simp (h, e) w
+  pub request-emit : {owed : Bool} {d d′ : List ℕ} {r : Written} → requestInRange v q ≡ true → owed ≡ owing v (q .role) (q .network .report)
+      → Did (owingPlan owed (fits (encode (map (requestPairs q))))) d r d′ → Did (requestPlan v q) d r d′
+  unfolding requestPlan
+  request-emit h e w = simp h (rw e at w)

@@ -1,104 +1,66 @@
--- A join request's map: its head, the role, and the network identifier, each in the part after those before it.
-use Prim.Native.Nat.{ℕ, _+_, _-_, _≤_, _<_}
-use mathlib.Core.Path.{_≡_, refl, sym, _∙_}
-use mathlib.Core.Bool.{Bool, true, false, cond}
-use mathlib.Core.List.{List, _++_}
+-- A join request's pairs are the role, the network identifier, and the list of reports as it is kept.
+use Prim.Native.Nat.{ℕ, _+_, _≤_}
+use mathlib.Core.Path.{_≡_, ap, _∙_}
+use mathlib.Core.List.{List, _++_, append-assoc}
 use native.Mathlib.Omega.{arith}
-use lib.Dec.{eqb}
-use lib.ListN.{length, take, drop, length-take, length-drop}
-use Rattle.cbor.specs.Answer.{Did, Wrote, emit, headPlan}
+use lib.ListN.{length, length-append}
+use Rattle.cbor.specs.Answer.{Wrote}
 use Rattle.cbor.specs.Encode.{shortest, encode, encodePairs}
 use Rattle.cbor.specs.HeadLaws.{HeadLaws}
-use Rattle.cbor.specs.Item.{Item, unsigned, bytes, map, empty, countPairs}
-use Rattle.refusal.specs.declared.Refusal.the-variants.{Room}
-use Rattle.cbor.specs.declared.write.Written.{Written}
-use Rattle.cbor.specs.declared.write.Written.the-variants as written
-use Rattle.cbor.specs.Writing.{did-emit, did-kept, did-room, seam, wrote-as, wrote-length}
-use Rattle.cojp.specs.Octets.{bytesIn}
-use Rattle.cojp.specs.Reading.{ifTaken}
-use Rattle.cojp.specs.Writing.{labelled, rolePairs, octetsPairs, requestPairs}
-use Rattle.cojp.specs.declared.report.Report.{Report}
-use Rattle.cojp.specs.declared.report.Report.the-variants.{Absent, Taken, Discarded}
+use Rattle.cbor.specs.Item.{Pairs, map, countPairs}
+use Rattle.cojp.specs.Lists.{faultsIn, some}
+use Rattle.cojp.specs.Writing.{join, rolePairs, octetsPairs, listPairs, requestPairs}
 use Rattle.cojp.specs.declared.request.JoinRequest.{JoinRequest}
-use Rattle.cojp_octets_write.proofs.Joined.{join-count, join-length, join-seam}
-use Rattle.cojp_octets_write.specs.Size.{PairsSize}
+use Rattle.cojp_list_read.specs.Laws.{ListWritten}
+use Rattle.cojp_octets_write.specs.Fits.{RequestFits}
+use Rattle.cojp_octets_write.specs.Plan.{listBytes}
+use Rattle.cojp_octets_write.specs.Size.{Sizes, PairsSize}
 use Rattle.cojp_octets_write.specs.declared.size.Size.{Size}
-use Rattle.cojp_octets_write.proofs.Maps.{map-head, map-length, short-wrote}
+use Rattle.cojp_octets_write.proofs.Joined.{join-bytes, join-count, join-length}
+use Rattle.cojp_octets_write.proofs.Lists.{list-bytes, list-count}
+use Rattle.cojp_octets_write.proofs.Maps.{map-wrote}
+use Rattle.cojp_octets_write.proofs.Sizes.{pairs-size}
+use Rattle.cojp_request_write.specs.Room.{requestCount, requestBytes, requestLength}
 
--- at most two pairs
-role-few : (b : Bool) (n : ℕ) → countPairs (cond b empty (labelled 1 (unsigned n))) ≤ 1
-role-few true n = omega arith
-role-few false n = omega arith
+module _ (q : JoinRequest) where
+  abbrev front : Pairs
+  front = join (rolePairs (q .role)) (octetsPairs 5 (q .network))
 
-network-few : (r : Report) (i : Item) → countPairs (ifTaken r (labelled 5 i) empty) ≤ 1
-network-few Absent i = omega arith
-network-few Taken i = omega arith
-network-few Discarded i = omega arith
+  request-count : countPairs (requestPairs q) ≡ requestCount q
+  request-count =
+      join-count front (listPairs 8 (some faultsIn) (q .unsupported))
+      ∙ ap (λ (n : ℕ). countPairs front + n) (list-count (some faultsIn) 8 (q .unsupported))
 
-request-few : (q : JoinRequest) → countPairs (requestPairs q) ≤ 2
-request-few q =
-    let o = q .network in
-    let role = role-few (eqb (q .role) 0) (q .role) in
-    let network = network-few (o .report) (bytes (bytesIn (o .value))) in
-    omega (arith, join-count (rolePairs (q .role)) (octetsPairs 5 o))
+  request-bytes : ListWritten (some faultsIn) → RequestFits q → encodePairs (requestPairs q) ≡ requestBytes q
+  request-bytes law f =
+      join-bytes front (listPairs 8 (some faultsIn) (q .unsupported))
+      ∙ ap (λ (s : List ℕ). encodePairs front ++ s) (list-bytes (some faultsIn) law 8 (q .unsupported) (f .unsupported))
 
-module _ (heads : HeadLaws) (q : JoinRequest) (d : List ℕ) (fits : length (encode (map (requestPairs q))) ≤ length d) where
-  room : 1 + (length (encodePairs (rolePairs (q .role))) + length (encodePairs (octetsPairs 5 (q .network)))) ≤ length d
-  room = omega (arith, map-length heads (requestPairs q) (omega (arith, request-few q)), join-length (rolePairs (q .role)) (octetsPairs 5 (q .network)))
+  pub request-length : (m : ℕ) → length (shortest 5 m) + length (requestBytes q) ≡ requestLength q m
+  request-length m =
+      omega (
+        arith,
+        length-append (encodePairs front) (listBytes 8 (q .unsupported)),
+        join-length (rolePairs (q .role)) (octetsPairs 5 (q .network)),
+      )
 
-  -- the head was written, and the destination is d′
-  module _ {m : ℕ} (e : m ≡ countPairs (requestPairs q)) {r : Written} {d′ : List ℕ} (w : Did (headPlan 5 m) d r d′) where
-    head-wrote : Wrote (shortest 5 (countPairs (requestPairs q))) d 1 d′
-    head-wrote = map-head (countPairs (requestPairs q)) e (short-wrote heads 5 m (omega arith) (omega (arith, request-few q)) (omega (arith, room)) w)
+  parts : (m : ℕ)
+      → shortest 5 m ++ requestBytes q
+      ≡ ((shortest 5 m ++ encodePairs (rolePairs (q .role))) ++ encodePairs (octetsPairs 5 (q .network))) ++ listBytes 8 (q .unsupported)
+  parts m = simp (join-bytes, append-assoc)
 
-    pub head-part : 1 ≤ length d′
-    head-part = omega (arith, wrote-length head-wrote (omega (arith, head-wrote .many, room)), room)
+  pub request-wrote : (m : ℕ) {d d′ : List ℕ} {n : ℕ}
+      → Wrote (((shortest 5 m ++ encodePairs (rolePairs (q .role))) ++ encodePairs (octetsPairs 5 (q .network))) ++ listBytes 8 (q .unsupported)) d n d′
+      → Wrote (shortest 5 m ++ requestBytes q) d n d′
+  request-wrote m w = rw (parts m) w
 
-    pub role-room : length (encodePairs (rolePairs (q .role))) ≤ length (take (length d′ - 1) (drop 1 d′))
-    role-room = simp (length-take, length-drop) (omega (arith, wrote-length head-wrote (omega (arith, head-wrote .many, room)), room))
+  -- ---- the size, as that of the pairs
+  module _ (law : ListWritten (some faultsIn)) (f : RequestFits q) {s : Size} (z : Sizes (requestCount q) (requestBytes q) 3 299 s) where
+    pub request-sized : PairsSize (requestPairs q) 3 299 s
+    request-sized = pairs-size (requestPairs q) request-count (request-bytes law f) z
 
-    -- the role was written to the part after the head, which then was f, and the destination is g
-    module _ {k : ℕ} {f : List ℕ} (v : Wrote (encodePairs (rolePairs (q .role))) (take (length d′ - 1) (drop 1 d′)) k f)
-        (g : List ℕ) (g-is : g ≡ take 1 d′ ++ (f ++ drop (length d′ - 1) (drop 1 d′))) where
-      front-wrote : Wrote (shortest 5 (countPairs (requestPairs q)) ++ encodePairs (rolePairs (q .role))) d (1 + k) g
-      front-wrote = rw g-is (seam (omega (arith, head-wrote .many, room)) head-wrote v)
+    pub request-room : HeadLaws → (d : List ℕ) → 1 + s .bytes ≤ length d → requestLength q (s .members) ≤ length d
+    request-room heads d h = omega (arith, z .bytes, request-length (s .members), heads .short-head 5 (s .members) (omega (arith, z .few)))
 
-      front-kept : length g ≡ length d
-      front-kept = wrote-length front-wrote (omega (arith, front-wrote .many, v .many, room))
-
-      pub network-part : 1 + k ≤ length g
-      network-part = omega (arith, front-kept, v .many, room)
-
-      -- the identifier was written to the part after the role, which then was i
-      pub request-wrote : {s : Written} {i : List ℕ} → Did (emit (encodePairs (octetsPairs 5 (q .network)))) (take (length g - (1 + k)) (drop (1 + k) g)) s i
-          → Wrote (encode (map (requestPairs q))) d (length (encode (map (requestPairs q)))) (take (1 + k) g ++ (i ++ drop (length g - (1 + k)) (drop (1 + k) g)))
-      request-wrote {s} {i} u =
-          let network = encodePairs (octetsPairs 5 (q .network)) in
-          let part = take (length g - (1 + k)) (drop (1 + k) g) in
-          let l : length network ≤ length part = simp (length-take, length-drop) (omega (arith, front-kept, v .many, room)) in
-          let n = did-kept network part s i l u in
-          let h = shortest 5 (countPairs (requestPairs q)) in
-          wrote-as (length (encode (map (requestPairs q)))) refl
-          (join-seam h (rolePairs (q .role)) (octetsPairs 5 (q .network)) d fits front-wrote n)
-
--- ---- the room for it, by the sizes of its parameters
-module _ (heads : HeadLaws) (q : JoinRequest) (d : List ℕ) {a b : Size} (x : PairsSize (rolePairs (q .role)) 1 2 a)
-    (y : PairsSize (octetsPairs 5 (q .network)) 1 26 b) where
-  pub request-members : a .members + b .members ≡ countPairs (requestPairs q)
-  request-members = omega (arith, join-count (rolePairs (q .role)) (octetsPairs 5 (q .network)), x .members, y .members)
-
-  whole : length (encode (map (requestPairs q))) ≡ 1 + a .bytes + b .bytes
-  whole =
-      map-length heads (requestPairs q) (omega (arith, request-members, x .few, y .few))
-      ∙ omega (arith, join-length (rolePairs (q .role)) (octetsPairs 5 (q .network)), x .bytes, y .bytes)
-
-  pub request-refused : length d < 1 + a .bytes + b .bytes → Did (emit (encode (map (requestPairs q)))) d (written.Refused Room) d
-  request-refused h = did-room (encode (map (requestPairs q))) d (omega (arith, whole))
-
-  module _ (h : 1 + a .bytes + b .bytes ≤ length d) where
-    pub request-fits-in : length (encode (map (requestPairs q))) ≤ length d
-    request-fits-in = omega (arith, whole)
-
-    pub request-done : {d′ : List ℕ} → Wrote (encode (map (requestPairs q))) d (length (encode (map (requestPairs q)))) d′
-        → Did (emit (encode (map (requestPairs q)))) d (written.Length (1 + a .bytes + b .bytes)) d′
-    request-done w = did-emit request-fits-in (wrote-as (1 + a .bytes + b .bytes) (sym whole) w)
+    pub request-map : {d d′ : List ℕ} {n : ℕ} → Wrote (shortest 5 (s .members) ++ requestBytes q) d n d′ → Wrote (encode (map (requestPairs q))) d n d′
+    request-map w = map-wrote (requestPairs q) (request-sized .members) (request-bytes law f) w

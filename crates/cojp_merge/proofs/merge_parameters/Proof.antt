@@ -18,13 +18,45 @@ later-octets-requires-2 c κs = search needs
 later-octets-requires-3 : tie.Need-later-octets-requires-3
 later-octets-requires-3 c κs = search needs
 
+no-list-requires : tie.Need-no-list-requires
+no-list-requires c κs = search needs
+
+no-rate-requires : tie.Need-no-rate-requires
+no-rate-requires c κs = search needs
+
+no-faults-requires : tie.Need-no-faults-requires
+no-faults-requires c κs = search needs
+
 returns : tie.Need-returns
 returns c =
-    let network = c .before in
+    let rate = c .before in
+    let blacklist = rate .before in
+    let prefix = blacklist .before in
+    let network = prefix .before in
     let jrc = network .before in
     let address = jrc .before in
     let keys = address .before in
-    rw (keys .later-keys .ensures, address .later-address .ensures, jrc .later-octets .ensures, network .later-octets2 .ensures, c .later-octets3 .ensures)
+    rw (
+      keys .later-keys .ensures,
+      address .later-address .ensures,
+      jrc .later-octets .ensures,
+      network .later-octets2 .ensures,
+      prefix .later-octets3 .ensures,
+      blacklist .no-list .ensures,
+      rate .no-rate .ensures,
+      c .no-faults .ensures,
+    )
 
 pub merge-parameters-spec : {M : Type 1} → statement M
-merge-parameters-spec = tie.close (tie.spec later-keys-requires later-address-requires later-octets-requires later-octets-requires-2 later-octets-requires-3 returns)
+merge-parameters-spec =
+    tie.close
+    (tie.spec
+    later-keys-requires
+    later-address-requires
+    later-octets-requires
+    later-octets-requires-2
+    later-octets-requires-3
+    no-list-requires
+    no-rate-requires
+    no-faults-requires
+    returns)

@@ -8,10 +8,10 @@ use Rattle.cojp_configuration_write.proofs.Addresses.{place-length, pla
 use Rattle.cojp_configuration_write.proofs.address.put_place.Statement.{statement}
 use Rattle.cojp_configuration_write.proofs.address.put_place.Tie as tie
 
-put-array-requires : tie.Need-put-array-requires
-put-array-requires c κs =
+put-labelled-requires : tie.Need-put-labelled-requires
+put-labelled-requires c κs =
     let start = c .before .before .before in
-    omega (arith, length-append (shortest 0 3) (shortest 4 (start .args .members)), start .pre .1)
+    (omega arith, omega (arith, length-append (shortest 0 3) (shortest 4 (start .args .members)), start .pre .1))
 
 sub-put-bytes : tie.Need-sub-put-bytes
 sub-put-bytes c = omega arith
@@ -52,7 +52,7 @@ returns c =
     let bytes = lease .before .before .before .before in
     let array = bytes .before .before .before .before .before in
     let start = array .before .before .before .before in
-    let front = seam (omega (arith, start .pre .1)) (array .put-array .ensures) (bytes .put-bytes .ensures) in
+    let front = seam (omega (arith, start .pre .1)) (array .put-labelled .ensures) (bytes .put-bytes .ensures) in
     place-seam (start .args .a) (start .args .members) (start .pre .0) (start .pre .1) front (lease .put-optional .ensures)
 
 same-length : tie.Need-same-length
@@ -67,7 +67,7 @@ pub put-place-spec : {M : Type 1} → statement M
 put-place-spec =
     tie.close
     (tie.spec
-    put-array-requires
+    put-labelled-requires
     sub-put-bytes
     part-put-bytes-start
     part-put-bytes-end

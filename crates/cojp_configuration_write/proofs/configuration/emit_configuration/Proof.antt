@@ -1,60 +1,89 @@
--- The size, the test of the room, and the map.
+-- The size, the tests in their order, and the map.
 use native.Mathlib.Omega.{arith}
 use borrow.Author.Needs.{needs}
+use Rattle.cbor.specs.Writing.{did-refuse}
+use Rattle.refusal.specs.declared.Refusal.the-variants.{Range}
 use Rattle.cojp.specs.Writing.{configurationPairs}
-use Rattle.cojp_octets_write.proofs.Maps.{map-room, map-fits, map-emit}
-use Rattle.cojp_configuration_write.proofs.Configurations.{configuration-length}
+use Rattle.cojp_octets_write.proofs.Maps.{map-over, map-within, map-room, map-emit}
+use Rattle.cojp_octets_write.proofs.Plans.{planned-as}
+use Rattle.cojp_configuration_write.proofs.Configurations.{configuration-sized, configuration-room, configuration-map}
 use Rattle.cojp_configuration_write.proofs.configuration.emit_configuration.Statement.{statement}
 use Rattle.cojp_configuration_write.proofs.configuration.emit_configuration.Tie as tie
 
 head-laws-requires : tie.Need-head-laws-requires
 head-laws-requires c κs = search needs
 
+laws-requires : tie.Need-laws-requires
+laws-requires c κs = search needs
+
 configuration-size-requires : tie.Need-configuration-size-requires
 configuration-size-requires c κs = search needs
 
-add-if1 : tie.Need-add-if1
-add-if1 c = search needs
+add-whole : tie.Need-add-whole
+add-whole c = omega (arith, c .before .configuration-size .ensures .small)
 
 returns : tie.Need-returns
 returns c =
     let size = c .before .before in
     let laws = size .before in
-    let start = laws .before .before in
-    map-room (laws .head-laws .ensures) (configurationPairs (start .args .c)) (size .configuration-size .ensures) (omega arith) _ (c .if1 .taken)
+    let heads = laws .before in
+    let start = heads .before .before in
+    let a = start .args in
+    let z = configuration-sized (a .c) (laws .laws .ensures .blacklist-written) (start .pre) (size .configuration-size .ensures) in
+    planned-as (map-over (heads .head-laws .ensures) (configurationPairs (a .c)) z (omega arith) (a .dst .now) (c .if1 .taken)) (did-refuse Range _)
+
+returns-2 : tie.Need-returns-2
+returns-2 c =
+    let range = c .before in
+    let size = range .before .before in
+    let laws = size .before in
+    let heads = laws .before in
+    let start = heads .before .before in
+    let a = start .args in
+    let z = configuration-sized (a .c) (laws .laws .ensures .blacklist-written) (start .pre) (size .configuration-size .ensures) in
+    planned-as (map-within (heads .head-laws .ensures) (configurationPairs (a .c)) z (omega arith) (a .dst .now) (range .if1 .left))
+    (map-room (heads .head-laws .ensures) (configurationPairs (a .c)) z (omega arith) _ (c .if2 .taken))
 
 put-configuration-requires : tie.Need-put-configuration-requires
 put-configuration-requires c κs =
-    let test = c .before in
-    let size = test .before .before in
+    let room = c .before in
+    let size = room .before .before .before in
     let laws = size .before in
-    let start = laws .before .before in
-    let q = start .args .c in
-    let z = size .configuration-size .ensures in
-    let f = map-fits (laws .head-laws .ensures) (configurationPairs q) z (omega arith) (start .args .dst .now) (test .if1 .left) in
-    (start .pre, z .members, omega (arith, f, configuration-length q (size .configuration-size .result .members)))
+    let heads = laws .before in
+    let start = heads .before .before in
+    let a = start .args in
+    let law = laws .laws .ensures .blacklist-written in
+    (start .pre, configuration-room (a .c) law (start .pre) (size .configuration-size .ensures) (heads .head-laws .ensures) (a .dst .now) (room .if2 .left))
 
 same-length : tie.Need-same-length
 same-length c = search needs
 
-returns-2 : tie.Need-returns-2
-returns-2 c =
+returns-3 : tie.Need-returns-3
+returns-3 c =
     let put = c .before .before in
-    let test = put .before .before in
-    let size = test .before .before in
+    let room = put .before .before in
+    let range = room .before in
+    let size = range .before .before in
     let laws = size .before in
-    let start = laws .before .before in
-    map-emit (laws .head-laws .ensures) (configurationPairs (start .args .c)) (size .configuration-size .ensures) (omega arith) _ (test .if1 .left)
-    (put .put-configuration .ensures)
+    let heads = laws .before in
+    let start = heads .before .before in
+    let a = start .args in
+    let law = laws .laws .ensures .blacklist-written in
+    let z = configuration-sized (a .c) law (start .pre) (size .configuration-size .ensures) in
+    let wrote = configuration-map (a .c) law (start .pre) (size .configuration-size .ensures) (put .put-configuration .ensures) in
+    planned-as (map-within (heads .head-laws .ensures) (configurationPairs (a .c)) z (omega arith) (a .dst .now) (range .if1 .left))
+    (map-emit (heads .head-laws .ensures) (configurationPairs (a .c)) z (omega arith) _ (room .if2 .left) wrote)
 
 pub emit-configuration-spec : {M : Type 1} → statement M
 emit-configuration-spec =
     tie.close
     (tie.spec
     head-laws-requires
+    laws-requires
     configuration-size-requires
-    add-if1
+    add-whole
     returns
+    returns-2
     put-configuration-requires
     same-length
-    returns-2)
+    returns-3)

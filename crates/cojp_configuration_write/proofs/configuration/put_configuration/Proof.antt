@@ -1,144 +1,102 @@
--- The map's head, and then each parameter in the part after what is written.
-use Prim.Native.Nat.{_+_, _≤_}
+-- The additions in the part after what both forms have.
 use native.Mathlib.Omega.{arith}
-use mathlib.Core.List.{_++_}
-use borrow.Author.Needs.{needs}
-use lib.ListN.{length, length-append}
+use lib.ListN.{length-append}
 use Rattle.cbor.specs.Encode.{shortest, encodePairs}
 use Rattle.cbor.specs.Writing.{seam, wrote-length}
-use Rattle.cojp.specs.Writing.{keysPairs, addressPairs, configurationPairs}
-use Rattle.cojp_octets_write.proofs.Limits.{configuration-fits}
-use Rattle.cojp_octets_write.proofs.Maps.{map-fitting}
-use Rattle.cojp_configuration_write.specs.Room.{stringsBytes}
-use Rattle.cojp_configuration_write.proofs.Configurations.{strings-length, configuration-length, configuration-wrote}
+use Rattle.cojp.specs.Lists.{stringsIn}
+use Rattle.cojp.specs.Writing.{ratePairs}
+use Rattle.cojp_octets_write.specs.Plan.{listBytes}
+use Rattle.cojp_octets_write.proofs.Lists.{list-fits}
+use Rattle.cojp_configuration_write.specs.Room.{configurationBytes, frontPairs}
+use Rattle.cojp_configuration_write.proofs.Configurations.{front-length, configuration-length, configuration-wrote}
 use Rattle.cojp_configuration_write.proofs.configuration.put_configuration.Statement.{statement}
 use Rattle.cojp_configuration_write.proofs.configuration.put_configuration.Tie as tie
 
-put-head-requires : tie.Need-put-head-requires
-put-head-requires c κs = search needs
+put-front-requires : tie.Need-put-front-requires
+put-front-requires c κs =
+    let start = c .before .before in
+    let f = start .pre .0 in
+    ((f .jrc, f .network, f .prefix), omega (arith, start .pre .1))
 
-sub-put-keys : tie.Need-sub-put-keys
-sub-put-keys c = omega arith
+sub-put-additions : tie.Need-sub-put-additions
+sub-put-additions c =
+    let front = c .before .before in
+    let start = front .before .before .before in
+    let a = start .args in
+    omega (
+      arith,
+      start .pre .1,
+      front .put-front .ensures .many,
+      front-length (a .c),
+      length-append (shortest 5 (a .members)) (encodePairs (frontPairs (a .c))),
+    )
 
-part-put-keys-start : tie.Need-part-put-keys-start
-part-put-keys-start c = omega arith
+part-put-additions-start : tie.Need-part-put-additions-start
+part-put-additions-start c = sub-put-additions c
 
-part-put-keys-end : tie.Need-part-put-keys-end
-part-put-keys-end c = omega arith
+part-put-additions-end : tie.Need-part-put-additions-end
+part-put-additions-end c = omega arith
 
-put-keys-requires : tie.Need-put-keys-requires
-put-keys-requires c κs =
-    let head = c .before .before .before in
-    let start = head .before .before .before in
-    omega (arith, start .pre .2)
-
-add-n2 : tie.Need-add-n2
-add-n2 c = omega arith
-
-sub-put-address : tie.Need-sub-put-address
-sub-put-address c = omega arith
-
-part-put-address-start : tie.Need-part-put-address-start
-part-put-address-start c = omega arith
-
-part-put-address-end : tie.Need-part-put-address-end
-part-put-address-end c = omega arith
-
-put-address-requires : tie.Need-put-address-requires
-put-address-requires c κs =
-    let keys = c .before .before .before in
-    let head = keys .before .before .before .before in
-    let start = head .before .before .before in
-    omega (arith, start .pre .2)
-
-add-n3 : tie.Need-add-n3
-add-n3 c = omega arith
-
-sub-put-strings : tie.Need-sub-put-strings
-sub-put-strings c = omega arith
-
-part-put-strings-start : tie.Need-part-put-strings-start
-part-put-strings-start c = omega arith
-
-part-put-strings-end : tie.Need-part-put-strings-end
-part-put-strings-end c = omega arith
-
-put-strings-requires : tie.Need-put-strings-requires
-put-strings-requires c κs =
-    let address = c .before .before .before in
-    let keys = address .before .before .before .before in
-    let head = keys .before .before .before .before in
-    let start = head .before .before .before in
-    let f = configuration-fits (start .args .c) (start .pre .0) in
-    ((f .jrc, f .network, f .prefix), omega (arith, start .pre .2))
+put-additions-requires : tie.Need-put-additions-requires
+put-additions-requires c κs =
+    let front = c .before .before .before in
+    let start = front .before .before .before in
+    let a = start .args in (
+      list-fits stringsIn (a .c .blacklist) (start .pre .0 .blacklist),
+      omega (
+        arith,
+        start .pre .1,
+        front .put-front .ensures .many,
+        front-length (a .c),
+        length-append (shortest 5 (a .members)) (encodePairs (frontPairs (a .c))),
+      ),
+    )
 
 add-result : tie.Need-add-result
 add-result c =
-    let strings = c .before .before in
-    let address = strings .before .before .before .before in
-    let keys = address .before .before .before .before in
-    let head = keys .before .before .before .before in
-    let start = head .before .before .before in
-    let q = start .args .c in
+    let additions = c .before .before in
+    let front = additions .before .before .before .before in
+    let start = front .before .before .before in
+    let a = start .args in
     omega (
       arith,
-      start .pre .2,
-      head .put-head .ensures .many,
-      keys .put-keys .ensures .many,
-      address .put-address .ensures .many,
-      strings .put-strings .ensures .many,
-      strings-length (q .jrc) (q .network) (q .prefix),
+      start .pre .1,
+      front .put-front .ensures .many,
+      additions .put-additions .ensures .many,
+      front-length (a .c),
+      length-append (shortest 5 (a .members)) (encodePairs (frontPairs (a .c))),
+      length-append (listBytes 6 (a .c .blacklist)) (encodePairs (ratePairs (a .c .rate))),
     )
 
 returns : tie.Need-returns
 returns c =
-    let strings = c .before .before in
-    let address = strings .before .before .before .before in
-    let keys = address .before .before .before .before in
-    let head = keys .before .before .before .before in
-    let start = head .before .before .before in
-    let q = start .args .c in
-    let room = start .pre .2 in
-    let h = shortest 5 (start .args .members) in
-    let k = encodePairs (keysPairs (q .keys)) in
-    let a = encodePairs (addressPairs (q .address)) in
-    let w1 = seam (omega (arith, room)) (head .put-head .ensures) (keys .put-keys .ensures) in
-    let w2 = seam (omega (arith, room, length-append h k)) w1 (address .put-address .ensures) in
-    let sums : length ((h ++ k) ++ a) + length (stringsBytes (q .jrc) (q .network) (q .prefix)) ≤ length (start .args .dst .now) =
-    omega (arith, room, length-append h k, length-append (h ++ k) a, strings-length (q .jrc) (q .network) (q .prefix)) in
-    configuration-wrote q (start .args .members) (start .pre .1) (seam sums w2 (strings .put-strings .ensures))
+    let additions = c .before .before in
+    let front = additions .before .before .before .before in
+    let start = front .before .before .before in
+    let a = start .args in
+    let h = length-append (shortest 5 (a .members)) (encodePairs (frontPairs (a .c))) in
+    let l = length-append (listBytes 6 (a .c .blacklist)) (encodePairs (ratePairs (a .c .rate))) in
+    configuration-wrote (a .c) (a .members)
+    (seam (omega (arith, start .pre .1, front-length (a .c), h, l)) (front .put-front .ensures) (additions .put-additions .ensures))
 
 same-length : tie.Need-same-length
 same-length c =
-    let strings = c .before .before in
-    let address = strings .before .before .before .before in
-    let keys = address .before .before .before .before in
-    let head = keys .before .before .before .before in
-    let start = head .before .before .before in
+    let additions = c .before .before in
+    let front = additions .before .before .before .before in
+    let start = front .before .before .before in
     let a = start .args in
     wrote-length (returns c)
-    (map-fitting (configurationPairs (a .c)) (a .members) (a .dst .now) (start .pre .1)
-    (omega (arith, start .pre .2, configuration-length (a .c) (a .members))))
+    (omega (arith, start .pre .1, configuration-length (a .c) (a .members), length-append (shortest 5 (a .members)) (configurationBytes (a .c))))
 
 pub put-configuration-spec : {M : Type 1} → statement M
 put-configuration-spec =
     tie.close
     (tie.spec
-    put-head-requires
-    sub-put-keys
-    part-put-keys-start
-    part-put-keys-end
-    put-keys-requires
-    add-n2
-    sub-put-address
-    part-put-address-start
-    part-put-address-end
-    put-address-requires
-    add-n3
-    sub-put-strings
-    part-put-strings-start
-    part-put-strings-end
-    put-strings-requires
+    put-front-requires
+    sub-put-additions
+    part-put-additions-start
+    part-put-additions-end
+    put-additions-requires
     add-result
     same-length
     returns)

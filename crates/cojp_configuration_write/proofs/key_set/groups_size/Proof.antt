@@ -12,7 +12,7 @@ use Rattle.cojp_configuration_write.proofs.key_set.groups_size.Statemen
 use Rattle.cojp_configuration_write.proofs.key_set.groups_size.Tie as tie
 
 abbrev Inv-loop : tie.InvT-loop
-Inv-loop set n size₀ i₀ size i = (i ≤ n) × ItemsSize (groupsItems (take i (keysOf set))) (3 * i) (28 * i) size
+Inv-loop set n size₀ i₀ size i = (i ≤ n) × ItemsSize (groupsItems (take i (keysOf set))) (4 * i) (37 * i) size
 
 abbrev μ-loop : tie.MeasureT-loop
 μ-loop set n size₀ i₀ size i = n - i
@@ -64,7 +64,7 @@ returns c =
     let len = turn .before .before in
     let eight = len .len .ensures .1 in
     let z = rw (all-keys (keysOf (len .before .args .t1)) (turn .loop .i) (omega (arith, len .len .ensures .0))) at (turn .loop .inv .1) in
-    sizes-most 24 224 (omega arith) (omega arith) z
+    sizes-most 32 296 (omega arith) (omega arith) z
 
 pub groups-size-spec : {M : Type 1} → statement M
 groups-size-spec =

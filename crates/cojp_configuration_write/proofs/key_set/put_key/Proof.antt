@@ -1,7 +1,10 @@
--- Identifier, perhaps usage, value, each in the part after what is written.
+-- Identifier, perhaps usage, value, perhaps additional information, each in the part after what is written.
 use native.Mathlib.Omega.{arith}
 use borrow.Author.Needs.{needs}
+use lib.ListN.{length-append}
+use Rattle.cbor.specs.Encode.{shortest, encodes}
 use Rattle.cbor.specs.Writing.{seam, wrote-length}
+use Rattle.cojp_configuration_write.specs.Room.{usedItems}
 use Rattle.cojp_configuration_write.proofs.KeySets.{group-length, group-seam}
 use Rattle.cojp_configuration_write.proofs.key_set.put_key.Statement.{statement}
 use Rattle.cojp_configuration_write.proofs.key_set.put_key.Tie as tie
@@ -45,21 +48,58 @@ slice-aggregate-put-bytes c = search needs
 put-bytes-requires : tie.Need-put-bytes-requires
 put-bytes-requires c κs = omega arith
 
-add-result : tie.Need-add-result
-add-result c = omega arith
+add-n3 : tie.Need-add-n3
+add-n3 c = omega arith
 
-returns : tie.Need-returns
-returns c =
-    let value = c .before .before in
+sub-put-info : tie.Need-sub-put-info
+sub-put-info c = omega arith
+
+part-put-info-start : tie.Need-part-put-info-start
+part-put-info-start c = omega arith
+
+part-put-info-end : tie.Need-part-put-info-end
+part-put-info-end c = omega arith
+
+put-info-requires : tie.Need-put-info-requires
+put-info-requires c κs =
+    let value = c .before .before .before in
     let usage = value .before .before .before .before .before in
     let name = usage .before .before .before .before in
     let start = name .before .before .before .before .before in
+    omega (arith, start .pre)
+
+add-result : tie.Need-add-result
+add-result c =
+    let source = c .before .before in
+    let value = source .before .before .before .before in
+    let usage = value .before .before .before .before .before in
+    let name = usage .before .before .before .before in
+    let start = name .before .before .before .before .before in
+    omega (
+      arith,
+      start .pre,
+      name .put-head .ensures .many,
+      usage .put-optional .ensures .many,
+      value .put-bytes .ensures .many,
+      source .put-info .ensures .many,
+    )
+
+returns : tie.Need-returns
+returns c =
+    let source = c .before .before in
+    let value = source .before .before .before .before in
+    let usage = value .before .before .before .before .before in
+    let name = usage .before .before .before .before in
+    let start = name .before .before .before .before .before in
+    let k = start .args .k in
     let front = seam (omega (arith, start .pre)) (name .put-head .ensures) (usage .put-optional .ensures) in
-    group-seam (start .args .k) (start .pre) front (value .put-bytes .ensures)
+    let sum = length-append (shortest 0 (k .identifier)) (encodes (usedItems (k .usage))) in
+    group-seam k (start .pre) (seam (omega (arith, start .pre, sum)) front (value .put-bytes .ensures)) (source .put-info .ensures)
 
 same-length : tie.Need-same-length
 same-length c =
-    let value = c .before .before in
+    let source = c .before .before in
+    let value = source .before .before .before .before in
     let usage = value .before .before .before .before .before in
     let name = usage .before .before .before .before in
     let start = name .before .before .before .before .before in
@@ -82,6 +122,11 @@ put-key-spec =
     part-put-bytes-end
     slice-aggregate-put-bytes
     put-bytes-requires
+    add-n3
+    sub-put-info
+    part-put-info-start
+    part-put-info-end
+    put-info-requires
     add-result
     same-length
     returns)

@@ -8,8 +8,10 @@ use Rattle.cojp_configuration_write.proofs.KeySets.{set-seam}
 use Rattle.cojp_configuration_write.proofs.key_set.put_set.Statement.{statement}
 use Rattle.cojp_configuration_write.proofs.key_set.put_set.Tie as tie
 
-put-array-requires : tie.Need-put-array-requires
-put-array-requires c κs = omega (arith, length-append (shortest 0 2) (shortest 4 (c .before .before .args .members)), (c .before .before .pre .1))
+put-labelled-requires : tie.Need-put-labelled-requires
+put-labelled-requires c κs =
+    let start = c .before .before in
+    (omega arith, omega (arith, length-append (shortest 0 2) (shortest 4 (start .args .members)), start .pre .1))
 
 sub-put-groups : tie.Need-sub-put-groups
 sub-put-groups c = omega arith
@@ -34,13 +36,13 @@ returns c =
     let groups = c .before .before in
     let array = groups .before .before .before .before in
     let start = array .before .before .before in
-    set-seam (keysOf (start .args .set)) (start .args .members) (start .pre .0) (start .pre .1) (array .put-array .ensures) (groups .put-groups .ensures)
+    set-seam (keysOf (start .args .set)) (start .args .members) (start .pre .0) (start .pre .1) (array .put-labelled .ensures) (groups .put-groups .ensures)
 
 pub put-set-spec : {M : Type 1} → statement M
 put-set-spec =
     tie.close
     (tie.spec
-    put-array-requires
+    put-labelled-requires
     sub-put-groups
     part-put-groups-start
     part-put-groups-end

@@ -1,9 +1,7 @@
 -- The parameters are read one after the other as they were written.
-use Prim.Native.Nat.{_^_, _<_}
-use mathlib.Core.Path.{_≡_}
 use borrow.Author.Needs.{needs}
-use lib.ListN.{length}
-use Rattle.cojp_laws.proofs.RoundTrip.{configuration-round-trip}
+use Rattle.cojp_laws.proofs.Configurations.{configuration-round-trip}
+use Rattle.cojp_laws.proofs.Typed.{configuration-typed}
 use Rattle.cojp_laws.proofs.round_trip.configuration_round_trip.Statement.{statement}
 use Rattle.cojp_laws.proofs.round_trip.configuration_round_trip.Tie as tie
 
@@ -16,22 +14,17 @@ head-laws-requires c κs = search needs
 laws-requires-2 : tie.Need-laws-requires-2
 laws-requires-2 c κs = search needs
 
-two : (k : tie.Start) → length (k .args .c .address .value .bytes) ≡ 2
-two k = search needs
-
-lease-fits : (k : tie.Start) → k .args .c .address .value .lease < 2 ^ 64
-lease-fits k = search needs
-
-sixteen : (k : tie.Start) → length (k .args .c .jrc .value .bytes) ≡ 16
-sixteen k = search needs
+laws-requires-3 : tie.Need-laws-requires-3
+laws-requires-3 c κs = search needs
 
 returns : tie.Need-returns
 returns c =
-    let heads = c .before in
+    let lists = c .before in
+    let heads = lists .before in
     let items = heads .before in
     let start = items .before in
-    configuration-round-trip (heads .head-laws .ensures) (c .laws2 .ensures) (start .args .c) (two start) (lease-fits start) (items .laws .ensures)
-    (sixteen start)
+    let typed = configuration-typed (start .args .c) _ (start .good .0) in
+    configuration-round-trip (heads .head-laws .ensures) (items .laws .ensures) (lists .laws2 .ensures) (c .laws3 .ensures) (start .args .c) typed
 
 pub configuration-round-trip-spec : {M : Type 1} → statement M
-configuration-round-trip-spec = tie.close (tie.spec laws-requires head-laws-requires laws-requires-2 returns)
+configuration-round-trip-spec = tie.close (tie.spec laws-requires head-laws-requires laws-requires-2 laws-requires-3 returns)

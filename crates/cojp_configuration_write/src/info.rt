@@ -1,0 +1,41 @@
+// Additional information of a key (RFC 9031), a byte string where there is any.
+use crate::item::put_bytes;
+use cojp_octets_write::Size;
+use cojp_octets_write::no_size;
+use link_key::Info;
+use link_key::bytes_of;
+ghost use Prim.Native.Nat.{_≤_};
+ghost use lib.ListN.{length};
+ghost use Rattle.cbor.specs.Answer.{Wrote};
+ghost use Rattle.cbor.specs.Encode.{encodes};
+ghost use Rattle.cojp.specs.Writing.{infoItems};
+ghost use Rattle.cojp_octets_write.specs.Size.{ItemsSize};
+
+pub(crate) fn info_size(info: Info) -> Size
+    ensures { λ r. ⌜ ItemsSize (infoItems info) 1 9 r ⌝ }
+{
+    cbor::head_laws();
+    let spread = bytes_of(info);
+    let len = spread.len;
+    if len == 0 {
+        return no_size();
+    }
+    let bytes = 1 + len;
+    Size {
+        members: 1,
+        bytes: bytes,
+    }
+}
+
+pub(crate) fn put_info(dst: &mut [u8], info: Info) -> usize
+    requires { ⌜ length (encodes (infoItems info)) ≤ length (now dst) ⌝ }
+    ensures { λ r. ⌜ Wrote (encodes (infoItems info)) (now (dst .entry)) r (now (dst .exit)) ⌝ }
+{
+    let spread = bytes_of(info);
+    let n = spread.len;
+    let bytes = spread.bytes;
+    if n == 0 {
+        return 0;
+    }
+    put_bytes(dst, &bytes[..n])
+}

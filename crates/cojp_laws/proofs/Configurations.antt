@@ -1,0 +1,239 @@
+-- What is written of a configuration reads back as the same configuration: its parameters one after the other, those of the other form missing.
+use Prim.Native.Nat.{ℕ, _≤_}
+use mathlib.Core.Path.{_≡_, refl, subst}
+use mathlib.Core.Bool.{Bool, not}
+use mathlib.Core.List.{List}
+use native.Mathlib.Omega.{arith}
+use lib.ListN.{length}
+use Rattle.refusal.specs.declared.Refusal.the-variants.{Range}
+use Rattle.cbor.specs.Encode.{encode}
+use Rattle.cbor.specs.HeadLaws.{HeadLaws}
+use Rattle.cbor.specs.Item.{unsigned, bytes, array, map}
+use Rattle.cbor.specs.Laws.{ItemLaws}
+use Rattle.cbor.specs.Strict.{headBy}
+use Rattle.cbor.specs.View.{View, viewOf}
+use Rattle.cbor.specs.declared.value.Label.the-variants as label
+use Rattle.link_key_set.specs.KeyLaws.{KeyLaws}
+use Rattle.link_key_set.specs.KeySet.{keysOf}
+use Rattle.cojp.specs.Address.{noAddressParameter, addressRead}
+use Rattle.cojp.specs.Configuration.{emptyConfiguration, withKeys, withAddress, withJrc, withNetwork, withPrefix, withBlacklist, withRate}
+use Rattle.cojp.specs.Configuration.{noted, configurationTaking, configurationForm, acceptConfiguration, readConfigurationBy}
+use Rattle.cojp.specs.Faults.{noFaults, added}
+use Rattle.cojp.specs.KeySet.{noKeysParameter, keysReadAs}
+use Rattle.cojp.specs.Lists.{stringsIn, noListParameter, blacklistTaken, itemsIn}
+use Rattle.cojp.specs.Octets.{bytesIn, noOctetsParameter, octetsRead}
+use Rattle.cojp.specs.Parameter.{parameterOf, laterParameter}
+use Rattle.cojp.specs.Rate.{noRateParameter, rateTaken}
+use Rattle.cojp.specs.Reading.{read, ifTaken}
+use Rattle.cojp.specs.Version.{byVersion, informed}
+use Rattle.cojp.specs.Walk.{pairRead, pairsRead}
+use Rattle.cojp.specs.Writing.{join, octetsPairs, addressPairs, groupsItems, keysPairs, listPairs, ratePairs, fits}
+use Rattle.cojp.specs.Writing.{configurationPairs, configurationInRange, configurationPlan}
+use Rattle.cojp.specs.declared.address.AddressParameter.{AddressParameter}
+use Rattle.cojp.specs.declared.configuration.Configuration.{Configuration}
+use Rattle.cojp.specs.declared.configuration.ConfigurationRead.{ConfigurationRead}
+use Rattle.cojp.specs.declared.fault.Faults.{Faults}
+use Rattle.cojp.specs.declared.key_set.KeysParameter.{KeysParameter}
+use Rattle.cojp.specs.declared.list.ListParameter.{ListParameter}
+use Rattle.cojp.specs.declared.octets.OctetsParameter.{OctetsParameter}
+use Rattle.cojp.specs.declared.rate.RateParameter.{RateParameter}
+use Rattle.cojp.specs.declared.report.Report.{Report}
+use Rattle.cojp.specs.declared.report.Report.the-variants.{Absent, Discarded}
+use Rattle.cojp.specs.declared.version.Version.{Version}
+use Rattle.cojp.specs.declared.version.Version.the-variants.{Draft, Published}
+use Rattle.cojp_list_read.specs.Laws.{ListLaws}
+use Rattle.cojp_octets_write.proofs.Limits.{Judged, configuration-fits}
+use Rattle.cojp_laws.specs.RoundTrip.{ConfigurationBack, ConfigurationRoundTrip}
+use Rattle.cojp_laws.proofs.Forms.{OfForm, of-form, keys-fitting, list-kept, draft-taken, published-taken}
+use Rattle.cojp_laws.proofs.ReadBack.{then, parameter-read, payload-read, following-good, kept-if}
+use Rattle.cojp_laws.proofs.ReadBack.{octetsGood, octetsBack, octets-back, jrc-back, octets-same, addressItems, addressGood, addressBack, address-back, address-same}
+use Rattle.cojp_laws.proofs.ReadBack.{keysGood, keysBack, keys-back, keys-same, listGood, listBack, list-back, list-same, rateGood, rateBack, rate-same}
+use Rattle.cojp_laws.proofs.Sizes.{emits, in-range, fitted, fine-configuration}
+use Rattle.cojp_laws.proofs.Typed.{TypedConfiguration}
+
+-- ---- one pair, its parameter being good and not seen before
+module _ (v : Version) (s : Configuration) (x : View) where
+  -- what is read of it
+  abbrev Reads : ℕ → Configuration → Type 0
+  Reads n c = pairRead (configurationForm v) s (label.Number n) x ≡ read (noted v n c)
+
+  keys-step : (p : KeysParameter) → s .keys .report ≡ Absent → keysReadAs (informed v) x ≡ read p → Reads 2 (withKeys s p)
+  unfolding parameterOf configurationTaking
+  keys-step p a e = rw (a, following-good v (noKeysParameter Discarded) p (keysReadAs (informed v) x) e)
+
+  address-step : (p : AddressParameter) → s .address .report ≡ Absent → addressRead x ≡ read p → Reads 3 (withAddress s p)
+  unfolding parameterOf configurationTaking
+  address-step p a e = rw (a, following-good v (noAddressParameter Discarded) p (addressRead x) e)
+
+  jrc-step : (p : OctetsParameter) → s .jrc .report ≡ Absent → octetsRead 16 x ≡ read p → Reads 4 (withJrc s p)
+  unfolding parameterOf configurationTaking
+  jrc-step p a e = rw (a, following-good v (noOctetsParameter Discarded) p (octetsRead 16 x) e)
+
+  -- the draft's
+  network-step : (p : OctetsParameter) → v ≡ Draft → s .network .report ≡ Absent → octetsRead 0 x ≡ read p → Reads 5 (withNetwork s p)
+  unfolding parameterOf laterParameter configurationTaking
+  network-step p d a e = rw (d, a, e)
+
+  prefix-step : (p : OctetsParameter) → v ≡ Draft → s .prefix .report ≡ Absent → octetsRead 0 x ≡ read p → Reads 6 (withPrefix s p)
+  unfolding parameterOf laterParameter configurationTaking
+  prefix-step p d a e = rw (d, a, e)
+
+  -- the published form's
+  blacklist-step : (p : ListParameter) → v ≡ Published → s .blacklist .report ≡ Absent → blacklistTaken x ≡ p → Reads 6 (withBlacklist s p)
+  unfolding parameterOf laterParameter configurationTaking
+  blacklist-step p d a e = rw (d, a, e)
+
+  rate-step : (p : RateParameter) → v ≡ Published → s .rate .report ≡ Absent → rateTaken x ≡ p → Reads 7 (withRate s p)
+  unfolding parameterOf laterParameter configurationTaking
+  rate-step p d a e = rw (d, a, e)
+
+-- ---- all of them
+abbrev configured :
+    KeysParameter → AddressParameter → OctetsParameter → OctetsParameter → OctetsParameter → ListParameter → RateParameter → Faults → Configuration
+configured keys address jrc network prefix blacklist rate came = record {
+  keys = keys;
+  address = address;
+  jrc = jrc;
+  network = network;
+  prefix = prefix;
+  blacklist = blacklist;
+  rate = rate;
+  came = came;
+  passed = 0;
+}
+
+abbrev read-back : Configuration → Faults → Configuration
+read-back c came =
+    configured (keysBack (c .keys)) (addressBack (c .address)) (octetsBack (c .jrc)) (octetsBack (c .network)) (octetsBack (c .prefix))
+    (listBack stringsIn (c .blacklist)) (rateBack (c .rate)) came
+
+-- a label that came is noted in the published form
+abbrev noting : Version → ℕ → Faults → Faults
+noting v n came = byVersion v came (added came 1 n)
+
+abbrev notedIf : Version → ℕ → Report → Faults → Faults
+notedIf v n r came = ifTaken r (noting v n came) came
+
+module _ (keys : KeyLaws) (lists : ListLaws) (v : Version) (c : Configuration) (f : Judged v c) (o : OfForm v c) (l : length (c .jrc .value .bytes) ≡ 16) where
+  configuration-read : (came : Faults) × (pairsRead (configurationForm v) emptyConfiguration (configurationPairs c) ≡ read (read-back c came))
+  unfolding rateTaken
+  configuration-read =
+      let F = configurationForm v in
+      let none = noOctetsParameter Absent in
+      let no-address = noAddressParameter Absent in
+      let no-list = noListParameter Absent in
+      let no-rate = noRateParameter Absent in
+      let k = keysBack (c .keys) in
+      let a = addressBack (c .address) in
+      let j = octetsBack (c .jrc) in
+      let n = octetsBack (c .network) in
+      let p = octetsBack (c .prefix) in
+      let b = listBack stringsIn (c .blacklist) in
+      let f1 = notedIf v 2 (c .keys .report) noFaults in
+      let f2 = notedIf v 3 (c .address .report) f1 in
+      let f3 = notedIf v 4 (c .jrc .report) f2 in
+      let f4 = notedIf v 5 (c .network .report) f3 in
+      let f5 = notedIf v 6 (c .prefix .report) f4 in
+      let f6 = notedIf v 6 (c .blacklist .report) f5 in
+      let f7 = notedIf v 7 (c .rate .report) f6 in
+      let s0 = emptyConfiguration in
+      let s1 = configured k no-address none none none no-list no-rate f1 in
+      let s2 = configured k a none none none no-list no-rate f2 in
+      let s3 = configured k a j none none no-list no-rate f3 in
+      let s4 = configured k a j n none no-list no-rate f4 in
+      let s5 = configured k a j n p no-list no-rate f5 in
+      let s6 = configured k a j n p b no-rate f6 in
+      let groups = array (groupsItems (keysOf (c .keys .value))) in
+      let place = array (addressItems (c .address .value)) in
+      let jrc = bytes (bytesIn (c .jrc .value)) in
+      let network = bytes (bytesIn (c .network .value)) in
+      let prefix = bytes (bytesIn (c .prefix .value)) in
+      let blacklist = array (itemsIn stringsIn (c .blacklist .value)) in
+      let rate = unsigned (c .rate .value) in
+      let e1 =
+      parameter-read F s0 2 (c .keys .report) groups (λ x g. configured x no-address none none none no-list no-rate g) (keysGood (c .keys))
+      (noKeysParameter Absent) (noting v 2 noFaults) noFaults refl
+      (λ t. keys-step v s0 (viewOf groups) (keysGood (c .keys)) refl
+      (keys-back (informed v) keys (c .keys) (f .keys) (keys-fitting keys v (c .keys) (o .keys) t) t)) in
+      let e2 =
+      parameter-read F s1 3 (c .address .report) place (λ x g. configured k x none none none no-list no-rate g) (addressGood (c .address)) no-address
+      (noting v 3 f1) f1 refl
+      (λ t. address-step v s1 (viewOf place) (addressGood (c .address)) refl (address-back (c .address) (f .address) t)) in
+      let e3 =
+      parameter-read F s2 4 (c .jrc .report) jrc (λ x g. configured k a x none none no-list no-rate g) (octetsGood (c .jrc)) none (noting v 4 f2) f2 refl
+      (λ t. jrc-step v s2 (viewOf jrc) (octetsGood (c .jrc)) refl (jrc-back (c .jrc) (f .jrc) l t)) in
+      let e4 =
+      parameter-read F s3 5 (c .network .report) network (λ x g. configured k a j x none no-list no-rate g) (octetsGood (c .network)) none (noting v 5 f3) f3 refl
+      (λ t. network-step v s3 (viewOf network) (octetsGood (c .network)) (draft-taken v (c .network .report) (o .network) t) refl
+      (octets-back (c .network) (f .network) t)) in
+      let e5 =
+      parameter-read F s4 6 (c .prefix .report) prefix (λ x g. configured k a j n x no-list no-rate g) (octetsGood (c .prefix)) none (noting v 6 f4) f4 refl
+      (λ t. prefix-step v s4 (viewOf prefix) (octetsGood (c .prefix)) (draft-taken v (c .prefix .report) (o .prefix) t) refl
+      (octets-back (c .prefix) (f .prefix) t)) in
+      let e6 =
+      parameter-read F s5 6 (c .blacklist .report) blacklist (λ x g. configured k a j n p x no-rate g) (listGood stringsIn (c .blacklist)) no-list (noting v 6 f5) f5 refl
+      (λ t.
+      let (q, h) = list-kept v stringsIn (c .blacklist) (o .blacklist) t in
+      blacklist-step v s5 (viewOf blacklist) (listGood stringsIn (c .blacklist)) q refl
+      (list-back stringsIn (lists .blacklist-back) (c .blacklist) (λ u. h) t)) in
+      let e7 =
+      parameter-read F s6 7 (c .rate .report) rate (λ x g. configured k a j n p b x g) (rateGood (c .rate)) no-rate (noting v 7 f6) f6 refl
+      (λ t. rate-step v s6 (viewOf rate) (rateGood (c .rate)) (published-taken v (c .rate .report) (o .rate) t) refl refl) in
+      let ka = join (keysPairs (c .keys)) (addressPairs (c .address)) in
+      let kaj = join ka (octetsPairs 4 (c .jrc)) in
+      let kajn = join kaj (octetsPairs 5 (c .network)) in
+      let kajnp = join kajn (octetsPairs 6 (c .prefix)) in
+      let kajnpb = join kajnp (listPairs 6 stringsIn (c .blacklist)) in
+      let d2 = then F (keysPairs (c .keys)) (addressPairs (c .address)) s0 s1 s2 e1 e2 in
+      let d3 = then F ka (octetsPairs 4 (c .jrc)) s0 s2 s3 d2 e3 in
+      let d4 = then F kaj (octetsPairs 5 (c .network)) s0 s3 s4 d3 e4 in
+      let d5 = then F kajn (octetsPairs 6 (c .prefix)) s0 s4 s5 d4 e5 in
+      let d6 = then F kajnp (listPairs 6 stringsIn (c .blacklist)) s0 s5 s6 d5 e6 in
+      (f7, then F kajnpb (ratePairs (c .rate)) s0 s6 (read-back c f7) d6 e7)
+
+-- ---- the answer is the same configuration
+same-back : (lists : ListLaws) (v : Version) (c : Configuration) → OfForm v c → (came : Faults) (r : ConfigurationRead)
+    → r ≡ acceptConfiguration (read-back c came) → ConfigurationBack c r
+same-back lists v c o came r e =
+    let none = noOctetsParameter Absent in
+    let report : OctetsParameter → Report = λ o. o .report in
+    rw e (record {
+      accepted = refl;
+      same = record {
+        keys = keys-same (c .keys);
+        address = address-same (c .address);
+        jrc = octets-same (c .jrc);
+        network = octets-same (c .network);
+        prefix = octets-same (c .prefix);
+        blacklist = list-same stringsIn (lists .blacklist-back) (c .blacklist) (λ t. list-kept v stringsIn (c .blacklist) (o .blacklist) t .1);
+        rate = rate-same (c .rate);
+      };
+      keys-kept = kept-if (λ (k : KeysParameter). k .report) (keysGood (c .keys)) (noKeysParameter Absent) (c .keys .report) refl refl;
+      address-kept = kept-if (λ (a : AddressParameter). a .report) (addressGood (c .address)) (noAddressParameter Absent) (c .address .report) refl refl;
+      jrc-kept = kept-if report (octetsGood (c .jrc)) none (c .jrc .report) refl refl;
+      network-kept = kept-if report (octetsGood (c .network)) none (c .network .report) refl refl;
+      prefix-kept = kept-if report (octetsGood (c .prefix)) none (c .prefix .report) refl refl;
+      blacklist-kept = kept-if (λ (l : ListParameter). l .report) (listGood stringsIn (c .blacklist)) (noListParameter Absent) (c .blacklist .report) refl refl;
+      rate-kept = kept-if (λ (r : RateParameter). r .report) (rateGood (c .rate)) (noRateParameter Absent) (c .rate .report) refl refl;
+      passed = refl;
+    })
+
+module _ (heads : HeadLaws) (items : ItemLaws) (lists : ListLaws) (keys : KeyLaws) (c : Configuration) (typed : TypedConfiguration c) where
+  whole-read : (v : Version) (b : Bool) → Judged v c → length (encode (map (configurationPairs c))) ≤ 256 → (came : Faults)
+      → pairsRead (configurationForm v) emptyConfiguration (configurationPairs c) ≡ read (read-back c came)
+      → readConfigurationBy v (headBy b) (encode (map (configurationPairs c))) ≡ acceptConfiguration (read-back c came)
+  whole-read v b within n came all =
+      let f = fine-configuration heads items lists keys c typed v within in
+      rw (payload-read (configurationForm v) items b (configurationPairs c) emptyConfiguration f (omega arith) n, all)
+
+  pub configuration-round-trip : ConfigurationRoundTrip c
+  unfolding configurationPlan
+  configuration-round-trip v p e b =
+      let s = encode (map (configurationPairs c)) in
+      let (a, x) = emits (not (configurationInRange v c)) Range (fits s) p e in
+      let (n, y) = fitted s p x in
+      let within = configuration-fits v c (in-range (configurationInRange v c) a) in
+      let o = of-form v c (within .form) in
+      let (came, all) = configuration-read keys lists v c within o (typed .sixteen) in
+      let back = same-back lists v c o came (readConfigurationBy v (headBy b) s) (whole-read v b within n came all) in
+      subst (λ (q : List ℕ). ConfigurationBack c (readConfigurationBy v (headBy b) q)) y back
