@@ -5,3 +5,6 @@ mod Unread
 mod Refused
 mod Until
 mod Passed
+mod Again
+mod Short
+mod Lent

@@ -1,4 +1,4 @@
--- While no call was LONG, no overrun is marked and as many bytes have arrived as the accepted parts had: so a part is LONG exactly where it passes 256.
+-- While no part was LONG, no overrun is marked and as many bytes have arrived as the accepted parts had: so a part is LONG exactly where it passes 256.
 use Prim.Native.Nat.{ℕ, _+_, _≤_, _<_}
 use mathlib.Core.Path.{_≡_, refl, ap, sym, subst}
 use mathlib.Core.Bool.{Bool, true, false}
@@ -7,10 +7,11 @@ use native.Mathlib.Omega.{arith}
 use borrow.Author.Tests.{ltb-true, ltb-false}
 use lib.Dec.{ltb}
 use lib.ListN.{length, length-append}
+use Rattle.logic_facts.specs.Tests.{neither-left, neither-right}
 use Rattle.cojp_serial.specs.Arrival.{placed, grown, partAnswer, partStore, endArrival}
 use Rattle.cojp_serial.specs.Calls.{SerialCall, resetting, sending, ending, Held, courseOn, told, left, leftBy, answers, joined, sendings}
-use Rattle.cojp_serial.specs.Calls.{verdictIn, ifAccepted, takenBy, takenIn}
-use Rattle.cojp_serial.specs.Laws.{NoReset, no-calls, part-next, end-next, Each, none-told, next-told, NotLong, LongExactly}
+use Rattle.cojp_serial.specs.Calls.{verdictIn, ifAccepted, takenBy, takenIn, saysLong, longPart, longPartIn}
+use Rattle.cojp_serial.specs.Laws.{NoReset, no-calls, part-next, end-next, Each, none-told, next-told, LongExactly}
 use Rattle.cojp_serial.specs.Laws.{IsAccepted, OwnBytes, LongWherePassed, FittingPartsTaken, WritesItsOwn}
 use Rattle.cojp_serial.specs.declared.arrival.Course.{Course}
 use Rattle.cojp_serial.specs.declared.arrival.Course.the-variants.{Outside, Overrun, Ended, Open}
@@ -19,17 +20,17 @@ use Rattle.cojp_serial.proofs.Stores.{placed-length, placed-own}
 use Rattle.cojp_serial.proofs.Until.{long-course, open-course}
 
 -- n bytes were taken, and none was too many
-record Counted (h : Held) (n : ℕ) : Type 0 where
-  arrived : h .arrival .arrived ≡ n
-  clear : h .arrival .overrun ≡ false
-  limited : h .arrival .arrived ≤ 256
-  store : 256 ≤ length (h .store)
+pub record Counted (h : Held) (n : ℕ) : Type 0 where
+  pub arrived : h .arrival .arrived ≡ n
+  pub clear : h .arrival .overrun ≡ false
+  pub limited : h .arrival .arrived ≤ 256
+  pub store : 256 ≤ length (h .store)
 
 unmoved : (h : Held) (n : ℕ) → Counted h n → Counted h (n + 0)
 unmoved h n w = record { arrived = omega (arith, w .arrived); clear = w .clear; limited = w .limited; store = w .store }
 
 -- ---- one call more
-taken-counted : (h : Held) (n : ℕ) (p : List ℕ) → Counted h n → h .arrival .arrived + length p ≤ 256
+pub taken-counted : (h : Held) (n : ℕ) (p : List ℕ) → Counted h n → h .arrival .arrived + length p ≤ 256
     → Counted (record { arrival = grown (h .arrival) (length p); store = placed (h .arrival .arrived) p (h .store) }) (n + length p)
 taken-counted h n p w room = record {
   arrived = omega (arith, w .arrived);
@@ -39,34 +40,37 @@ taken-counted h n p w room = record {
 }
 
 part-counted : (h : Held) (n : ℕ) (p : List ℕ) (x : Course) → courseOn h (length p) ≡ x → Counted h n
-    → NotLong (partAnswer x (h .arrival) (length p) .verdict)
+    → saysLong (partAnswer x (h .arrival) (length p) .verdict) ≡ false
     → Counted (record { arrival = partAnswer x (h .arrival) (length p) .arrival; store = partStore x (h .arrival .arrived) p (h .store) })
     (n + ifAccepted (partAnswer x (h .arrival) (length p) .verdict) (length p))
 part-counted h n p Outside e w short = unmoved h n w
-part-counted h n p Overrun e w short = absurd (short refl)
+part-counted h n p Overrun e w short = absurd (let z : _≡_ {A = ℕ} 0 1 = cc in omega arith)
 part-counted h n p Ended e w short = unmoved h n w
 part-counted h n p Open e w short = taken-counted h n p w (open-fits (h .arrival) (length (h .store)) (length p) e .room)
 
-end-counted : (h : Held) (n : ℕ) (x : Course) → Counted h n → Counted (record { arrival = endArrival x (h .arrival); store = h .store }) (n + 0)
+pub end-counted : (h : Held) (n : ℕ) (x : Course) → Counted h n → Counted (record { arrival = endArrival x (h .arrival); store = h .store }) (n + 0)
 end-counted h n Outside w = unmoved h n w
 end-counted h n Overrun w = unmoved h n w
 end-counted h n Ended w = unmoved h n w
 end-counted h n Open w = record { arrived = omega (arith, w .arrived); clear = w .clear; limited = w .limited; store = w .store }
 
 -- ---- many calls
-all-counted : (cs : List SerialCall) (h : Held) (n : ℕ) → NoReset cs → Counted h n → Each NotLong (answers cs h) → Counted (leftBy cs h) (n + takenIn cs h)
-all-counted [] h n no-calls w none-told = unmoved h n w
-all-counted (sending p ∷ cs) h n (part-next q) w (next-told short rest) =
+all-counted : (cs : List SerialCall) (h : Held) (n : ℕ) → NoReset cs → Counted h n → longPartIn cs h ≡ false → Counted (leftBy cs h) (n + takenIn cs h)
+all-counted [] h n no-calls w none = unmoved h n w
+all-counted (sending p ∷ cs) h n (part-next q) w none =
     let more = takenBy (sending p) (told (sending p) h) in
-    let next = part-counted h n p (courseOn h (length p)) refl w short in
+    let this = longPart (sending p) (told (sending p) h) in
+    let later = longPartIn cs (left (sending p) h) in
+    let next = part-counted h n p (courseOn h (length p)) refl w (neither-left this later none) in
     let sum : n + more + takenIn cs (left (sending p) h) ≡ n + (more + takenIn cs (left (sending p) h)) = omega arith in
-    subst (λ (m : ℕ). Counted (leftBy cs (left (sending p) h)) m) sum (all-counted cs (left (sending p) h) (n + more) q next rest)
-all-counted (ending r ∷ cs) h n (end-next q) w (next-told short rest) =
+    subst (λ (m : ℕ). Counted (leftBy cs (left (sending p) h)) m) sum
+    (all-counted cs (left (sending p) h) (n + more) q next (neither-right this later none))
+all-counted (ending r ∷ cs) h n (end-next q) w none =
     let next = end-counted h n (courseOn h 0) w in
     let sum : n + 0 + takenIn cs (left (ending r) h) ≡ n + (0 + takenIn cs (left (ending r) h)) = omega arith in
-    subst (λ (m : ℕ). Counted (leftBy cs (left (ending r) h)) m) sum (all-counted cs (left (ending r) h) (n + 0) q next rest)
+    subst (λ (m : ℕ). Counted (leftBy cs (left (ending r) h)) m) sum (all-counted cs (left (ending r) h) (n + 0) q next none)
 
-begun : (h : Held) → 256 ≤ length (h .store) → Counted (left resetting h) 0
+pub begun : (h : Held) → 256 ≤ length (h .store) → Counted (left resetting h) 0
 begun h s = record { arrived = refl; clear = refl; limited = omega arith; store = s }
 
 -- ---- a part then

@@ -11,6 +11,7 @@ use Rattle.cbor.specs.Strict.{headBy}
 use Rattle.cojp.specs.Configuration.{emptyConfiguration, refuseConfiguration, readConfigurationBy}
 use Rattle.cojp.specs.Laws.{ReadersDemand1}
 use Rattle.cojp.specs.Request.{emptyRequest, refuseRequest, readRequestBy}
+use Rattle.cojp.specs.declared.version.Version.{Version}
 use Rattle.cojp_serial.specs.Arrival.{partAnswer, partStore, endRead, endArrival}
 use Rattle.cojp_serial.specs.Calls.{Reader, request, configuration, resetting, sending, ending, Held, courseOn, told, verdictIn}
 use Rattle.cojp_serial.specs.Laws.{EmptyBeside, Left, as-before, overrun-marked, end-marked, RefusedCalls}
@@ -33,45 +34,45 @@ module _ (h : Held) (p : List ℕ) (k : Refusal) where
 
 -- ---- an end
 module _ (demand1 : ReadersDemand1) (h : Held) (k : Refusal) where
-  request-object : (strict : Bool) (x : Course) (p : List ℕ)
-      → endRead refuseRequest (readRequestBy (headBy strict)) x p .verdict ≡ Refused k
-      → endRead refuseRequest (readRequestBy (headBy strict)) x p .request ≡ emptyRequest
-  request-object strict Outside p e = refl
-  request-object strict Overrun p e = refl
-  request-object strict Ended p e = refl
-  request-object strict Open p e = demand1 .request (headBy strict) p k e
+  request-object : (v : Version) (strict : Bool) (x : Course) (p : List ℕ)
+      → endRead refuseRequest (readRequestBy v (headBy strict)) x p .verdict ≡ Refused k
+      → endRead refuseRequest (readRequestBy v (headBy strict)) x p .request ≡ emptyRequest
+  request-object v strict Outside p e = refl
+  request-object v strict Overrun p e = refl
+  request-object v strict Ended p e = refl
+  request-object v strict Open p e = demand1 .request v (headBy strict) p k e
 
-  configuration-object : (strict : Bool) (x : Course) (p : List ℕ)
-      → endRead refuseConfiguration (readConfigurationBy (headBy strict)) x p .verdict ≡ Refused k
-      → endRead refuseConfiguration (readConfigurationBy (headBy strict)) x p .configuration ≡ emptyConfiguration
-  configuration-object strict Outside p e = refl
-  configuration-object strict Overrun p e = refl
-  configuration-object strict Ended p e = refl
-  configuration-object strict Open p e = demand1 .configuration (headBy strict) p k e
+  configuration-object : (v : Version) (strict : Bool) (x : Course) (p : List ℕ)
+      → endRead refuseConfiguration (readConfigurationBy v (headBy strict)) x p .verdict ≡ Refused k
+      → endRead refuseConfiguration (readConfigurationBy v (headBy strict)) x p .configuration ≡ emptyConfiguration
+  configuration-object v strict Outside p e = refl
+  configuration-object v strict Overrun p e = refl
+  configuration-object v strict Ended p e = refl
+  configuration-object v strict Open p e = demand1 .configuration v (headBy strict) p k e
 
   end-object : (r : Reader) → verdictIn (told (ending r) h) ≡ Refused k → EmptyBeside (told (ending r) h)
-  end-object (request strict) e = request-object strict (courseOn h 0) (take (h .arrival .arrived) (h .store)) e
-  end-object (configuration strict) e = configuration-object strict (courseOn h 0) (take (h .arrival .arrived) (h .store)) e
+  end-object (request v strict) e = request-object v strict (courseOn h 0) (take (h .arrival .arrived) (h .store)) e
+  end-object (configuration v strict) e = configuration-object v strict (courseOn h 0) (take (h .arrival .arrived) (h .store)) e
 
-  request-left : (strict : Bool) (x : Course)
-      → endRead refuseRequest (readRequestBy (headBy strict)) x (take (h .arrival .arrived) (h .store)) .verdict ≡ Refused k
-      → Left (ending (request strict)) h k (endArrival x (h .arrival))
-  request-left strict Outside e = as-before refl
-  request-left strict Overrun e = as-before refl
-  request-left strict Ended e = as-before refl
-  request-left strict Open e = end-marked e refl
+  request-left : (v : Version) (strict : Bool) (x : Course)
+      → endRead refuseRequest (readRequestBy v (headBy strict)) x (take (h .arrival .arrived) (h .store)) .verdict ≡ Refused k
+      → Left (ending (request v strict)) h k (endArrival x (h .arrival))
+  request-left v strict Outside e = as-before refl
+  request-left v strict Overrun e = as-before refl
+  request-left v strict Ended e = as-before refl
+  request-left v strict Open e = end-marked e refl
 
-  configuration-left : (strict : Bool) (x : Course)
-      → endRead refuseConfiguration (readConfigurationBy (headBy strict)) x (take (h .arrival .arrived) (h .store)) .verdict ≡ Refused k
-      → Left (ending (configuration strict)) h k (endArrival x (h .arrival))
-  configuration-left strict Outside e = as-before refl
-  configuration-left strict Overrun e = as-before refl
-  configuration-left strict Ended e = as-before refl
-  configuration-left strict Open e = end-marked e refl
+  configuration-left : (v : Version) (strict : Bool) (x : Course)
+      → endRead refuseConfiguration (readConfigurationBy v (headBy strict)) x (take (h .arrival .arrived) (h .store)) .verdict ≡ Refused k
+      → Left (ending (configuration v strict)) h k (endArrival x (h .arrival))
+  configuration-left v strict Outside e = as-before refl
+  configuration-left v strict Overrun e = as-before refl
+  configuration-left v strict Ended e = as-before refl
+  configuration-left v strict Open e = end-marked e refl
 
   end-left : (r : Reader) → verdictIn (told (ending r) h) ≡ Refused k → Left (ending r) h k (endArrival (courseOn h 0) (h .arrival))
-  end-left (request strict) e = request-left strict (courseOn h 0) e
-  end-left (configuration strict) e = configuration-left strict (courseOn h 0) e
+  end-left (request v strict) e = request-left v strict (courseOn h 0) e
+  end-left (configuration v strict) e = configuration-left v strict (courseOn h 0) e
 
 pub refused-calls : ReadersDemand1 → RefusedCalls
 refused-calls demand1 resetting h k e = absurd (let z : _≡_ {A = ℕ} 0 1 = cc in omega arith)

@@ -18,14 +18,14 @@ use Rattle.cojp_serial.specs.declared.arrival.Course.the-variants.{Outsi
 use Rattle.cojp_serial.proofs.Courses.{open-fits}
 use Rattle.cojp_serial.proofs.Stores.{placed-length, placed-take}
 
-abbrev hold : Arrival → List ℕ → Held
+abbrev pub hold : Arrival → List ℕ → Held
 hold a s = record { arrival = a; store = s }
 
 record Alike (a : Arrival) (s t : List ℕ) : Type 0 where
   lent : leb 256 (length s) ≡ leb 256 (length t)
   arrived : take (a .arrived) s ≡ take (a .arrived) t
 
-course-alike : (a : Arrival) (n x y : ℕ) → leb 256 x ≡ leb 256 y → courseOf a x n ≡ courseOf a y n
+pub course-alike : (a : Arrival) (n x y : ℕ) → leb 256 x ≡ leb 256 y → courseOf a x n ≡ courseOf a y n
 unfolding courseOf
 course-alike a n x y e = rw e
 
@@ -61,10 +61,10 @@ end-alike f refuse reader a s t w = rw (course-alike a 0 (length s) (length t) (
 told-alike : (c : SerialCall) (a : Arrival) (s t : List ℕ) → Alike a s t → told c (hold a s) ≡ told c (hold a t)
 told-alike resetting a s t w = refl
 told-alike (sending p) a s t w = rw (course-alike a (length p) (length s) (length t) (w .lent))
-told-alike (ending (request strict)) a s t w = end-alike joinRequest refuseRequest (readRequestBy (headBy strict)) a s t w
-told-alike (ending (configuration strict)) a s t w = end-alike update refuseConfiguration (readConfigurationBy (headBy strict)) a s t w
+told-alike (ending (request v strict)) a s t w = end-alike joinRequest refuseRequest (readRequestBy v (headBy strict)) a s t w
+told-alike (ending (configuration v strict)) a s t w = end-alike update refuseConfiguration (readConfigurationBy v (headBy strict)) a s t w
 
-both : {A : Type 0} {x y : A} {xs ys : List A} → x ≡ y → xs ≡ ys → x ∷ xs ≡ y ∷ ys
+pub both : {A : Type 0} {x y : A} {xs ys : List A} → x ≡ y → xs ≡ ys → x ∷ xs ≡ y ∷ ys
 both p q = cc
 
 answers-alike : (cs : List SerialCall) (a : Arrival) (s t : List ℕ) → Alike a s t → answers cs (hold a s) ≡ answers cs (hold a t)

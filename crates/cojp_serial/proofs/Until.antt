@@ -22,22 +22,22 @@ use Rattle.cojp_serial.specs.declared.arrival.Course.the-variants.{Outsi
 use Rattle.cojp_serial.proofs.Courses.{Limited, Shut, by-overrun, by-end, overrun-before, open-fits, overrun-limited, ended-shut}
 
 -- ---- after an overrun
-record Over (h : Held) : Type 0 where
-  limited : Limited (h .arrival) (length (h .store))
-  marked : h .arrival .overrun ≡ true
+pub record Over (h : Held) : Type 0 where
+  pub limited : Limited (h .arrival) (length (h .store))
+  pub marked : h .arrival .overrun ≡ true
 
-over-course : (h : Held) (n : ℕ) → Over h → courseOn h n ≡ Overrun
+pub over-course : (h : Held) (n : ℕ) → Over h → courseOn h n ≡ Overrun
 over-course h n w =
     sym (overrun-before (h .arrival) (length (h .store)) n (w .limited .store) (w .limited .arrived) (w .marked))
 
-end-is-long : (r : Reader) (h : Held) → courseOn h 0 ≡ Overrun → IsLong (verdictIn (told (ending r) h))
-end-is-long (request strict) h e = rw e
-end-is-long (configuration strict) h e = rw e
+pub end-is-long : (r : Reader) (h : Held) → courseOn h 0 ≡ Overrun → IsLong (verdictIn (told (ending r) h))
+end-is-long (request v strict) h e = rw e
+end-is-long (configuration v strict) h e = rw e
 
-over-part : (h : Held) (p : List ℕ) → courseOn h (length p) ≡ Overrun → Limited (h .arrival) (length (h .store)) → Over (left (sending p) h)
+pub over-part : (h : Held) (p : List ℕ) → courseOn h (length p) ≡ Overrun → Limited (h .arrival) (length (h .store)) → Over (left (sending p) h)
 over-part h p e w = rw e (record { limited = record { store = w .store; arrived = w .arrived }; marked = refl })
 
-over-end : (h : Held) (r : Reader) → Over h → Over (left (ending r) h)
+pub over-end : (h : Held) (r : Reader) → Over h → Over (left (ending r) h)
 over-end h r w = rw (over-course h 0 w) w
 
 all-long : (cs : List SerialCall) (h : Held) → NoReset cs → Over h → Each IsLong (answers cs h)
@@ -78,10 +78,10 @@ shut-read refuse reader verdict p x says by-overrun = long (says Long)
 shut-read refuse reader verdict p x says by-end = phase (says Phase)
 
 shut-end : (r : Reader) (h : Held) → Shut (courseOn h 0) → LongOrPhase (verdictIn (told (ending r) h))
-shut-end (request strict) h w =
-    shut-read refuseRequest (readRequestBy (headBy strict)) (λ (y : RequestRead). y .verdict) (take (h .arrival .arrived) (h .store)) (courseOn h 0) (λ k. refl) w
-shut-end (configuration strict) h w =
-    shut-read refuseConfiguration (readConfigurationBy (headBy strict)) (λ (y : ConfigurationRead). y .verdict) (take (h .arrival .arrived) (h .store)) (courseOn h 0) (λ k. refl) w
+shut-end (request v strict) h w =
+    shut-read refuseRequest (readRequestBy v (headBy strict)) (λ (y : RequestRead). y .verdict) (take (h .arrival .arrived) (h .store)) (courseOn h 0) (λ k. refl) w
+shut-end (configuration v strict) h w =
+    shut-read refuseConfiguration (readConfigurationBy v (headBy strict)) (λ (y : ConfigurationRead). y .verdict) (take (h .arrival .arrived) (h .store)) (courseOn h 0) (λ k. refl) w
 
 closed-part : (h : Held) (p : List ℕ) (x : Course) → Shut x → Closed h
     → Closed (record { arrival = partAnswer x (h .arrival) (length p) .arrival; store = partStore x (h .arrival .arrived) p (h .store) })

@@ -14,6 +14,7 @@ use Rattle.cbor.specs.Strict.{headBy}
 use Rattle.cojp.specs.Configuration.{refuseConfiguration, readConfigurationBy}
 use Rattle.cojp.specs.Request.{refuseRequest, readRequestBy}
 use Rattle.cojp.specs.Walk.{payloadReadBy}
+use Rattle.cojp.specs.declared.version.Version.{Version}
 use Rattle.cojp_serial.specs.Arrival.{partAnswer, partStore}
 use Rattle.cojp_serial.specs.Calls.{Reader, request, configuration, sending, ending, resetting, Held, courseOn, wholeRead, told, left, sent, joined}
 use Rattle.cojp_serial.specs.Laws.{EndReadsTheWhole}
@@ -73,21 +74,21 @@ all-sent h b [] w = rw (append-nil b) w
 all-sent h b (p ∷ ps) w = rw (← append-assoc b p (joined ps)) (all-sent (left (sending p) h) (b ++ p) ps (one-more h b p w))
 
 -- ---- the end
-long-request : (head : List ℕ → Outcome Heading) (p : List ℕ) → 256 < length p → readRequestBy head p ≡ refuseRequest Long
+long-request : (v : Version) (head : List ℕ → Outcome Heading) (p : List ℕ) → 256 < length p → readRequestBy v head p ≡ refuseRequest Long
 unfolding payloadReadBy
-long-request head p h = rw (lt-ltb 256 (length p) h)
+long-request v head p h = rw (lt-ltb 256 (length p) h)
 
-long-configuration : (head : List ℕ → Outcome Heading) (p : List ℕ) → 256 < length p → readConfigurationBy head p ≡ refuseConfiguration Long
+long-configuration : (v : Version) (head : List ℕ → Outcome Heading) (p : List ℕ) → 256 < length p → readConfigurationBy v head p ≡ refuseConfiguration Long
 unfolding payloadReadBy
-long-configuration head p h = rw (lt-ltb 256 (length p) h)
+long-configuration v head p h = rw (lt-ltb 256 (length p) h)
 
 end-reads : (r : Reader) (h : Held) (b : List ℕ) → courseOn h 0 ≡ Open → take (h .arrival .arrived) (h .store) ≡ b → told (ending r) h ≡ wholeRead r b
-end-reads (request strict) h b e t = rw (e, t)
-end-reads (configuration strict) h b e t = rw (e, t)
+end-reads (request v strict) h b e t = rw (e, t)
+end-reads (configuration v strict) h b e t = rw (e, t)
 
 end-long : (r : Reader) (h : Held) (b : List ℕ) → courseOn h 0 ≡ Overrun → 256 < length b → told (ending r) h ≡ wholeRead r b
-end-long (request strict) h b e l = rw (e, long-request (headBy strict) b l)
-end-long (configuration strict) h b e l = rw (e, long-configuration (headBy strict) b l)
+end-long (request v strict) h b e l = rw (e, long-request v (headBy strict) b l)
+end-long (configuration v strict) h b e l = rw (e, long-configuration v (headBy strict) b l)
 
 end-whole : (r : Reader) (h : Held) (b : List ℕ) → Holds h b → told (ending r) h ≡ wholeRead r b
 end-whole r h b (over o m s l) = end-long r h b (sym (overrun-before (h .arrival) (length (h .store)) 0 s m o)) l

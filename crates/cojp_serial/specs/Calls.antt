@@ -1,8 +1,11 @@
 -- Whole lists of these calls, each of which gets arrival and store as the one before left them: nothing else writes the store.
 use Prim.Native.Nat.{ℕ, _+_}
-use mathlib.Core.Bool.{Bool}
+use mathlib.Core.Bool.{Bool, false, _||_}
 use mathlib.Core.List.{List, [], _∷_, _++_}
+use lib.Dec.{eqb}
 use lib.ListN.{length}
+use Rattle.refusal.specs.Verdict.{verdictNumber}
+use Rattle.refusal.specs.declared.Refusal.the-variants.{Long}
 use Rattle.refusal.specs.declared.Verdict.{Verdict}
 use Rattle.refusal.specs.declared.Verdict.the-variants.{Accepted, Refused}
 use Rattle.cbor.specs.Strict.{headBy}
@@ -10,15 +13,16 @@ use Rattle.cojp.specs.Configuration.{readConfigurationBy}
 use Rattle.cojp.specs.Request.{readRequestBy}
 use Rattle.cojp.specs.declared.configuration.ConfigurationRead.{ConfigurationRead}
 use Rattle.cojp.specs.declared.request.RequestRead.{RequestRead}
+use Rattle.cojp.specs.declared.version.Version.{Version}
 use Rattle.cojp_serial.specs.Arrival.{nothingArrived, courseOf, partAnswer, partStore, endArrival, requestEnd, configurationEnd}
 use Rattle.cojp_serial.specs.declared.arrival.Arrival.{Arrival}
 use Rattle.cojp_serial.specs.declared.arrival.Course.{Course}
 use Rattle.cojp_serial.specs.declared.parts.PartAnswer.{PartAnswer}
 
--- the readings: strict or not
+-- the readings: of a form, strict or not
 pub data Reader : Type 0 where
-  request : Bool → Reader
-  configuration : Bool → Reader
+  request : Version → Bool → Reader
+  configuration : Version → Bool → Reader
 
 pub data SerialCall : Type 0 where
   resetting : SerialCall
@@ -42,12 +46,12 @@ courseOn h n = courseOf (h .arrival) (length (h .store)) n
 
 -- one whole reading of a payload
 abbrev pub wholeRead : Reader → List ℕ → Told
-wholeRead (request strict) p = joinRequest (readRequestBy (headBy strict) p)
-wholeRead (configuration strict) p = update (readConfigurationBy (headBy strict) p)
+wholeRead (request v strict) p = joinRequest (readRequestBy v (headBy strict) p)
+wholeRead (configuration v strict) p = update (readConfigurationBy v (headBy strict) p)
 
 abbrev pub endTold : Reader → Held → Told
-endTold (request strict) h = joinRequest (requestEnd (readRequestBy (headBy strict)) (h .arrival) (h .store) .read)
-endTold (configuration strict) h = update (configurationEnd (readConfigurationBy (headBy strict)) (h .arrival) (h .store) .read)
+endTold (request v strict) h = joinRequest (requestEnd (readRequestBy v (headBy strict)) (h .arrival) (h .store) .read)
+endTold (configuration v strict) h = update (configurationEnd (readConfigurationBy v (headBy strict)) (h .arrival) (h .store) .read)
 
 abbrev pub told : SerialCall → Held → Told
 told resetting h = begun
@@ -90,6 +94,10 @@ verdictIn (part a) = a .verdict
 verdictIn (joinRequest r) = r .verdict
 verdictIn (update r) = r .verdict
 
+abbrev pub verdicts : List Told → List Verdict
+verdicts [] = []
+verdicts (t ∷ ts) = verdictIn t ∷ verdicts ts
+
 -- ---- how many bytes the accepted parts had, counted from the calls and what they were answered
 abbrev pub ifAccepted : Verdict → ℕ → ℕ
 ifAccepted Accepted n = n
@@ -103,3 +111,16 @@ takenBy (ending r) t = 0
 abbrev pub takenIn : List SerialCall → Held → ℕ
 takenIn [] h = 0
 takenIn (c ∷ cs) h = takenBy c (told c h) + takenIn cs (left c h)
+
+-- ---- whether a part was LONG, told in the same way
+abbrev pub saysLong : Verdict → Bool
+saysLong v = eqb (verdictNumber v) (verdictNumber (Refused Long))
+
+abbrev pub longPart : SerialCall → Told → Bool
+longPart resetting t = false
+longPart (sending p) t = saysLong (verdictIn t)
+longPart (ending r) t = false
+
+abbrev pub longPartIn : List SerialCall → Held → Bool
+longPartIn [] h = false
+longPartIn (c ∷ cs) h = longPart c (told c h) || longPartIn cs (left c h)

@@ -1,18 +1,22 @@
--- What is promised of whole lists of these calls.
+-- What is promised of whole lists of these calls. They are said of a store that is lent whole to each call; that the lent length may change
+-- from call to call is the last law.
 use Prim.Native.Nat.{ℕ, _+_, _≤_, _<_}
 use mathlib.Core.Path.{_≡_}
+use mathlib.Core.Bool.{false, cond}
 use mathlib.Core.List.{List, [], _∷_}
 use lib.Dec.{leb}
 use lib.ListN.{length, take, drop}
 use Rattle.refusal.specs.declared.Refusal.{Refusal}
-use Rattle.refusal.specs.declared.Refusal.the-variants.{Long, Phase}
+use Rattle.refusal.specs.declared.Refusal.the-variants.{Long, Phase, Range}
 use Rattle.refusal.specs.declared.Verdict.{Verdict}
 use Rattle.refusal.specs.declared.Verdict.the-variants.{Accepted, Refused}
 use Rattle.cojp.specs.Configuration.{emptyConfiguration}
 use Rattle.cojp.specs.Request.{emptyRequest}
 use Rattle.cojp_serial.specs.Arrival.{overran, endMarked}
 use Rattle.cojp_serial.specs.Calls.{Reader, SerialCall, resetting, sending, ending, Told, begun, part, joinRequest, update, Held}
-use Rattle.cojp_serial.specs.Calls.{wholeRead, told, left, leftBy, answers, sent, joined, sendings, verdictIn, takenIn}
+use Rattle.cojp_serial.specs.Calls.{wholeRead, told, left, leftBy, answers, sent, joined, sendings}
+use Rattle.cojp_serial.specs.Calls.{verdictIn, verdicts, takenIn, longPartIn}
+use Rattle.cojp_serial.specs.Loans.{Loan, loanAnswers, loanLeftBy, served, RangeBetween}
 use Rattle.cojp_serial.specs.declared.arrival.Arrival.{Arrival}
 
 -- ---- cut anywhere, with empty parts too, after a reset, whatever stood before: the end answers as one whole reading does, LONG included
@@ -79,18 +83,15 @@ LongUntilReset =
     (h : Held) (p : List ℕ) (cs : List SerialCall) → IsLong (verdictIn (told (sending p) h)) → NoReset cs →
     Each IsLong (answers cs (left (sending p) h))
 
--- ---- LONG comes where 256 is passed and nowhere else: while no call since a reset was LONG, a part is LONG exactly where its bytes and those of
--- the accepted parts are more than 256
-abbrev pub NotLong : Verdict → Type 0
-NotLong v = IsLong v → ⊥
-
+-- ---- LONG comes where 256 is passed and nowhere else: while no part since a reset was LONG, a part is LONG exactly where its bytes and
+-- those of the accepted parts are more than 256
 pub record LongExactly (v : Verdict) (n : ℕ) : Type 0 where
   pub passed : 256 < n → IsLong v
   pub only : IsLong v → 256 < n
 
 abbrev pub LongWherePassed : Type 0
 LongWherePassed =
-    (h : Held) (cs : List SerialCall) (p : List ℕ) → 256 ≤ length (h .store) → NoReset cs → Each NotLong (answers cs (left resetting h)) →
+    (h : Held) (cs : List SerialCall) (p : List ℕ) → 256 ≤ length (h .store) → NoReset cs → longPartIn cs (left resetting h) ≡ false →
     LongExactly (verdictIn (told (sending p) (leftBy cs (left resetting h)))) (takenIn cs (left resetting h) + length p)
 
 -- ---- each part of a payload that fits is accepted, from a reset on
@@ -120,6 +121,43 @@ PhaseUntilReset =
     (h : Held) (r : Reader) (cs : List SerialCall) → verdictIn (told (sending []) h) ≡ Accepted → NoReset cs →
     Each LongOrPhase (answers cs (left (ending r) h))
 
+-- ---- an end after an end, from a reset on, is LONG exactly if a part since the reset was LONG, and else PHASE
+pub data HasEnd : List SerialCall → Type 0 where
+  this-end : {r : Reader} {cs : List SerialCall} → HasEnd (ending r ∷ cs)
+  later-end : {c : SerialCall} {cs : List SerialCall} → HasEnd cs → HasEnd (c ∷ cs)
+
+abbrev pub EndAfterEnd : Type 0
+EndAfterEnd =
+    (h : Held) (cs : List SerialCall) (r : Reader) → 256 ≤ length (h .store) → NoReset cs → HasEnd cs →
+    verdictIn (told (ending r) (leftBy cs (left resetting h))) ≡ cond (longPartIn cs (left resetting h)) (Refused Long) (Refused Phase)
+
+-- ---- a store under 256 bytes: each part and each end is RANGE, first, whatever came before, and changes nothing; a reset is never refused
+abbrev pub shortVerdict : SerialCall → Verdict
+shortVerdict resetting = Accepted
+shortVerdict (sending p) = Refused Range
+shortVerdict (ending r) = Refused Range
+
+abbrev pub shortVerdicts : List SerialCall → List Verdict
+shortVerdicts [] = []
+shortVerdicts (c ∷ cs) = shortVerdict c ∷ shortVerdicts cs
+
+pub record OnShortStore (cs : List SerialCall) (h : Held) : Type 0 where
+  pub says : verdicts (answers cs h) ≡ shortVerdicts cs
+  pub store : leftBy cs h .store ≡ h .store
+  pub arrival : NoReset cs → leftBy cs h .arrival ≡ h .arrival
+
+abbrev pub ShortStoreIsRange : Type 0
+ShortStoreIsRange = (h : Held) (cs : List SerialCall) → length (h .store) < 256 → OnShortStore cs h
+
+-- ---- the lent length may change from call to call: a part or an end that is lent under 256 bytes is RANGE, and all else is as if it had
+-- not come and the others were lent the whole store. So what the other laws say of one length holds of changing ones
+pub record AsServed (ls : List Loan) (h : Held) : Type 0 where
+  pub says : RangeBetween ls (loanAnswers ls h) (answers (served ls) h)
+  pub leaves : loanLeftBy ls h ≡ leftBy (served ls) h
+
+abbrev pub LentLengthsMayChange : Type 0
+LentLengthsMayChange = (h : Held) (ls : List Loan) → 256 ≤ length (h .store) → AsServed ls h
+
 pub record SerialLaws : Type 0 where
   pub whole : EndReadsTheWhole
   pub unread : BeyondIsUnread
@@ -130,3 +168,6 @@ pub record SerialLaws : Type 0 where
   pub passed : LongWherePassed
   pub fitting : FittingPartsTaken
   pub own : WritesItsOwn
+  pub end-again : EndAfterEnd
+  pub short : ShortStoreIsRange
+  pub lengths : LentLengthsMayChange

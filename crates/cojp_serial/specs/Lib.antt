@@ -1,4 +1,5 @@
 pub mod Arrival
 pub mod Calls
+pub mod Loans
 pub mod Laws
 pub mod Example

@@ -2,14 +2,15 @@
 use crate::arrival::Arrival;
 use crate::arrival::Course;
 use cojp::ConfigurationRead;
+use cojp::Version;
 use cojp::empty_configuration;
-use cojp_configuration_read::read_configuration;
-use cojp_configuration_read::read_strict_configuration;
+use cojp_configuration_read::read_configuration_as;
+use cojp_configuration_read::read_strict_configuration_as;
 use refusal::Refusal;
 use refusal::Verdict;
 ghost use mathlib.Core.Path.{_≡_};
 ghost use Rattle.cbor.specs.Strict.{headBy};
-ghost use Rattle.cojp.specs.Configuration.{refuseConfiguration, readConfigurationBy, readConfiguration, readStrictConfiguration};
+ghost use Rattle.cojp.specs.Configuration.{refuseConfiguration, readConfigurationBy, readConfiguration, readStrictConfiguration, readConfigurationAs, readStrictConfigurationAs};
 ghost use Rattle.cojp_serial.specs.Arrival.{configurationEnd};
 
 // The answer of the reading, or the refusal beside the empty configuration; and the arrival afterwards.
@@ -32,18 +33,23 @@ fn refused_configuration(why: Refusal, arrival: Arrival) -> ConfigurationEnd
     }
 }
 
-fn configuration_by(payload: &[u8], strict: bool) -> ConfigurationRead
-    ensures { λ r. ⌜ r ≡ readConfigurationBy (headBy strict) (now (payload .entry)) ⌝ }
+fn configuration_by(payload: &[u8], version: Version, strict: bool) -> ConfigurationRead
+    ensures { λ r. ⌜ r ≡ readConfigurationBy version (headBy strict) (now (payload .entry)) ⌝ }
 {
     if strict {
-        return read_strict_configuration(payload);
+        return read_strict_configuration_as(payload, version);
     }
-    read_configuration(payload)
+    read_configuration_as(payload, version)
 }
 
 // The reading gets the bytes that arrived, and no others of the store.
-fn end_configuration_by(arrival: Arrival, store: &[u8], strict: bool) -> ConfigurationEnd
-    ensures { λ r. ⌜ r ≡ configurationEnd (readConfigurationBy (headBy strict)) arrival (now (store .entry)) ⌝ }
+fn end_configuration_by(
+    arrival: Arrival,
+    store: &[u8],
+    version: Version,
+    strict: bool,
+) -> ConfigurationEnd
+    ensures { λ r. ⌜ r ≡ configurationEnd (readConfigurationBy version (headBy strict)) arrival (now (store .entry)) ⌝ }
 {
     let course = arrival.course(store.len(), 0);
     match course {
@@ -52,7 +58,7 @@ fn end_configuration_by(arrival: Arrival, store: &[u8], strict: bool) -> Configu
         Course::Ended => refused_configuration(Refusal::Phase, arrival),
         Course::Open => {
             let n = arrival.arrived;
-            let read = configuration_by(&store[..n], strict);
+            let read = configuration_by(&store[..n], version, strict);
             let ended = arrival.end_marked();
             ConfigurationEnd {
                 read: read,
@@ -62,16 +68,34 @@ fn end_configuration_by(arrival: Arrival, store: &[u8], strict: bool) -> Configu
     }
 }
 
-// Reads what arrived as a configuration, and marks the end, whatever the reading says.
+// Reads what arrived as a configuration of document 01's form, and marks the end, whatever the reading says.
 pub fn end_configuration(arrival: Arrival, store: &[u8]) -> ConfigurationEnd
     ensures { λ r. ⌜ r ≡ configurationEnd readConfiguration arrival (now (store .entry)) ⌝ }
 {
-    end_configuration_by(arrival, store, false)
+    end_configuration_by(arrival, store, Version::Draft, false)
 }
 
 // The same, its heads read strictly.
 pub fn end_strict_configuration(arrival: Arrival, store: &[u8]) -> ConfigurationEnd
     ensures { λ r. ⌜ r ≡ configurationEnd readStrictConfiguration arrival (now (store .entry)) ⌝ }
 {
-    end_configuration_by(arrival, store, true)
+    end_configuration_by(arrival, store, Version::Draft, true)
+}
+
+// Reads what arrived as a configuration of a form, and marks the end, whatever the reading says.
+pub fn end_configuration_as(arrival: Arrival, store: &[u8], version: Version) -> ConfigurationEnd
+    ensures { λ r. ⌜ r ≡ configurationEnd (readConfigurationAs version) arrival (now (store .entry)) ⌝ }
+{
+    end_configuration_by(arrival, store, version, false)
+}
+
+// The same, its heads read strictly.
+pub fn end_strict_configuration_as(
+    arrival: Arrival,
+    store: &[u8],
+    version: Version,
+) -> ConfigurationEnd
+    ensures { λ r. ⌜ r ≡ configurationEnd (readStrictConfigurationAs version) arrival (now (store .entry)) ⌝ }
+{
+    end_configuration_by(arrival, store, version, true)
 }

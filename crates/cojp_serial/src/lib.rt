@@ -10,12 +10,16 @@ pub use arrival::Course;
 pub use arrival::reset;
 pub use configuration::ConfigurationEnd;
 pub use configuration::end_configuration;
+pub use configuration::end_configuration_as;
 pub use configuration::end_strict_configuration;
+pub use configuration::end_strict_configuration_as;
 pub use parts::PartAnswer;
 pub use parts::part;
 pub use request::RequestEnd;
 pub use request::end_request;
+pub use request::end_request_as;
 pub use request::end_strict_request;
+pub use request::end_strict_request_as;
 ghost use Rattle.cojp_serial.specs.Example.{TwoBoards};
 ghost use Rattle.cojp_serial.specs.Laws.{SerialLaws};
 

@@ -2,14 +2,15 @@
 use crate::arrival::Arrival;
 use crate::arrival::Course;
 use cojp::RequestRead;
+use cojp::Version;
 use cojp::empty_request;
-use cojp_request_read::read_request;
-use cojp_request_read::read_strict_request;
+use cojp_request_read::read_request_as;
+use cojp_request_read::read_strict_request_as;
 use refusal::Refusal;
 use refusal::Verdict;
 ghost use mathlib.Core.Path.{_≡_};
 ghost use Rattle.cbor.specs.Strict.{headBy};
-ghost use Rattle.cojp.specs.Request.{refuseRequest, readRequestBy, readRequest, readStrictRequest};
+ghost use Rattle.cojp.specs.Request.{refuseRequest, readRequestBy, readRequest, readStrictRequest, readRequestAs, readStrictRequestAs};
 ghost use Rattle.cojp_serial.specs.Arrival.{requestEnd};
 
 // The answer of the reading, or the refusal beside the empty request; and the arrival afterwards.
@@ -32,18 +33,18 @@ fn refused_request(why: Refusal, arrival: Arrival) -> RequestEnd
     }
 }
 
-fn request_by(payload: &[u8], strict: bool) -> RequestRead
-    ensures { λ r. ⌜ r ≡ readRequestBy (headBy strict) (now (payload .entry)) ⌝ }
+fn request_by(payload: &[u8], version: Version, strict: bool) -> RequestRead
+    ensures { λ r. ⌜ r ≡ readRequestBy version (headBy strict) (now (payload .entry)) ⌝ }
 {
     if strict {
-        return read_strict_request(payload);
+        return read_strict_request_as(payload, version);
     }
-    read_request(payload)
+    read_request_as(payload, version)
 }
 
 // The reading gets the bytes that arrived, and no others of the store.
-fn end_request_by(arrival: Arrival, store: &[u8], strict: bool) -> RequestEnd
-    ensures { λ r. ⌜ r ≡ requestEnd (readRequestBy (headBy strict)) arrival (now (store .entry)) ⌝ }
+fn end_request_by(arrival: Arrival, store: &[u8], version: Version, strict: bool) -> RequestEnd
+    ensures { λ r. ⌜ r ≡ requestEnd (readRequestBy version (headBy strict)) arrival (now (store .entry)) ⌝ }
 {
     let course = arrival.course(store.len(), 0);
     match course {
@@ -52,7 +53,7 @@ fn end_request_by(arrival: Arrival, store: &[u8], strict: bool) -> RequestEnd
         Course::Ended => refused_request(Refusal::Phase, arrival),
         Course::Open => {
             let n = arrival.arrived;
-            let read = request_by(&store[..n], strict);
+            let read = request_by(&store[..n], version, strict);
             let ended = arrival.end_marked();
             RequestEnd {
                 read: read,
@@ -62,16 +63,30 @@ fn end_request_by(arrival: Arrival, store: &[u8], strict: bool) -> RequestEnd
     }
 }
 
-// Reads what arrived as a join request, and marks the end, whatever the reading says.
+// Reads what arrived as a join request of document 01's form, and marks the end, whatever the reading says.
 pub fn end_request(arrival: Arrival, store: &[u8]) -> RequestEnd
     ensures { λ r. ⌜ r ≡ requestEnd readRequest arrival (now (store .entry)) ⌝ }
 {
-    end_request_by(arrival, store, false)
+    end_request_by(arrival, store, Version::Draft, false)
 }
 
 // The same, its heads read strictly.
 pub fn end_strict_request(arrival: Arrival, store: &[u8]) -> RequestEnd
     ensures { λ r. ⌜ r ≡ requestEnd readStrictRequest arrival (now (store .entry)) ⌝ }
 {
-    end_request_by(arrival, store, true)
+    end_request_by(arrival, store, Version::Draft, true)
+}
+
+// Reads what arrived as a join request of a form, and marks the end, whatever the reading says.
+pub fn end_request_as(arrival: Arrival, store: &[u8], version: Version) -> RequestEnd
+    ensures { λ r. ⌜ r ≡ requestEnd (readRequestAs version) arrival (now (store .entry)) ⌝ }
+{
+    end_request_by(arrival, store, version, false)
+}
+
+// The same, its heads read strictly.
+pub fn end_strict_request_as(arrival: Arrival, store: &[u8], version: Version) -> RequestEnd
+    ensures { λ r. ⌜ r ≡ requestEnd (readStrictRequestAs version) arrival (now (store .entry)) ⌝ }
+{
+    end_request_by(arrival, store, version, true)
 }
