@@ -13,13 +13,19 @@ use Rattle.node_key_sets.specs.declared.sets.Placement.{Placement}
 use Rattle.node_delivery.specs.Delivery.{attemptAfter, asksIdentifier, mayCome}
 use Rattle.node_delivery.specs.declared.Delivery.{Delivery}
 use Rattle.cojp.specs.Reading.{ifTaken}
-use Rattle.cojp.specs.Configuration.{readConfiguration}
+use Rattle.cojp.specs.Configuration.{withKeys, readConfigurationAs}
+use Rattle.cojp.specs.KeySet.{noKeysParameter}
+use Rattle.cojp.specs.Reported.{faultsOf}
+use Rattle.cojp.specs.Version.{byVersion}
 use Rattle.cojp.specs.declared.configuration.Configuration.{Configuration}
 use Rattle.cojp.specs.declared.configuration.ConfigurationRead.{ConfigurationRead}
 use Rattle.cojp.specs.declared.key_set.KeysParameter.{KeysParameter}
 use Rattle.cojp.specs.declared.report.Report.{Report}
+use Rattle.cojp.specs.declared.report.Report.the-variants.{Discarded}
+use Rattle.node_parameters.specs.Blacklist.{listAfter}
 use Rattle.node_parameters.specs.Lease.{addressAfter}
 use Rattle.node_parameters.specs.Octets.{octetsAfter}
+use Rattle.node_parameters.specs.Rate.{rateAfter}
 use Rattle.node_parameters.specs.Reports.{noReports, reportsOf}
 use Rattle.node_parameters.specs.declared.reports.Reports.{Reports}
 use Rattle.node.specs.Node.{isBorder}
@@ -31,7 +37,15 @@ use Rattle.node.specs.declared.node.Node.{Node}
 abbrev pub placementOf : Node → KeysParameter → Placement
 placementOf n p = ifTaken (p .report) (install (isBorder n) (n .sets) (p .value)) (placed (n .sets))
 
--- ---- the node afterwards: a parameter absent or discarded leaves what it holds
+-- in the published form a set that cannot be placed is bad: nothing of it is taken, and all else is
+abbrev pub fittedBy : Verdict → Configuration → Configuration
+fittedBy verdict.Accepted c = c
+fittedBy (verdict.Refused k) c = withKeys c (noKeysParameter Discarded)
+
+unfoldable pub fitted : Node → Configuration → Configuration
+fitted n c = byVersion (n .version) c (fittedBy (placementOf n (c .keys) .verdict) c)
+
+-- ---- the node afterwards: a parameter absent or discarded leaves what it holds, and the reports are this configuration's
 unfoldable pub configured : Delivery → Node → ℕ → Configuration → KeySets → Reports → Node
 configured delivery n time c sets reports = record {
   role = n .role;
@@ -41,6 +55,10 @@ configured delivery n time c sets reports = record {
   jrc = octetsAfter (reports .jrc) (c .jrc .value) (n .jrc);
   network = octetsAfter (reports .network) (c .network .value) (n .network);
   prefix = octetsAfter (reports .prefix) (c .prefix .value) (n .prefix);
+  version = n .version;
+  blacklist = listAfter (c .blacklist) (n .blacklist);
+  rate = rateAfter (c .rate) (n .rate);
+  faults = faultsOf c;
 }
 
 -- ---- the answer
@@ -74,15 +92,15 @@ deliverVerdict delivery n time len = cond (valid n) (mayCome delivery (n .attemp
 -- nothing of a payload that is refused is applied
 abbrev pub applyRead : Verdict → Delivery → Node → ℕ → Configuration → Delivered
 applyRead (verdict.Refused k) delivery n time c = undelivered k n
-applyRead verdict.Accepted delivery n time c = apply delivery n time c
+applyRead verdict.Accepted delivery n time c = apply delivery n time (fitted n c)
 
 abbrev pub deliverBy : Verdict → Delivery → Node → ℕ → ConfigurationRead → Delivered
 deliverBy (verdict.Refused k) delivery n time r = undelivered k n
 deliverBy verdict.Accepted delivery n time r = applyRead (r .verdict) delivery n time (r .configuration)
 
--- how the node reads a payload: every node reads the same form
+-- how the node reads a payload: in its form
 abbrev pub readFor : Node → List ℕ → ConfigurationRead
-readFor n payload = readConfiguration payload
+readFor n payload = readConfigurationAs (n .version) payload
 
 -- a payload is handed over: then reading and applying
 unfoldable pub deliver : Delivery → Node → ℕ → List ℕ → Delivered

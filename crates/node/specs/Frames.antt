@@ -3,10 +3,9 @@ use Prim.Native.Nat.{ℕ}
 use mathlib.Core.Bool.{cond}
 use Rattle.refusal.specs.declared.Refusal.the-variants as refusal
 use Rattle.node_key_sets.specs.Frames as sets
-use Rattle.node_key_sets.specs.Frames.{withoutKey, receivingKey, verifiedIn}
+use Rattle.node_key_sets.specs.Frames.{Effect, withoutKey, receivingKey, verifiedIn}
 use Rattle.node_key_sets.specs.declared.frames.Change.{Change}
 use Rattle.node_key_sets.specs.declared.frames.Change.the-variants as change
-use Rattle.node_key_sets.specs.declared.frames.Effect.{Effect}
 use Rattle.node_key_sets.specs.declared.frames.KeyAnswer.{KeyAnswer}
 use Rattle.node_key_sets.specs.declared.frames.Sending.{Sending}
 use Rattle.node.specs.Node.{keyed}

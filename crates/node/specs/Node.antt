@@ -10,8 +10,13 @@ use Rattle.node_key_sets.specs.Sets.{activeIn, pendingIn, noSets}
 use Rattle.node_key_sets.specs.declared.sets.KeySets.{KeySets}
 use Rattle.node_attempt.specs.Attempt.{idle}
 use Rattle.node_attempt.specs.declared.attempt.Attempt.{Attempt}
+use Rattle.cojp.specs.Faults.{noFaults}
+use Rattle.cojp.specs.declared.version.Version.{Version}
+use Rattle.cojp.specs.declared.version.Version.the-variants.{Draft}
+use Rattle.node_parameters.specs.Blacklist.{absentList}
 use Rattle.node_parameters.specs.Lease.{absentAddress}
 use Rattle.node_parameters.specs.Octets.{absentOctets, knownOctets, validOctets}
+use Rattle.node_parameters.specs.Rate.{absentRate}
 use Rattle.node_parameters.specs.declared.octets.HeldOctets.{HeldOctets}
 use Rattle.node.specs.declared.node.Made.{Made}
 use Rattle.node.specs.declared.node.Node.{Node}
@@ -31,9 +36,9 @@ isBorder n = eqb (n .role) 1
 abbrev pub clockOf : Node → ℕ
 clockOf n = n .attempt .clock
 
--- ---- how a node is made: idle, with its role and perhaps a network identifier, all else absent or 0
-abbrev pub freshNode : ℕ → HeldOctets → Node
-freshNode role network = record {
+-- ---- how a node is made: idle, of a form, with its role and perhaps a network identifier, all else absent or 0
+abbrev pub freshNode : Version → ℕ → HeldOctets → Node
+freshNode version role network = record {
   role = role;
   attempt = idle;
   sets = noSets;
@@ -41,24 +46,28 @@ freshNode role network = record {
   jrc = absentOctets;
   network = network;
   prefix = absentOctets;
+  version = version;
+  blacklist = absentList;
+  rate = absentRate;
+  faults = noFaults;
 }
 
 abbrev pub emptyNode : Node
-emptyNode = freshNode 0 absentOctets
+emptyNode = freshNode Draft 0 absentOctets
 
 -- a role is 0 or 1
 abbrev pub validRole : ℕ → Bool
 validRole role = leb role 1
 
--- the answer: RANGE for the role or the network identifier, and the empty node beside it
+-- the answer: RANGE for the role or the network identifier, and the empty node, which is one of the draft, beside it
 abbrev pub unmade : Made
 unmade = record { verdict = verdict.Refused Range; node = emptyNode }
 
-unfoldable pub made : ℕ → HeldOctets → Made
-made role network =
+unfoldable pub made : Version → ℕ → HeldOctets → Made
+made version role network =
     cond (validRole role)
     (cond (validOctets network)
-    (record { verdict = verdict.Accepted; node = freshNode role (knownOctets network) })
+    (record { verdict = verdict.Accepted; node = freshNode version role (knownOctets network) })
     unmade)
     unmade
 
@@ -73,6 +82,10 @@ module _ (n : Node) where
     jrc = n .jrc;
     network = n .network;
     prefix = n .prefix;
+    version = n .version;
+    blacklist = n .blacklist;
+    rate = n .rate;
+    faults = n .faults;
   }
 
   abbrev pub keyed : KeySets → Node
@@ -84,4 +97,8 @@ module _ (n : Node) where
     jrc = n .jrc;
     network = n .network;
     prefix = n .prefix;
+    version = n .version;
+    blacklist = n .blacklist;
+    rate = n .rate;
+    faults = n .faults;
   }

@@ -10,8 +10,10 @@ use Rattle.refusal.specs.declared.Verdict.the-variants as verdict
 use Rattle.cbor.specs.Answer.{Plan, refuse, answer, after}
 use Rattle.cbor.specs.declared.write.Written.{Written}
 use Rattle.cbor.specs.declared.write.Written.the-variants as written
+use Rattle.cojp.specs.Faults.{noFaults}
 use Rattle.cojp.specs.Writing.{requestPlan}
 use Rattle.cojp.specs.declared.request.JoinRequest.{JoinRequest}
+use Rattle.cojp_list_read.specs.Listed.{listedIn}
 use Rattle.node_attempt.specs.Attempt.{mayStart, waitingFrom}
 use Rattle.node_attempt.specs.Poll as attempt
 use Rattle.node_attempt.specs.declared.poll.Due.{Due}
@@ -25,9 +27,15 @@ use Rattle.node.specs.declared.timing.Polled.{Polled}
 use Rattle.node.specs.declared.timing.Started.{Started}
 
 -- ---- starting
--- the request carries the node's role, and its network identifier where it holds one
+-- the request carries the node's role, its network identifier where it holds one, and its reports where it has any
 unfoldable pub requestOf : Node → JoinRequest
-requestOf n = record { role = n .role; network = identifierIn (n .network); passed = 0 }
+requestOf n = record {
+  role = n .role;
+  network = identifierIn (n .network);
+  unsupported = listedIn (n .faults);
+  faults = noFaults;
+  passed = 0;
+}
 
 -- whether it may start: RANGE: the node; CLOCK, PHASE, RANGE: the timeout
 unfoldable pub startVerdict : Node → ℕ → ℕ → Verdict
@@ -39,7 +47,7 @@ planBy (verdict.Refused k) p = refuse k
 planBy verdict.Accepted p = p
 
 unfoldable pub startPlan : Node → ℕ → ℕ → Plan
-startPlan n time timeout = planBy (startVerdict n time timeout) (requestPlan (requestOf n))
+startPlan n time timeout = planBy (startVerdict n time timeout) (requestPlan (n .version) (requestOf n))
 
 -- the node after it: waiting, the counter 0; keys, address and the rest stay
 abbrev pub startedFrom : Node → ℕ → ℕ → Node

@@ -4,7 +4,10 @@ use cojp::Configuration;
 use cojp::ConfigurationRead;
 use cojp::KeysParameter;
 use cojp::Report;
-use cojp_configuration_read::read_configuration;
+use cojp::Version;
+use cojp::faults_of;
+use cojp::no_key_set;
+use cojp_configuration_read::read_configuration_as;
 use cojp_range::is_taken;
 use node_delivery::Delivery;
 use node_key_sets::KeySets;
@@ -15,7 +18,11 @@ use node_parameters::reports::reports_of;
 use refusal::Refusal;
 use refusal::Verdict;
 ghost use mathlib.Core.Path.{_≡_};
-ghost use Rattle.node.specs.Delivery.{placementOf, configured, undelivered, owesIdentifier, placedBy, apply, deliverVerdict, applyRead, deliver};
+ghost use Rattle.cojp.specs.Configuration.{withKeys};
+ghost use Rattle.cojp.specs.KeySet.{noKeysParameter};
+ghost use Rattle.cojp.specs.Version.{byVersion};
+ghost use Rattle.cojp.specs.declared.report.Report.the-variants.{Discarded};
+ghost use Rattle.node.specs.Delivery.{placementOf, fitted, configured, undelivered, owesIdentifier, placedBy, apply, deliverVerdict, applyRead, deliver};
 ghost use Rattle.node_delivery.specs.declared.Delivery.the-variants as delivery;
 ghost use Rattle.refusal.specs.declared.Verdict.the-variants as verdict;
 
@@ -66,6 +73,7 @@ impl Node {
         let jrc = reports.jrc;
         let network = reports.network;
         let prefix = reports.prefix;
+        let version = self.version;
         Node {
             role: self.role,
             attempt: delivery.attempt_after(self.attempt, time),
@@ -74,6 +82,10 @@ impl Node {
             jrc: self.jrc.after(jrc, c.jrc),
             network: self.network.after(network, c.network),
             prefix: self.prefix.after(prefix, c.prefix),
+            version,
+            blacklist: self.blacklist.after(c.blacklist),
+            rate: self.rate.after(c.rate),
+            faults: faults_of(c),
         }
     }
 
@@ -97,9 +109,24 @@ impl Node {
         delivery.asks_identifier() && self.role == 1 && !network.held && !is_taken(report)
     }
 
-    // Applies a configuration: OWED, CLASH, the change.
+    // A key set that cannot be placed: the draft refuses the configuration, the published form takes the rest of it.
+    fn misfit(self, delivery: Delivery, time: u64, c: Configuration, why: Refusal) -> Delivered
+        ensures { λ r. ⌜ r ≡ byVersion (self .version) (undelivered why self) (placedBy verdict.Accepted delivery self time (withKeys c (noKeysParameter Discarded)) (self .sets)) ⌝ }
+    {
+        let version = self.version;
+        match version {
+            Version::Draft => self.undelivered(why),
+            Version::Published => {
+                let mut rest = c;
+                rest.keys = no_key_set(Report::Discarded);
+                self.changed(delivery, time, rest, self.sets)
+            }
+        }
+    }
+
+    // Applies a configuration: OWED, CLASH in the draft, the change.
     fn apply(self, delivery: Delivery, time: u64, c: Configuration) -> Delivered
-        ensures { λ r. ⌜ r ≡ apply delivery self time c ⌝ }
+        ensures { λ r. ⌜ r ≡ apply delivery self time (fitted self c) ⌝ }
     {
         let network = c.network;
         let report = network.report;
@@ -109,7 +136,7 @@ impl Node {
         let placed = self.placement(c.keys);
         let verdict = placed.verdict;
         match verdict {
-            Verdict::Refused(why) => self.undelivered(why),
+            Verdict::Refused(why) => self.misfit(delivery, time, c, why),
             Verdict::Accepted => self.changed(delivery, time, c, placed.sets),
         }
     }
@@ -135,13 +162,16 @@ impl Node {
         }
     }
 
-    // A payload with a configuration: RANGE: the node; LONG, CLOCK, PHASE; then reading, OWED, CLASH.
+    // A payload with a configuration of the node's form: RANGE: the node; LONG, CLOCK, PHASE; then reading, OWED, CLASH.
     fn deliver(self, delivery: Delivery, time: u64, payload: &[u8]) -> Delivered
         ensures { λ r. ⌜ r ≡ deliver delivery self time (now (payload .entry)) ⌝ }
     {
         match self.may_deliver(delivery, time, payload.len()) {
             Verdict::Refused(why) => self.undelivered(why),
-            Verdict::Accepted => self.apply_read(delivery, time, read_configuration(payload)),
+            Verdict::Accepted => {
+                let version = self.version;
+                self.apply_read(delivery, time, read_configuration_as(payload, version))
+            }
         }
     }
 

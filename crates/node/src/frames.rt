@@ -5,6 +5,8 @@ use node_key_sets::KeyAnswer;
 use node_key_sets::frames::without_key;
 use refusal::Refusal;
 ghost use mathlib.Core.Path.{_≡_};
+ghost use Rattle.node_key_sets.specs.Frames.{switched};
+ghost use Rattle.node.specs.Node.{keyed};
 ghost use Rattle.node.specs.Frames.{sending, receive, verified};
 
 // What a frame is sent with: the key and its counter, and the node with that counter one higher. Beside a refusal stand 0 and the node as
@@ -55,6 +57,16 @@ impl Node {
         without_key(Refusal::Range)
     }
 
+    // The node whose pending key set has become active.
+    fn switched(self) -> Node
+        ensures { λ r. ⌜ r ≡ keyed self (switched (self .sets)) ⌝ }
+    {
+        let sets = self.sets.switched();
+        let mut node = self;
+        node.sets = sets;
+        node
+    }
+
     // The radio reports a frame of this type and key identifier verified. Refused as `receiving_key` is.
     pub fn verified(self, frame_type: u8, identifier: u8) -> Reported
         ensures { λ r. ⌜ r ≡ verified self «frame_type» identifier ⌝ }
@@ -65,11 +77,14 @@ impl Node {
                 node: self,
             };
         }
-        let effect = self.sets.verified(frame_type, identifier);
-        let change = effect.change;
-        let sets = effect.sets;
-        let mut node = self;
-        node.sets = sets;
-        Reported { change, node }
+        let change = self.sets.verified(frame_type, identifier);
+        match change {
+            Change::Refused(_) => Reported { change, node: self },
+            Change::Kept => Reported { change, node: self },
+            Change::Switched => Reported {
+                change,
+                node: self.switched(),
+            },
+        }
     }
 }

@@ -23,7 +23,8 @@ impl Node {
         if time < attempt.clock {
             return Holding::Refused(Refusal::Clock);
         }
-        if self.address.holds_at(time) {
+        let version = self.version;
+        if self.address.holds_at(version, time) {
             return Holding::Yes;
         }
         Holding::No

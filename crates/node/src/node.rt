@@ -1,15 +1,23 @@
 // One node's state, and how a node is made.
+use cojp::Faults;
+use cojp::Version;
+use cojp::no_faults;
 use node_attempt::Attempt;
 use node_attempt::attempt::idle;
 use node_key_sets::KeySets;
 use node_key_sets::sets::no_sets;
 use node_parameters::HeldAddress;
+use node_parameters::HeldList;
 use node_parameters::HeldOctets;
+use node_parameters::HeldRate;
 use node_parameters::address::absent_address;
+use node_parameters::blacklist::absent_list;
 use node_parameters::octets::absent_octets;
+use node_parameters::rate::absent_rate;
 use refusal::Refusal;
 use refusal::Verdict;
 ghost use mathlib.Core.Path.{_≡_};
+ghost use Rattle.cojp.specs.declared.version.Version.the-variants.{Draft, Published};
 ghost use Rattle.node.specs.Node.{freshNode, unmade, made};
 
 pub struct Node {
@@ -21,6 +29,12 @@ pub struct Node {
     pub jrc: HeldOctets,
     pub network: HeldOctets,
     pub prefix: HeldOctets,
+    // The form that the node speaks, from when it is made.
+    pub version: Version,
+    // Blacklist, join rate and reports for the next join request belong to the published form.
+    pub blacklist: HeldList,
+    pub rate: HeldRate,
+    pub faults: Faults,
 }
 
 // A node that was made; beside a refusal stands the empty node.
@@ -29,9 +43,9 @@ pub struct Made {
     pub node: Node,
 }
 
-// A node as it is made, all but role and network identifier absent or 0.
-fn fresh_node(role: u8, network: HeldOctets) -> Node
-    ensures { λ r. ⌜ r ≡ freshNode role network ⌝ }
+// A node as it is made, all but form, role and network identifier absent or 0.
+fn fresh_node(version: Version, role: u8, network: HeldOctets) -> Node
+    ensures { λ r. ⌜ r ≡ freshNode version role network ⌝ }
 {
     let octets = absent_octets();
     Node {
@@ -42,6 +56,10 @@ fn fresh_node(role: u8, network: HeldOctets) -> Node
         jrc: octets,
         network,
         prefix: octets,
+        version,
+        blacklist: absent_list(),
+        rate: absent_rate(),
+        faults: no_faults(),
     }
 }
 
@@ -50,7 +68,23 @@ fn not_made() -> Made
 {
     Made {
         verdict: Verdict::Refused(Refusal::Range),
-        node: fresh_node(0, absent_octets()),
+        node: fresh_node(Version::Draft, 0, absent_octets()),
+    }
+}
+
+// A node of a form. RANGE: role over 1, identifier over 16 bytes.
+fn make(version: Version, role: u8, network: HeldOctets) -> Made
+    ensures { λ r. ⌜ r ≡ made version role network ⌝ }
+{
+    if 1 < role {
+        return not_made();
+    }
+    if !network.valid() {
+        return not_made();
+    }
+    Made {
+        verdict: Verdict::Accepted,
+        node: fresh_node(version, role, network.known()),
     }
 }
 
@@ -61,19 +95,18 @@ impl Node {
 
     pub const RETRANSMISSIONS: u8 = Attempt::RETRANSMISSIONS;
 
-    // A node with this role, idle, and perhaps with a network identifier. RANGE: role over 1, identifier over 16 bytes.
+    // A node of document 01's form with this role, idle, and perhaps with a network identifier. RANGE: role over 1, identifier over 16
+    // bytes.
     pub fn new(role: u8, network: HeldOctets) -> Made
-        ensures { λ r. ⌜ r ≡ made role network ⌝ }
+        ensures { λ r. ⌜ r ≡ made Draft role network ⌝ }
     {
-        if 1 < role {
-            return not_made();
-        }
-        if !network.valid() {
-            return not_made();
-        }
-        Made {
-            verdict: Verdict::Accepted,
-            node: fresh_node(role, network.known()),
-        }
+        make(Version::Draft, role, network)
+    }
+
+    // The same of RFC 9031's form. Beside a refusal stands the empty node of the draft.
+    pub fn published(role: u8, network: HeldOctets) -> Made
+        ensures { λ r. ⌜ r ≡ made Published role network ⌝ }
+    {
+        make(Version::Published, role, network)
     }
 }

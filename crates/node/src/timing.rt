@@ -2,7 +2,9 @@
 use crate::node::Node;
 use cbor::Written;
 use cojp::JoinRequest;
-use cojp_request_write::write_request;
+use cojp::no_faults;
+use cojp_list_read::unsupported_of;
+use cojp_request_write::write_request_as;
 use node_attempt::Attempt;
 use node_attempt::Due;
 use node_attempt::attempt::waiting_from;
@@ -32,6 +34,8 @@ impl Node {
         JoinRequest {
             role: self.role,
             network: self.network.parameter(),
+            unsupported: unsupported_of(self.faults),
+            faults: no_faults(),
             passed: 0,
         }
     }
@@ -87,7 +91,8 @@ impl Node {
         match self.may_start(time, timeout) {
             Verdict::Refused(why) => self.unstarted(why),
             Verdict::Accepted => {
-                let written = write_request(dst, self.request());
+                let version = self.version;
+                let written = write_request_as(dst, self.request(), version);
                 self.started(written, time, timeout)
             }
         }

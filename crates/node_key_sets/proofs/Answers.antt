@@ -1,8 +1,9 @@
 -- What a search for a key found, and what the verified report makes of the receiving key's answer.
 use Prim.Native.Nat.{ℕ}
 use mathlib.Core.Path.{_≡_, refl}
-use mathlib.Core.Bool.{true, false, cond}
+use mathlib.Core.Bool.{true, false, cond, not, _&&_}
 use mathlib.Core.Option.{Option, none, some}
+use lib.Dec.{eqb}
 use Rattle.refusal.specs.declared.Refusal.{Refusal}
 use Rattle.refusal.specs.declared.Refusal.the-variants as refusal
 use Rattle.refusal.specs.declared.Verdict.the-variants as verdict
@@ -11,7 +12,7 @@ use Rattle.link_key_set.specs.KeySet.{has}
 use Rattle.link_key.specs.declared.FoundKey.{FoundKey}
 use Rattle.link_key.specs.declared.Key.{Key}
 use Rattle.node_key_sets.specs.Sets.{activeIn, twoSets}
-use Rattle.node_key_sets.specs.Frames.{withKey, withoutKey, unsent, sending, ifCovers, receivingKey, switched, effect, verifiedIn}
+use Rattle.node_key_sets.specs.Frames.{withKey, withoutKey, unsent, sending, heldKey, ifCovers, receivingKey, switched, effect, verifiedIn}
 use Rattle.node_key_sets.specs.declared.frames.Change.the-variants as change
 use Rattle.node_key_sets.specs.declared.frames.KeyAnswer.{KeyAnswer}
 use Rattle.node_key_sets.specs.declared.frames.Sending.{Sending}
@@ -29,17 +30,11 @@ found-none : (o : Option Key) → foundKey o .found ≡ false → o ≡ none
 found-none none e = refl
 found-none (some k) e = cc
 
--- the answer where it was found, and SILENT where not
-abbrev pub answerOf : FoundKey → KeyAnswer
-answerOf x = cond (x .found) (withKey (x .key)) (withoutKey refusal.Silent)
-
-covers-case : (type : ℕ) (o : Option Key) → covers (foundKey o .key) type ≡ true → answerOf (foundKey o) ≡ ifCovers type o
-covers-case type none c = refl
-covers-case type (some k) c = rw c
-
-silent-case : (type : ℕ) (o : Option Key) → covers (foundKey o .key) type ≡ false → withoutKey refusal.Silent ≡ ifCovers type o
-silent-case type none c = refl
-silent-case type (some k) c = rw c
+found-covers :
+    (type : ℕ) (o : Option Key) →
+    cond (foundKey o .found && covers (foundKey o .key) type) (withKey (foundKey o .key)) (withoutKey refusal.Silent) ≡ ifCovers type o
+found-covers type none = refl
+found-covers type (some k) = refl
 
 module _ (o : Option Key) (x : FoundKey) (e : x ≡ foundKey o) where
   pub was-found : x .found ≡ true → o ≡ some (x .key)
@@ -48,11 +43,19 @@ module _ (o : Option Key) (x : FoundKey) (e : x ≡ foundKey o) where
   pub not-found : x .found ≡ false → o ≡ none
   not-found h = found-none o (rw e at h)
 
-  pub key-covers : (type : ℕ) → covers (x .key) type ≡ true → answerOf x ≡ ifCovers type o
-  key-covers type c = rw e (covers-case type o (rw e at c))
+  pub if-covers :
+      (type : ℕ) → cond (x .found && covers (x .key) type) (withKey (x .key)) (withoutKey refusal.Silent) ≡ ifCovers type o
+  if-covers type = rw e (found-covers type o)
 
-  pub key-silent : (type : ℕ) → covers (x .key) type ≡ false → withoutKey refusal.Silent ≡ ifCovers type o
-  key-silent type c = silent-case type o (rw e at c)
+-- the answer from what was found under the identifier
+pub from-held :
+    (s : KeySets) (type identifier : ℕ) (x : FoundKey) → x ≡ foundKey (heldKey s identifier) → (r : KeyAnswer) →
+    r
+    ≡ cond (knownType type && not (eqb identifier 0))
+    (cond (x .found && covers (x .key) type) (withKey (x .key)) (withoutKey refusal.Silent)) (withoutKey refusal.Range) →
+    r ≡ receivingKey s type identifier
+unfolding receivingKey
+from-held s type identifier x e r h = rw (← if-covers (heldKey s identifier) x e type) h
 
 -- ---- a key that was spent
 module _ (s : KeySets) (type : ℕ) (known : knownType type ≡ true) (x : Spent) (e : x ≡ spend type (s .active)) where
@@ -68,15 +71,15 @@ module _ (s : KeySets) (type : ℕ) (known : knownType type ≡ true) (x : Spent
 
 -- ---- the verified report
 module _ (s : KeySets) (type identifier : ℕ) (x : KeyAnswer) (e : x ≡ receivingKey s type identifier) where
-  pub report-refused : (k : Refusal) → x .verdict ≡ verdict.Refused k → effect (change.Refused k) s ≡ verifiedIn s type identifier
+  pub report-refused : (k : Refusal) → x .verdict ≡ verdict.Refused k → verifiedIn s type identifier ≡ effect (change.Refused k) s
   unfolding verifiedIn
   report-refused k r = rw (← e, r)
 
-  pub report-kept : x .verdict ≡ verdict.Accepted → has identifier (activeIn s) ≡ true → effect change.Kept s ≡ verifiedIn s type identifier
+  pub report-kept : x .verdict ≡ verdict.Accepted → has identifier (activeIn s) ≡ true → verifiedIn s type identifier ≡ effect change.Kept s
   unfolding verifiedIn
   report-kept r h = rw (← e, r, h)
 
   pub report-switched :
-      x .verdict ≡ verdict.Accepted → has identifier (activeIn s) ≡ false → effect change.Switched (switched s) ≡ verifiedIn s type identifier
+      x .verdict ≡ verdict.Accepted → has identifier (activeIn s) ≡ false → verifiedIn s type identifier ≡ effect change.Switched (switched s)
   unfolding verifiedIn
   report-switched r h = rw (← e, r, h)

@@ -1,23 +1,34 @@
 -- What it says that two key sets are valid, part by part, and back; a switch and a new set leave valid sets.
-use mathlib.Core.Path.{_≡_, refl, _∙_}
-use mathlib.Core.Bool.{Bool, true, false, cond, not, _||_, or-true}
+use mathlib.Core.Path.{_≡_, refl, sym, _∙_}
+use mathlib.Core.Bool.{Bool, true, false, cond, not, _&&_, _||_, or-true, and-true, and-false}
 use mathlib.Core.List.{List, [], List·Memᴰ, List·Memᴰ·not-nil}
 use borrow.Author.Tests.{eqb-true, not-true}
 use Rattle.refusal.specs.Verdict.{refused-not}
 use Rattle.refusal.specs.declared.Refusal.the-variants as refusal
 use Rattle.refusal.specs.declared.Verdict.the-variants as verdict
-use Rattle.link_key_set.specs.KeySet.{keysOf, validKeys, validSet, sameKeys, shares}
+use Rattle.link_key_set.specs.KeySet.{keysOf, validKeys, validSet, plainKeys, mayInform, sameKeys, shares}
 use Rattle.link_key.specs.declared.Key.{Key}
 use Rattle.link_key_set.specs.declared.key_set.KeySet.{KeySet}
 use Rattle.link_key_set.specs.KeyLaws.{KeyLaws}
 use Rattle.link_key_counters.specs.CounterLaws.{CounterLaws}
 use Rattle.link_key_counters.specs.Counters.{arrived, noCounted, succeeded}
 use Rattle.link_key_counters.specs.declared.CountedSet.{CountedSet}
-use Rattle.node_key_sets.specs.Sets.{activeIn, pendingIn, twoSets, isNone, noneOrValid, valid, unplaced, place, install}
+use Rattle.node_key_sets.specs.Sets.{activeIn, pendingIn, twoSets, isNone, noneOrValid, valid, plainIn, validAs, unplaced, place, install}
 use Rattle.node_key_sets.specs.Frames.{switched}
 use Rattle.node_key_sets.specs.declared.sets.KeySets.{KeySets}
 use Rattle.node_key_sets.specs.declared.sets.Placement.{Placement}
-use Rattle.logic_facts.specs.Tests.{first, second, third, fourth, all-four, then-so}
+use Rattle.logic_facts.specs.Tests.{both, both-left, both-right, never, first, second, third, fourth, all-four, then-so}
+
+-- whether keys may be informed is asked of each set, or of both after all else
+pub regrouped : (a b s t i p q : Bool) → ((a && (i || p)) && (b && (i || q)) && s && t) ≡ ((a && b && s && t) && (i || (p && q)))
+regrouped false b s t i p q = refl
+regrouped true false s t true p q = refl
+regrouped true false s t false true q = refl
+regrouped true false s t false false q = refl
+regrouped true true s t true p q = sym (and-true (s && t))
+regrouped true true s t false true true = sym (and-true (s && t))
+regrouped true true s t false true false = sym (and-false (s && t))
+regrouped true true s t false false q = sym (and-false (s && t))
 
 module _ (border : Bool) (s : KeySets) where
   abbrev apart : Bool
@@ -119,3 +130,51 @@ module _ (K : KeyLaws) where
   unfolding install
   install-valid C border s set e =
       place-valid C s set (validSet set) border (sameKeys (keysOf set) (activeIn s)) (shares (keysOf set) (activeIn s)) e refl refl
+
+-- ---- in a form in which keys may have additional information, or may not
+module _ (informed border : Bool) (s : KeySets) where
+  pub as-valid : validAs informed border s ≡ true → valid border s ≡ true
+  unfolding validAs
+  as-valid e = both-left (valid border s) (informed || plainIn s) e
+
+  pub as-plain : validAs informed border s ≡ true → (informed || plainIn s) ≡ true
+  unfolding validAs
+  as-plain e = both-right (valid border s) (informed || plainIn s) e
+
+  pub as-by : valid border s ≡ true → (informed || plainIn s) ≡ true → validAs informed border s ≡ true
+  unfolding validAs
+  as-by e f = both (valid border s) (informed || plainIn s) e f
+
+-- one of the two sets and no other, and the active one with a new one
+first-plain : (i p q : Bool) → (i || (p && q)) ≡ true → (i || (p && true)) ≡ true
+first-plain true p q e = refl
+first-plain false true q e = refl
+first-plain false false q e = e
+
+second-plain : (i p q : Bool) → (i || (p && q)) ≡ true → (i || (q && true)) ≡ true
+second-plain true p q e = refl
+second-plain false true q e = rw (and-true q) e
+second-plain false false q e = never false e refl
+
+new-plain : (i p q r : Bool) → (i || (p && q)) ≡ true → (i || r) ≡ true → (i || (p && r)) ≡ true
+new-plain true p q r e f = refl
+new-plain false true q r e f = f
+new-plain false false q r e f = e
+
+module _ (informed : Bool) (s : KeySets) (e : (informed || plainIn s) ≡ true) where
+  pub switched-plain : (informed || plainIn (switched s)) ≡ true
+  switched-plain = second-plain informed (plainKeys (activeIn s)) (plainKeys (pendingIn s)) e
+
+  module _ (C : CounterLaws) (set : KeySet) (f : mayInform informed (keysOf set) ≡ true) where
+    place-plain : (ok border equals shared : Bool) → (informed || plainIn (placeBy s set ok border equals shared .sets)) ≡ true
+    place-plain false border equals shared = e
+    place-plain true true equals shared =
+        rw (C .succeeded-is (s .active) set) (first-plain informed (plainKeys (keysOf set)) true (rw (and-true (plainKeys (keysOf set))) f))
+    place-plain true false true shared = first-plain informed (plainKeys (activeIn s)) (plainKeys (pendingIn s)) e
+    place-plain true false false true = e
+    place-plain true false false false = new-plain informed (plainKeys (activeIn s)) (plainKeys (pendingIn s)) (plainKeys (keysOf set)) e f
+
+    pub install-plain : (border : Bool) → (informed || plainIn (install border s set .sets)) ≡ true
+    unfolding install
+    install-plain border =
+        place-plain (validSet set) border (sameKeys (keysOf set) (activeIn s)) (shares (keysOf set) (activeIn s))

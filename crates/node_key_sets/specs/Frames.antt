@@ -17,7 +17,6 @@ use Rattle.link_key_counters.specs.declared.Spent.{Spent}
 use Rattle.node_key_sets.specs.Sets.{activeIn, pendingIn, twoSets}
 use Rattle.node_key_sets.specs.declared.frames.Change.{Change}
 use Rattle.node_key_sets.specs.declared.frames.Change.the-variants as change
-use Rattle.node_key_sets.specs.declared.frames.Effect.{Effect}
 use Rattle.node_key_sets.specs.declared.frames.KeyAnswer.{KeyAnswer}
 use Rattle.node_key_sets.specs.declared.frames.Sending.{Sending}
 use Rattle.node_key_sets.specs.declared.sets.KeySets.{KeySets}
@@ -58,6 +57,11 @@ receivingKey s type identifier =
 -- ---- the radio reports such a frame verified: where its key was pending, the pending set becomes active and the old one is gone
 abbrev pub switched : KeySets → KeySets
 switched s = twoSets (s .pending) noCounted
+
+-- what the report did, and the sets after it
+pub record Effect : Type 0 where
+  pub change : Change
+  pub sets : KeySets
 
 abbrev pub effect : Change → KeySets → Effect
 effect change s = record { change = change; sets = s }

@@ -5,7 +5,7 @@ use lib.Dec.{eqb}
 use Rattle.refusal.specs.declared.Refusal.{Refusal}
 use Rattle.refusal.specs.declared.Refusal.the-variants as refusal
 use Rattle.refusal.specs.declared.Verdict.the-variants as verdict
-use Rattle.link_key_set.specs.KeySet.{keysOf, validSet, sameKeys, shares}
+use Rattle.link_key_set.specs.KeySet.{keysOf, validSet, plainKeys, sameKeys, shares}
 use Rattle.link_key.specs.declared.Key.{Key}
 use Rattle.link_key_set.specs.declared.key_set.KeySet.{KeySet}
 use Rattle.link_key_counters.specs.Counters.{Slot, slotsOf, arrived, noCounted, succeeded}
@@ -43,6 +43,14 @@ unfoldable pub valid : Bool → KeySets → Bool
 valid border s =
     (noneOrValid (s .active .set) && noneOrValid (s .pending .set) && not (shares (activeIn s) (pendingIn s))
     && (not border || isNone (s .pending .set)))
+
+-- no key of the two has additional information
+abbrev pub plainIn : KeySets → Bool
+plainIn s = (plainKeys (activeIn s) && plainKeys (pendingIn s))
+
+-- the same in a form in which a key may have additional information, or may not
+unfoldable pub validAs : Bool → Bool → KeySets → Bool
+validAs informed border s = (valid border s && (informed || plainIn s))
 
 -- ---- where a new set goes
 abbrev pub placed : KeySets → Placement

@@ -7,11 +7,13 @@ use link_key_counters::none_counted;
 use refusal::Refusal;
 use refusal::Verdict;
 ghost use mathlib.Core.Path.{_≡_};
-ghost use mathlib.Core.Bool.{cond};
+ghost use mathlib.Core.Bool.{cond, not, _&&_};
+ghost use lib.Dec.{eqb};
 ghost use Rattle.refusal.specs.declared.Refusal.the-variants as refusal;
-ghost use Rattle.link_key.specs.Key.{foundKey};
-ghost use Rattle.node_key_sets.specs.Frames.{withKey, withoutKey, heldKey, unsent, sending, receivingKey, switched, effect, verifiedIn};
-ghost use Rattle.node_key_sets.specs.declared.frames.Change.the-variants as change;
+ghost use Rattle.link_key.specs.Key.{foundKey, covers};
+ghost use Rattle.link_key_usage.specs.Usage.{knownType};
+ghost use Rattle.node_key_sets.specs.Frames.{withKey, withoutKey, unsent, sending, heldKey, receivingKey};
+ghost use Rattle.node_key_sets.specs.Frames.{switched, effect, verifiedIn, hasSwitched};
 
 // Beside a refusal stands the key that is all zero.
 pub struct KeyAnswer {
@@ -33,12 +35,6 @@ pub enum Change {
     Kept,
 }
 
-// The sets after a verified frame, and what it did.
-pub struct Effect {
-    pub change: Change,
-    pub sets: KeySets,
-}
-
 pub fn without_key(why: Refusal) -> KeyAnswer
     ensures { λ r. ⌜ r ≡ withoutKey why ⌝ }
 {
@@ -49,11 +45,16 @@ pub fn without_key(why: Refusal) -> KeyAnswer
     }
 }
 
-// The key, where it is held; SILENT.
-fn answer(held: bool, key: Key) -> KeyAnswer
-    ensures { λ r. ⌜ r ≡ cond held (withKey key) (withoutKey refusal.Silent) ⌝ }
+// The answer to a frame of this type and key identifier, from what was found under the identifier. RANGE: the type, identifier 0; SILENT.
+fn received(held: FoundKey, frame_type: u8, identifier: u8) -> KeyAnswer
+    ensures { λ r. ⌜ r ≡ cond (knownType «frame_type» && not (eqb identifier 0))
+        (cond (held .found && covers (held .key) «frame_type») (withKey (held .key)) (withoutKey refusal.Silent)) (withoutKey refusal.Range) ⌝ }
 {
-    if held {
+    if 1 < frame_type || identifier == 0 {
+        return without_key(Refusal::Range);
+    }
+    let key = held.key;
+    if held.found && key.covers(frame_type) {
         return KeyAnswer {
             verdict: Verdict::Accepted,
             key,
@@ -118,48 +119,33 @@ impl KeySets {
     pub fn receiving_key(self, frame_type: u8, identifier: u8) -> KeyAnswer
         ensures { λ r. ⌜ r ≡ receivingKey self «frame_type» identifier ⌝ }
     {
-        if 1 < frame_type || identifier == 0 {
-            return without_key(Refusal::Range);
+        received(self.held_key(identifier), frame_type, identifier)
+    }
+
+    // What a frame of this type and key identifier does to the sets, which the radio reports verified. Refused as `receiving_key` is.
+    // Only the change is answered: the sets are other ones after a switch alone, which `switched` makes.
+    pub fn verified(self, frame_type: u8, identifier: u8) -> Change
+        ensures { λ r. ⌜ verifiedIn self «frame_type» identifier ≡ effect r (cond (hasSwitched r) (switched self) self) ⌝ }
+    {
+        let answer = received(self.held_key(identifier), frame_type, identifier);
+        let verdict = answer.verdict;
+        match verdict {
+            Verdict::Refused(why) => Change::Refused(why),
+            Verdict::Accepted => {
+                if self.active.set.has(identifier) {
+                    return Change::Kept;
+                }
+                Change::Switched
+            }
         }
-        let held = self.held_key(identifier);
-        if held.key.covers(frame_type) {
-            return answer(held.found, held.key);
-        }
-        without_key(Refusal::Silent)
     }
 
     // The pending set becomes active, and the old one is gone.
-    fn switched(self) -> Effect
-        ensures { λ r. ⌜ r ≡ effect change.Switched (switched self) ⌝ }
+    pub fn switched(self) -> KeySets
+        ensures { λ r. ⌜ r ≡ switched self ⌝ }
     {
         let active = self.pending;
         let pending = none_counted();
-        Effect {
-            change: Change::Switched,
-            sets: KeySets { active, pending },
-        }
-    }
-
-    // The radio reports a frame of this type and key identifier verified. Refused as `receiving_key` is.
-    pub fn verified(self, frame_type: u8, identifier: u8) -> Effect
-        ensures { λ r. ⌜ r ≡ verifiedIn self «frame_type» identifier ⌝ }
-    {
-        let answer = self.receiving_key(frame_type, identifier);
-        let verdict = answer.verdict;
-        match verdict {
-            Verdict::Refused(why) => Effect {
-                change: Change::Refused(why),
-                sets: self,
-            },
-            Verdict::Accepted => {
-                if self.active.set.has(identifier) {
-                    return Effect {
-                        change: Change::Kept,
-                        sets: self,
-                    };
-                }
-                self.switched()
-            }
-        }
+        KeySets { active, pending }
     }
 }

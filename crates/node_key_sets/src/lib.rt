@@ -3,7 +3,6 @@ pub mod frames;
 pub mod sets;
 
 pub use frames::Change;
-pub use frames::Effect;
 pub use frames::KeyAnswer;
 pub use frames::Sending;
 pub use frames::without_key;

@@ -5,8 +5,10 @@ use link_key_counters::none_counted;
 use link_key_set::KeySet;
 use refusal::Refusal;
 use refusal::Verdict;
+ghost use mathlib.Core.Bool.{_&&_};
 ghost use mathlib.Core.Path.{_≡_};
-ghost use Rattle.node_key_sets.specs.Sets.{noSets, noneOrValid, valid, twoSets, placed, unplaced, install};
+ghost use Rattle.link_key_set.specs.KeySet.{keysOf, mayInform};
+ghost use Rattle.node_key_sets.specs.Sets.{noSets, noneOrValid, validAs, twoSets, placed, unplaced, install};
 
 // A set whose count is 0 stands for no set.
 pub struct KeySets {
@@ -30,11 +32,11 @@ pub fn no_sets() -> KeySets
     }
 }
 
-// A set within the limits of KEYS, or none.
-fn none_or_valid(set: KeySet) -> bool
-    ensures { λ r. ⌜ r ≡ noneOrValid set ⌝ }
+// A set within the limits of KEYS, or none; its keys may have additional information, or may not.
+fn none_or_valid(set: KeySet, informed: bool) -> bool
+    ensures { λ r. ⌜ r ≡ (noneOrValid set && mayInform informed (keysOf set)) ⌝ }
 {
-    set.count == 0 || set.valid()
+    set.count == 0 || set.valid_as(informed)
 }
 
 // The two sets after a new one that is not refused.
@@ -48,12 +50,13 @@ fn placed(active: CountedSet, pending: CountedSet) -> Placement
 }
 
 impl KeySets {
-    // Whether a node may hold the two: each in range, no identifier in both, none pending at a border node.
-    pub fn valid(self, border: bool) -> bool
-        ensures { λ r. ⌜ r ≡ valid border self ⌝ }
+    // Whether a node may hold the two: each in range, no identifier in both, none pending at a border node, additional information only
+    // where keys may have it.
+    pub fn valid(self, border: bool, informed: bool) -> bool
+        ensures { λ r. ⌜ r ≡ validAs informed border self ⌝ }
     {
-        none_or_valid(self.active.set)
-            && none_or_valid(self.pending.set)
+        none_or_valid(self.active.set, informed)
+            && none_or_valid(self.pending.set, informed)
             && !self.active.set.shares(self.pending.set)
             && (!border || self.pending.set.count == 0)
     }

@@ -1,4 +1,4 @@
--- An address is in range at a later clock too.
+-- An address is in range at a later clock too, and a lease's unit is no 0.
 use Prim.Native.Nat.{ℕ, _≤_}
 use native.Mathlib.Omega.{arith}
 use mathlib.Core.Path.{_≡_, refl}
@@ -7,9 +7,15 @@ use borrow.Author.Tests.{leb-true, le-leb}
 use lib.Dec.{leb}
 use Rattle.logic_facts.specs.Tests.{both-left, both-right}
 use Rattle.short_address.specs.Address.{isAddress}
-use Rattle.node_parameters.specs.Lease.{validAddress}
+use Rattle.cojp.specs.declared.version.Version.{Version}
+use Rattle.cojp.specs.declared.version.Version.the-variants.{Draft, Published}
+use Rattle.node_parameters.specs.Lease.{validAddress, leaseUnit}
 use Rattle.node_parameters.specs.declared.address.HeldAddress.{HeldAddress}
 use Rattle.logic_facts.specs.Tests.{both}
+
+pub unit-some : (v : Version) → 1 ≤ leaseUnit v
+unit-some Draft = omega arith
+unit-some Published = omega arith
 
 pub later : (clock time : ℕ) (a : HeldAddress) → clock ≤ time → validAddress clock a ≡ true → validAddress time a ≡ true
 later clock time a h e = go (a .held) e

@@ -5,7 +5,9 @@ use lib.Dec.{leb, ltb}
 use Rattle.cojp.specs.Address.{noAddress}
 use Rattle.short_address.specs.Address.{isAddress}
 use Rattle.cojp.specs.Reading.{ifTaken}
+use Rattle.cojp.specs.Version.{byVersion}
 use Rattle.cojp.specs.declared.address.AddressParameter.{AddressParameter}
+use Rattle.cojp.specs.declared.version.Version.{Version}
 use Rattle.node_parameters.specs.declared.address.HeldAddress.{HeldAddress}
 
 abbrev pub absentAddress : HeldAddress
@@ -15,17 +17,17 @@ absentAddress = record { held = false; value = noAddress; received = 0 }
 abbrev pub validAddress : ℕ → HeldAddress → Bool
 validAddress clock a = cond (a .held) (isAddress (a .value .bytes) && leb (a .received) clock) true
 
--- a lease counts seconds: its unit in milliseconds
-abbrev pub leaseUnit : ℕ
-leaseUnit = 1000
+-- a lease counts seconds, in the published form hours: its unit in milliseconds
+abbrev pub leaseUnit : Version → ℕ
+leaseUnit v = byVersion v 1000 3600000
 
 -- whole units elapsed since the receipt are fewer than the lease; without a lease there is no end
-abbrev pub lasts : HeldAddress → ℕ → Bool
-lasts a time = cond (a .value .leased) (ltb ((time - a .received) / leaseUnit) (a .value .lease)) true
+abbrev pub lasts : Version → HeldAddress → ℕ → Bool
+lasts v a time = cond (a .value .leased) (ltb ((time - a .received) / leaseUnit v) (a .value .lease)) true
 
 -- without an address none holds
-unfoldable pub holdsAt : HeldAddress → ℕ → Bool
-holdsAt a time = cond (a .held) (lasts a time) false
+unfoldable pub holdsAt : Version → HeldAddress → ℕ → Bool
+holdsAt v a time = cond (a .held) (lasts v a time) false
 
 -- after a configuration: the one taken at this time, else the old one
 abbrev pub addressAfter : ℕ → AddressParameter → HeldAddress → HeldAddress

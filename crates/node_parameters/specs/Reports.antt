@@ -6,9 +6,9 @@ use Rattle.cojp.specs.declared.report.Report.the-variants.{Absent, Taken, Disca
 use Rattle.node_parameters.specs.declared.reports.Reports.{Reports}
 
 abbrev pub noReports : Reports
-noReports = record { keys = Absent; address = Absent; jrc = Absent; network = Absent; prefix = Absent; passed = 0 }
+noReports = record { keys = Absent; address = Absent; jrc = Absent; network = Absent; prefix = Absent; blacklist = Absent; rate = Absent; passed = 0 }
 
--- an ordinary node further discards network identifier and prefix
+-- an ordinary node further discards network identifier and prefix; blacklist and join rate are for both roles
 abbrev pub discarded : Report → Report
 discarded Absent = Absent
 discarded Taken = Discarded
@@ -24,5 +24,7 @@ reportsOf border c = record {
   jrc = c .jrc .report;
   network = borderOnly border (c .network .report);
   prefix = borderOnly border (c .prefix .report);
+  blacklist = c .blacklist .report;
+  rate = c .rate .report;
   passed = c .passed;
 }

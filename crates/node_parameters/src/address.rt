@@ -2,12 +2,13 @@
 use cojp::AddressParameter;
 use cojp::Report;
 use cojp::ShortAddress;
+use cojp::Version;
 use cojp::no_address;
 use cojp_range::is_taken;
 use short_address::is_address;
 ghost use mathlib.Core.Path.{_≡_};
 ghost use Prim.Native.Nat.{_-_};
-ghost use Rattle.node_parameters.specs.Lease.{absentAddress, validAddress, holdsAt, addressAfter};
+ghost use Rattle.node_parameters.specs.Lease.{absentAddress, validAddress, leaseUnit, holdsAt, addressAfter};
 
 // A short address and when it was received; without one neither counts.
 pub struct HeldAddress {
@@ -15,9 +16,6 @@ pub struct HeldAddress {
     pub value: ShortAddress,
     pub received: u64,
 }
-
-// A lease counts seconds.
-const LEASE_UNIT: u64 = 1000;
 
 pub fn absent_address() -> HeldAddress
     ensures { λ r. ⌜ r ≡ absentAddress ⌝ }
@@ -41,6 +39,16 @@ fn elapsed(since: u64, time: u64) -> u64
     time - since
 }
 
+// A lease counts seconds, in the published form hours: its unit in milliseconds.
+fn lease_unit(version: Version) -> u64
+    ensures { λ r. ⌜ r ≡ leaseUnit version ⌝ }
+{
+    match version {
+        Version::Draft => 1_000,
+        Version::Published => 3_600_000,
+    }
+}
+
 impl HeldAddress {
     // Whether a node with this clock may hold it.
     pub fn valid(self, clock: u64) -> bool
@@ -55,13 +63,14 @@ impl HeldAddress {
     }
 
     // Whether the address holds at this time; without one none does.
-    pub fn holds_at(self, time: u64) -> bool
-        ensures { λ r. ⌜ r ≡ holdsAt self time ⌝ }
+    pub fn holds_at(self, version: Version, time: u64) -> bool
+        ensures { λ r. ⌜ r ≡ holdsAt version self time ⌝ }
     {
         if self.held {
             let value = self.value;
             if value.leased {
-                return elapsed(self.received, time) / LEASE_UNIT < value.lease;
+                let unit = lease_unit(version);
+                return elapsed(self.received, time) / unit < value.lease;
             }
             return true;
         }

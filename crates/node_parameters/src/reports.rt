@@ -11,6 +11,8 @@ pub struct Reports {
     pub jrc: Report,
     pub network: Report,
     pub prefix: Report,
+    pub blacklist: Report,
+    pub rate: Report,
     pub passed: u64,
 }
 
@@ -23,6 +25,8 @@ pub fn no_reports() -> Reports
         jrc: Report::Absent,
         network: Report::Absent,
         prefix: Report::Absent,
+        blacklist: Report::Absent,
+        rate: Report::Absent,
         passed: 0,
     }
 }
@@ -38,7 +42,7 @@ fn discarded(report: Report) -> Report
     }
 }
 
-// An ordinary node further discards network identifier and prefix.
+// An ordinary node further discards network identifier and prefix; blacklist and join rate are for both roles.
 fn border_only(border: bool, report: Report) -> Report
     ensures { λ r. ⌜ r ≡ borderOnly border report ⌝ }
 {
@@ -62,12 +66,18 @@ pub fn reports_of(border: bool, c: Configuration) -> Reports
     let network_report = network.report;
     let prefix = c.prefix;
     let prefix_report = prefix.report;
+    let blacklist = c.blacklist;
+    let blacklist_report = blacklist.report;
+    let rate = c.rate;
+    let rate_report = rate.report;
     Reports {
         keys: keys_report,
         address: address_report,
         jrc: jrc_report,
         network: border_only(border, network_report),
         prefix: border_only(border, prefix_report),
+        blacklist: blacklist_report,
+        rate: rate_report,
         passed: c.passed,
     }
 }

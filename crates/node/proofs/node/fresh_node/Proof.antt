@@ -15,8 +15,31 @@ no-sets-requires c κs = search needs
 absent-address-requires : tie.Need-absent-address-requires
 absent-address-requires c κs = search needs
 
+absent-list-requires : tie.Need-absent-list-requires
+absent-list-requires c κs = search needs
+
+absent-rate-requires : tie.Need-absent-rate-requires
+absent-rate-requires c κs = search needs
+
+no-faults-requires : tie.Need-no-faults-requires
+no-faults-requires c κs = search needs
+
 returns : tie.Need-returns
-returns c = rw (c .before .before .before .absent-octets .ensures, c .before .before .idle .ensures, c .before .no-sets .ensures, c .absent-address .ensures)
+returns c =
+    let rate = c .before in
+    let blacklist = rate .before in
+    let address = blacklist .before in
+    let sets = address .before in
+    let attempt = sets .before in
+    rw (
+      attempt .before .absent-octets .ensures,
+      attempt .idle .ensures,
+      sets .no-sets .ensures,
+      address .absent-address .ensures,
+      blacklist .absent-list .ensures,
+      rate .absent-rate .ensures,
+      c .no-faults .ensures,
+    )
 
 pub fresh-node-spec : {M : Type 1} → statement M
 fresh-node-spec =
@@ -26,4 +49,7 @@ fresh-node-spec =
     idle-requires
     no-sets-requires
     absent-address-requires
+    absent-list-requires
+    absent-rate-requires
+    no-faults-requires
     returns)

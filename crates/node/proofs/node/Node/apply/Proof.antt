@@ -1,7 +1,7 @@
 -- `apply` meets its contract: OWED, the placing of the key sets, then the change.
 use mathlib.Core.Path.{_∙_}
 use borrow.Author.Needs.{needs}
-use Rattle.node.proofs.Applied.{apply-owed, apply-placed}
+use Rattle.node.proofs.Applied.{apply-owed, apply-placed, apply-misfit}
 use Rattle.logic_facts.specs.Tests.{is-false, is-true}
 use Rattle.node.proofs.node.Node.apply.Statement.{statement}
 use Rattle.node.proofs.node.Node.apply.Tie as tie
@@ -25,8 +25,8 @@ placement-requires c κs = search needs
 enum-known-verdict : tie.Need-enum-known-verdict
 enum-known-verdict c = search needs
 
-undelivered-requires-2 : tie.Need-undelivered-requires-2
-undelivered-requires-2 c κs = search needs
+misfit-requires : tie.Need-misfit-requires
+misfit-requires c κs = search needs
 
 enum-told : tie.Need-enum-told
 enum-told c = search needs
@@ -40,8 +40,8 @@ returns-2 c =
     let asked = place .before .before in
     let x = asked .before .before .args in
     let owes = is-false (asked .owes-identifier .ensures) (place .before .if1 .left) in
-    c .undelivered2 .ensures
-    ∙ apply-placed (x .delivery) (x .self) (x .time) (x .c) owes _ (place .placement .ensures) (c .before .before .verdict .given .1)
+    c .misfit .ensures
+    ∙ apply-misfit (x .delivery) (x .self) (x .time) (x .c) owes _ (place .placement .ensures) (c .before .before .verdict .given .1)
 
 returns-3 : tie.Need-returns-3
 returns-3 c =
@@ -61,7 +61,7 @@ apply-spec =
     returns
     placement-requires
     enum-known-verdict
-    undelivered-requires-2
+    misfit-requires
     enum-told
     changed-requires
     returns-2

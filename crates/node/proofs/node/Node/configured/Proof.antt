@@ -19,14 +19,35 @@ after-requires-3 c κs = search needs
 after-requires-4 : tie.Need-after-requires-4
 after-requires-4 c κs = search needs
 
+after-requires-5 : tie.Need-after-requires-5
+after-requires-5 c κs = search needs
+
+after-requires-6 : tie.Need-after-requires-6
+after-requires-6 c κs = search needs
+
+faults-of-requires : tie.Need-faults-of-requires
+faults-of-requires c κs = search needs
+
 returns : tie.Need-returns
 unfolding configured
 returns c =
-    let at-after = c .before in
-    let at-after2 = at-after .before in
-    let at3 = at-after2 .before in
-    let at-attempt-after = at3 .before in
-    rw (at-attempt-after .attempt-after .ensures, at3 .after .ensures, at-after2 .after2 .ensures, at-after .after3 .ensures, c .after4 .ensures)
+    let rate = c .before in
+    let blacklist = rate .before in
+    let prefix = blacklist .before in
+    let network = prefix .before in
+    let jrc = network .before in
+    let address = jrc .before in
+    let attempt = address .before in
+    rw (
+      attempt .attempt-after .ensures,
+      address .after .ensures,
+      jrc .after2 .ensures,
+      network .after3 .ensures,
+      prefix .after4 .ensures,
+      blacklist .after5 .ensures,
+      rate .after6 .ensures,
+      c .faults-of .ensures,
+    )
 
 pub configured-spec : {M : Type 1} → statement M
 configured-spec =
@@ -37,4 +58,7 @@ configured-spec =
     after-requires-2
     after-requires-3
     after-requires-4
+    after-requires-5
+    after-requires-6
+    faults-of-requires
     returns)

@@ -17,8 +17,8 @@ undelivered-requires c κs = search needs
 enum-told : tie.Need-enum-told
 enum-told c = search needs
 
-read-configuration-requires : tie.Need-read-configuration-requires
-read-configuration-requires c κs = search needs
+read-configuration-as-requires : tie.Need-read-configuration-as-requires
+read-configuration-as-requires c κs = search needs
 
 apply-read-requires : tie.Need-apply-read-requires
 apply-read-requires c κs = search needs
@@ -33,7 +33,7 @@ returns-2 c =
     let configuration = c .before in
     let at-enum-told = configuration .before in
     let at-may-deliver = at-enum-told .before .before in
-    rw (sym (at-may-deliver .may-deliver .ensures) ∙ at-enum-told .enum-told .given .1, ← configuration .read-configuration .ensures) (c .apply-read .ensures)
+    rw (sym (at-may-deliver .may-deliver .ensures) ∙ at-enum-told .enum-told .given .1, ← configuration .read-configuration-as .ensures) (c .apply-read .ensures)
 
 pub deliver-spec : {M : Type 1} → statement M
 deliver-spec =
@@ -43,7 +43,7 @@ deliver-spec =
     enum-known-why
     undelivered-requires
     enum-told
-    read-configuration-requires
+    read-configuration-as-requires
     apply-read-requires
     returns
     returns-2)

@@ -1,11 +1,13 @@
--- `valid` meets its contract: each test of the code is one of the definition's.
+-- `valid` meets its contract: each test of the code is one of the definition's, and both sets are asked about additional information.
 use mathlib.Core.Path.{_≡_, sym, _∙_, ap}
-use mathlib.Core.Bool.{not, _&&_}
+use mathlib.Core.Bool.{Bool, not, _&&_, _||_}
 use mathlib.Core.Logic.{⊎-elim}
 use borrow.Author.Needs.{needs}
-use Rattle.link_key_set.specs.KeySet.{shares}
-use Rattle.node_key_sets.specs.Sets.{activeIn, pendingIn, noneOrValid, valid}
+use Rattle.link_key_set.specs.KeySet.{plainKeys, shares, mayInform}
+use Rattle.node_key_sets.specs.Sets.{activeIn, pendingIn, isNone, noneOrValid, valid, validAs}
+use Rattle.node_key_sets.specs.declared.sets.KeySets.{KeySets}
 use Rattle.logic_facts.specs.Tests.{and-next, and-stops}
+use Rattle.node_key_sets.proofs.Valid.{regrouped}
 use Rattle.node_key_sets.proofs.sets.KeySets.valid.Statement.{statement}
 use Rattle.node_key_sets.proofs.sets.KeySets.valid.Tie as tie
 
@@ -18,20 +20,30 @@ none-or-valid-requires-2 c κs = search needs
 shares-requires : tie.Need-shares-requires
 shares-requires c κs = search needs
 
+-- what the code asks of each set
+abbrev activeFits : Bool → KeySets → Bool
+activeFits informed s = (noneOrValid (s .active .set) && mayInform informed (activeIn s))
+
+abbrev pendingFits : Bool → KeySets → Bool
+pendingFits informed s = (noneOrValid (s .pending .set) && mayInform informed (pendingIn s))
+
 -- where the ways meet, after the second test and after the third
-both-met :
-    (c : tie.Joined1) → c .if1 .if2 ≡ (noneOrValid (c .before .before .args .self .active .set) && noneOrValid (c .before .before .args .self .pending .set))
+both-met : (c : tie.Joined1) →
+    c .if1 .if2
+    ≡ (activeFits (c .before .before .args .informed) (c .before .before .args .self)
+    && pendingFits (c .before .before .args .informed) (c .before .before .args .self))
 both-met c =
+    let a = c .before .before .args in
     let first = c .before .none-or-valid .ensures in
     ⊎-elim
     (λ w. and-next first (w .0 .taken) (w .1 .ensures) (w .2))
-    (λ w. and-stops (noneOrValid (c .before .before .args .self .pending .set)) first (w .0 .left) (w .1))
+    (λ w. and-stops (pendingFits (a .informed) (a .self)) first (w .0 .left) (w .1))
     (c .if1 .came)
 
-three-met :
-    (c : tie.Joined2) →
+three-met : (c : tie.Joined2) →
     c .if2 .if3
-    ≡ (noneOrValid (c .before .before .before .args .self .active .set) && noneOrValid (c .before .before .before .args .self .pending .set)
+    ≡ (activeFits (c .before .before .before .args .informed) (c .before .before .before .args .self)
+    && pendingFits (c .before .before .before .args .informed) (c .before .before .before .args .self)
     && not (shares (activeIn (c .before .before .before .args .self)) (pendingIn (c .before .before .before .args .self))))
 three-met c =
     let s = c .before .before .before .args .self in
@@ -40,17 +52,32 @@ three-met c =
     (λ w. and-stops (not (shares (activeIn s) (pendingIn s))) (both-met (c .before)) (w .0 .left) (w .1))
     (c .if2 .came)
 
+-- the four tests of the code are the definition's
+four : (informed border : Bool) (s : KeySets) →
+    (activeFits informed s && pendingFits informed s && not (shares (activeIn s) (pendingIn s)) && (not border || isNone (s .pending .set)))
+    ≡ validAs informed border s
+unfolding valid validAs
+four informed border s =
+    regrouped (noneOrValid (s .active .set)) (noneOrValid (s .pending .set)) (not (shares (activeIn s) (pendingIn s)))
+    (not border || isNone (s .pending .set)) informed (plainKeys (activeIn s)) (plainKeys (pendingIn s))
+
 returns : tie.Need-returns
-unfolding valid
-returns c = rw (sym (three-met (c .before .before)) ∙ c .before .if3 .taken, c .if4 .taken)
+returns c =
+    let met = c .before .before in
+    let a = met .before .before .before .args in
+    rw (← four (a .informed) (a .border) (a .self), sym (three-met met) ∙ c .before .if3 .taken, c .if4 .taken)
 
 returns-2 : tie.Need-returns-2
-unfolding valid
-returns-2 c = rw (sym (three-met (c .before .before .before)) ∙ c .before .before .if3 .taken, c .before .if4 .left)
+returns-2 c =
+    let met = c .before .before .before in
+    let a = met .before .before .before .args in
+    rw (← four (a .informed) (a .border) (a .self), sym (three-met met) ∙ c .before .before .if3 .taken, c .before .if4 .left)
 
 returns-3 : tie.Need-returns-3
-unfolding valid
-returns-3 c = rw (sym (three-met (c .before)) ∙ c .if3 .left) (c .if3 .left)
+returns-3 c =
+    let met = c .before in
+    let a = met .before .before .before .args in
+    rw (← four (a .informed) (a .border) (a .self), sym (three-met met) ∙ c .if3 .left) (c .if3 .left)
 
 pub valid-spec : {M : Type 1} → statement M
 valid-spec =

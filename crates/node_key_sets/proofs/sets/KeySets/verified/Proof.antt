@@ -1,13 +1,15 @@
 -- `verified` meets its contract: refused as receiving is, and then by whether an active key has the identifier.
-use mathlib.Core.Path.{_∙_}
 use borrow.Author.Needs.{needs}
-use Rattle.node_key_sets.proofs.Answers.{report-kept, report-refused, report-switched}
+use Rattle.node_key_sets.proofs.Answers.{from-held, report-kept, report-refused, report-switched}
 use Rattle.logic_facts.specs.Tests.{is-false, is-true}
 use Rattle.node_key_sets.proofs.sets.KeySets.verified.Statement.{statement}
 use Rattle.node_key_sets.proofs.sets.KeySets.verified.Tie as tie
 
-receiving-key-requires : tie.Need-receiving-key-requires
-receiving-key-requires c κs = search needs
+held-key-requires : tie.Need-held-key-requires
+held-key-requires c κs = search needs
+
+received-requires : tie.Need-received-requires
+received-requires c κs = search needs
 
 enum-known-verdict : tie.Need-enum-known-verdict
 enum-known-verdict c = search needs
@@ -22,37 +24,36 @@ returns : tie.Need-returns
 returns c =
     let told = c .before .before in
     let asked = told .before .before in
-    let a = asked .before .args in
-    report-kept (a .self) (a .frame-type) (a .identifier) _ (asked .receiving-key .ensures) (told .enum-told .given .1)
+    let a = asked .before .before .args in
+    let answered = from-held (a .self) (a .frame-type) (a .identifier) _ (asked .before .held-key .ensures) _ (asked .received .ensures) in
+    report-kept (a .self) (a .frame-type) (a .identifier) _ answered (told .enum-told .given .1)
     (is-true (c .before .has .ensures) (c .if1 .taken))
-
-switched-requires : tie.Need-switched-requires
-switched-requires c κs = search needs
 
 returns-2 : tie.Need-returns-2
 returns-2 c =
     let asked = c .before .before .before in
-    let a = asked .before .args in
-    report-refused (a .self) (a .frame-type) (a .identifier) _ (asked .receiving-key .ensures) _ (c .before .verdict .given .1)
+    let a = asked .before .before .args in
+    let answered = from-held (a .self) (a .frame-type) (a .identifier) _ (asked .before .held-key .ensures) _ (asked .received .ensures) in
+    report-refused (a .self) (a .frame-type) (a .identifier) _ answered _ (c .before .verdict .given .1)
 
 returns-3 : tie.Need-returns-3
 returns-3 c =
-    let told = c .before .before .before in
+    let told = c .before .before in
     let asked = told .before .before in
-    let a = asked .before .args in
-    c .switched .ensures
-    ∙ report-switched (a .self) (a .frame-type) (a .identifier) _ (asked .receiving-key .ensures) (told .enum-told .given .1)
-    (is-false (c .before .before .has .ensures) (c .before .if1 .left))
+    let a = asked .before .before .args in
+    let answered = from-held (a .self) (a .frame-type) (a .identifier) _ (asked .before .held-key .ensures) _ (asked .received .ensures) in
+    report-switched (a .self) (a .frame-type) (a .identifier) _ answered (told .enum-told .given .1)
+    (is-false (c .before .has .ensures) (c .if1 .left))
 
 pub verified-spec : {M : Type 1} → statement M
 verified-spec =
     tie.close
     (tie.spec
-    receiving-key-requires
+    held-key-requires
+    received-requires
     enum-known-verdict
     enum-told
     has-requires
     returns
-    switched-requires
     returns-2
     returns-3)
