@@ -9,7 +9,7 @@ use mathlib.Core.List.{_++_, List·Memᴰ·not-nil, List·Memᴰ·append-cases}
 use mathlib.Core.Logic.{inl, inr, ⊎-elim}
 use lib.Dec.{lit<}
 use Rattle.refusal.specs.declared.Refusal.the-variants as refusal
-use Rattle.link_key.specs.Key.{validKey, sameKey, sameSecret, covers}
+use Rattle.link_key.specs.Key.{validKey, plainKey, sameKey, sameSecret, covers}
 use Rattle.logic_facts.specs.Tests.{both-left, both-right, neither-left, neither-right}
 use Rattle.link_key_set.specs.Lists.{anyOf, allOf}
 use Rattle.link_key_set.specs.KeySet.{validKeys, validSet, Apart}
@@ -19,11 +19,15 @@ use Rattle.cbor.specs.Decode.{payloadBy, decodeBy, heading, argument, next, dig
 use Rattle.cbor.specs.Encode.{bytesOf, infoOf, extraOf, shortest}
 use Rattle.cojp.specs.Octets.{padded, octetsJudged}
 use Rattle.cojp.specs.Address.{addressIn}
-use Rattle.cojp.specs.KeySet.{groups}
+use Rattle.cojp.specs.KeySet.{groups, identified, used, valued}
 use Rattle.cojp.specs.Request.{owing}
 use Rattle.cojp.specs.Walk.{payloadReadBy}
-use Rattle.cojp.specs.Configuration.{configurationStanding, configurationTaking}
+use Rattle.cojp.specs.Parameter.{laterParameter, parameterOf}
+use Rattle.cojp.specs.Configuration.{configurationTaking}
+use Rattle.cojp.specs.Faults.{validFaults, faultsFit}
+use Rattle.cojp.specs.Reported.{faultsOf}
 use Rattle.cojp.specs.Writing.{requestInRange, requestPlan}
+use Rattle.cojp_list_read.specs.Listed.{listedIn}
 use Rattle.node_key_sets.specs.Sets as sets
 use Rattle.node_key_sets.specs.Sets.{slotsIn, install}
 use Rattle.node_key_sets.specs.Frames as frames
@@ -34,9 +38,9 @@ use Rattle.node_attempt.specs.Poll as polling
 use Rattle.node_attempt.specs.Poll.{stepped}
 use Rattle.node_parameters.specs.Reports.{reportsOf}
 use Rattle.node.specs.Node.{activeOf, pendingOf}
-use Rattle.node.specs.Range.{valid, Valid}
+use Rattle.node.specs.Range.{formFits, valid, Valid}
 use Rattle.node.specs.Timing.{requestOf, startVerdict, startPlan, start, poll}
-use Rattle.node.specs.Delivery.{configured, apply, deliverVerdict, deliver}
+use Rattle.node.specs.Delivery.{fitted, configured, apply, deliverVerdict, deliver}
 use Rattle.node.specs.Frames.{sending, send, sendCounter, afterSend, receive, verified}
 use Rattle.node_laws.specs.Calls.{perform}
 use Rattle.node_laws.specs.Laws.{Takes, Unspent}
@@ -54,10 +58,11 @@ use Rattle.network.specs.Witness.{oldKeys, newKeys, line, lineLinks, fir
 -- what computing unfolds: items, keys, objects, the node's calls, and the network's events
 unfoldable pub computing : Unit {0}
 unfolding payloadBy decodeBy heading argument next digits members pairs majorOf bytesOf infoOf extraOf shortest
-    validKey sameKey covers validKeys validSet
-    padded octetsJudged addressIn groups owing payloadReadBy configurationStanding configurationTaking requestInRange requestPlan
-    spend sameSecret succeeded sets.valid install frames.sending receivingKey verifiedIn attempt.valid mayStart stepped polling.poll
-    valid requestOf startVerdict startPlan start poll reportsOf configured apply mayCome deliverVerdict deliver
+    validKey plainKey sameKey covers validKeys validSet
+    padded octetsJudged addressIn groups identified used valued owing payloadReadBy
+    laterParameter parameterOf configurationTaking validFaults faultsFit faultsOf listedIn requestInRange requestPlan
+    spend sameSecret succeeded sets.valid sets.validAs install frames.sending receivingKey verifiedIn attempt.valid mayStart stepped polling.poll
+    formFits valid requestOf startVerdict startPlan start poll reportsOf fitted configured apply mayCome deliverVerdict deliver
     sending send sendCounter afterSend receive verified perform
     nodeAt withNode judged turn step run Come Comes
 computing = tt

@@ -1,6 +1,6 @@
 -- The claim with sleepers speaks of something. Node 0 is the border router, 1 hears it and had the new set, as did 6, which hears 1 alone.
 -- 2 hears the border router too and missed the keys; 3, which had them, hears 2 alone. 4 and 5 lack the set and hear each other: 5 has a
--- third set active, which 4 has pending.
+-- third set active, which 4 has pending. 1 is of the published form, the others of the draft.
 use Prim.Native.Nat.{ℕ}
 use mathlib.Core.Path.{_≡_}
 use mathlib.Core.Bool.{Bool, not, _||_}
@@ -12,6 +12,7 @@ use Rattle.link_key.specs.Key.{keyOf}
 use Rattle.link_key.specs.declared.Key.{Key}
 use Rattle.link_key_counters.specs.Counters.{arrived}
 use Rattle.cojp.specs.KeySet.{keySetOf}
+use Rattle.cojp.specs.declared.version.Version.the-variants.{Published}
 use Rattle.node_key_sets.specs.Sets.{twoSets}
 use Rattle.node.specs.Node.{activeOf, pendingOf, keyed}
 use Rattle.node.specs.Frames.{sendCounter}
@@ -23,7 +24,7 @@ use Rattle.network.specs.Events.{Event, turning, run, Come, Throughout}
 use Rattle.network.specs.Rounds.{Links, Neighbours, Towards, Hops, AllLinked, Rounds}
 use Rattle.network.specs.Demand3.{NoneUsedUp, NoneSendsUnder, Rekeyed, handed}
 use Rattle.network.specs.Sleepers.{SupposedSome, Followed, WhereAllHad}
-use Rattle.network.specs.Witness.{oldKeys, newKeys, joined, payload}
+use Rattle.network.specs.Witness.{oldKeys, newKeys, joinedAs, joined, payload}
 
 abbrev pub thirdKeys : List Key
 thirdKeys = keyOf 9 0 (replicate 16 0x33) ∷ []
@@ -39,7 +40,7 @@ third = keyed (joined 0 noKeys) (twoSets (arrived (keySetOf thirdKeys)) (arrived
 abbrev pub building : Network
 building =
     joined 1 noKeys
-    ∷ joined 0 (keySetOf newKeys)
+    ∷ joinedAs Published 0 (keySetOf newKeys)
     ∷ joined 0 noKeys
     ∷ joined 0 (keySetOf newKeys)
     ∷ joined 0 (keySetOf thirdKeys)

@@ -10,6 +10,8 @@ use Rattle.link_key_set.specs.declared.key_set.KeySet.{KeySet}
 use Rattle.link_key.specs.Key.{keyOf}
 use Rattle.cojp.specs.KeySet.{keySetOf}
 use Rattle.cojp.specs.Octets.{octetsOf}
+use Rattle.cojp.specs.declared.version.Version.{Version}
+use Rattle.cojp.specs.declared.version.Version.the-variants.{Draft, Published}
 use Rattle.link_key_counters.specs.Counters.{arrived}
 use Rattle.node_key_sets.specs.Sets.{twoSets}
 use Rattle.node_attempt.specs.Attempt.{attempt}
@@ -35,14 +37,18 @@ newKeys = keyOf 5 0 (replicate 16 0x22) ∷ []
 abbrev pub cafe : HeldOctets
 cafe = record { held = true; value = octetsOf (0xCA ∷ 0xFE ∷ []) }
 
--- a node that joined at time 12,000
-abbrev pub joined : ℕ → KeySet → Node
-joined role pending =
-    attempting (keyed (freshNode role cafe) (twoSets (arrived (keySetOf oldKeys)) (arrived pending))) (attempt Joined 12000 10000 10000 0)
+-- a node of a form that joined at time 12,000
+abbrev pub joinedAs : Version → ℕ → KeySet → Node
+joinedAs version role pending =
+    attempting (keyed (freshNode version role cafe) (twoSets (arrived (keySetOf oldKeys)) (arrived pending)))
+    (attempt Joined 12000 10000 10000 0)
 
--- the border router, one in the middle, and one far from it
+abbrev pub joined : ℕ → KeySet → Node
+joined role pending = joinedAs Draft role pending
+
+-- the border router, one in the middle, and one far from it, which is of the published form
 abbrev pub line : Network
-line = joined 1 noKeys ∷ joined 0 (keySetOf newKeys) ∷ joined 0 (keySetOf newKeys) ∷ []
+line = joined 1 noKeys ∷ joined 0 (keySetOf newKeys) ∷ joinedAs Published 0 (keySetOf newKeys) ∷ []
 
 abbrev pub lineLinks : Links
 lineLinks = (0, 1) ∷ (1, 2) ∷ []

@@ -2,18 +2,23 @@
 use mathlib.Core.Path.{_≡_, refl}
 use mathlib.Core.Bool.{true}
 use mathlib.Core.List.{List·Memᴰ·head as at, List·Memᴰ·tail as past}
-use Rattle.link_key.specs.Key.{validKey, sameKey, sameSecret, covers}
+use Rattle.link_key.specs.Key.{validKey, plainKey, sameKey, sameSecret, covers}
 use Rattle.link_key_set.specs.KeySet.{validKeys, validSet}
 use Rattle.link_key_counters.specs.Counters.{spend, succeeded}
 use Rattle.cbor.specs.Decode.{payloadBy, decodeBy, heading, argument, next, digits, members, pairs, majorOf}
 use Rattle.cbor.specs.Encode.{bytesOf, infoOf, extraOf, shortest}
 use Rattle.cojp.specs.Octets.{padded, octetsJudged}
 use Rattle.cojp.specs.Address.{addressIn}
-use Rattle.cojp.specs.KeySet.{groups}
+use Rattle.cojp.specs.KeySet.{groups, identified, used, valued}
 use Rattle.cojp.specs.Request.{owing}
 use Rattle.cojp.specs.Walk.{payloadReadBy}
-use Rattle.cojp.specs.Configuration.{configurationStanding, configurationTaking}
+use Rattle.cojp.specs.Parameter.{laterParameter, parameterOf}
+use Rattle.cojp.specs.Configuration.{configurationTaking}
+use Rattle.cojp.specs.Faults.{faultsFit}
+use Rattle.cojp.specs.Reported.{faultsOf}
 use Rattle.cojp.specs.Writing.{requestInRange, requestPlan}
+use Rattle.cojp.specs.declared.version.Version.the-variants.{Draft}
+use Rattle.cojp_list_read.specs.Listed.{listedIn}
 use Rattle.node_key_sets.specs.Sets as sets
 use Rattle.node_key_sets.specs.Sets.{install}
 use Rattle.node_key_sets.specs.Frames as frames
@@ -21,9 +26,9 @@ use Rattle.node_attempt.specs.Attempt as attempt
 use Rattle.node_attempt.specs.Attempt.{mayStart}
 use Rattle.node_parameters.specs.Reports.{reportsOf}
 use Rattle.node.specs.Node.{made}
-use Rattle.node.specs.Range.{valid}
+use Rattle.node.specs.Range.{formFits, valid}
 use Rattle.node.specs.Timing.{requestOf, startVerdict, startPlan, start}
-use Rattle.node.specs.Delivery.{configured, apply, deliverVerdict, deliver}
+use Rattle.node.specs.Delivery.{fitted, configured, apply, deliverVerdict, deliver}
 use Rattle.node.specs.Frames as node
 use Rattle.node.specs.Frames.{send, sendCounter, afterSend}
 use Rattle.node_laws.specs.Calls.{perform}
@@ -34,10 +39,11 @@ use Rattle.node_counter_laws.specs.Example.{cafe, key, joining, joined, 
 -- what computing unfolds: items, keys, objects and the node's calls
 computing : Unit {0}
 unfolding payloadBy decodeBy heading argument next digits members pairs majorOf bytesOf infoOf extraOf shortest
-    validKey sameKey sameSecret covers validKeys validSet spend succeeded
-    padded octetsJudged addressIn groups owing payloadReadBy configurationStanding configurationTaking requestInRange requestPlan
-    sets.valid install frames.sending attempt.valid mayStart
-    made valid requestOf startVerdict startPlan start reportsOf configured apply mayCome deliverVerdict deliver
+    validKey plainKey sameKey sameSecret covers validKeys validSet spend succeeded
+    padded octetsJudged addressIn groups identified used valued owing payloadReadBy
+    laterParameter parameterOf configurationTaking faultsFit faultsOf listedIn requestInRange requestPlan
+    sets.valid sets.validAs install frames.sending attempt.valid mayStart
+    made formFits valid requestOf startVerdict startPlan start reportsOf fitted configured apply mayCome deliverVerdict deliver
     node.sending send sendCounter afterSend perform
 computing = tt
 
@@ -66,6 +72,6 @@ witness law = record {
   first = first;
   stays = stays;
   second = second;
-  higher = law .rises 1 cafe joining 1 key 0 first kept stays 1 key 1 second same;
+  higher = law .rises Draft 1 cafe joining 1 key 0 first kept stays 1 key 1 second same;
   again = again;
 }

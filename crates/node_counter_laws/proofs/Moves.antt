@@ -26,7 +26,7 @@ use Rattle.node_key_sets.specs.declared.sets.KeySets.{KeySets}
 use Rattle.node_attempt.specs.Poll as attempt
 use Rattle.node_attempt.specs.declared.poll.Due.the-variants as due
 use Rattle.node_delivery.specs.declared.Delivery.{Delivery}
-use Rattle.node.specs.Delivery.{placementOf, configured, undelivered, owesIdentifier, placedBy, apply, deliverVerdict, applyRead, deliverBy, readFor, deliver}
+use Rattle.node.specs.Delivery.{placementOf, fitted, configured, undelivered, owesIdentifier, placedBy, apply, deliverVerdict, applyRead, deliverBy, readFor, deliver}
 use Rattle.node.specs.Frames.{send, reported, reportedBy, verified}
 use Rattle.node.specs.Node.{isBorder}
 use Rattle.node.specs.Range.{valid}
@@ -83,7 +83,7 @@ module _ (delivery : Delivery) (n : Node) (time : ℕ) where
 
   read-moves : (v : Verdict) (c : Configuration) → Moved (applyRead v delivery n time c .node .sets)
   read-moves (verdict.Refused k) c = stays refl
-  read-moves verdict.Accepted c = apply-moves c
+  read-moves verdict.Accepted c = apply-moves (fitted n c)
 
   by-moves : (v : Verdict) (r : ConfigurationRead) → Moved (deliverBy v delivery n time r .node .sets)
   by-moves (verdict.Refused k) r = stays refl

@@ -22,7 +22,9 @@ use Rattle.link_key_counter_laws.specs.Kept.{Holds, Sound, KeptLaws}
 use Rattle.node_key_sets.specs.Sets as sets
 use Rattle.node_key_sets.specs.Sets.{activeIn, twoSets, unplaced, place, install}
 use Rattle.node_key_sets.specs.declared.sets.KeySets.{KeySets}
-use Rattle.node_key_sets.proofs.Valid.{active-valid, member-valid}
+use Rattle.node_key_sets.proofs.Valid.{active-valid, member-valid, as-valid}
+use Rattle.cojp.specs.Version.{informed}
+use Rattle.cojp.specs.declared.version.Version.{Version}
 use Rattle.node_parameters.specs.declared.octets.HeldOctets.{HeldOctets}
 use Rattle.node_attempt.specs.Attempt as attempt
 use Rattle.node_parameters.specs.Lease.{validAddress}
@@ -40,20 +42,23 @@ use Rattle.node_counter_laws.proofs.Moves.{Move, stays, counts, install
 -- a valid node's sets are valid
 keys-valid : (n : Node) → Valid n → sets.valid (isBorder n) (n .sets) ≡ true
 unfolding valid
-keys-valid n v = first (sets.valid (isBorder n) (n .sets)) (attempt.valid (n .attempt)) (validAddress (clockOf n) (n .address)) (othersValid n) v
+keys-valid n v =
+    as-valid (informed (n .version)) (isBorder n) (n .sets)
+    (first (sets.validAs (informed (n .version)) (isBorder n) (n .sets)) (attempt.valid (n .attempt)) (validAddress (clockOf n) (n .address))
+    (othersValid n) v)
 
 -- ---- both sets have eight counters
 record Sized (s : KeySets) : Type 0 where
   active : length (s .active .counters) ≡ 8
   pending : length (s .pending .counters) ≡ 8
 
-made-sized : (role : ℕ) (network : HeldOctets) → Sized (made role network .node .sets)
+made-sized : (version : Version) (role : ℕ) (network : HeldOctets) → Sized (made version role network .node .sets)
 unfolding made
-made-sized role network = go (validRole role) (validOctets network)
+made-sized version role network = go (validRole role) (validOctets network)
   where
     go :
         (r o : Bool) →
-        Sized (cond r (cond o (record { verdict = Accepted; node = freshNode role (knownOctets network) }) unmade) unmade .node .sets)
+        Sized (cond r (cond o (record { verdict = Accepted; node = freshNode version role (knownOctets network) }) unmade) unmade .node .sets)
     go true true = record { active = refl; pending = refl }
     go true false = record { active = refl; pending = refl }
     go false o = record { active = refl; pending = refl }
@@ -218,7 +223,8 @@ module _ (K : KeyLaws) (C : CounterLaws) (P : KeptLaws) (L : NodeLaws) (A : Answ
 
   pub counters-rise : CountersRise
   counters-rise = record {
-    rises = λ role network before type k counter.
-        rises-from (after (made role network .node) before) (after-sized (made role network .node) before (made-sized role network)) type k counter;
+    rises = λ version role network before type k counter.
+        rises-from (after (made version role network .node) before)
+        (after-sized (made version role network .node) before (made-sized version role network)) type k counter;
     never-last = λ n type k counter a. told n type k counter a .unused;
   }

@@ -7,6 +7,7 @@ use lib.ListN.{replicate}
 use Rattle.link_key.specs.Key.{keyOf}
 use Rattle.link_key.specs.declared.Key.{Key}
 use Rattle.cojp.specs.Octets.{octetsOf}
+use Rattle.cojp.specs.declared.version.Version.the-variants.{Draft}
 use Rattle.node_delivery.specs.declared.Delivery.the-variants.{JoinAnswer, Update}
 use Rattle.node_parameters.specs.declared.octets.HeldOctets.{HeldOctets}
 use Rattle.node.specs.Node.{made}
@@ -34,7 +35,7 @@ abbrev pub joining : List NodeCall
 joining = starting 1000 10000 (replicate 8 0) ∷ delivering JoinAnswer 2000 alone ∷ []
 
 abbrev pub joined : Node
-joined = after (made 1 cafe .node) joining
+joined = after (made Draft 1 cafe .node) joining
 
 abbrev pub sent : Node
 sent = perform (sending 1) joined .node

@@ -9,6 +9,7 @@ use Rattle.refusal.specs.declared.Verdict.the-variants.{Accepted}
 use Rattle.link_key.specs.Key.{sameSecret}
 use Rattle.link_key.specs.declared.Key.{Key}
 use Rattle.link_key_counter_laws.specs.Kept.{Holds}
+use Rattle.cojp.specs.declared.version.Version.{Version}
 use Rattle.node_parameters.specs.declared.octets.HeldOctets.{HeldOctets}
 use Rattle.node.specs.Node.{activeOf, made}
 use Rattle.node.specs.declared.node.Node.{Node}
@@ -32,11 +33,11 @@ Stays k n (c ∷ cs) = Holds k (activeOf n) × Stays k (perform c n .node) cs
 pub record CountersRise : Type 0 where
   -- a fresh node, any calls, a sending; any calls while its key stays; a sending under that key
   pub rises :
-      (role : ℕ) (network : HeldOctets) (before : List NodeCall) (type : ℕ) (k : Key) (counter : ℕ) →
-      Answers (after (made role network .node) before) type k counter →
-      (between : List NodeCall) → Stays k (perform (sending type) (after (made role network .node) before) .node) between →
+      (version : Version) (role : ℕ) (network : HeldOctets) (before : List NodeCall) (type : ℕ) (k : Key) (counter : ℕ) →
+      Answers (after (made version role network .node) before) type k counter →
+      (between : List NodeCall) → Stays k (perform (sending type) (after (made version role network .node) before) .node) between →
       (again : ℕ) (l : Key) (next : ℕ) →
-      Answers (after (perform (sending type) (after (made role network .node) before) .node) between) again l next → sameSecret l k ≡ true →
+      Answers (after (perform (sending type) (after (made version role network .node) before) .node) between) again l next → sameSecret l k ≡ true →
       counter < next
   -- "4,294,967,295 is never used"
   pub never-last : (n : Node) (type : ℕ) (k : Key) (counter : ℕ) → Answers n type k counter → counter ≡ 4294967295 → ⊥

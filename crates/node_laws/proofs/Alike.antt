@@ -18,24 +18,35 @@ use Rattle.node_key_sets.proofs.Alike.{install-alike}
 use Rattle.node_parameters.specs.declared.address.HeldAddress.{HeldAddress}
 use Rattle.cojp.specs.Reading.{ifTaken}
 use Rattle.cojp.specs.Octets.{bytesIn}
-use Rattle.cojp.specs.Same.{leaseOf, addressTaken, SameConfiguration}
+use Rattle.cojp.specs.Lists.{bytesIn as listBytes}
+use Rattle.cojp.specs.Same.{leaseOf, addressTaken, listTaken, rateTaken, SameConfiguration}
+use Rattle.cojp.specs.Version.{byVersion}
 use Rattle.cojp.specs.Writing.{keysInRange}
 use Rattle.cojp.specs.declared.address.AddressParameter.{AddressParameter}
 use Rattle.cojp.specs.declared.address.ShortAddress.{ShortAddress}
 use Rattle.cojp.specs.declared.configuration.Configuration.{Configuration}
+use Rattle.cojp.specs.declared.list.ListParameter.{ListParameter}
 use Rattle.cojp.specs.declared.octets.Octets.{Octets}
+use Rattle.cojp.specs.declared.rate.RateParameter.{RateParameter}
 use Rattle.cojp.specs.declared.report.Report.{Report}
 use Rattle.cojp.specs.declared.report.Report.the-variants.{Absent, Taken, Discarded}
+use Rattle.cojp.specs.declared.version.Version.{Version}
+use Rattle.cojp.specs.declared.version.Version.the-variants.{Draft, Published}
+use Rattle.node_parameters.specs.Blacklist.{listAfter}
 use Rattle.node_parameters.specs.Lease.{addressAfter}
 use Rattle.node_parameters.specs.Octets.{octetsAfter}
+use Rattle.node_parameters.specs.Rate.{rateAfter}
 use Rattle.node_parameters.specs.Reports.{discarded, reportsOf}
 use Rattle.node.specs.Node.{isBorder}
-use Rattle.node.specs.Delivery.{placementOf, configured, undelivered, owesIdentifier, placedBy, apply}
+use Rattle.node.specs.Delivery.{placementOf, fittedBy, fitted, configured, undelivered, owesIdentifier, placedBy, apply}
 use Rattle.node_delivery.specs.Delivery.{asksIdentifier}
-use Rattle.node_laws.specs.Same.{octetsHeld, addressHeld, SameNode, SameCounters, SameOutcome, AppliesAlike}
+use Rattle.node_laws.specs.Same.{octetsHeld, addressHeld, listHeld, rateHeld, SameNode, SameCounters, SameOutcome, AppliesAlike}
 use Rattle.node_delivery.specs.declared.Delivery.{Delivery}
+use Rattle.node_parameters.specs.declared.blacklist.HeldList.{HeldList}
 use Rattle.node_parameters.specs.declared.octets.HeldOctets.{HeldOctets}
+use Rattle.node_parameters.specs.declared.rate.HeldRate.{HeldRate}
 use Rattle.node.specs.declared.node.Node.{Node}
+use Rattle.node_laws.proofs.Forms.{fitted-keys}
 
 -- ---- two parameters that agree in what is taken
 alike :
@@ -101,6 +112,18 @@ address-same time p q old e =
     (record { held = true; value = p .value; received = time }) (record { held = true; value = q .value; received = time }) old e
     (λ p q f. ap (λ (m : List ℕ × Option ℕ). heldAs m time) f) refl
 
+list-same :
+    (p q : ListParameter) (old : HeldList) → listTaken p ≡ listTaken q → listHeld (listAfter p old) ≡ listHeld (listAfter q old)
+list-same p q old e =
+    alike (λ (h g : HeldList). listHeld h ≡ listHeld g) (p .report) (q .report) (p .value .count, listBytes (p .value))
+    (q .value .count, listBytes (q .value)) (record { held = true; value = p .value }) (record { held = true; value = q .value }) old e
+    (λ r s f. ap some f) refl
+
+rate-same : (p q : RateParameter) (old : HeldRate) → rateTaken p ≡ rateTaken q → rateHeld (rateAfter p old) ≡ rateHeld (rateAfter q old)
+rate-same p q old e =
+    alike (λ (h g : HeldRate). rateHeld h ≡ rateHeld g) (p .report) (q .report) (p .value) (q .value)
+    (record { held = true; value = p .value }) (record { held = true; value = q .value }) old e (λ r s f. ap some f) refl
+
 -- ---- applying
 same-self : (n : Node) → SameNode n n
 same-self n = record {
@@ -112,6 +135,9 @@ same-self n = record {
   jrc = refl;
   network = refl;
   prefix = refl;
+  version = refl;
+  blacklist = refl;
+  rate = refl;
 }
 
 same-counters : (n : Node) → SameCounters n n
@@ -147,6 +173,9 @@ module _ (C : CounterLaws) (delivery : Delivery) (n : Node) (time : ℕ) (c d : 
     jrc = octets-same (c .jrc .report) (d .jrc .report) (c .jrc .value) (d .jrc .value) (n .jrc) (h .jrc);
     network = border-same (isBorder n) (c .network .report) (d .network .report) (c .network .value) (d .network .value) (n .network) (h .network);
     prefix = border-same (isBorder n) (c .prefix .report) (d .prefix .report) (c .prefix .value) (d .prefix .value) (n .prefix) (h .prefix);
+    version = refl;
+    blacklist = list-same (c .blacklist) (d .blacklist) (n .blacklist) (h .blacklist);
+    rate = rate-same (c .rate) (d .rate) (n .rate) (h .rate);
   }
 
   counters-same :
@@ -168,5 +197,24 @@ module _ (C : CounterLaws) (delivery : Delivery) (n : Node) (time : ℕ) (c d : 
   applied-alike =
       rw (owes-same, places .verdict) (outcomes (owesIdentifier delivery n (d .network .report)) (placementOf n (d .keys) .verdict))
 
+  -- a set that cannot be placed is left out of both
+  fitted-same : SameConfiguration (fitted n c) (fitted n d)
+  unfolding fitted
+  fitted-same = rw (places .verdict) (go (n .version) (placementOf n (d .keys) .verdict))
+    where
+      go : (v : Version) (w : Verdict) → SameConfiguration (byVersion v c (fittedBy w c)) (byVersion v d (fittedBy w d))
+      go Draft w = h
+      go Published verdict.Accepted = h
+      go Published (verdict.Refused k) = record {
+        keys = refl;
+        address = h .address;
+        jrc = h .jrc;
+        network = h .network;
+        prefix = h .prefix;
+        blacklist = h .blacklist;
+        rate = h .rate;
+      }
+
 pub applies-alike : CounterLaws → AppliesAlike
-applies-alike C delivery n time c d p q h = applied-alike C delivery n time c d p q h
+applies-alike C delivery n time c d p q h =
+    applied-alike C delivery n time (fitted n c) (fitted n d) (fitted-keys n c p) (fitted-keys n d q) (fitted-same C delivery n time c d p q h)

@@ -2,7 +2,7 @@
 -- read is within its limits.
 use Prim.Native.Nat.{ℕ, _+_, _*_, _≤_}
 use native.Mathlib.Omega.{arith}
-use mathlib.Core.Path.{_≡_, refl, sym, _∙_, ap}
+use mathlib.Core.Path.{_≡_, refl, sym, _∙_, ap, subst}
 use mathlib.Core.Bool.{Bool, true, false, cond, not, _&&_}
 use mathlib.Core.List.{List, [], _∷_}
 use mathlib.Core.Option.{Option, none, some}
@@ -25,11 +25,14 @@ use Rattle.cbor.specs.declared.write.Written.{Written}
 use Rattle.cbor.specs.declared.write.Written.the-variants as written
 use Rattle.cojp.specs.InRange.{ReadsInRange}
 use Rattle.cojp.specs.Reading.{ifTaken}
+use Rattle.cojp.specs.Version.{byVersion}
 use Rattle.cojp.specs.Writing.{keysInRange, requestPlan}
 use Rattle.cojp.specs.declared.configuration.Configuration.{Configuration}
 use Rattle.cojp.specs.declared.configuration.ConfigurationRead.{ConfigurationRead}
 use Rattle.cojp.specs.declared.report.Report.{Report}
 use Rattle.cojp.specs.declared.report.Report.the-variants.{Absent, Taken, Discarded}
+use Rattle.cojp.specs.declared.version.Version.{Version}
+use Rattle.cojp.specs.declared.version.Version.the-variants.{Draft, Published}
 use Rattle.node_key_sets.specs.Sets.{placed, install}
 use Rattle.link_key_counters.specs.CounterLaws.{CounterLaws}
 use Rattle.link_key_counters.specs.Counters.{Slot, firstServing, spentOn}
@@ -54,8 +57,10 @@ use Rattle.node_delivery.specs.Delivery.{belongs, mayCome}
 use Rattle.node_delivery.specs.declared.Delivery.{Delivery}
 use Rattle.node_parameters.specs.Lease.{holdsAt}
 use Rattle.node_parameters.specs.Octets.{validOctets}
+use Rattle.node_parameters.specs.Reports.{reportsOf}
 use Rattle.node_parameters.specs.declared.octets.HeldOctets.{HeldOctets}
-use Rattle.node.specs.Delivery.{placementOf, placedBy, owesIdentifier, undelivered, apply, applyRead, deliverVerdict, deliverBy, readFor, deliver}
+use Rattle.node_parameters.specs.declared.reports.Reports.{Reports}
+use Rattle.node.specs.Delivery.{placementOf, fittedBy, fitted, placedBy, owesIdentifier, undelivered, apply, applyRead, deliverVerdict, deliverBy, readFor, deliver}
 use Rattle.node.specs.Frames as frames
 use Rattle.node.specs.Frames.{unsent, sentBy, send, receive, reported, reportedBy, verified}
 use Rattle.node.specs.Lease.{holds, holdingNumber, holdsNow}
@@ -69,7 +74,8 @@ use Rattle.node.specs.declared.node.Node.{Node}
 use Rattle.node_laws.specs.Answers.{early, reached, isPolled, isDue, clashes, isMissing, isUncovered, writtenNumber, AnswersSay}
 use Rattle.node_laws.specs.Phases.{waits}
 use Rattle.node_laws.specs.Calls.{NodeCall, starting, polling, delivering, asking, sending, receiving, reporting, perform}
-use Rattle.node_laws.proofs.Deliveries.{accepted-reports}
+use Rattle.node_laws.proofs.Deliveries.{accepted-reports, accepted-reading}
+use Rattle.node_laws.proofs.Forms.{fitted-network, fitted-keys}
 use Rattle.node_laws.proofs.FrameKeys.{send-counts}
 use Rattle.node_laws.proofs.Valid.{attempt-valid}
 
@@ -94,9 +100,10 @@ made-by true false m = refl
 made-by true true m = refl
 
 made-number :
-    (role : ℕ) (network : HeldOctets) → verdictNumber (made role network .verdict) ≡ refusedIf (not (validRole role && validOctets network)) 13
+    (version : Version) (role : ℕ) (network : HeldOctets) →
+    verdictNumber (made version role network .verdict) ≡ refusedIf (not (validRole role && validOctets network)) 13
 unfolding made
-made-number role network = made-by (validRole role) (validOctets network) _
+made-number version role network = made-by (validRole role) (validOctets network) _
 
 -- ---- starting
 written-by : (w : Written) (n m : Node) → verdictNumber (startedBy w n m .verdict) ≡ inOrder (writtenNumber w ∷ [])
@@ -125,7 +132,7 @@ start-number :
     ∷ refusedIf (early n time) 11
     ∷ refusedIf (waits n) 16
     ∷ refusedIf (not (firstTimeout timeout)) 13
-    ∷ writtenNumber (answer (requestPlan (requestOf n)) d)
+    ∷ writtenNumber (answer (requestPlan (n .version) (requestOf n)) d)
     ∷ [])
 unfolding start startPlan startVerdict mayStart
 start-number n time timeout d = go (valid n) refl
@@ -135,19 +142,19 @@ start-number n time timeout d = go (valid n) refl
         refusedIf (early n time) 11
         ∷ refusedIf (waits n) 16
         ∷ refusedIf (not (firstTimeout timeout)) 13
-        ∷ writtenNumber (answer (requestPlan (requestOf n)) d)
+        ∷ writtenNumber (answer (requestPlan (n .version) (requestOf n)) d)
         ∷ []
 
     go :
         (v : Bool) → valid n ≡ v →
         verdictNumber
-        (startedBy (answer (planBy (cond v (mayStart (n .attempt) time timeout) (verdict.Refused refusal.Range)) (requestPlan (requestOf n))) d) n
+        (startedBy (answer (planBy (cond v (mayStart (n .attempt) time timeout) (verdict.Refused refusal.Range)) (requestPlan (n .version) (requestOf n))) d) n
         (startedFrom n time timeout) .verdict)
         ≡ inOrder (refusedIf (not v) 13 ∷ tests)
     go false e = refl
     go true e =
         rw (attempt-valid n e)
-        (start-by n (startedFrom n time timeout) (requestPlan (requestOf n)) d (leb (clockOf n) time) (waits n) (firstTimeout timeout))
+        (start-by n (startedFrom n time timeout) (requestPlan (n .version) (requestOf n)) d (leb (clockOf n) time) (waits n) (firstTimeout timeout))
 
 start-wrote :
     (w : Written) (n m : Node) → startedBy w n m .verdict ≡ verdict.Accepted → w ≡ written.Length (startedBy w n m .length)
@@ -156,16 +163,16 @@ start-wrote (written.Length l) n m e = refl
 
 start-length :
     (n : Node) (time timeout : ℕ) (d : List ℕ) → start n time timeout d .verdict ≡ verdict.Accepted →
-    answer (requestPlan (requestOf n)) d ≡ written.Length (start n time timeout d .length)
+    answer (requestPlan (n .version) (requestOf n)) d ≡ written.Length (start n time timeout d .length)
 unfolding start startPlan
 start-length n time timeout d = go (startVerdict n time timeout)
   where
     go :
-        (v : Verdict) → startedBy (answer (planBy v (requestPlan (requestOf n))) d) n (startedFrom n time timeout) .verdict ≡ verdict.Accepted →
-        answer (requestPlan (requestOf n)) d
-        ≡ written.Length (startedBy (answer (planBy v (requestPlan (requestOf n))) d) n (startedFrom n time timeout) .length)
+        (v : Verdict) → startedBy (answer (planBy v (requestPlan (n .version) (requestOf n))) d) n (startedFrom n time timeout) .verdict ≡ verdict.Accepted →
+        answer (requestPlan (n .version) (requestOf n)) d
+        ≡ written.Length (startedBy (answer (planBy v (requestPlan (n .version) (requestOf n))) d) n (startedFrom n time timeout) .length)
     go (verdict.Refused k) e = refused-not k e
-    go verdict.Accepted e = start-wrote (answer (requestPlan (requestOf n)) d) n (startedFrom n time timeout) e
+    go verdict.Accepted e = start-wrote (answer (requestPlan (n .version) (requestOf n)) d) n (startedFrom n time timeout) e
 
 -- ---- polling: the answer, test by test
 abbrev dueBy : Bool → Bool → Bool → Bool → Bool → Bool → Due
@@ -302,6 +309,10 @@ placed-number n Discarded set e = refl
 placed-number n Taken set e =
     rw e (place-by (n .sets) set (isBorder n) (sameKeys (keysOf set) (activeOf n)) (shares (keysOf set) (activeOf n)))
 
+not-refused : (b : Bool) → refusedIf b 10 ≡ 0 → b ≡ false
+not-refused true e = absurd (omega (arith, e))
+not-refused false e = refl
+
 one-left : (b : Bool) → refusedIf b 10 ≡ inOrder (refusedIf b 10 ∷ [])
 one-left true = refl
 one-left false = refl
@@ -314,9 +325,15 @@ placed-by verdict.Accepted delivery n time c s = refl
 
 module _ (delivery : Delivery) (n : Node) (time : ℕ) where
   abbrev last : Configuration → List ℕ
-  last c = refusedIf (owesIdentifier delivery n (c .network .report)) 9 ∷ refusedIf (clashes n (c .keys)) 10 ∷ []
+  last c =
+      refusedIf (owesIdentifier delivery n (c .network .report)) 9
+      ∷ refusedIf (byVersion (n .version) (clashes n (c .keys)) false) 10
+      ∷ []
 
-  apply-number : (c : Configuration) → keysInRange (c .keys) ≡ true → verdictNumber (apply delivery n time c .verdict) ≡ inOrder (last c)
+  apply-number :
+      (c : Configuration) → keysInRange (c .keys) ≡ true →
+      verdictNumber (apply delivery n time c .verdict)
+      ≡ inOrder (refusedIf (owesIdentifier delivery n (c .network .report)) 9 ∷ refusedIf (clashes n (c .keys)) 10 ∷ [])
   unfolding apply
   apply-number c h = go (owesIdentifier delivery n (c .network .report))
     where
@@ -336,11 +353,45 @@ module _ (delivery : Delivery) (n : Node) (time : ℕ) where
       go true = refl
       go false = place
 
+  -- a set that is placed does not clash
+  placed-apart :
+      (c : Configuration) → keysInRange (c .keys) ≡ true → placementOf n (c .keys) .verdict ≡ verdict.Accepted → clashes n (c .keys) ≡ false
+  placed-apart c h e =
+      not-refused (clashes n (c .keys)) (sym (placed-number n (c .keys .report) (c .keys .value) h) ∙ ap verdictNumber e)
+
+  -- in the published form one that does is left out
+  fitted-clashes :
+      (c : Configuration) → keysInRange (c .keys) ≡ true → clashes n (fitted n c .keys) ≡ byVersion (n .version) (clashes n (c .keys)) false
+  unfolding fitted
+  fitted-clashes c h = go (n .version) (placementOf n (c .keys) .verdict) refl
+    where
+      go :
+          (v : Version) (w : Verdict) → placementOf n (c .keys) .verdict ≡ w →
+          clashes n (byVersion v c (fittedBy w c) .keys) ≡ byVersion v (clashes n (c .keys)) false
+      go Draft w e = refl
+      go Published verdict.Accepted e = placed-apart c h e
+      go Published (verdict.Refused k) e = refl
+
+  clash-left :
+      (c : Configuration) → keysInRange (c .keys) ≡ true → n .version ≡ Published → clashes n (c .keys) ≡ true →
+      fitted n c .keys .report ≡ Discarded
+  unfolding fitted
+  clash-left c h p e =
+      subst (λ (v : Version). byVersion v c (fittedBy (placementOf n (c .keys) .verdict) c) .keys .report ≡ Discarded) (sym p)
+      (go (placementOf n (c .keys) .verdict) refl)
+    where
+      go : (w : Verdict) → placementOf n (c .keys) .verdict ≡ w → fittedBy w c .keys .report ≡ Discarded
+      go verdict.Accepted q = never (clashes n (c .keys)) e (placed-apart c h q)
+      go (verdict.Refused k) q = refl
+
+  fitted-number : (c : Configuration) → keysInRange (c .keys) ≡ true → verdictNumber (apply delivery n time (fitted n c) .verdict) ≡ inOrder (last c)
+  fitted-number c h = apply-number (fitted n c) (fitted-keys n c h) ∙ rw (fitted-network n c, fitted-clashes c h)
+
   read-number :
       (v : Verdict) (c : Configuration) → (v ≡ verdict.Accepted → keysInRange (c .keys) ≡ true) →
       verdictNumber (applyRead v delivery n time c .verdict) ≡ inOrder (verdictNumber v ∷ last c)
   read-number (verdict.Refused k) c h = sym (refused-first k (last c))
-  read-number verdict.Accepted c h = apply-number c (h refl)
+  read-number verdict.Accepted c h = fitted-number c (h refl)
 
   come-by :
       (l t b : Bool) (r : ConfigurationRead) → (r .verdict ≡ verdict.Accepted → keysInRange (r .configuration .keys) ≡ true) →
@@ -385,7 +436,15 @@ module _ (delivery : Delivery) (n : Node) (time : ℕ) where
       go true e =
           rw (attempt-valid n e)
           (come-by (leb (length payload) 256) (leb (clockOf n) time) (belongs delivery (n .attempt .phase)) (readFor n payload)
-          (λ a. R payload a .keys))
+          (λ a. R (n .version) payload a .keys))
+
+  clash-discarded :
+      ReadsInRange → (payload : List ℕ) → deliver delivery n time payload .verdict ≡ verdict.Accepted → n .version ≡ Published →
+      clashes n (readFor n payload .configuration .keys) ≡ true → deliver delivery n time payload .reports .keys ≡ Discarded
+  unfolding reportsOf
+  clash-discarded R payload a p e =
+      ap (λ (r : Reports). r .keys) (accepted-reports delivery n time payload a)
+      ∙ clash-left (readFor n payload .configuration) (R (n .version) payload (accepted-reading delivery n time payload a) .keys) p e
 
 -- ---- the question whether the address holds
 held-number :
@@ -409,11 +468,11 @@ held-by true true true = refl
 holding-number :
     (n : Node) (time : ℕ) → holdingNumber (holds n time) ≡ inOrder (refusedIf (not (valid n)) 13 ∷ refusedIf (early n time) 11 ∷ [])
 unfolding holds
-holding-number n time = held-number (valid n) (leb (clockOf n) time) (holdsAt (n .address) time)
+holding-number n time = held-number (valid n) (leb (clockOf n) time) (holdsAt (n .version) (n .address) time)
 
-holds-now : (n : Node) (time : ℕ) → holdsNow (holds n time) ≡ (valid n && not (early n time) && holdsAt (n .address) time)
+holds-now : (n : Node) (time : ℕ) → holdsNow (holds n time) ≡ (valid n && not (early n time) && holdsAt (n .version) (n .address) time)
 unfolding holds
-holds-now n time = held-by (valid n) (leb (clockOf n) time) (holdsAt (n .address) time)
+holds-now n time = held-by (valid n) (leb (clockOf n) time) (holdsAt (n .version) (n .address) time)
 
 -- ---- frames
 abbrev answered : Bool → Bool → KeyAnswer → KeyAnswer
@@ -562,6 +621,7 @@ answers-say C R = record {
   sends-again = sends-again;
   gives-up = gives-up;
   delivery-reports = accepted-reports;
+  clash-discarded = λ delivery n time payload. clash-discarded delivery n time R payload;
   holds-now = holds-now;
   send-counts = send-counts C;
   receive-key = receive-key;

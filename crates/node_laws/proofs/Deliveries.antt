@@ -3,7 +3,7 @@
 use Prim.Native.Nat.{ℕ, _≤_}
 use native.Mathlib.Omega.{arith}
 use mathlib.Core.Path.{_≡_, refl, sym, _∙_, ap}
-use mathlib.Core.Bool.{Bool, true, false, cond}
+use mathlib.Core.Bool.{Bool, true, false, cond, _||_}
 use mathlib.Core.List.{List}
 use borrow.Author.Tests.{leb-true, le-leb, eq-eqb}
 use lib.Dec.{leb, eqb}
@@ -14,14 +14,15 @@ use Rattle.refusal.specs.declared.Refusal.the-variants as refusal
 use Rattle.refusal.specs.declared.Verdict.{Verdict}
 use Rattle.refusal.specs.declared.Verdict.the-variants as verdict
 use Rattle.link_key.specs.declared.Key.{Key}
+use Rattle.link_key_set.specs.KeySet.{keysOf, mayInform}
 use Rattle.link_key_set.specs.declared.key_set.KeySet.{KeySet}
 use Rattle.link_key_counters.specs.Counters.{noCounted, succeeded}
-use Rattle.node_key_sets.specs.Sets.{twoSets, placed, install}
+use Rattle.node_key_sets.specs.Sets.{twoSets, plainIn, placed, install}
 use Rattle.node_key_sets.specs.Sets as sets
 use Rattle.node_key_sets.specs.declared.sets.KeySets.{KeySets}
 use Rattle.link_key_set.specs.KeyLaws.{KeyLaws}
 use Rattle.link_key_counters.specs.CounterLaws.{CounterLaws}
-use Rattle.node_key_sets.proofs.Valid.{install-valid, border-installs}
+use Rattle.node_key_sets.proofs.Valid.{install-valid, install-plain, border-installs}
 use Rattle.node_attempt.specs.Attempt as attempt
 use Rattle.node_parameters.specs.Lease.{validAddress}
 use Rattle.node_attempt.specs.declared.attempt.Attempt.{Attempt}
@@ -30,20 +31,22 @@ use Rattle.node_attempt.proofs.Attempts.{moved-valid, joined-valid}
 use Rattle.node_parameters.proofs.Leases.{later}
 use Rattle.cojp.specs.Reading.{ifTaken}
 use Rattle.short_address.specs.Address.{isAddress}
-use Rattle.cojp.specs.InRange.{InRange, ReadsInRange}
+use Rattle.cojp.specs.InRange.{InRange, ReadsInRange, ReportsFit}
+use Rattle.cojp.specs.Version.{informed}
 use Rattle.cojp.specs.declared.address.ShortAddress.{ShortAddress}
 use Rattle.cojp.specs.declared.configuration.Configuration.{Configuration}
 use Rattle.cojp.specs.declared.configuration.ConfigurationRead.{ConfigurationRead}
+use Rattle.cojp.specs.declared.key_set.KeysParameter.{KeysParameter}
 use Rattle.cojp.specs.declared.octets.Octets.{Octets}
 use Rattle.cojp.specs.declared.report.Report.{Report}
 use Rattle.cojp.specs.declared.report.Report.the-variants.{Absent, Taken, Discarded}
 use Rattle.node_parameters.specs.Octets.{validOctets, validJrc, octetsAfter}
-use Rattle.node_parameters.specs.Reports.{noReports, discarded, reportsOf}
+use Rattle.node_parameters.specs.Reports.{noReports, reportsOf}
 use Rattle.node.specs.Node.{isBorder, clockOf, validRole}
-use Rattle.node.specs.Range.{othersValid, valid, Valid}
-use Rattle.node.specs.Delivery.{placementOf, configured, undelivered, delivered, owesIdentifier, placedBy, apply, deliverVerdict, applyRead, deliverBy, readFor, deliver}
+use Rattle.node.specs.Range.{formFits, othersValid, valid, Valid}
+use Rattle.node.specs.Delivery.{placementOf, fitted, configured, undelivered, delivered, owesIdentifier, placedBy, apply, deliverVerdict, applyRead, deliverBy, readFor, deliver}
 use Rattle.node_delivery.specs.Delivery.{attemptAfter, belongs, mayCome}
-use Rattle.node_laws.specs.Laws.{Takes, Installed}
+use Rattle.node_laws.specs.Laws.{configurationIn, Takes, Installed}
 use Rattle.node_delivery.specs.declared.Delivery.{Delivery}
 use Rattle.node_delivery.specs.declared.Delivery.the-variants.{JoinAnswer, Update}
 use Rattle.node.specs.declared.delivery.Delivered.{Delivered}
@@ -51,7 +54,8 @@ use Rattle.node_parameters.specs.declared.reports.Reports.{Reports}
 use Rattle.node_parameters.specs.declared.octets.HeldOctets.{HeldOctets}
 use Rattle.node.specs.declared.node.Node.{Node}
 use Rattle.logic_facts.specs.Tests.{all-four, first, second, third, fourth, both}
-use Rattle.node_laws.proofs.Valid.{keys-valid, attempt-valid, address-valid, others-valid, valid-by}
+use Rattle.node_laws.proofs.Valid.{Plain, keys-valid, keys-plain, attempt-valid, address-valid, others-valid, valid-by}
+use Rattle.node_laws.proofs.Forms.{fitted-taken, fitted-range, may-inform, octets-after, form-after}
 
 -- ---- refusals
 -- where it is refused, the node is as it was, and the report is empty
@@ -81,7 +85,7 @@ module _ (n : Node) where
 
   read-leaves : (v : Verdict) (delivery : Delivery) (time : ℕ) (c : Configuration) → Leaves n (applyRead v delivery n time c)
   read-leaves (verdict.Refused k) delivery time c = no-leaves k
-  read-leaves verdict.Accepted delivery time c = apply-leaves delivery time c
+  read-leaves verdict.Accepted delivery time c = apply-leaves delivery time (fitted n c)
 
   by-leaves : (v : Verdict) (delivery : Delivery) (time : ℕ) (r : ConfigurationRead) → Leaves n (deliverBy v delivery n time r)
   by-leaves (verdict.Refused k) delivery time r = no-leaves k
@@ -96,12 +100,12 @@ module _ (n : Node) where
 record Passed (delivery : Delivery) (n : Node) (time : ℕ) (payload : List ℕ) : Type 0 where
   later : clockOf n ≤ time
   read : readFor n payload .verdict ≡ verdict.Accepted
-  placed : placementOf n (readFor n payload .configuration .keys) .verdict ≡ verdict.Accepted
+  placed : placementOf n (configurationIn n payload .keys) .verdict ≡ verdict.Accepted
   is :
       deliver delivery n time payload
-      ≡ delivered (reportsOf (isBorder n) (readFor n payload .configuration))
-      (configured delivery n time (readFor n payload .configuration) (placementOf n (readFor n payload .configuration .keys) .sets)
-      (reportsOf (isBorder n) (readFor n payload .configuration)))
+      ≡ delivered (reportsOf (isBorder n) (configurationIn n payload))
+      (configured delivery n time (configurationIn n payload) (placementOf n (configurationIn n payload .keys) .sets)
+      (reportsOf (isBorder n) (configurationIn n payload)))
 
 -- a test that refuses where it is true did not
 failed : (b : Bool) (x : Delivered) (k : Refusal) (n : Node) → cond b (undelivered k n) x .verdict ≡ verdict.Accepted → b ≡ false
@@ -146,24 +150,37 @@ not-early delivery n time len = go (valid n) (attempt.valid (n .attempt)) (leb l
 
 module _ (delivery : Delivery) (n : Node) (time : ℕ) (payload : List ℕ) where
   abbrev c : Configuration
-  c = readFor n payload .configuration
+  c = configurationIn n payload
 
   accepted-passed : deliver delivery n time payload .verdict ≡ verdict.Accepted → Passed delivery n time payload
   unfolding deliver apply
   accepted-passed e =
       let v = accepted-by (deliverVerdict delivery n time (length payload)) delivery n time (readFor n payload) e in
       let e1 = rw v at e in
-      let r = accepted-read (readFor n payload .verdict) delivery n time c e1 in
+      let r = accepted-read (readFor n payload .verdict) delivery n time (readFor n payload .configuration) e1 in
       let e2 = rw r at e1 in
       let o = failed (owesIdentifier delivery n (c .network .report)) _ refusal.Owed n e2 in
       let e3 = rw o at e2 in
       let p = accepted-placed (placementOf n (c .keys) .verdict) delivery n time c (placementOf n (c .keys) .sets) e3 in
       record { later = leb-true (clockOf n) time (not-early delivery n time (length payload) v); read = r; placed = p; is = rw (v, r, o, p) }
 
+pub accepted-is :
+    (delivery : Delivery) (n : Node) (time : ℕ) (payload : List ℕ) → deliver delivery n time payload .verdict ≡ verdict.Accepted →
+    deliver delivery n time payload
+    ≡ delivered (reportsOf (isBorder n) (configurationIn n payload))
+    (configured delivery n time (configurationIn n payload) (placementOf n (configurationIn n payload .keys) .sets)
+    (reportsOf (isBorder n) (configurationIn n payload)))
+accepted-is delivery n time payload e = accepted-passed delivery n time payload e .is
+
 pub accepted-reports :
     (delivery : Delivery) (n : Node) (time : ℕ) (payload : List ℕ) → deliver delivery n time payload .verdict ≡ verdict.Accepted →
-    deliver delivery n time payload .reports ≡ reportsOf (isBorder n) (readFor n payload .configuration)
+    deliver delivery n time payload .reports ≡ reportsOf (isBorder n) (configurationIn n payload)
 accepted-reports delivery n time payload e = ap (λ (m : Delivered). m .reports) (accepted-passed delivery n time payload e .is)
+
+pub accepted-reading :
+    (delivery : Delivery) (n : Node) (time : ℕ) (payload : List ℕ) → deliver delivery n time payload .verdict ≡ verdict.Accepted →
+    readFor n payload .verdict ≡ verdict.Accepted
+accepted-reading delivery n time payload e = accepted-passed delivery n time payload e .read
 
 -- ---- the other parameters
 address-after :
@@ -181,26 +198,51 @@ jrc-after Absent o old e f = f
 jrc-after Discarded o old e f = f
 jrc-after Taken o old e f = e
 
-octets-after :
-    (border : Bool) (r : Report) (o : Octets) (old : HeldOctets) → ifTaken r (leb (o .len) 16) true ≡ true → validOctets old ≡ true →
-    validOctets (octetsAfter (cond border r (discarded r)) o old) ≡ true
-octets-after true Absent o old e f = f
-octets-after true Discarded o old e f = f
-octets-after true Taken o old e f = e
-octets-after false Absent o old e f = f
-octets-after false Discarded o old e f = f
-octets-after false Taken o old e f = f
-
 attempt-after : (delivery : Delivery) (a : Attempt) (time : ℕ) → a .clock ≤ time → attempt.valid a ≡ true → attempt.valid (attemptAfter delivery a time) ≡ true
 attempt-after JoinAnswer a time h e = joined-valid a time h e
 attempt-after Update a time h e = moved-valid a time h e
 
-pub deliver-role : (delivery : Delivery) (n : Node) (time : ℕ) (payload : List ℕ) → deliver delivery n time payload .node .role ≡ n .role
-deliver-role delivery n time payload = go (deliver delivery n time payload .verdict) refl
+-- a part of the node that no configuration changes
+deliver-part :
+    {X : Type 0} (part : Node → X) (delivery : Delivery) (n : Node) (time : ℕ) (payload : List ℕ) →
+    ((c : Configuration) (s : KeySets) (r : Reports) → part (configured delivery n time c s r) ≡ part n) →
+    part (deliver delivery n time payload .node) ≡ part n
+deliver-part part delivery n time payload f = go (deliver delivery n time payload .verdict) refl
   where
-    go : (w : Verdict) → deliver delivery n time payload .verdict ≡ w → deliver delivery n time payload .node .role ≡ n .role
-    go (verdict.Refused k) e = rw (deliver-leaves n delivery time payload k e .0)
-    go verdict.Accepted e = let p = accepted-passed delivery n time payload e in rw (p .is) (unfold configured in refl)
+    go : (w : Verdict) → deliver delivery n time payload .verdict ≡ w → part (deliver delivery n time payload .node) ≡ part n
+    go (verdict.Refused k) e = ap part (deliver-leaves n delivery time payload k e .0)
+    go verdict.Accepted e = ap (λ (m : Delivered). part (m .node)) (accepted-passed delivery n time payload e .is) ∙ f _ _ _
+
+pub deliver-role : (delivery : Delivery) (n : Node) (time : ℕ) (payload : List ℕ) → deliver delivery n time payload .node .role ≡ n .role
+unfolding configured
+deliver-role delivery n time payload = deliver-part (λ (m : Node). m .role) delivery n time payload (λ c s r. refl)
+
+pub deliver-version :
+    (delivery : Delivery) (n : Node) (time : ℕ) (payload : List ℕ) → deliver delivery n time payload .node .version ≡ n .version
+unfolding configured
+deliver-version delivery n time payload = deliver-part (λ (m : Node). m .version) delivery n time payload (λ c s r. refl)
+
+-- ---- a payload of which no set is taken
+untaken-place :
+    (n : Node) (r : Report) (set : KeySet) → (r ≡ Taken → ⊥) →
+    ifTaken r (install (isBorder n) (n .sets) set) (placed (n .sets)) .sets ≡ n .sets
+untaken-place n Absent set f = refl
+untaken-place n Discarded set f = refl
+untaken-place n Taken set f = absurd (f refl)
+
+pub untaken-stays :
+    (delivery : Delivery) (n : Node) (time : ℕ) (payload : List ℕ) → (deliver delivery n time payload .reports .keys ≡ Taken → ⊥) →
+    deliver delivery n time payload .node .sets ≡ n .sets
+unfolding configured reportsOf
+untaken-stays delivery n time payload f = go (deliver delivery n time payload .verdict) refl
+  where
+    go : (w : Verdict) → deliver delivery n time payload .verdict ≡ w → deliver delivery n time payload .node .sets ≡ n .sets
+    go (verdict.Refused k) e = ap (λ (m : Node). m .sets) (deliver-leaves n delivery time payload k e .0)
+    go verdict.Accepted e =
+        let is = accepted-is delivery n time payload e in
+        let c = configurationIn n payload in
+        ap (λ (m : Delivered). m .node .sets) is
+        ∙ untaken-place n (c .keys .report) (c .keys .value) (λ t. f (ap (λ (m : Delivered). m .reports .keys) is ∙ t))
 
 -- ---- a border node that takes a set
 border-place :
@@ -211,8 +253,8 @@ border-place n r set b e a =
     let border = eq-eqb (n .role) 1 b in
     rw (e, border) (border-installs (n .sets) set (rw (e, border) at a))
 
--- ---- by the laws of keys, of counted sets and of what is read
-module _ (K : KeyLaws) (C : CounterLaws) (R : ReadsInRange) where
+-- ---- by the laws of keys, of counted sets, of what is read and of its reports
+module _ (K : KeyLaws) (C : CounterLaws) (R : ReadsInRange) (F : ReportsFit) where
   placement-valid :
       (n : Node) (r : Report) (set : KeySet) → sets.valid (isBorder n) (n .sets) ≡ true →
       sets.valid (isBorder n) (ifTaken r (install (isBorder n) (n .sets) set) (placed (n .sets)) .sets) ≡ true
@@ -220,8 +262,15 @@ module _ (K : KeyLaws) (C : CounterLaws) (R : ReadsInRange) where
   placement-valid n Discarded set v = v
   placement-valid n Taken set v = install-valid K C (isBorder n) (n .sets) set v
 
+  placement-plain :
+      (n : Node) (r : Report) (set : KeySet) → ifTaken r (mayInform (informed (n .version)) (keysOf set)) true ≡ true → Plain n →
+      (informed (n .version) || plainIn (ifTaken r (install (isBorder n) (n .sets) set) (placed (n .sets)) .sets)) ≡ true
+  placement-plain n Absent set e v = v
+  placement-plain n Discarded set e v = v
+  placement-plain n Taken set e v = install-plain (informed (n .version)) (n .sets) v C set e (isBorder n)
+
   -- ---- the node stays valid
-  module _ (delivery : Delivery) (n : Node) (time : ℕ) (c : Configuration) (v : Valid n) (h : clockOf n ≤ time) (r : InRange c) where
+  module _ (delivery : Delivery) (n : Node) (time : ℕ) (c : Configuration) (v : Valid n) (h : clockOf n ≤ time) (r : InRange (n .version) c) where
     abbrev after : Node
     after = configured delivery n time c (placementOf n (c .keys) .sets) (reportsOf (isBorder n) c)
 
@@ -232,17 +281,18 @@ module _ (K : KeyLaws) (C : CounterLaws) (R : ReadsInRange) where
         let part1 = validRole (n .role) in
         let part2 = validJrc (n .jrc) in
         let part3 = validOctets (n .network) in
-        let part4 = validOctets (n .prefix) in
-        all-four (validRole (n .role)) (validJrc (after .jrc)) (validOctets (after .network)) (validOctets (after .prefix))
+        let part4 = formFits n in
+        all-four (validRole (n .role)) (validJrc (after .jrc)) (validOctets (after .network)) (formFits after)
         (first part1 part2 part3 part4 o)
         (jrc-after (c .jrc .report) (c .jrc .value) (n .jrc) (r .jrc) (second part1 part2 part3 part4 o))
         (octets-after (isBorder n) (c .network .report) (c .network .value) (n .network) (r .network) (third part1 part2 part3 part4 o))
-        (octets-after (isBorder n) (c .prefix .report) (c .prefix .value) (n .prefix) (r .prefix) (fourth part1 part2 part3 part4 o))
+        (form-after delivery n time c (placementOf n (c .keys) .sets) r (fourth part1 part2 part3 part4 o) F)
 
     configured-valid : Valid after
     configured-valid =
         valid-by after
         (unfold configured in placement-valid n (c .keys .report) (c .keys .value) (keys-valid n v))
+        (unfold configured in placement-plain n (c .keys .report) (c .keys .value) (may-inform (n .version) c (r .form)) (keys-plain n v))
         (unfold configured in attempt-after delivery (n .attempt) time h (attempt-valid n v))
         (unfold configured in address-after (clockOf n) time (c .address .report) (c .address .value) (n .address) h (r .address) (address-valid n v))
         others-after
@@ -255,7 +305,8 @@ module _ (K : KeyLaws) (C : CounterLaws) (R : ReadsInRange) where
       go verdict.Accepted e =
           let p = accepted-passed delivery n time payload e in
           rw (p .is)
-          (configured-valid delivery n time (readFor n payload .configuration) v (p .later) (R payload (p .read)))
+          (configured-valid delivery n time (configurationIn n payload) v (p .later)
+          (fitted-range n (readFor n payload .configuration) (R (n .version) payload (p .read))))
 
   pub border-takes :
       (delivery : Delivery) (n : Node) (time : ℕ) (payload : List ℕ) (ks : List Key) → Valid n → n .role ≡ 1 → Takes delivery n time payload ks →
@@ -263,11 +314,12 @@ module _ (K : KeyLaws) (C : CounterLaws) (R : ReadsInRange) where
   unfolding configured reportsOf
   border-takes delivery n time payload ks v b h =
       let p = accepted-passed delivery n time payload (h .accepted) in
-      let c = readFor n payload .configuration in
+      let c = configurationIn n payload in
       let taken : c .keys .report ≡ Taken = sym (ap (λ (m : Delivered). m .reports .keys) (p .is)) ∙ h .taken in
+      let same = fitted-taken n (readFor n payload .configuration) taken in
       let place = border-place n (c .keys .report) (c .keys .value) b taken (p .placed) in
       record {
-        active = rw (p .is) (rw (place, C .succeeded-is (n .sets .active) (c .keys .value)) (h .set));
+        active = rw (p .is) (rw (place, C .succeeded-is (n .sets .active) (c .keys .value)) (ap (λ (k : KeysParameter). keysOf (k .value)) same ∙ h .set));
         pending = rw (p .is) (rw place);
         role = deliver-role delivery n time payload;
         valid = deliver-valid delivery n time payload v;

@@ -2,7 +2,7 @@
 use Prim.Native.Nat.{ℕ}
 use native.Mathlib.Omega.{arith}
 use mathlib.Core.Path.{_≡_, refl, sym, _∙_, ap}
-use mathlib.Core.Bool.{Bool, true, false, cond, not}
+use mathlib.Core.Bool.{Bool, true, false, cond, not, _||_}
 use mathlib.Core.Option.{some}
 use borrow.Author.Tests.{eqb-false, not-true}
 use mathlib.Core.Logic.{_⊎_, inl, inr, ⊎-elim}
@@ -17,29 +17,35 @@ use Rattle.link_key_counters.specs.CounterLaws.{CounterLaws}
 use Rattle.link_key_counters.specs.Counters.{Slot, slotsOf, lastCounter, isUsedUp, firstServing, raised}
 use Rattle.link_key_counters.specs.declared.CountedSet.{CountedSet}
 use Rattle.logic_facts.specs.Tests.{both-right}
-use Rattle.node_key_sets.specs.Sets.{twoSets}
+use Rattle.cojp.specs.Version.{informed}
+use Rattle.node_key_sets.specs.Sets.{twoSets, plainIn}
 use Rattle.node_key_sets.specs.Frames as sets-spec
 use Rattle.node_key_sets.specs.Frames.{withKey, withoutKey, receivingKey, verifiedIn, switched}
 use Rattle.node_key_sets.specs.declared.frames.Change.the-variants as change
 use Rattle.node_key_sets.specs.declared.frames.KeyAnswer.{KeyAnswer}
 use Rattle.node_key_sets.specs.declared.sets.KeySets.{KeySets}
 use Rattle.link_key_set.specs.KeyLaws.{KeyLaws}
-use Rattle.node_key_sets.proofs.Valid.{switched-valid}
+use Rattle.node_key_sets.proofs.Valid.{switched-valid, switched-plain}
 use Rattle.node_key_sets.proofs.FrameKeys as sets
 use Rattle.node.specs.Node.{activeOf, pendingOf, isBorder, keyed}
-use Rattle.node.specs.Range.{valid, Valid}
+use Rattle.node.specs.Range.{formFits, valid, Valid}
 use Rattle.node.specs.Frames.{unsent, sentBy, sending, send, sendCounter, afterSend, receive, reported, reportedBy, verified}
 use Rattle.node_laws.specs.Laws.{Without, KeysStay, Switched, Unspent, CanSend, Sends, Counts, Switching}
 use Rattle.node.specs.declared.frames.Reported.{Reported}
 use Rattle.node.specs.declared.frames.Sent.{Sent}
 use Rattle.node.specs.declared.node.Node.{Node}
-use Rattle.node_laws.proofs.Valid.{keys-valid, attempt-valid, address-valid, others-valid, valid-by}
+use Rattle.node_laws.proofs.Valid.{keys-valid, keys-plain, attempt-valid, address-valid, others-valid, valid-by}
 use Rattle.node_laws.proofs.KeysStay.{stay-self, stay-keyed}
 
 -- an accepted answer comes of a valid node
 answered-valid : (b : Bool) (x : KeyAnswer) → cond b x (withoutKey refusal.Range) .verdict ≡ verdict.Accepted → b ≡ true
 answered-valid true x e = refl
 answered-valid false x e = absurd (let z : _≡_ {A = ℕ} 0 1 = cc in omega arith)
+
+-- whether keys have additional information goes by the keys alone
+same-plain :
+    (i : Bool) (s t : KeySets) → t .active .set ≡ s .active .set → t .pending ≡ s .pending → (i || plainIn s) ≡ true → (i || plainIn t) ≡ true
+same-plain i s t a p e = rw (a, p) e
 
 -- ---- sending, by the laws of counted sets
 module _ (C : CounterLaws) (n : Node) (type : ℕ) where
@@ -96,6 +102,7 @@ module _ (C : CounterLaws) (n : Node) (type : ℕ) where
 
   -- only a counter rises
   stay-sent : KeysStay n (keyed n (sets-spec.sending (n .sets) type .sets))
+  unfolding formFits
   stay-sent =
       let k = sets.sent-keys C (n .sets) type in
       let after = keyed n (sets-spec.sending (n .sets) type .sets) in
@@ -104,7 +111,8 @@ module _ (C : CounterLaws) (n : Node) (type : ℕ) where
         pending = ap (λ (s : CountedSet). keysOf (s .set)) (k .1);
         role = refl;
         valid =
-            λ v. valid-by after (sets.sent-valid C (isBorder n) (n .sets) type (keys-valid n v)) (attempt-valid n v) (address-valid n v)
+            λ v. valid-by after (sets.sent-valid C (isBorder n) (n .sets) type (keys-valid n v))
+            (same-plain (informed (n .version)) (n .sets) (after .sets) (k .0) (k .1) (keys-plain n v)) (attempt-valid n v) (address-valid n v)
             (others-valid n v);
       }
 
@@ -142,6 +150,7 @@ module _ (K : KeyLaws) where
 
   -- ---- the verified report
   switched-keyed : (n : Node) (s : KeySets) → s ≡ switched (n .sets) → Switched n (keyed n s)
+  unfolding formFits
   switched-keyed n s e =
       rw e
       (record {
@@ -149,8 +158,8 @@ module _ (K : KeyLaws) where
         pending = refl;
         role = refl;
         valid =
-            λ v. valid-by (keyed n (switched (n .sets))) (switched-valid K (isBorder n) (n .sets) (keys-valid n v)) (attempt-valid n v) (address-valid n v)
-            (others-valid n v);
+            λ v. valid-by (keyed n (switched (n .sets))) (switched-valid K (isBorder n) (n .sets) (keys-valid n v))
+            (switched-plain (informed (n .version)) (n .sets) (keys-plain n v)) (attempt-valid n v) (address-valid n v) (others-valid n v);
       })
 
   module _ (n : Node) (type identifier : ℕ) where

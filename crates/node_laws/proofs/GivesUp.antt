@@ -1,10 +1,8 @@
 -- Polled when due, a valid node answers as its join attempt does, which gives up 31t after its start.
 use Prim.Native.Nat.{ℕ, zero, suc, _+_, _≤_}
-use native.Mathlib.Omega.{arith}
 use mathlib.Core.Path.{_≡_, refl, sym, _∙_, ap, subst}
 use mathlib.Core.List.{List}
 use Rattle.refusal.specs.Verdict.{refused-not}
-use Rattle.refusal.specs.declared.Refusal.{Refusal}
 use Rattle.refusal.specs.declared.Verdict.{Verdict}
 use Rattle.refusal.specs.declared.Verdict.the-variants as verdict
 use Rattle.cbor.specs.Answer.{Plan, answer}
@@ -38,7 +36,7 @@ started :
     (startVerdict n time timeout ≡ verdict.Accepted) × (start n time timeout d .node ≡ startedFrom n time timeout)
 unfolding start startPlan
 started n time timeout d e =
-    begun-by n (startedFrom n time timeout) d (startVerdict n time timeout) (requestPlan (requestOf n)) e
+    begun-by n (startedFrom n time timeout) d (startVerdict n time timeout) (requestPlan (n .version) (requestOf n)) e
 
 -- ---- polling when due
 abbrev after : Attempt → Attempt

@@ -1,6 +1,8 @@
 mod Valid
 mod KeysStay
 mod Timings
+mod Parts
+mod Forms
 mod Deliveries
 mod Alike
 mod FrameKeys
@@ -10,3 +12,4 @@ mod NodeLaws
 mod Answers
 mod Waiting
 mod Reserved
+mod Reporting

@@ -4,23 +4,30 @@ use mathlib.Core.Path.{_≡_, refl}
 use mathlib.Core.Logic.{⊎-elim}
 use mathlib.Core.List.{[]}
 use borrow.Author.Tests.{eq-eqb}
+use Rattle.refusal.specs.Verdict.{refused-not}
 use Rattle.refusal.specs.declared.Refusal.{Refusal}
+use Rattle.refusal.specs.declared.Refusal.the-variants.{Range}
+use Rattle.refusal.specs.declared.Verdict.the-variants as verdict
 use Rattle.refusal.specs.declared.Verdict.the-variants.{Refused}
 use Rattle.link_key_set.specs.KeySet.{Apart}
 use Rattle.node_key_sets.specs.Frames.{changeVerdict}
 use Rattle.link_key_set.specs.KeyLaws.{KeyLaws}
 use Rattle.link_key_counters.specs.CounterLaws.{CounterLaws}
-use Rattle.cojp.specs.InRange.{ReadsInRange}
+use Rattle.cojp.specs.InRange.{ReadsInRange, ReportsFit}
+use Rattle.cojp.specs.declared.version.Version.{Version}
+use Rattle.node_parameters.specs.declared.octets.HeldOctets.{HeldOctets}
 use Rattle.node_key_sets.proofs.Valid.{sets-apart, border-empty}
-use Rattle.node.specs.Node.{activeOf, pendingOf, isBorder}
+use Rattle.node.specs.Node.{activeOf, pendingOf, isBorder, made}
 use Rattle.node.specs.Range.{Valid}
 use Rattle.node.specs.Frames.{send, afterSend, verified}
 use Rattle.node_laws.specs.Calls.{NodeCall, starting, polling, delivering, asking, sending, receiving, reporting, perform}
 use Rattle.node_laws.specs.Laws.{NodeLaws}
+use Rattle.node.specs.declared.node.Made.{Made}
 use Rattle.node.specs.declared.node.Node.{Node}
 use Rattle.node_laws.proofs.Valid.{keys-valid}
 use Rattle.node_laws.proofs.Timings.{start-stays, poll-stays}
-use Rattle.node_laws.proofs.Deliveries.{deliver-leaves, deliver-valid, deliver-role, border-takes}
+use Rattle.node_laws.proofs.Parts.{made-cases, call-part}
+use Rattle.node_laws.proofs.Deliveries.{deliver-leaves, deliver-valid, deliver-role, deliver-version, untaken-stays, border-takes}
 use Rattle.node_laws.proofs.FrameKeys.{covers-can, can-send, send-from, send-stays, receive-pending, receive-from, verified-either, verified-switches, verified-stays, verified-says}
 use Rattle.node_laws.proofs.Untouched.{node-demand1}
 
@@ -34,29 +41,35 @@ report-refused :
 unfolding perform
 report-refused n type identifier k e = node-demand1 .calls (reporting type identifier) n k e .node
 
--- ---- by the laws of keys, of counted sets and of what is read
-module _ (K : KeyLaws) (C : CounterLaws) (R : ReadsInRange) where
+-- ---- role and form
+role-stays : (c : NodeCall) (n : Node) → perform c n .node .role ≡ n .role
+role-stays c n =
+    call-part (λ (m : Node). m .role) n (λ a. refl) (λ s. refl) (λ delivery time payload. deliver-role delivery n time payload) c
+
+version-stays : (c : NodeCall) (n : Node) → perform c n .node .version ≡ n .version
+version-stays c n =
+    call-part (λ (m : Node). m .version) n (λ a. refl) (λ s. refl) (λ delivery time payload. deliver-version delivery n time payload) c
+
+made-version :
+    (version : Version) (role : ℕ) (network : HeldOctets) → made version role network .verdict ≡ verdict.Accepted →
+    made version role network .node .version ≡ version
+made-version version role network =
+    made-cases (λ (m : Made). m .verdict ≡ verdict.Accepted → m .node .version ≡ version) version role network (λ e. refl)
+    (λ e. refused-not Range e)
+
+-- ---- by the laws of keys, of counted sets, of what is read and of its reports
+module _ (K : KeyLaws) (C : CounterLaws) (R : ReadsInRange) (F : ReportsFit) where
   valid-apart : (n : Node) → Valid n → Apart (activeOf n) (pendingOf n)
   valid-apart n v = K .shares-apart (activeOf n) (pendingOf n) (sets-apart (isBorder n) (n .sets) (keys-valid n v))
 
   border-none : (n : Node) → Valid n → n .role ≡ 1 → pendingOf n ≡ []
   border-none n v b = border-empty K (isBorder n) (n .sets) (keys-valid n v) (eq-eqb (n .role) 1 b)
 
-  role-stays : (c : NodeCall) (n : Node) → perform c n .node .role ≡ n .role
-  unfolding perform
-  role-stays (starting time timeout d) n = start-stays n time timeout d .role
-  role-stays (polling time) n = poll-stays n time .role
-  role-stays (delivering delivery time payload) n = deliver-role delivery n time payload
-  role-stays (asking time) n = refl
-  role-stays (sending type) n = send-stays C n type .role
-  role-stays (receiving type identifier) n = refl
-  role-stays (reporting type identifier) n = ⊎-elim (λ k. k .role) (λ s. s .1 .role) (verified-either K n type identifier)
-
   stays-valid : (c : NodeCall) (n : Node) → Valid n → Valid (perform c n .node)
   unfolding perform
   stays-valid (starting time timeout d) n v = start-stays n time timeout d .valid v
   stays-valid (polling time) n v = poll-stays n time .valid v
-  stays-valid (delivering delivery time payload) n v = deliver-valid K C R delivery n time payload v
+  stays-valid (delivering delivery time payload) n v = deliver-valid K C R F delivery n time payload v
   stays-valid (asking time) n v = v
   stays-valid (sending type) n v = send-stays C n type .valid v
   stays-valid (receiving type identifier) n v = v
@@ -70,6 +83,8 @@ module _ (K : KeyLaws) (C : CounterLaws) (R : ReadsInRange) where
         border-none = border-none;
         stays-valid = stays-valid;
         role-stays = role-stays;
+        version-stays = version-stays;
+        made-version = made-version;
         refused-stays = λ c n k e. node-demand1 .calls c n k e .node;
         covers-can = covers-can C;
         can-send = λ n type. can-send C n type K;
@@ -87,5 +102,6 @@ module _ (K : KeyLaws) (C : CounterLaws) (R : ReadsInRange) where
         start-stays = start-stays;
         poll-stays = poll-stays;
         deliver-refused = λ delivery n time payload k e. deliver-leaves n delivery time payload k e .0;
-        border-takes = border-takes K C R;
+        untaken-stays = untaken-stays;
+        border-takes = border-takes K C R F;
       }

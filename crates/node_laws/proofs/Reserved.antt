@@ -1,20 +1,24 @@
 -- A valid node's address is one, and the node stays valid from call to call; the two are none, so a node with one of them is not valid.
 use Prim.Native.Nat.{ℕ}
 use mathlib.Core.Path.{_≡_, refl, subst}
-use mathlib.Core.Bool.{Bool, true, false, cond, _&&_}
+use mathlib.Core.Bool.{Bool, true, false, cond, _&&_, _||_}
 use mathlib.Core.List.{List, [], _∷_}
 use lib.Dec.{eqb, leb}
 use Rattle.refusal.specs.Verdict.{verdictNumber}
 use Rattle.refusal.specs.declared.Verdict.the-variants as verdict
 use Rattle.logic_facts.specs.Tests.{both-left, never, all-four}
 use Rattle.short_address.specs.Address.{isAddress, AddressLaws}
+use Rattle.cojp.specs.Faults.{validFaults, faultsFit}
+use Rattle.cojp.specs.Version.{informed}
+use Rattle.cojp.specs.declared.version.Version.{Version}
+use Rattle.cojp.specs.declared.version.Version.the-variants.{Draft, Published}
 use Rattle.node_key_sets.specs.Sets as sets
-use Rattle.node_key_sets.specs.Sets.{noSets}
+use Rattle.node_key_sets.specs.Sets.{noSets, plainIn}
 use Rattle.node_attempt.specs.Attempt as attempt
 use Rattle.node_parameters.specs.Octets.{absentOctets, knownOctets, validOctets, validJrc}
 use Rattle.node_parameters.specs.declared.octets.HeldOctets.{HeldOctets}
 use Rattle.node.specs.Node.{freshNode, emptyNode, clockOf, validRole, unmade, made}
-use Rattle.node.specs.Range.{valid, Valid}
+use Rattle.node.specs.Range.{formFits, valid, Valid}
 use Rattle.node.specs.declared.node.Node.{Node}
 use Rattle.node_laws.specs.Addresses.{afterCalls, HoldsReserved, NodeAddresses}
 use Rattle.node_laws.specs.Answers.{AnswersSay}
@@ -32,24 +36,36 @@ unfolding sets.valid
 none-valid true = refl
 none-valid false = refl
 
+none-plain : (version : Version) → (informed version || plainIn noSets) ≡ true
+none-plain Draft = refl
+none-plain Published = refl
+
 idle-valid : attempt.valid attempt.idle ≡ true
 unfolding attempt.valid
 idle-valid = refl
 
-fresh-valid : (role : ℕ) (h : HeldOctets) → validRole role ≡ true → validOctets h ≡ true → Valid (freshNode role (knownOctets h))
-fresh-valid role h r v =
-    let others = all-four (validRole role) (validJrc absentOctets) (validOctets (knownOctets h)) (validOctets absentOctets) in
-    valid-by (freshNode role (knownOctets h)) (none-valid (eqb role 1)) idle-valid refl (others r refl (known-valid h _ refl v) refl)
+form-fits : (version : Version) (role : ℕ) (h : HeldOctets) → formFits (freshNode version role h) ≡ true
+unfolding formFits faultsFit validFaults
+form-fits Draft role h = refl
+form-fits Published role h = refl
 
-made-valid : (role : ℕ) (network : HeldOctets) → Valid (made role network .node)
+fresh-valid :
+    (version : Version) (role : ℕ) (h : HeldOctets) → validRole role ≡ true → validOctets h ≡ true → Valid (freshNode version role (knownOctets h))
+fresh-valid version role h r v =
+    let fresh = freshNode version role (knownOctets h) in
+    let others = all-four (validRole role) (validJrc absentOctets) (validOctets (knownOctets h)) (formFits fresh) in
+    valid-by fresh (none-valid (eqb role 1)) (none-plain version) idle-valid refl
+    (others r refl (known-valid h _ refl v) (form-fits version role (knownOctets h)))
+
+made-valid : (version : Version) (role : ℕ) (network : HeldOctets) → Valid (made version role network .node)
 unfolding made
-made-valid role network = go (validRole role) (validOctets network) refl refl
+made-valid version role network = go (validRole role) (validOctets network) refl refl
   where
     go : (r o : Bool) → validRole role ≡ r → validOctets network ≡ o
-        → Valid (cond r (cond o (record { verdict = verdict.Accepted; node = freshNode role (knownOctets network) }) unmade) unmade .node)
-    go true true e f = fresh-valid role network e f
-    go true false e f = fresh-valid 0 (emptyNode .network) refl refl
-    go false o e f = fresh-valid 0 (emptyNode .network) refl refl
+        → Valid (cond r (cond o (record { verdict = verdict.Accepted; node = freshNode version role (knownOctets network) }) unmade) unmade .node)
+    go true true e f = fresh-valid version role network e f
+    go true false e f = fresh-valid Draft 0 (emptyNode .network) refl refl
+    go false o e f = fresh-valid Draft 0 (emptyNode .network) refl refl
 
 module _ (A : AddressLaws) where
   not-valid : (n : Node) → HoldsReserved n → Valid n → ⊥
@@ -75,7 +91,8 @@ module _ (A : AddressLaws) where
     node-addresses = record {
       none-held = λ cs n v h. not-valid (afterCalls cs n) h (after-valid cs n v);
       none-made =
-          λ cs role network h.
-          not-valid (afterCalls cs (made role network .node)) h (after-valid cs (made role network .node) (made-valid role network));
+          λ cs version role network h.
+          not-valid (afterCalls cs (made version role network .node)) h
+          (after-valid cs (made version role network .node) (made-valid version role network));
       range = range;
     }

@@ -1,12 +1,10 @@
 -- Starts and polls leave keys and role, and a valid node valid.
 use Prim.Native.Nat.{ℕ}
-use native.Mathlib.Omega.{arith}
 use mathlib.Core.Path.{_≡_, refl}
 use mathlib.Core.Bool.{Bool, true, false, cond}
 use mathlib.Core.List.{List}
 use borrow.Author.Tests.{leb-true}
 use Rattle.refusal.specs.Verdict.{refused-not}
-use Rattle.refusal.specs.declared.Refusal.{Refusal}
 use Rattle.refusal.specs.declared.Refusal.the-variants as refusal
 use Rattle.refusal.specs.declared.Verdict.{Verdict}
 use Rattle.refusal.specs.declared.Verdict.the-variants as verdict
@@ -57,7 +55,7 @@ module _ (n : Node) (time timeout : ℕ) where
 
   pub start-stays : (d : List ℕ) → KeysStay n (start n time timeout d .node)
   unfolding start startPlan
-  start-stays d = start-cases d (startVerdict n time timeout) (requestPlan (requestOf n)) waiting-stays
+  start-stays d = start-cases d (startVerdict n time timeout) (requestPlan (n .version) (requestOf n)) waiting-stays
 
 -- ---- polling
 module _ (n : Node) (time : ℕ) where

@@ -12,6 +12,7 @@ use Rattle.refusal.specs.declared.Verdict.the-variants as verdict
 use Rattle.cbor.specs.Answer.{Plan, refuse, emit, answer, after}
 use Rattle.cbor.specs.declared.write.Written.the-variants as w
 use Rattle.link_key.specs.Key.{noKey}
+use Rattle.cojp.specs.declared.version.Version.{Version}
 use Rattle.node_key_sets.specs.Frames as sets-spec
 use Rattle.node_key_sets.specs.Frames.{withoutKey, receivingKey, verifiedIn, changeVerdict}
 use Rattle.node_key_sets.specs.declared.frames.Change.the-variants as change
@@ -135,9 +136,11 @@ cond-made :
 cond-made true x y k p q e = p e
 cond-made false x y k p q e = q e
 
-made-empty : (role : ℕ) (network : HeldOctets) (k : Refusal) → made role network .verdict ≡ verdict.Refused k → made role network .node ≡ emptyNode
+made-empty :
+    (version : Version) (role : ℕ) (network : HeldOctets) (k : Refusal) → made version role network .verdict ≡ verdict.Refused k →
+    made version role network .node ≡ emptyNode
 unfolding made
-made-empty role network k e =
+made-empty version role network k e =
     cond-made (validRole role) _ _ k
     (λ f. cond-made (validOctets network) _ _ k (λ g. accepted-not k g) (λ g. refl) f)
     (λ f. refl)

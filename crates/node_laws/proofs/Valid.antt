@@ -1,7 +1,10 @@
 -- What it says that a node is valid, part by part, and back.
 use mathlib.Core.Path.{_≡_}
-use mathlib.Core.Bool.{Bool, true}
+use mathlib.Core.Bool.{Bool, true, _||_}
+use Rattle.cojp.specs.Version.{informed}
 use Rattle.node_key_sets.specs.Sets as sets
+use Rattle.node_key_sets.specs.Sets.{plainIn}
+use Rattle.node_key_sets.proofs.Valid.{as-valid, as-plain, as-by}
 use Rattle.node_attempt.specs.Attempt as attempt
 use Rattle.node_parameters.specs.Lease.{validAddress}
 use Rattle.node.specs.Node.{isBorder, clockOf}
@@ -11,7 +14,7 @@ use Rattle.logic_facts.specs.Tests.{first, second, third, fourth, all-four}
 
 module _ (n : Node) where
   abbrev keys : Bool
-  keys = sets.valid (isBorder n) (n .sets)
+  keys = sets.validAs (informed (n .version)) (isBorder n) (n .sets)
 
   abbrev attempted : Bool
   attempted = attempt.valid (n .attempt)
@@ -19,10 +22,20 @@ module _ (n : Node) where
   abbrev addressed : Bool
   addressed = validAddress (clockOf n) (n .address)
 
+  -- the keys are those of the node's form
+  abbrev pub Plain : Type 0
+  Plain = (informed (n .version) || plainIn (n .sets)) ≡ true
+
   module _ (v : Valid n) where
-    pub keys-valid : sets.valid (isBorder n) (n .sets) ≡ true
+    form-valid : keys ≡ true
     unfolding valid
-    keys-valid = first keys attempted addressed (othersValid n) v
+    form-valid = first keys attempted addressed (othersValid n) v
+
+    pub keys-valid : sets.valid (isBorder n) (n .sets) ≡ true
+    keys-valid = as-valid (informed (n .version)) (isBorder n) (n .sets) form-valid
+
+    pub keys-plain : Plain
+    keys-plain = as-plain (informed (n .version)) (isBorder n) (n .sets) form-valid
 
     pub attempt-valid : attempt.valid (n .attempt) ≡ true
     unfolding valid
@@ -37,7 +50,8 @@ module _ (n : Node) where
     others-valid = fourth keys attempted addressed (othersValid n) v
 
   pub valid-by :
-      sets.valid (isBorder n) (n .sets) ≡ true → attempt.valid (n .attempt) ≡ true → validAddress (clockOf n) (n .address) ≡ true →
+      sets.valid (isBorder n) (n .sets) ≡ true → Plain → attempt.valid (n .attempt) ≡ true → validAddress (clockOf n) (n .address) ≡ true →
       othersValid n ≡ true → Valid n
   unfolding valid
-  valid-by k a h o = all-four keys attempted addressed (othersValid n) k a h o
+  valid-by k p a h o =
+      all-four keys attempted addressed (othersValid n) (as-by (informed (n .version)) (isBorder n) (n .sets) k p) a h o

@@ -15,6 +15,7 @@ use Rattle.cbor.specs.declared.write.Written.the-variants as written
 use Rattle.refusal.specs.Verdict.{refused-not}
 use Rattle.cojp.specs.declared.configuration.Configuration.{Configuration}
 use Rattle.cojp.specs.declared.configuration.ConfigurationRead.{ConfigurationRead}
+use Rattle.cojp.specs.declared.version.Version.{Version}
 use Rattle.node_attempt.specs.Attempt.{isWaiting}
 use Rattle.node_attempt.specs.Attempt as attempts
 use Rattle.node_attempt.specs.Poll as attempt
@@ -24,35 +25,23 @@ use Rattle.node_attempt.specs.declared.poll.Step.{Step}
 use Rattle.node_delivery.specs.Delivery.{attemptAfter, belongs, mayCome}
 use Rattle.node_delivery.specs.declared.Delivery.{Delivery}
 use Rattle.node_delivery.specs.declared.Delivery.the-variants.{JoinAnswer, Update}
-use Rattle.node_key_sets.specs.Frames as sets
-use Rattle.node_key_sets.specs.Frames.{verifiedIn}
-use Rattle.node_key_sets.specs.declared.frames.Change.the-variants as change
 use Rattle.node_key_sets.specs.declared.sets.KeySets.{KeySets}
-use Rattle.node_key_sets.specs.declared.frames.Effect.{Effect}
-use Rattle.node_key_sets.specs.declared.frames.Sending.{Sending}
-use Rattle.node_parameters.specs.Octets.{validOctets, knownOctets}
 use Rattle.node_parameters.specs.declared.octets.HeldOctets.{HeldOctets}
-use Rattle.node.specs.Node.{validRole, freshNode, unmade, made}
+use Rattle.node.specs.Node.{made}
 use Rattle.node.specs.Range.{valid}
 use Rattle.node.specs.Timing.{startPlan, startedFrom, startedBy, start, polled, polledBy, poll}
-use Rattle.node.specs.Delivery.{placementOf, placedBy, configured, undelivered, owesIdentifier, apply, deliverVerdict, applyRead, deliverBy, readFor, deliver}
-use Rattle.node.specs.Frames.{sentBy, unsent, sending, afterSend, reported, reportedBy, verified}
+use Rattle.node.specs.Delivery.{placementOf, fitted, placedBy, configured, undelivered, owesIdentifier, apply, deliverVerdict, applyRead, deliverBy, readFor, deliver}
+use Rattle.node.specs.Frames.{afterSend, verified}
 use Rattle.node.specs.declared.delivery.Delivered.{Delivered}
+use Rattle.node.specs.declared.node.Made.{Made}
 use Rattle.node.specs.declared.node.Node.{Node}
 use Rattle.node_laws.specs.Phases.{waits, PhaseLaws}
+use Rattle.node_laws.proofs.Parts.{made-cases, send-part, report-part}
 use Rattle.node_laws.proofs.Deliveries.{deliver-leaves}
 
 -- ---- making, starting, polling, verified frames
-made-idle : (role : ℕ) (network : HeldOctets) → waits (made role network .node) ≡ false
-unfolding made
-made-idle role network = go (validRole role) (validOctets network)
-  where
-    go :
-        (r o : Bool) →
-        waits (cond r (cond o (record { verdict = verdict.Accepted; node = freshNode role (knownOctets network) }) unmade) unmade .node) ≡ false
-    go true true = refl
-    go true false = refl
-    go false o = refl
+made-idle : (version : Version) (role : ℕ) (network : HeldOctets) → waits (made version role network .node) ≡ false
+made-idle version role network = made-cases (λ (m : Made). waits (m .node) ≡ false) version role network refl refl
 
 start-refused :
     (n : Node) (time timeout : ℕ) (d : List ℕ) (k : Refusal) → start n time timeout d .verdict ≡ verdict.Refused k →
@@ -85,20 +74,10 @@ poll-idle n time w = go (valid n) (attempt.poll (n .attempt) time) (attempt-idle
     go false s e = w
 
 verified-keeps : (n : Node) (type identifier : ℕ) → waits (verified n type identifier .node) ≡ waits n
-unfolding verified
-verified-keeps n type identifier = go (valid n) (verifiedIn (n .sets) type identifier)
-  where
-    go : (v : Bool) (h : Effect) → waits (cond v (reportedBy n h) (reported (change.Refused refusal.Range) n) .node) ≡ waits n
-    go true h = refl
-    go false h = refl
+verified-keeps n type identifier = report-part waits n (λ s. refl) type identifier
 
 send-keeps : (n : Node) (type : ℕ) → waits (afterSend n type) ≡ waits n
-unfolding sending afterSend
-send-keeps n type = go (valid n) (sets.sending (n .sets) type)
-  where
-    go : (v : Bool) (s : Sending) → waits (cond v (sentBy n s) (unsent n) .node) ≡ waits n
-    go true s = refl
-    go false s = refl
+send-keeps n type = send-part waits n (λ s. refl) type
 
 -- ---- join answers and updates: an accepted one leaves the attempt that the call names
 module _ (call : Delivery) (n : Node) (time : ℕ) where
@@ -125,7 +104,7 @@ module _ (call : Delivery) (n : Node) (time : ℕ) where
 
   read-moves : (v : Verdict) (c : Configuration) → Moves (applyRead v call n time c)
   read-moves (verdict.Refused k) c = no-moves k
-  read-moves verdict.Accepted c = apply-moves c
+  read-moves verdict.Accepted c = apply-moves (fitted n c)
 
   by-moves : (v : Verdict) (r : ConfigurationRead) → Moves (deliverBy v call n time r)
   by-moves (verdict.Refused k) r = no-moves k

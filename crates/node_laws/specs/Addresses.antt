@@ -9,6 +9,8 @@ use Rattle.refusal.specs.declared.Verdict.the-variants.{Accepted}
 use Rattle.short_address.specs.Address.{Reserved}
 use Rattle.cojp.specs.Octets.{octetsOf}
 use Rattle.cojp.specs.declared.report.Report.the-variants.{Discarded}
+use Rattle.cojp.specs.declared.version.Version.{Version}
+use Rattle.cojp.specs.declared.version.Version.the-variants.{Draft}
 use Rattle.node_delivery.specs.declared.Delivery.the-variants.{JoinAnswer, Update}
 use Rattle.node_parameters.specs.declared.octets.HeldOctets.{HeldOctets}
 use Rattle.node.specs.Delivery.{deliver}
@@ -29,7 +31,9 @@ pub record HoldsReserved (n : Node) : Type 0 where
 pub record NodeAddresses : Type 0 where
   pub none-held : (cs : List NodeCall) (n : Node) → Valid n → HoldsReserved (afterCalls cs n) → ⊥
   -- a node that is made, or the empty one beside a refusal, is valid
-  pub none-made : (cs : List NodeCall) (role : ℕ) (network : HeldOctets) → HoldsReserved (afterCalls cs (made role network .node)) → ⊥
+  pub none-made :
+      (cs : List NodeCall) (version : Version) (role : ℕ) (network : HeldOctets) →
+      HoldsReserved (afterCalls cs (made version role network .node)) → ⊥
   -- handed in with one of the two, a node answers RANGE (13)
   pub range : (c : NodeCall) (n : Node) → HoldsReserved n → verdictNumber (perform c n .verdict) ≡ 13
 
@@ -44,7 +48,7 @@ abbrev pub leased : List ℕ
 leased = 0xA1 ∷ 0x03 ∷ 0x82 ∷ 0x42 ∷ 0xFF ∷ 0xFE ∷ 0x0A ∷ []
 
 abbrev pub joined : Node
-joined = afterCalls (starting 0 10000 (replicate 16 0) ∷ delivering JoinAnswer 1000 (addressed 0xFD) ∷ []) (made 0 cafe .node)
+joined = afterCalls (starting 0 10000 (replicate 16 0) ∷ delivering JoinAnswer 1000 (addressed 0xFD) ∷ []) (made Draft 0 cafe .node)
 
 abbrev pub updates : List NodeCall
 updates = delivering Update 2000 leased ∷ delivering Update 3000 (addressed 0xFF) ∷ []

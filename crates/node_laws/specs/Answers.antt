@@ -20,8 +20,12 @@ use Rattle.cbor.specs.Answer.{answer}
 use Rattle.cbor.specs.declared.write.Written.{Written}
 use Rattle.cbor.specs.declared.write.Written.the-variants as written
 use Rattle.cojp.specs.Reading.{ifTaken}
+use Rattle.cojp.specs.Version.{byVersion}
 use Rattle.cojp.specs.Writing.{requestPlan}
 use Rattle.cojp.specs.declared.key_set.KeysParameter.{KeysParameter}
+use Rattle.cojp.specs.declared.report.Report.the-variants.{Discarded}
+use Rattle.cojp.specs.declared.version.Version.{Version}
+use Rattle.cojp.specs.declared.version.Version.the-variants.{Published}
 use Rattle.node_key_sets.specs.Frames.{heldKey, changeNumber, hasSwitched, hasKept}
 use Rattle.node_attempt.specs.Attempt.{firstTimeout}
 use Rattle.node_attempt.specs.Poll.{dueNumber, notYet, sendsAgain, givesUp}
@@ -39,7 +43,7 @@ use Rattle.node.specs.Range.{valid}
 use Rattle.node.specs.Timing.{requestOf, start, poll}
 use Rattle.node.specs.declared.node.Node.{Node}
 use Rattle.node_laws.specs.Calls.{NodeCall, perform}
-use Rattle.node_laws.specs.Laws.{Counts}
+use Rattle.node_laws.specs.Laws.{configurationIn, Counts}
 use Rattle.node_laws.specs.Phases.{waits}
 
 -- ---- the tests in 01's words
@@ -82,10 +86,10 @@ writtenNumber (written.Length l) = 0
 pub record AnswersSay : Type 0 where
   -- a node that is not valid answers RANGE (13) to every call
   pub invalid : (c : NodeCall) (n : Node) → valid n ≡ false → verdictNumber (perform c n .verdict) ≡ 13
-  -- ---- the numbers, in the order of the tests: RANGE 13, CLOCK 11, PHASE 16, LONG 15, OWED 9, CLASH 10, SILENT 14
+  -- ---- the numbers, in the order of the tests: RANGE 13, CLOCK 11, PHASE 16, LONG 15, OWED 9, CLASH 10 (the draft's alone), SILENT 14
   pub made-number :
-      (role : ℕ) (network : HeldOctets) →
-      verdictNumber (made role network .verdict) ≡ refusedIf (not (validRole role && validOctets network)) 13
+      (version : Version) (role : ℕ) (network : HeldOctets) →
+      verdictNumber (made version role network .verdict) ≡ refusedIf (not (validRole role && validOctets network)) 13
   -- then as the request's writer: OWED, ROOM
   pub start-number :
       (n : Node) (time timeout : ℕ) (d : List ℕ) →
@@ -95,7 +99,7 @@ pub record AnswersSay : Type 0 where
       ∷ refusedIf (early n time) 11
       ∷ refusedIf (waits n) 16
       ∷ refusedIf (not (firstTimeout timeout)) 13
-      ∷ writtenNumber (answer (requestPlan (requestOf n)) d)
+      ∷ writtenNumber (answer (requestPlan (n .version) (requestOf n)) d)
       ∷ [])
   pub poll-number :
       (n : Node) (time : ℕ) →
@@ -111,7 +115,7 @@ pub record AnswersSay : Type 0 where
       ∷ refusedIf (not (belongs delivery (n .attempt .phase))) 16
       ∷ verdictNumber (readFor n payload .verdict)
       ∷ refusedIf (owesIdentifier delivery n (readFor n payload .configuration .network .report)) 9
-      ∷ refusedIf (clashes n (readFor n payload .configuration .keys)) 10
+      ∷ refusedIf (byVersion (n .version) (clashes n (readFor n payload .configuration .keys)) false) 10
       ∷ [])
   pub holding-number :
       (n : Node) (time : ℕ) → holdingNumber (holds n time) ≡ inOrder (refusedIf (not (valid n)) 13 ∷ refusedIf (early n time) 11 ∷ [])
@@ -139,17 +143,22 @@ pub record AnswersSay : Type 0 where
   -- a start wrote what the request's writer answers
   pub start-length :
       (n : Node) (time timeout : ℕ) (d : List ℕ) → start n time timeout d .verdict ≡ Accepted →
-      answer (requestPlan (requestOf n)) d ≡ written.Length (start n time timeout d .length)
+      answer (requestPlan (n .version) (requestOf n)) d ≡ written.Length (start n time timeout d .length)
   -- "not yet" before the timeout is reached; then "send again" with a counter under 4, "gave up" at 4
   pub not-yet : (n : Node) (time : ℕ) → notYet (poll n time .due) ≡ (isPolled n time && not (reached n time))
   pub sends-again : (n : Node) (time : ℕ) → sendsAgain (poll n time .due) ≡ (isDue n time && ltb (n .attempt .count) 4)
   pub gives-up : (n : Node) (time : ℕ) → givesUp (poll n time .due) ≡ (isDue n time && eqb (n .attempt .count) 4)
-  -- the report of an accepted configuration
+  -- the report of an accepted configuration, in the published form without a set that cannot be placed
   pub delivery-reports :
       (delivery : Delivery) (n : Node) (time : ℕ) (payload : List ℕ) → deliver delivery n time payload .verdict ≡ Accepted →
-      deliver delivery n time payload .reports ≡ reportsOf (isBorder n) (readFor n payload .configuration)
+      deliver delivery n time payload .reports ≡ reportsOf (isBorder n) (configurationIn n payload)
+  -- in that form a set that clashes is discarded
+  pub clash-discarded :
+      (delivery : Delivery) (n : Node) (time : ℕ) (payload : List ℕ) → deliver delivery n time payload .verdict ≡ Accepted →
+      n .version ≡ Published → clashes n (readFor n payload .configuration .keys) ≡ true →
+      deliver delivery n time payload .reports .keys ≡ Discarded
   -- yes
-  pub holds-now : (n : Node) (time : ℕ) → holdsNow (holds n time) ≡ (valid n && not (early n time) && holdsAt (n .address) time)
+  pub holds-now : (n : Node) (time : ℕ) → holdsNow (holds n time) ≡ (valid n && not (early n time) && holdsAt (n .version) (n .address) time)
   -- the key, and sending's counter: the first active one that covers the type and is not used up; the active or else pending one with
   -- the identifier
   pub send-counts : (n : Node) (type : ℕ) → send n type .verdict ≡ Accepted → Counts n type

@@ -7,6 +7,7 @@ use Rattle.refusal.specs.declared.Verdict.{Verdict}
 use Rattle.refusal.specs.declared.Verdict.the-variants.{Refused}
 use Rattle.link_key.specs.Key.{noKey}
 use Rattle.link_key.specs.declared.Key.{Key}
+use Rattle.cojp.specs.declared.version.Version.{Version}
 use Rattle.node.specs.Node.{emptyNode, made}
 use Rattle.node_key_sets.specs.Frames.{changeVerdict}
 use Rattle.node_key_sets.specs.declared.frames.Change.{Change}
@@ -126,4 +127,5 @@ pub record Demand1 : Type 0 where
   pub calls : (c : NodeCall) (n : Node) (k : Refusal) → perform c n .verdict ≡ Refused k → Untouched c n (perform c n)
   -- a node that is not made is the empty one
   pub made-empty :
-      (role : ℕ) (network : HeldOctets) (k : Refusal) → made role network .verdict ≡ Refused k → made role network .node ≡ emptyNode
+      (version : Version) (role : ℕ) (network : HeldOctets) (k : Refusal) → made version role network .verdict ≡ Refused k →
+      made version role network .node ≡ emptyNode

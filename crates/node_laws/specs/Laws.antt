@@ -19,11 +19,14 @@ use Rattle.node_attempt.specs.Poll as attempt
 use Rattle.node_attempt.specs.declared.attempt.Phase.the-variants as phase
 use Rattle.node_attempt.specs.declared.poll.Due.{Due}
 use Rattle.node_attempt.specs.declared.poll.Due.the-variants.{SendAgain, GaveUp}
+use Rattle.cojp.specs.declared.configuration.Configuration.{Configuration}
 use Rattle.cojp.specs.declared.report.Report.the-variants.{Taken}
-use Rattle.node.specs.Node.{activeOf, pendingOf, clockOf, keyed}
+use Rattle.cojp.specs.declared.version.Version.{Version}
+use Rattle.node_parameters.specs.declared.octets.HeldOctets.{HeldOctets}
+use Rattle.node.specs.Node.{activeOf, pendingOf, clockOf, keyed, made}
 use Rattle.node.specs.Range.{Valid}
 use Rattle.node.specs.Timing.{start, poll}
-use Rattle.node.specs.Delivery.{readFor, deliver}
+use Rattle.node.specs.Delivery.{fitted, readFor, deliver}
 use Rattle.node.specs.Frames.{send, sendCounter, afterSend, receive, verified}
 use Rattle.node_laws.specs.Calls.{NodeCall, perform}
 use Rattle.node_delivery.specs.declared.Delivery.{Delivery}
@@ -81,6 +84,10 @@ pub record Counts (n : Node) (type : ℕ) : Type 0 where
   pub unused : sendCounter n type ≡ 4294967295 → ⊥
   pub after : afterSend n type ≡ keyed n (twoSets (raised (n .sets .active) slot) (n .sets .pending))
 
+-- the configuration that a payload holds, as the node applies it
+abbrev pub configurationIn : Node → List ℕ → Configuration
+configurationIn n payload = fitted n (readFor n payload .configuration)
+
 -- the key set that a payload holds, as the node reads it
 abbrev pub setIn : Node → List ℕ → KeySet
 setIn n payload = readFor n payload .configuration .keys .value
@@ -110,10 +117,15 @@ pub record NodeLaws : Type 0 where
   -- a valid node's two sets share no identifier, and a border node has none pending
   pub valid-apart : (n : Node) → Valid n → Apart (activeOf n) (pendingOf n)
   pub border-none : (n : Node) → Valid n → n .role ≡ 1 → pendingOf n ≡ []
-  -- every call leaves a valid node valid, and its role as it was; a refused one leaves the node
+  -- every call leaves a valid node valid, and its role and form as they were; a refused one leaves the node
   pub stays-valid : (c : NodeCall) (n : Node) → Valid n → Valid (perform c n .node)
   pub role-stays : (c : NodeCall) (n : Node) → perform c n .node .role ≡ n .role
+  pub version-stays : (c : NodeCall) (n : Node) → perform c n .node .version ≡ n .version
   pub refused-stays : (c : NodeCall) (n : Node) (k : Refusal) → perform c n .verdict ≡ Refused k → perform c n .node ≡ n
+  -- a node that is made has the form that was asked for
+  pub made-version :
+      (version : Version) (role : ℕ) (network : HeldOctets) → made version role network .verdict ≡ Accepted →
+      made version role network .node .version ≡ version
   -- a node whose active set covers a type, with no covering key used up, can send it; a node that can sends it; a key that is sent is an
   -- active one and covers the type; sending leaves the keys
   pub covers-can : (n : Node) (type : ℕ) → Covers (activeOf n) type → Unspent (activeOf n) type n → CanSend n type
@@ -154,6 +166,10 @@ pub record NodeLaws : Type 0 where
   pub deliver-refused :
       (delivery : Delivery) (n : Node) (time : ℕ) (payload : List ℕ) (k : Refusal) → deliver delivery n time payload .verdict ≡ Refused k →
       deliver delivery n time payload .node ≡ n
+  -- one that takes no key set leaves both sets, with their counters: what was pending stays so
+  pub untaken-stays :
+      (delivery : Delivery) (n : Node) (time : ℕ) (payload : List ℕ) → (deliver delivery n time payload .reports .keys ≡ Taken → ⊥) →
+      deliver delivery n time payload .node .sets ≡ n .sets
   -- a border node that accepts a payload and takes its key set has that set active
   pub border-takes :
       (delivery : Delivery) (n : Node) (time : ℕ) (payload : List ℕ) (ks : List Key) → Valid n → n .role ≡ 1 →

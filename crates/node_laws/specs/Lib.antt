@@ -4,3 +4,5 @@ pub mod Same
 pub mod Answers
 pub mod Phases
 pub mod Addresses
+pub mod Reports
+pub mod Published

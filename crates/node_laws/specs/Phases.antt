@@ -5,6 +5,7 @@ use mathlib.Core.Bool.{Bool, true, false}
 use mathlib.Core.List.{List}
 use Rattle.refusal.specs.declared.Refusal.{Refusal}
 use Rattle.refusal.specs.declared.Verdict.the-variants.{Accepted, Refused}
+use Rattle.cojp.specs.declared.version.Version.{Version}
 use Rattle.node_attempt.specs.Attempt.{isWaiting}
 use Rattle.node_delivery.specs.declared.Delivery.{Delivery}
 use Rattle.node_delivery.specs.declared.Delivery.the-variants.{JoinAnswer}
@@ -20,7 +21,7 @@ waits n = isWaiting (n .attempt .phase)
 
 pub record PhaseLaws : Type 0 where
   -- a node that was made does not wait, and no call but an accepted start makes one wait that did not
-  pub made-idle : (role : ℕ) (network : HeldOctets) → waits (made role network .node) ≡ false
+  pub made-idle : (version : Version) (role : ℕ) (network : HeldOctets) → waits (made version role network .node) ≡ false
   pub start-refused :
       (n : Node) (time timeout : ℕ) (d : List ℕ) (k : Refusal) → start n time timeout d .verdict ≡ Refused k →
       waits (start n time timeout d .node) ≡ waits n

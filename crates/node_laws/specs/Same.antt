@@ -5,16 +5,19 @@ use mathlib.Core.Bool.{true, cond}
 use mathlib.Core.List.{List}
 use mathlib.Core.Option.{Option, none, some}
 use Rattle.link_key_counters.specs.Counters.{slotsOf}
+use Rattle.cojp.specs.Lists.{bytesIn as listBytes}
 use Rattle.cojp.specs.Octets.{bytesIn}
 use Rattle.cojp.specs.Same.{leaseOf, SameConfiguration}
 use Rattle.cojp.specs.Writing.{keysInRange}
 use Rattle.cojp.specs.declared.configuration.Configuration.{Configuration}
 use Rattle.node_parameters.specs.declared.address.HeldAddress.{HeldAddress}
 use Rattle.node.specs.Node.{activeOf, pendingOf}
-use Rattle.node.specs.Delivery.{apply}
+use Rattle.node.specs.Delivery.{fitted, apply}
 use Rattle.node_delivery.specs.declared.Delivery.{Delivery}
 use Rattle.node.specs.declared.delivery.Delivered.{Delivered}
+use Rattle.node_parameters.specs.declared.blacklist.HeldList.{HeldList}
 use Rattle.node_parameters.specs.declared.octets.HeldOctets.{HeldOctets}
+use Rattle.node_parameters.specs.declared.rate.HeldRate.{HeldRate}
 use Rattle.node.specs.declared.node.Node.{Node}
 
 -- ---- what is held
@@ -25,7 +28,14 @@ octetsHeld h = cond (h .held) (some (bytesIn (h .value))) none
 abbrev pub addressHeld : HeldAddress → Option (List ℕ × Option ℕ × ℕ)
 addressHeld a = cond (a .held) (some (a .value .bytes, leaseOf (a .value), a .received)) none
 
--- two nodes that differ at most in places that are never looked at, and in their counters
+-- a blacklist's entries as they are written
+abbrev pub listHeld : HeldList → Option (ℕ × List ℕ)
+listHeld h = cond (h .held) (some (h .value .count, listBytes (h .value))) none
+
+abbrev pub rateHeld : HeldRate → Option ℕ
+rateHeld h = cond (h .held) (some (h .value)) none
+
+-- two nodes that differ at most in places that are never looked at, in their counters, and in what they report (`faults`)
 pub record SameNode (n m : Node) : Type 0 where
   pub role : n .role ≡ m .role
   pub attempt : n .attempt ≡ m .attempt
@@ -35,6 +45,9 @@ pub record SameNode (n m : Node) : Type 0 where
   pub jrc : octetsHeld (n .jrc) ≡ octetsHeld (m .jrc)
   pub network : octetsHeld (n .network) ≡ octetsHeld (m .network)
   pub prefix : octetsHeld (n .prefix) ≡ octetsHeld (m .prefix)
+  pub version : n .version ≡ m .version
+  pub blacklist : listHeld (n .blacklist) ≡ listHeld (m .blacklist)
+  pub rate : rateHeld (n .rate) ≡ rateHeld (m .rate)
 
 -- their keys have the same counters too
 pub record SameCounters (n m : Node) : Type 0 where
@@ -50,4 +63,4 @@ pub record SameOutcome (x y : Delivered) : Type 0 where
 abbrev pub AppliesAlike : Type 0
 AppliesAlike =
     (delivery : Delivery) (n : Node) (time : ℕ) (c d : Configuration) → keysInRange (c .keys) ≡ true → keysInRange (d .keys) ≡ true →
-    SameConfiguration c d → SameOutcome (apply delivery n time c) (apply delivery n time d)
+    SameConfiguration c d → SameOutcome (apply delivery n time (fitted n c)) (apply delivery n time (fitted n d))

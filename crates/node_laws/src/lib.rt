@@ -1,9 +1,14 @@
 // What holds of a node's calls: demand 1, what the layer above may rely on, when a join attempt gives up, and that the same objects do
 // the same.
 pub mod addresses;
+pub mod published;
+pub mod reports;
 
 pub use addresses::addresses_alone;
 pub use addresses::addresses_seen;
+pub use published::published_seen;
+pub use reports::reports_follow;
+pub use reports::reports_seen;
 ghost use Rattle.node_laws.specs.Answers.{AnswersSay};
 ghost use Rattle.node_laws.specs.Calls.{Demand1};
 ghost use Rattle.node_laws.specs.Laws.{NodeLaws, GivesUp};
@@ -22,6 +27,7 @@ pub fn laws()
     link_key_set::laws();
     link_key_counters::laws();
     cojp::reads_in_range();
+    cojp::reports_fit();
 }
 
 // Polled exactly when due, a join attempt with first timeout t gives up 31t after its start.

@@ -13,30 +13,40 @@ use Rattle.link_key_set.specs.declared.key_set.KeySet.{KeySet}
 use Rattle.link_key_counters.specs.CounterLaws.{CounterLaws}
 use Rattle.link_key_counters.specs.Counters.{arrived, noCounted, succeeded}
 use Rattle.link_key_counters.specs.declared.CountedSet.{CountedSet}
+use Rattle.cojp.specs.Faults.{noFaults}
 use Rattle.cojp.specs.Reading.{ifTaken}
+use Rattle.cojp.specs.Reported.{faultsOf}
+use Rattle.cojp.specs.Writing.{missing}
 use Rattle.cojp.specs.declared.address.AddressParameter.{AddressParameter}
 use Rattle.cojp.specs.declared.configuration.Configuration.{Configuration}
+use Rattle.cojp.specs.declared.fault.Faults.{Faults}
 use Rattle.cojp.specs.declared.key_set.KeysParameter.{KeysParameter}
+use Rattle.cojp.specs.declared.list.ListParameter.{ListParameter}
 use Rattle.cojp.specs.declared.octets.Octets.{Octets}
 use Rattle.cojp.specs.declared.octets.OctetsParameter.{OctetsParameter}
+use Rattle.cojp.specs.declared.rate.RateParameter.{RateParameter}
 use Rattle.cojp.specs.declared.report.Report.{Report}
 use Rattle.cojp.specs.declared.report.Report.the-variants.{Absent, Taken, Discarded}
 use Rattle.cojp_merge.specs.Merge.{merged}
-use Rattle.node_attempt.specs.declared.attempt.Attempt.{Attempt}
+use Rattle.node_delivery.specs.Delivery.{attemptAfter}
 use Rattle.node_delivery.specs.declared.Delivery.the-variants.{Update}
 use Rattle.node_key_sets.specs.Sets.{activeIn, twoSets, placed, unplaced, install}
 use Rattle.node_key_sets.specs.declared.sets.KeySets.{KeySets}
 use Rattle.node_key_sets.specs.declared.sets.Placement.{Placement}
+use Rattle.node_parameters.specs.Blacklist.{listAfter}
 use Rattle.node_parameters.specs.Lease.{addressAfter}
 use Rattle.node_parameters.specs.Octets.{octetsAfter}
+use Rattle.node_parameters.specs.Rate.{rateAfter}
 use Rattle.node_parameters.specs.Reports.{borderOnly, reportsOf}
 use Rattle.node_parameters.specs.declared.address.HeldAddress.{HeldAddress}
+use Rattle.node_parameters.specs.declared.blacklist.HeldList.{HeldList}
 use Rattle.node_parameters.specs.declared.octets.HeldOctets.{HeldOctets}
+use Rattle.node_parameters.specs.declared.rate.HeldRate.{HeldRate}
 use Rattle.node.specs.Delivery.{apply, configured, placementOf, placedBy, delivered}
-use Rattle.node.specs.Node.{isBorder, keyed}
+use Rattle.node.specs.Node.{isBorder, attempting, keyed}
 use Rattle.node.specs.declared.delivery.Delivered.{Delivered}
 use Rattle.node.specs.declared.node.Node.{Node}
-use Rattle.node_merge_laws.specs.Merged.{uncounted, MergedApplies}
+use Rattle.node_merge_laws.specs.Merged.{uncounted, OfDraft, MergedApplies}
 
 -- ---- the parameters but the key set
 address-as-one : (time : ℕ) (f s : AddressParameter) (old : HeldAddress) (r : Report) → s .report ≡ r
@@ -65,6 +75,22 @@ jrc-as-one : (f s : OctetsParameter) (old : HeldOctets) (r : Report) → s .repo
     → octetsAfter (ifTaken (s .report) s f .report) (ifTaken (s .report) s f .value) old
     ≡ octetsAfter (s .report) (s .value) (octetsAfter (f .report) (f .value) old)
 jrc-as-one f s old r e = octets-as-one true f s old r e
+
+-- ---- what the draft has not: nothing is taken of it, and nothing is reported
+not-taken : {X : Type 0} (r : Report) (x old : X) → missing r ≡ true → ifTaken r x old ≡ old
+not-taken Absent x old e = refl
+not-taken Discarded x old e = refl
+not-taken Taken x old e = absurd (let z : _≡_ {A = ℕ} 0 1 = cc in omega arith)
+
+list-stays : (p : ListParameter) (old : HeldList) → missing (p .report) ≡ true → listAfter p old ≡ old
+list-stays p old e = not-taken (p .report) (record { held = true; value = p .value }) old e
+
+rate-stays : (p : RateParameter) (old : HeldRate) → missing (p .report) ≡ true → rateAfter p old ≡ old
+rate-stays p old e = not-taken (p .report) (record { held = true; value = p .value }) old e
+
+pub none-reported : (c : Configuration) → c .came .count ≡ 0 → faultsOf c ≡ noFaults
+unfolding faultsOf
+none-reported c e = rw e
 
 -- ---- the key set
 -- the same keys, and at an ordinary node the same counters
@@ -211,12 +237,39 @@ pub apply-is : (n : Node) (time : ℕ) (c : Configuration) → placementOf n (c 
 unfolding apply
 apply-is n time c e = placed-by (placementOf n (c .keys) .verdict) n time c (placementOf n (c .keys) .sets) e
 
-pub node-of : {r : ℕ} {t : Attempt} {u v : KeySets} {a b : HeldAddress} {j i n m p q : HeldOctets} → u ≡ v → a ≡ b → j ≡ i → n ≡ m → p ≡ q
-    → _≡_ {A = Node} (record { role = r; attempt = t; sets = u; address = a; jrc = j; network = n; prefix = p })
-    (record { role = r; attempt = t; sets = v; address = b; jrc = i; network = m; prefix = q })
-node-of e f g h o = rw (e, f, g, h, o)
+-- the form stays, whatever comes
+pub version-stays : (n : Node) (time : ℕ) (c : Configuration) → apply Update n time c .node .version ≡ n .version
+unfolding apply configured
+version-stays n time c = go (placementOf n (c .keys) .verdict)
+  where
+    go : (v : Verdict) → placedBy v Update n time c (placementOf n (c .keys) .sets) .node .version ≡ n .version
+    go Accepted = refl
+    go (Refused k) = refl
 
-module _ (C : CounterLaws) (n : Node) (time : ℕ) (f s : Configuration) (e : placementOf n (f .keys) .verdict ≡ Accepted) where
+-- two nodes that differ at most in these fields are equal where the fields are
+module _ (base : Node) where
+  abbrev pub nodeWith : KeySets → HeldAddress → HeldOctets → HeldOctets → HeldOctets → HeldList → HeldRate → Faults → Node
+  nodeWith sets address jrc network prefix blacklist rate faults = record {
+    role = base .role;
+    attempt = base .attempt;
+    sets = sets;
+    address = address;
+    jrc = jrc;
+    network = network;
+    prefix = prefix;
+    version = base .version;
+    blacklist = blacklist;
+    rate = rate;
+    faults = faults;
+  }
+
+  pub node-of :
+      {u v : KeySets} {a b : HeldAddress} {j i n m p q : HeldOctets} {k l : HeldList} {r s : HeldRate} {f g : Faults} →
+      u ≡ v → a ≡ b → j ≡ i → n ≡ m → p ≡ q → k ≡ l → r ≡ s → f ≡ g → nodeWith u a j n p k r f ≡ nodeWith v b i m q l s g
+  node-of e f g h o x y z = rw (e, f, g, h, o, x, y, z)
+
+module _ (C : CounterLaws) (n : Node) (time : ℕ) (f s : Configuration) (x : OfDraft f) (y : OfDraft s)
+    (e : placementOf n (f .keys) .verdict ≡ Accepted) where
   same-place :
       placementOf (after n time f) (s .keys) .verdict ≡ Accepted →
       SamePlace (isBorder n) (placementOf n (merged f s .keys)) (placementOf (after n time f) (s .keys))
@@ -232,11 +285,14 @@ module _ (C : CounterLaws) (n : Node) (time : ℕ) (f s : Configuration) (e : pl
         keyed (after n time (merged f s)) (seen (after n time (merged f s) .sets)) ≡ keyed (after (after n time f) time s) (seen (after (after n time f) time s .sets))
     unfolding configured reportsOf
     seen-alike seen same =
-        node-of same
+        node-of (attempting n (attemptAfter Update (n .attempt) time)) same
         (address-as-one time (f .address) (s .address) (n .address) (s .address .report) refl)
         (jrc-as-one (f .jrc) (s .jrc) (n .jrc) (s .jrc .report) refl)
         (octets-as-one (isBorder n) (f .network) (s .network) (n .network) (s .network .report) refl)
         (octets-as-one (isBorder n) (f .prefix) (s .prefix) (n .prefix) (s .prefix .report) refl)
+        (sym (list-stays (s .blacklist) (listAfter (f .blacklist) (n .blacklist)) (y .blacklist) ∙ list-stays (f .blacklist) (n .blacklist) (x .blacklist)))
+        (sym (rate-stays (s .rate) (rateAfter (f .rate) (n .rate)) (y .rate) ∙ rate-stays (f .rate) (n .rate) (x .rate)))
+        (none-reported (merged f s) refl ∙ sym (none-reported s (y .came)))
 
     same-after : uncounted (after n time (merged f s)) ≡ uncounted (after (after n time f) time s)
     same-after = seen-alike (λ (x : KeySets). twoSets (arrived (x .active .set)) (arrived (x .pending .set))) (rw (sets .active, sets .pending))
@@ -245,11 +301,11 @@ module _ (C : CounterLaws) (n : Node) (time : ℕ) (f s : Configuration) (e : pl
     ordinary-after b = seen-alike (λ (x : KeySets). x) (sets .ordinary b)
 
 pub merged-applies : CounterLaws → MergedApplies
-merged-applies C n time f s e h =
+merged-applies C n time f s x y e h =
     let first = placement-accepted n time f e in
     let between : apply Update n time f .node ≡ after n time f = ap (λ (d : Delivered). d .node) (apply-is n time f first) in
     let second = placement-accepted (after n time f) time s (rw between at h) in
-    let place = same-place C n time f s first second in
+    let place = same-place C n time f s x y first second in
     let joined = ap (λ (d : Delivered). d .node) (apply-is n time (merged f s) (place .verdict ∙ second)) in
     let parted : after (after n time f) time s ≡ apply Update (apply Update n time f .node) time s .node =
     sym (ap (λ (d : Delivered). d .node) (apply-is (after n time f) time s second)) ∙ ap (λ (m : Node). apply Update m time s .node) (sym between) in
@@ -257,7 +313,7 @@ merged-applies C n time f s e h =
       accepted = ap (λ (d : Delivered). d .verdict) (apply-is n time (merged f s) (place .verdict ∙ second));
       node =
           record {
-            but-counters = ap uncounted joined ∙ same-after C n time f s first (place .sets) ∙ ap uncounted parted;
-            ordinary = λ b. joined ∙ ordinary-after C n time f s first (place .sets) b ∙ parted;
+            but-counters = ap uncounted joined ∙ same-after C n time f s x y first (place .sets) ∙ ap uncounted parted;
+            ordinary = λ b. joined ∙ ordinary-after C n time f s x y first (place .sets) b ∙ parted;
           };
     }

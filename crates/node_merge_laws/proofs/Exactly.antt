@@ -1,4 +1,4 @@
--- Two configurations that take equal values do the same to a node: each parameter acts by what is taken of it.
+-- Two configurations of the draft that take equal values do the same to a node: each parameter acts by what is taken of it.
 use Prim.Native.Nat.{ℕ}
 use mathlib.Core.Path.{_≡_, refl, ap, sym, _∙_}
 use mathlib.Core.Bool.{Bool, true, false}
@@ -8,23 +8,27 @@ use Rattle.link_key_set.specs.declared.key_set.KeySet.{KeySet}
 use Rattle.cojp.specs.Reading.{ifTaken}
 use Rattle.cojp.specs.declared.address.ShortAddress.{ShortAddress}
 use Rattle.cojp.specs.declared.configuration.Configuration.{Configuration}
+use Rattle.cojp.specs.declared.list.ItemList.{ItemList}
 use Rattle.cojp.specs.declared.octets.Octets.{Octets}
 use Rattle.cojp.specs.declared.octets.OctetsParameter.{OctetsParameter}
 use Rattle.cojp.specs.declared.report.Report.{Report}
 use Rattle.cojp.specs.declared.report.Report.the-variants.{Absent, Taken, Discarded}
 use Rattle.cojp_merge.specs.Laws.{TakesEqual}
+use Rattle.node_delivery.specs.Delivery.{attemptAfter}
 use Rattle.node_delivery.specs.declared.Delivery.the-variants.{Update}
 use Rattle.node_key_sets.specs.Sets.{placed, install}
 use Rattle.node_key_sets.specs.declared.sets.Placement.{Placement}
 use Rattle.node_parameters.specs.Octets.{octetsAfter}
 use Rattle.node_parameters.specs.Reports.{borderOnly, reportsOf}
 use Rattle.node_parameters.specs.declared.address.HeldAddress.{HeldAddress}
+use Rattle.node_parameters.specs.declared.blacklist.HeldList.{HeldList}
 use Rattle.node_parameters.specs.declared.octets.HeldOctets.{HeldOctets}
+use Rattle.node_parameters.specs.declared.rate.HeldRate.{HeldRate}
 use Rattle.node.specs.Delivery.{apply, configured, placementOf}
-use Rattle.node.specs.Node.{isBorder}
+use Rattle.node.specs.Node.{isBorder, attempting}
 use Rattle.node.specs.declared.delivery.Delivered.{Delivered}
 use Rattle.node.specs.declared.node.Node.{Node}
-use Rattle.node_merge_laws.proofs.Applied.{after, apply-is, node-of, placement-accepted, leaves}
+use Rattle.node_merge_laws.proofs.Applied.{after, apply-is, node-of, placement-accepted, leaves, none-reported}
 
 -- ---- what is made of a parameter that is taken, and what stays where it is not
 module _ {A B : Type 0} (made : A → B) (old : B) where
@@ -44,6 +48,12 @@ module _ {A B : Type 0} (made : A → B) (old : B) where
 abbrev held : Octets → HeldOctets
 held o = record { held = true; value = o }
 
+abbrev heldList : ItemList → HeldList
+heldList l = record { held = true; value = l }
+
+abbrev heldRate : ℕ → HeldRate
+heldRate r = record { held = true; value = r }
+
 abbrev received : ℕ → ShortAddress → HeldAddress
 received time a = record { held = true; value = a; received = time }
 
@@ -54,7 +64,7 @@ border-alike : (border : Bool) (old : HeldOctets) (p q : OctetsParameter)
 border-alike true old p q e = alike held old (p .value) (q .value) (p .report) (q .report) e
 border-alike false old p q e = leaves (p .value) old (p .report) ∙ sym (leaves (q .value) old (q .report))
 
-module _ (n : Node) (time : ℕ) (c d : Configuration) (t : TakesEqual c d) where
+module _ (n : Node) (time : ℕ) (c d : Configuration) (t : TakesEqual c d) (x : c .came .count ≡ 0) (y : d .came .count ≡ 0) where
   place-alike : placementOf n (c .keys) ≡ placementOf n (d .keys)
   place-alike =
       alike (λ (s : KeySet). install (isBorder n) (n .sets) s) (placed (n .sets)) (c .keys .value) (d .keys .value) (c .keys .report) (d .keys .report)
@@ -63,12 +73,15 @@ module _ (n : Node) (time : ℕ) (c d : Configuration) (t : TakesEqual c d) wher
   after-alike : after n time c ≡ after n time d
   unfolding configured reportsOf
   after-alike =
-      node-of (ap (λ (p : Placement). p .sets) place-alike)
+      node-of (attempting n (attemptAfter Update (n .attempt) time)) (ap (λ (p : Placement). p .sets) place-alike)
       (alike (received time) (n .address) (c .address .value)
       (d .address .value) (c .address .report) (d .address .report) (t .address))
       (alike held (n .jrc) (c .jrc .value) (d .jrc .value) (c .jrc .report) (d .jrc .report) (t .jrc))
       (border-alike (isBorder n) (n .network) (c .network) (d .network) (t .network))
       (border-alike (isBorder n) (n .prefix) (c .prefix) (d .prefix) (t .prefix))
+      (alike heldList (n .blacklist) (c .blacklist .value) (d .blacklist .value) (c .blacklist .report) (d .blacklist .report) (t .blacklist))
+      (alike heldRate (n .rate) (c .rate .value) (d .rate .value) (c .rate .report) (d .rate .report) (t .rate))
+      (none-reported c x ∙ sym (none-reported d y))
 
   pub applies-exactly : apply Update n time d .verdict ≡ Accepted
       → (apply Update n time c .verdict ≡ Accepted) × (apply Update n time c .node ≡ apply Update n time d .node)

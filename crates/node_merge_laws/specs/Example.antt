@@ -9,14 +9,18 @@ use Rattle.refusal.specs.declared.Refusal.the-variants.{Clash}
 use Rattle.refusal.specs.declared.Verdict.the-variants.{Accepted, Refused}
 use Rattle.link_key.specs.Key.{keyOf}
 use Rattle.cojp.specs.Configuration.{readConfiguration}
+use Rattle.cojp.specs.Faults.{noFaults}
 use Rattle.cojp.specs.KeySet.{keySetOf}
+use Rattle.cojp.specs.declared.version.Version.the-variants.{Draft}
 use Rattle.node_attempt.specs.Attempt.{attempt}
 use Rattle.node_attempt.specs.declared.attempt.Phase.the-variants.{Joined}
 use Rattle.node_delivery.specs.declared.Delivery.the-variants.{Update}
 use Rattle.link_key_counters.specs.Counters.{arrived, noCounted}
 use Rattle.node_key_sets.specs.Sets.{twoSets}
+use Rattle.node_parameters.specs.Blacklist.{absentList}
 use Rattle.node_parameters.specs.Lease.{absentAddress}
 use Rattle.node_parameters.specs.Octets.{absentOctets}
+use Rattle.node_parameters.specs.Rate.{absentRate}
 use Rattle.node.specs.Delivery.{deliver}
 use Rattle.node.specs.declared.delivery.Delivered.{Delivered}
 use Rattle.node.specs.declared.node.Node.{Node}
@@ -31,6 +35,10 @@ joined = record {
   jrc = absentOctets;
   network = absentOctets;
   prefix = absentOctets;
+  version = Draft;
+  blacklist = absentList;
+  rate = absentRate;
+  faults = noFaults;
 }
 
 abbrev pub updated : Node → List ℕ → Delivered

@@ -1,11 +1,11 @@
--- Joining two updates (document 02, request 10): at one time, where a node accepts the first and then the second, it accepts the merged one,
--- which leaves the same node. Only a joined node that may be handed in accepts an update. Outside this law are reports and passed-over counts,
--- which are no part of the node; a border router's frame counters, since a key that it held, that the first has not and the second has, begins
--- at 0 again after the two; a join answer, whose OWED may differ; and pairs of which one is refused: the merged one may then be accepted all the
--- same (Example).
+-- Joining two updates (document 02, request 10), which is the draft's alone: at one time, where a node accepts the first and then the second,
+-- it accepts the merged one, which leaves the same node. Only a joined node that may be handed in accepts an update. Outside this law are
+-- reports and passed-over counts, which are no part of the node; a border router's frame counters, since a key that it held, that the first
+-- has not and the second has, begins at 0 again after the two; a join answer, whose OWED may differ; and pairs of which one is refused: the
+-- merged one may then be accepted all the same (Example).
 use Prim.Native.Nat.{ℕ, _≤_}
 use mathlib.Core.Path.{_≡_}
-use mathlib.Core.Bool.{false}
+use mathlib.Core.Bool.{true, false}
 use mathlib.Core.List.{List}
 use lib.ListN.{length}
 use Rattle.refusal.specs.declared.Verdict.the-variants.{Accepted}
@@ -13,8 +13,9 @@ use Rattle.cbor.specs.Answer.{emit}
 use Rattle.cbor.specs.Encode.{encode}
 use Rattle.cbor.specs.Item.{map}
 use Rattle.cojp.specs.Configuration.{readConfiguration}
-use Rattle.cojp.specs.Writing.{configurationPairs, configurationPlan}
+use Rattle.cojp.specs.Writing.{missing, configurationPairs, configurationPlan}
 use Rattle.cojp.specs.declared.configuration.Configuration.{Configuration}
+use Rattle.cojp.specs.declared.version.Version.the-variants.{Draft}
 use Rattle.cojp_merge.specs.Merge.{merged, mergeAnswer}
 use Rattle.link_key_counters.specs.Counters.{arrived}
 use Rattle.node_delivery.specs.declared.Delivery.the-variants.{Update}
@@ -34,22 +35,28 @@ pub record TheSame (n one two : Node) : Type 0 where
   pub ordinary : isBorder n ≡ false → one ≡ two
 
 -- ---- configurations
+-- of the draft: no blacklist, no join rate, and no label noted
+pub record OfDraft (c : Configuration) : Type 0 where
+  pub blacklist : missing (c .blacklist .report) ≡ true
+  pub rate : missing (c .rate .report) ≡ true
+  pub came : c .came .count ≡ 0
+
 pub record AppliedAsOne (n : Node) (time : ℕ) (first second : Configuration) : Type 0 where
   pub accepted : apply Update n time (merged first second) .verdict ≡ Accepted
   pub node : TheSame n (apply Update n time (merged first second) .node) (apply Update (apply Update n time first .node) time second .node)
 
 abbrev pub MergedApplies : Type 0
 MergedApplies =
-    (n : Node) (time : ℕ) (first second : Configuration) → apply Update n time first .verdict ≡ Accepted →
+    (n : Node) (time : ℕ) (first second : Configuration) → OfDraft first → OfDraft second → apply Update n time first .verdict ≡ Accepted →
     apply Update (apply Update n time first .node) time second .verdict ≡ Accepted → AppliedAsOne n time first second
 
--- ---- payloads: any two, and the one that is written of the merged configuration, in at most 232 bytes
+-- ---- payloads at a node of the draft: any two, and the one that is written of the merged configuration, in at most 232 bytes
 abbrev pub mergedPayload : Configuration → Configuration → List ℕ
 mergedPayload first second = encode (map (configurationPairs (merged first second)))
 
 pub record DeliveredAsOne (n : Node) (time : ℕ) (p q : List ℕ) (first second : Configuration) : Type 0 where
   pub merges : mergeAnswer first second .verdict ≡ Accepted
-  pub writes : configurationPlan (mergeAnswer first second .configuration) ≡ emit (mergedPayload first second)
+  pub writes : configurationPlan Draft (mergeAnswer first second .configuration) ≡ emit (mergedPayload first second)
   pub short : length (mergedPayload first second) ≤ 232
   pub accepted : deliver Update n time (mergedPayload first second) .verdict ≡ Accepted
   pub node :
@@ -58,6 +65,7 @@ pub record DeliveredAsOne (n : Node) (time : ℕ) (p q : List ℕ) (first second
 
 abbrev pub MergedDelivers : Configuration → Configuration → Type 0
 MergedDelivers first second =
-    (n : Node) (time : ℕ) (p q : List ℕ) → readConfiguration p .configuration ≡ first → readConfiguration q .configuration ≡ second →
+    (n : Node) (time : ℕ) (p q : List ℕ) → n .version ≡ Draft →
+    readConfiguration p .configuration ≡ first → readConfiguration q .configuration ≡ second →
     deliver Update n time p .verdict ≡ Accepted → deliver Update (deliver Update n time p .node) time q .verdict ≡ Accepted →
     DeliveredAsOne n time p q first second

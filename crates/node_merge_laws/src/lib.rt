@@ -11,7 +11,7 @@ pub fn merged_applies()
     link_key_counters::laws();
 }
 
-// The same of payloads: any two that read as these configurations, and the one that is written of the merged one.
+// The same of payloads at a node of the draft: any two that read as these configurations, and the one that is written of the merged one.
 pub fn merged_delivers(first: Configuration, second: Configuration)
     ensures { λ r. ⌜ MergedDelivers first second ⌝ }
 {
@@ -19,6 +19,7 @@ pub fn merged_delivers(first: Configuration, second: Configuration)
     let both = cojp_merge::merge(first, second);
     let configuration = both.configuration;
     cojp_laws::largest_configuration(configuration);
+    cojp_laws::draft_written(configuration);
     cojp_laws::configuration_round_trip(configuration);
     cojp_merge::laws();
     cojp::reads_in_range();

@@ -10,6 +10,7 @@ use borrow.Author.Tests.{ltb-true, ltb-false, lt-ltb, le-ltb}
 use Rattle.refusal.specs.declared.Refusal.{Refusal}
 use Rattle.refusal.specs.declared.Verdict.{Verdict}
 use Rattle.refusal.specs.declared.Verdict.the-variants.{Accepted, Refused}
+use Rattle.cojp.specs.declared.version.Version.the-variants.{Draft}
 use Rattle.node_delivery.specs.declared.Delivery.the-variants as call
 use Rattle.node.specs.Timing as timing
 use Rattle.node.specs.Delivery as delivery
@@ -102,7 +103,7 @@ module _ (laws : PhaseLaws) where
   -- only an accepted start makes a node wait
   stays-idle : (r : Record) (n : Node) → waits n ≡ false → startsWith r (callOf r n .verdict) ≡ false → waits (callOf r n .node) ≡ false
   unfolding callOf
-  stays-idle (newNode role network) n w e = laws .made-idle role network
+  stays-idle (newNode role network) n w e = laws .made-idle Draft role network
   stays-idle (start time timeout) n w e = go (timing.start n time timeout room .verdict) refl e
     where
       go : (v : Verdict) → timing.start n time timeout room .verdict ≡ v → report.isAccepted v ≡ false → waits (timing.start n time timeout room .node) ≡ false

@@ -7,6 +7,7 @@ use Rattle.refusal.specs.declared.Verdict.{Verdict}
 use Rattle.node_attempt.specs.Poll.{dueVerdict}
 use Rattle.node_key_sets.specs.Frames.{changeVerdict, hasSwitched}
 use Rattle.node_delivery.specs.declared.Delivery.the-variants as call
+use Rattle.cojp.specs.declared.version.Version.the-variants.{Draft}
 use Rattle.node.specs.Node.{made}
 use Rattle.node.specs.Timing as timing
 use Rattle.node.specs.Delivery as delivery
@@ -31,8 +32,9 @@ doneReported h = doneBy (changeVerdict (h .change)) (hasSwitched (h .change)) (h
 abbrev pub room : List ℕ
 room = replicate 32 0
 
+-- the nodes of a night are of the draft's form
 unfoldable pub callOf : Record → Node → Done
-callOf (newNode role network) n = doneBy (made role network .verdict) false (made role network .node)
+callOf (newNode role network) n = doneBy (made Draft role network .verdict) false (made Draft role network .node)
 callOf (start time timeout) n = doneBy (timing.start n time timeout room .verdict) false (timing.start n time timeout room .node)
 callOf (joinAnswer time payload) n = doneDelivered (delivery.deliver call.JoinAnswer n time payload)
 callOf (update time payload) n = doneDelivered (delivery.deliver call.Update n time payload)

@@ -1,5 +1,5 @@
 -- The laws for the layer above hold: proofs/NodeLaws.antt gathers them, from the laws of keys and of counted sets and from what the reader of
--- configurations takes.
+-- configurations takes and what is reported of it.
 use borrow.Author.Needs.{needs}
 use Rattle.node_laws.proofs.NodeLaws.{node-laws}
 use Rattle.node_laws.proofs.laws.Statement.{statement}
@@ -14,10 +14,14 @@ laws-requires-2 c κs = search needs
 reads-in-range-requires : tie.Need-reads-in-range-requires
 reads-in-range-requires c κs = search needs
 
+reports-fit-requires : tie.Need-reports-fit-requires
+reports-fit-requires c κs = search needs
+
 returns : tie.Need-returns
 returns c =
-    let counters = c .before in
-    node-laws (counters .before .laws .ensures) (counters .laws2 .ensures) (c .reads-in-range .ensures)
+    let readings = c .before in
+    let counters = readings .before in
+    node-laws (counters .before .laws .ensures) (counters .laws2 .ensures) (readings .reads-in-range .ensures) (c .reports-fit .ensures)
 
 pub laws-spec : {M : Type 1} → statement M
-laws-spec = tie.close (tie.spec laws-requires laws-requires-2 reads-in-range-requires returns)
+laws-spec = tie.close (tie.spec laws-requires laws-requires-2 reads-in-range-requires reports-fit-requires returns)

@@ -1,7 +1,7 @@
 -- What is merged is written and reads back; it does to the node what the two did.
 use mathlib.Core.Path.{subst}
 use borrow.Author.Needs.{needs}
-use Rattle.cojp_laws.specs.Largest.{LargestConfiguration}
+use Rattle.cojp_laws.specs.Largest.{LargestConfiguration, DraftWritten}
 use Rattle.cojp_laws.specs.RoundTrip.{ConfigurationRoundTrip}
 use Rattle.cojp_merge.specs.declared.Merged.{Merged}
 use Rattle.node_merge_laws.proofs.Delivered.{merged-delivers}
@@ -17,6 +17,9 @@ merge-requires c κs = search needs
 largest-configuration-requires : tie.Need-largest-configuration-requires
 largest-configuration-requires c κs = search needs
 
+draft-written-requires : tie.Need-draft-written-requires
+draft-written-requires c κs = search needs
+
 configuration-round-trip-requires : tie.Need-configuration-round-trip-requires
 configuration-round-trip-requires c κs = search needs
 
@@ -30,13 +33,15 @@ returns : tie.Need-returns
 returns c =
     let laws = c .before in
     let back = laws .before in
-    let largest = back .before in
+    let written = back .before in
+    let largest = written .before in
     let both = largest .before .before in
     let applies = both .before in
     let a = applies .before .args in
     merged-delivers (applies .merged-applies .ensures) (laws .laws .ensures) (c .reads-in-range .ensures) (a .first) (a .second)
     (subst (λ (m : Merged). LargestConfiguration (m .configuration)) (both .merge .ensures) (largest .largest-configuration .ensures))
+    (subst (λ (m : Merged). DraftWritten (m .configuration)) (both .merge .ensures) (written .draft-written .ensures))
     (subst (λ (m : Merged). ConfigurationRoundTrip (m .configuration)) (both .merge .ensures) (back .configuration-round-trip .ensures))
 
 pub merged-delivers-spec : {M : Type 1} → statement M
-merged-delivers-spec = tie.close (tie.spec merged-applies-requires merge-requires largest-configuration-requires configuration-round-trip-requires laws-requires reads-in-range-requires returns)
+merged-delivers-spec = tie.close (tie.spec merged-applies-requires merge-requires largest-configuration-requires draft-written-requires configuration-round-trip-requires laws-requires reads-in-range-requires returns)

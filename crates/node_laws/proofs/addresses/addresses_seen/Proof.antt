@@ -8,16 +8,20 @@ use Rattle.cojp.specs.Octets.{padded, octetsJudged}
 use Rattle.cojp.specs.Address.{addressIn}
 use Rattle.cojp.specs.Request.{owing}
 use Rattle.cojp.specs.Walk.{payloadReadBy}
-use Rattle.cojp.specs.Configuration.{configurationStanding, configurationTaking}
+use Rattle.cojp.specs.Parameter.{laterParameter, parameterOf}
+use Rattle.cojp.specs.Configuration.{configurationTaking}
+use Rattle.cojp.specs.Faults.{faultsFit}
+use Rattle.cojp.specs.Reported.{faultsOf}
 use Rattle.cojp.specs.Writing.{requestInRange, requestPlan}
+use Rattle.cojp_list_read.specs.Listed.{listedIn}
 use Rattle.node_key_sets.specs.Sets as sets
 use Rattle.node_attempt.specs.Attempt as attempt
 use Rattle.node_attempt.specs.Attempt.{mayStart}
 use Rattle.node_delivery.specs.Delivery.{mayCome}
 use Rattle.node_parameters.specs.Reports.{reportsOf}
-use Rattle.node.specs.Delivery.{configured, apply, deliverVerdict, deliver}
+use Rattle.node.specs.Delivery.{fitted, configured, apply, deliverVerdict, deliver}
 use Rattle.node.specs.Node.{made}
-use Rattle.node.specs.Range.{valid}
+use Rattle.node.specs.Range.{formFits, valid}
 use Rattle.node.specs.Timing.{requestOf, startVerdict, startPlan, start}
 use Rattle.node_laws.specs.Addresses.{AddressesSeen}
 use Rattle.node_laws.specs.Calls.{perform}
@@ -26,9 +30,10 @@ use Rattle.node_laws.proofs.addresses.addresses_seen.Tie as tie
 
 seen : AddressesSeen
 unfolding payloadBy decodeBy heading argument next digits members pairs majorOf bytesOf infoOf extraOf shortest
-    validKeys validSet isAddress padded octetsJudged addressIn owing payloadReadBy configurationStanding configurationTaking
-    requestInRange requestPlan sets.valid attempt.valid mayStart mayCome reportsOf configured apply deliverVerdict deliver
-    made valid requestOf startVerdict startPlan start perform
+    validKeys validSet isAddress padded octetsJudged addressIn owing payloadReadBy laterParameter parameterOf configurationTaking
+    requestInRange requestPlan faultsFit faultsOf listedIn sets.valid sets.validAs attempt.valid mayStart mayCome
+    reportsOf fitted configured apply deliverVerdict deliver
+    made formFits valid requestOf startVerdict startPlan start perform
 seen = record { valid = refl; taken = refl; bytes = refl; accepted = refl; discarded = refl; kept = refl; received = refl }
 
 returns : tie.Need-returns
