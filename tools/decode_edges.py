@@ -2,7 +2,8 @@
 """Adds to crates/decode/stdin and stdout lines at the edges of the tool's rules, after the vectors: lines far longer than any buffer, carriage
 returns, bytes that are no text, payloads around the limit of 256 bytes, a last line with no end.
 
-What they are answered follows from the rules of the desk tools, from document 01's examples and from the draft's, by the code below alone.
+What they are answered follows from the rules of the desk tools, from document 01's examples, from the draft's and from docs/RFC9031.md, by the code below
+alone.
 """
 import os
 import random
@@ -111,12 +112,12 @@ def spelled(r, digits):
 
 def lines(r):
     """Pairs: a line without its end, and its answer, or None."""
-    for command, digits, said in OBJECTS:
+    for command, digits, answer in OBJECTS:
         for _ in range(4 if len(digits) < 2000 else 1):
             front = " " * r.choice([0, 0, 1, 7])
             gap = " " * r.choice([1, 1, 2, 30])
             back = r.choice(["", " ", "   ", "\r", "  \r"])
-            yield (front + command + gap + spelled(r, digits) + back).encode(), said
+            yield (front + command + gap + spelled(r, digits) + back).encode(), answer
     hexes = "A10542CAFE"
     far = 1000000
     good = "accepted role=0 network=h'cafe' passed=0"
@@ -167,8 +168,8 @@ def lines(r):
         yield b"request A" + bytes([c]), "error hex"
         yield b"request " + bytes([c]) + b"0", "error hex"
     # strict readings, heads, and objects written again: paper 02, request 3
-    for digits, said in HEADS:
-        yield b"head " + digits.encode(), said
+    for digits, answer in HEADS:
+        yield b"head " + digits.encode(), answer
     for digits, ordinary, strict in STRICT:
         yield b"request " + digits.encode(), ordinary
         yield b"strict-request " + digits.encode(), strict
@@ -202,6 +203,7 @@ def lines(r):
     yield b"strict request A0", "error command"
     yield from merges()
     yield from parts()
+    yield from published()
     # the last line has no end
     yield b"request A1 01 01\r", "accepted role=1 network=absent passed=0"
 
@@ -324,6 +326,118 @@ def parts():
     yield b"part 0", "error hex"
     yield b"part A1" + b" " * 66000 + b"05 42CA FE" + b" " * 66000 + b"\r", "held 5"
     yield b"end" + b" " * 66000 + b"request" + b" " * 66000 + b"\r", cafe
+
+
+def said(fields="", passed=0, reports=""):
+    """What a configuration of the published form is answered: these parameters, the others absent."""
+    named = dict(f.split("=", 1) for f in fields.split())
+    names = ("keys", "address", "lease", "jrc", "blacklist", "rate")
+    return "accepted %s passed=%d reports=[%s]" % (" ".join(n + "=" + named.get(n, "absent") for n in names), passed, reports)
+
+
+# payloads of the published form and what a configuration of each says: paper 02, request 11
+VALUE = "000102030405060708090a0b0c0d0e0f"
+KEY = "01 50 " + VALUE
+BAD_KEYS, BAD_ADDRESS = said("keys=malformed", 0, "1/2"), said("address=malformed lease=malformed", 0, "1/3")
+CONFIGURATIONS = [
+    ("A0", said()),
+    ("A1 05 42 CA FE", said(passed=1)),
+    ("A1 08 83 01 03 F6", said(passed=1)),
+    ("A1 18 63 F6", said(passed=1)),
+    ("A1 03 82 42 12 34 0A", said("address=h'1234' lease=10")),
+    ("A1 03 81 42 12 34", said("address=h'1234' lease=none")),
+    ("A1 03 82 42 FE FF 1B FF FF FF FF FF FF FF FF", said("address=h'feff' lease=18446744073709551615")),
+    ("A1 03 81 42 FF FE", BAD_ADDRESS),
+    ("A1 03 81 41 12", BAD_ADDRESS),
+    ("A1 03 82 42 12 34 20", BAD_ADDRESS),
+    ("A1 03 42 12 34", BAD_ADDRESS),
+    ("A1 04 50 " + VALUE, said("jrc=h'%s'" % VALUE)),
+    ("A1 04 4F " + VALUE[:30], said("jrc=malformed", 0, "1/4")),
+    ("A1 02 82 " + KEY, said("keys=[1/0/h'%s']" % VALUE)),
+    ("A1 02 83 " + KEY + "44 01020304", said("keys=[1/0/h'%s'/h'01020304']" % VALUE)),
+    ("A1 02 83 " + KEY + "48 0102030405060708", said("keys=[1/0/h'%s'/h'0102030405060708']" % VALUE)),
+    ("A1 02 86 " + KEY + "44 01020304 18 FF 0E 50" + VALUE, said("keys=[1/0/h'%s'/h'01020304',255/14/h'%s']" % (VALUE, VALUE))),
+    ("A1 02 86 " + KEY + "44 01020304" + KEY + "44 01020305", BAD_KEYS),
+    ("A1 02 83 " + KEY + "40", BAD_KEYS),
+    ("A1 02 83 " + KEY + "45 0102030405", BAD_KEYS),
+    ("A1 02 84 " + KEY + "44 01020304 44 01020304", BAD_KEYS),
+    ("A1 02 80", BAD_KEYS),
+    ("A1 02 82 00 50" + VALUE, BAD_KEYS),
+    ("A1 02 81 01", BAD_KEYS),
+    ("A1 06 80", said("blacklist=[]")),
+    ("A1 06 98 02 40 58 01 AA", said("blacklist=[h'',h'aa']")),
+    ("A1 06 98 FB" + "40" * 251, said("blacklist=[%s]" % ",".join(["h''"] * 251))),
+    ("A1 06 81 58 FB" + "BB" * 251, said("blacklist=[h'%s']" % ("bb" * 251))),
+    ("A1 06 82 40 00", said("blacklist=malformed", 0, "1/6")),
+    ("A1 06 81 80", said("blacklist=malformed", 0, "1/6")),
+    ("A1 06 40", said("blacklist=malformed", 0, "1/6")),
+    ("A1 07 00", said("rate=0")),
+    ("A1 07 1B FF FF FF FF FF FF FF FF", said("rate=18446744073709551615")),
+    ("A1 07 20", said("rate=malformed", 0, "1/7")),
+    ("A5 07 F6 04 F6 02 F6 06 F6 03 F6", said("keys=malformed address=malformed lease=malformed jrc=malformed blacklist=malformed rate=malformed", 0, "1/7,1/4,1/2,1/6,1/3")),
+    ("A2 03 05 03 81 42 12 34", "refused 6 TWICE"),
+    ("A1 61 61 00", "refused 5 TYPE"),
+    ("80", "refused 5 TYPE"),
+    ("A1 03", "refused 1 CUT"),
+    ("A0 00", "refused 4 EXTRA"),
+    ("A0" + "00" * 256, LONG),
+]
+
+# join requests of the published form: role, identifier, unsupported, passed, reports
+REQUESTS = [
+    ("A1 05 42 CA FE", "role=0 network=h'cafe' unsupported=absent passed=0 reports=[]"),
+    ("A2 01 01 05 40", "role=1 network=h'' unsupported=absent passed=0 reports=[]"),
+    ("A2 01 02 05 40", "role=0 network=h'' unsupported=absent passed=0 reports=[0/1]"),
+    ("A2 01 20 05 40", "role=0 network=h'' unsupported=absent passed=0 reports=[1/1]"),
+    ("A3 08 80 05 40 01 F6", "role=0 network=h'' unsupported=malformed passed=0 reports=[1/8,1/1]"),
+    ("A2 05 40 08 82 00 07", "role=0 network=h'' unsupported=malformed passed=0 reports=[1/8]"),
+    ("A2 05 40 08 84 00 07 F6 00", "role=0 network=h'' unsupported=malformed passed=0 reports=[1/8]"),
+    ("A2 05 40 08 83 00 07 81 80", "role=0 network=h'' unsupported=[0/7] passed=0 reports=[]"),
+    ("A2 05 40 08 86 20 37 F6 38 18 18 18 00", "role=0 network=h'' unsupported=[-1/-24,-25/24] passed=0 reports=[]"),
+    (
+        "A2 05 40 08 86 3B FF FF FF FF FF FF FF FF 1B FF FF FF FF FF FF FF FF F6 3B FF FF FF FF FF FF FF FE 3B 7F FF FF FF FF FF FF FF F6",
+        "role=0 network=h'' unsupported=[-18446744073709551616/18446744073709551615,-18446744073709551615/-9223372036854775808] passed=0 reports=[]",
+    ),
+    ("A2 05 40 02 80", "role=0 network=h'' unsupported=absent passed=1 reports=[]"),
+]
+
+
+def published():
+    """The readings of the published form, by themselves, written again, and at the end of parts."""
+    for digits, answer in CONFIGURATIONS:
+        yield b"new-configuration " + digits.encode(), answer
+    for digits, answer in REQUESTS:
+        yield b"new-request " + digits.encode(), "accepted " + answer
+    for digits, answer in [("A1 01 01", "refused 9 OWED"), ("A1 05 51" + "00" * 17, "refused 9 OWED"), ("A0", "refused 9 OWED"), ("", CUT)]:
+        yield b"new-request " + digits.encode(), answer
+        yield b"rewrite new-request " + digits.encode(), answer
+    yield b"strict-new-configuration B8 00", LOOSE
+    yield b"strict-new-configuration A1 06 98 00", LOOSE
+    yield b"strict-new-configuration A1 06 80", said("blacklist=[]")
+    yield b"strict-new-request A1 05 58 00", LOOSE
+    yield b"strict-new-request A1 05 40", "accepted " + REQUESTS[0][1].replace("cafe", "")
+    yield b"rewrite new-configuration A3 18 63 F6 06 98 02 40 58 01 AA 18 07 00", "wrote h'a206824041aa0700'"
+    yield b"rewrite new-configuration A5 07 F6 04 F6 02 F6 06 F6 03 F6", "wrote h'a0'"
+    yield b"rewrite new-request A3 08 83 18 01 07 81 00 05 42 CA FE 01 05", "wrote h'a20542cafe08830107f6'"
+    yield b"rewrite strict-new-request A2 08 83 01 07 81 00 05 42 CA FE", "wrote h'a20542cafe08830107f6'"
+    yield b"rewrite" + b" " * 66000 + b"strict-new-configuration" + b" " * 66000 + b"A0\r", "wrote h'a0'"
+    yield b"rewrite strict-new-configuration A1 06 98 00", LOOSE
+    for word in (b"new-strict-request", b"strict-new-configurations", b"strict-new-configuratio", b"new-requests", b"new-", b"New-request"):
+        yield word + b" A0", "error command"
+        yield b"rewrite " + word + b" A0", "error command"
+        yield b"end " + word, "error command"
+    yield b"new-request x", "error hex"
+    yield b"merge A1 06 80 + A0", "first refused 5 TYPE"
+    for reading, part, answer in [
+        (b"new-configuration", b"A1 06 98 00", said("blacklist=[]")), (b"strict-new-configuration", b"A1 06 98 00", LOOSE),
+        (b"new-request", b"A1 05 58 00", "accepted " + REQUESTS[0][1].replace("cafe", "")), (b"strict-new-request", b"A1 05 58 00", LOOSE),
+        (b"configuration", b"A1 06 80", "refused 5 TYPE"),
+    ]:
+        yield b"reset", "reset"
+        yield b"part " + part, "held %d" % len(part.split())
+        yield b"end " + reading, answer
+        yield b"end " + reading, "refused 16 PHASE"
+    yield b"reset", "reset"
 
 
 def is_silent(line):

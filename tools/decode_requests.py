@@ -2,26 +2,23 @@
 """decode_requests.py N RECORDED.in RECORDED.out: puts a recorded stream of commands and its answers into crates/decode/stdin and stdout, as the
 part headed `# Request N`.
 
-The stream was answered by a tool that knew paper 02's requests up to N. A line is left out if it names a command or a reading of a later request,
-which has another answer since, or of one that is still to come. An end with such a reading counted as the end of what had arrived: parts and ends after it
-are left out up to the next reset. All other lines come with their recorded answers, word for word. decode_edges.py, run afterwards, adds its own lines.
+The stream was answered by a tool that knew paper 02's requests up to N. A line is left out if it names a command or a reading of a later request, which
+has another answer since. All other lines come with their recorded answers, word for word. decode_edges.py, run afterwards, adds its own lines.
 """
 import os
 import re
 import sys
 
 EDGES = b"# Lines of tools/decode_edges.py"
-HEAD = re.compile(rb"^# Request \d+$")
-TO_COME = {11}
+HEAD = re.compile(rb"^# Request (\d+)$")
 COMMANDS = {b"merge": 10, b"store": 12, b"part": 12, b"end": 12, b"reset": 12}
 NEW_FORM = re.compile(rb"^(strict-)?new-(request|configuration)$")
 
 
 def request_of(words):
     """The request with which this line's command and reading began; 0 for those of earlier ones."""
-    if any(NEW_FORM.match(w) for w in words[:2]):
-        return 11
-    return COMMANDS.get(words[0], 0)
+    form = 11 if any(NEW_FORM.match(w) for w in words[:2]) else 0
+    return max(form, COMMANDS.get(words[0], 0))
 
 
 def words_of(line):
@@ -31,15 +28,8 @@ def words_of(line):
 
 def kept(level, pairs):
     """The lines that stay, with their answers."""
-    lost = False
     for line, said in pairs:
-        words = words_of(line) or [b""]
-        begun = request_of(words)
-        if said == b"reset":
-            lost = False
-        if begun > level or begun in TO_COME:
-            lost = lost or words[0] == b"end"
-        elif not (lost and words[0] in (b"part", b"end")):
+        if request_of(words_of(line) or [b""]) <= level:
             yield line, said
 
 
@@ -54,6 +44,11 @@ def answered(lines, answers):
     for line in lines:
         words = words_of(line)
         yield line, None if not words or words[0].startswith(b"#") else next(answers)
+
+
+def number_of(head):
+    """A part's number: 0 for what stands before the first heading."""
+    return int(HEAD.match(head).group(1)) if head else 0
 
 
 def main():
@@ -71,7 +66,7 @@ def main():
             parts[part] = []
         parts[part].append((line, said))
     parts[head] = [(head, None)] + list(kept(level, answered(read(sys.argv[2]), read(sys.argv[3]))))
-    both = [pair for part in parts.values() for pair in part] + [(EDGES, None)]
+    both = [pair for part in sorted(parts, key=number_of) for pair in parts[part]] + [(EDGES, None)]
     open(stdin, "wb").write(b"".join(line + b"\n" for line, _ in both))
     open(stdout, "wb").write(b"".join(said + b"\n" for _, said in both if said is not None))
 

@@ -1,9 +1,9 @@
 #!/usr/bin/env python3
 """Adds to crates/simulate/stdin and stdout, after the vectors, the stories of examples/ with the answers that stand beside them, the networks of
 tools/rekey.py, and lines at the edges of the tool's rules: missing and extra words, numbers and bytes around their limits, `-`, lines far longer
-than any buffer, and the bench command.
+than any buffer, the bench command, and nodes of the published form.
 
-What they are answered follows from the rules of the desk tools and document 01, by hand: nothing is taken from the program.
+What they are answered follows from the rules of the desk tools, document 01 and docs/RFC9031.md, by hand: nothing is taken from the program.
 """
 import os
 
@@ -189,6 +189,105 @@ def bench():
     yield "send 6 0", beacons + " counter=9"
 
 
+def shown_new(**fields):
+    """What `show` writes of a node of the published form: these fields, the others as they are in a fresh one."""
+    node = dict(
+        role="0", phase="idle", clock="0", sent="0", timeout="0", count="0", active="none", pending="none", address="none", lease="none",
+        received="none", jrc="none", network="h'cafe'", blacklist="none", rate="none", reports="[]",
+    )
+    return "form=new " + " ".join("%s=%s" % pair for pair in {**node, **fields}.items())
+
+
+def made_of(reports="", passed=0, **taken):
+    """What a join answer or an update of the published form is answered: these parameters, the others absent."""
+    names = ("keys", "address", "jrc", "blacklist", "rate")
+    return "accepted %s passed=%d reports=[%s]" % (" ".join(n + "=" + taken.get(n, "absent") for n in names), passed, reports)
+
+
+def published():
+    """Nodes of the published form, and how much is lent to a start: paper 02, request 11."""
+    for text, answer in [
+        ("new-node", COMMAND), ("new-node 5", COMMAND), ("new-nodes 5 0", COMMAND), ("new_node 5 0", COMMAND), ("new-node x 0 zz", NUMBER),
+        ("new-node 5 x zz", NUMBER), ("new-node 5 256 zz", NUMBER), ("new-node 5 0 zz", HEX), ("new-node 5 0 C", HEX), ("new-node 5 0 - -", HEX),
+        ("new-node 16 0 zz", HEX), ("new-node 16 0 CAFE", NODE), ("new-node %d 0" % MOST, NODE), ("new-node 5 0 CAFE", "made"),
+        ("new-node 5 2 CAFE", RANGE), ("new-node 5 255 -", RANGE), ("new-node 5 0 " + "A5" * 17, RANGE), ("show 5", shown_new()),
+        ("room", COMMAND), ("room 1 2", COMMAND), ("rooms 1", COMMAND), ("room x", NUMBER), ("room -", NUMBER), ("room 257", NUMBER),
+        ("room %d" % (MOST + 1), NUMBER), ("room 256", "lent 256"), ("room " + "0" * FAR + "16" + " " * FAR + "\r", "lent 16"), ("room 4", "lent 4"),
+    ]:
+        yield text, answer
+    # a start has the room that is lent, and a refused one leaves the node
+    yield "start 5 0 10000", "refused 12 ROOM"
+    yield "show 5", shown_new()
+    yield "room 5", "lent 5"
+    yield "start 5 0 10000", "sent h'a10542cafe'"
+    waiting = dict(phase="waiting", timeout="10000")
+    yield "show 5", shown_new(**waiting)
+    # everything bad: accepted, reported in payload order, and asked for in the next request
+    yield "answer 5 1 A5 07 F6 04 F6 02 F6 06 F6 03 F6", made_of("1/7,1/4,1/2,1/6,1/3", **dict.fromkeys(("keys", "address", "jrc", "blacklist", "rate"), "malformed"))
+    yield "show 5", shown_new(phase="joined", clock="1", timeout="10000", reports="[1/7,1/4,1/2,1/6,1/3]")
+    yield "update 5 0 A0", CLOCK
+    yield "update 5 1 A1 61 61 00", "refused 5 TYPE"
+    yield "room 21", "lent 21"
+    yield "start 5 2 10000", "refused 12 ROOM"
+    yield "room 22", "lent 22"
+    yield "start 5 2 10000", "sent h'a20542cafe088f0107f60104f60102f60106f60103f6'"
+    yield "room 256", "lent 256"
+    # everything good, with additional information; 5 is passed over
+    keys = "01 50 000102030405060708090A0B0C0D0E0F 44 01020304 02 06 50 0F0E0D0C0B0A09080706050403020100"
+    first, second = "1/0/h'000102030405060708090a0b0c0d0e0f'/h'01020304'", "2/6/h'0f0e0d0c0b0a09080706050403020100'"
+    yield "answer 5 3 A6 07 18 64 05 40 03 82 42 12 34 02 06 82 40 41 AA 04 50 %s 02 86 %s" % ("4A" * 16, keys), made_of("", 1, **dict.fromkeys(("keys", "address", "jrc", "blacklist", "rate"), "taken"))
+    held = dict(
+        phase="joined", clock="3", sent="2", timeout="10000", pending="[%s#0,%s#0]" % (first, second), address="h'1234'", lease="2", received="3",
+        jrc="h'%s'" % ("4a" * 16), blacklist="[h'',h'aa']", rate="100",
+    )
+    yield "show 5", shown_new(**held)
+    yield "receive 5 1 1", "key " + first
+    yield "send 5 1", SILENT
+    yield "verified 5 0 2", "switched"
+    yield "send 5 1", "key %s counter=0" % first
+    held.update(active="[%s#1,%s#0]" % (first, second), pending="none")
+    yield "show 5", shown_new(**held)
+    # a lease of two hours ends with the second
+    yield "holds 5 7200002", "yes"
+    yield "holds 5 7200003", "no"
+    # a clashing set is reported, the rest is taken; the same set but for its information clashes too, and the same set does not
+    yield "update 5 4 A2 02 82 02 50 %s 06 80" % ("00" * 16), made_of("1/2", keys="malformed", blacklist="taken")
+    yield "update 5 4 A1 02 85 " + keys.replace("44 01020304 ", ""), made_of("1/2", keys="malformed")
+    yield "update 5 4 A1 02 86 " + keys, made_of(keys="taken")
+    held.update(clock="4", blacklist="[]")
+    yield "show 5", shown_new(**held)
+    # the bench command puts values into nodes of either form
+    yield "set 5 address FFFE", "set"
+    yield "send 5 1", RANGE
+    yield "set 5 address 1234", "set"
+    yield "set 5 pending active", "set"
+    yield "send 5 1", RANGE
+    yield "set 5 pending none", "set"
+    yield "set 5 counter 1 7", "set"
+    yield "send 5 1", "key %s counter=7" % first
+    # the network identifier is owed by the border router too
+    yield "new-node 5 1 -", "made"
+    yield "start 5 0 10000", "refused 9 OWED"
+    yield "node 5 1 -", "made"
+    yield "room 2", "lent 2"
+    yield "start 5 0 10000", "refused 12 ROOM"
+    yield "room 3", "lent 3"
+    yield "start 5 0 10000", "sent h'a10101'"
+    yield "room 256", "lent 256"
+    # one network with nodes of both forms
+    plain = "02 82 09 50 " + "09" * 16
+    yield "answer 5 0 A2 05 42 CA FE " + plain, "accepted keys=taken address=absent jrc=absent network=taken prefix=absent passed=0"
+    yield "new-node 4 0 CAFE", "made"
+    yield "start 4 0 10000", "sent h'a10542cafe'"
+    yield "answer 4 0 A1 " + plain, made_of(keys="taken")
+    yield "turn 4 5 1", SILENT
+    yield "turn 5 4 1", "switched"
+    yield "turn 4 5 1", "kept"
+    # made anew, a node has the form that it is made with
+    yield "node 4 0 CAFE", "made"
+    yield "show 4", fresh(0, "h'cafe'")
+
+
 def is_silent(line):
     """Whether the line is not answered: it is empty, or a comment."""
     text = (line[:-1] if line.endswith(b"\r") else line).strip(b" ")
@@ -201,7 +300,7 @@ def main():
         vectors = f.read().split(MARK)[0]
     with open(stdout, "rb") as f:
         answers = f.read().splitlines(keepends=True)[: sum(not is_silent(line) for line in vectors.split(b"\n"))]
-    every = [*story("rekey"), *story("sleeper"), *networks(), *bench(), *edges()]
+    every = [*story("rekey"), *story("sleeper"), *networks(), *bench(), *published(), *edges()]
     with open(stdin, "wb") as f:
         f.write(vectors + MARK + b"\n".join(line.encode() for line, _ in every))
     with open(stdout, "wb") as f:

@@ -43,9 +43,10 @@ pub extern "C" fn bench_poll(dst: &mut [u8], answer: &[u8], id: u8, n: u64) -> u
     let mut node = joined(dst, answer, id);
     let mut i: u64 = 0;
     while i < n {
-        let r = node.poll(3 + i % 65536);
-        node = r.node;
+        let turn = i % 65536;
         i += 1;
+        let r = node.poll(3 + turn);
+        node = r.node;
     }
     node_number(node)
 }
@@ -86,9 +87,9 @@ pub extern "C" fn bench_verified(dst: &mut [u8], answer: &[u8], id: u8, n: u64) 
     let mut node = joined(dst, answer, id);
     let mut i: u64 = 0;
     while i < n {
+        i += 1;
         let r = node.verified(1, id);
         node = r.node;
-        i += 1;
     }
     node_number(node)
 }

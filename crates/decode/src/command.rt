@@ -1,11 +1,13 @@
 // What a line asks of decode.
+use cojp::Version;
 use tool_text::decimal::Decimal;
 use tool_text::line::Line;
 use tool_text::word::Word;
 
-// An object, and whether its heads must be the shortest.
+// An object, in which form, and whether its heads must be the shortest.
 pub struct Reading {
     pub is_request: bool,
+    pub version: Version,
     pub strict: bool,
 }
 
@@ -123,20 +125,49 @@ fn store_of(words: usize, number: Decimal) -> Command {
 
 fn reading_of(word: Word) -> Named {
     if word.is(b"request") {
-        return reading_as(true, false);
+        return request_as(Version::Draft, false);
     }
     if word.is(b"configuration") {
-        return reading_as(false, false);
+        return configuration_as(Version::Draft, false);
     }
     if word.is(b"strict-request") {
-        return reading_as(true, true);
+        return request_as(Version::Draft, true);
     }
     if word.is(b"strict-configuration") {
-        return reading_as(false, true);
+        return configuration_as(Version::Draft, true);
+    }
+    published_of(word)
+}
+
+// A reading of RFC 9031's form.
+fn published_of(word: Word) -> Named {
+    if word.is(b"new-request") {
+        return request_as(Version::Published, false);
+    }
+    if word.is(b"new-configuration") {
+        return configuration_as(Version::Published, false);
+    }
+    if word.is(b"strict-new-request") {
+        return request_as(Version::Published, true);
+    }
+    if word.is(b"strict-new-configuration") {
+        return configuration_as(Version::Published, true);
     }
     Named::Nothing
 }
 
-fn reading_as(is_request: bool, strict: bool) -> Named {
-    Named::As(Reading { is_request, strict })
+fn request_as(version: Version, strict: bool) -> Named {
+    Named::As(Reading {
+        is_request: true,
+        version,
+        strict,
+    })
+}
+
+fn configuration_as(version: Version, strict: bool) -> Named {
+    Named::As(Reading {
+        is_request: false,
+        version,
+        strict,
+    })
 }

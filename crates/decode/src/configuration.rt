@@ -1,66 +1,108 @@
-// The commands `configuration HEX` and `strict-configuration HEX`.
+// The commands `configuration HEX`, `new-configuration HEX` and their strict ones.
 use crate::parameter::put_octets;
 use crate::parameter::put_report;
 use cojp::AddressParameter;
 use cojp::Configuration;
 use cojp::ConfigurationRead;
 use cojp::KeysParameter;
+use cojp::ListParameter;
+use cojp::RateParameter;
 use cojp::Report;
 use cojp::ShortAddress;
+use cojp::Version;
 use refusal::Verdict;
+use tool_notation::put_passed;
 use tool_text::output::Buffer;
 use tool_text::output::Output;
 
-pub fn read(strict: bool, payload: &[u8]) -> ConfigurationRead {
+pub fn read(version: Version, strict: bool, payload: &[u8]) -> ConfigurationRead {
     if strict {
-        return cojp_configuration_read::read_strict_configuration(payload);
+        return cojp_configuration_read::read_strict_configuration_as(payload, version);
     }
-    cojp_configuration_read::read_configuration(payload)
-}
-
-pub fn answer(strict: bool, payload: &[u8], out: Output, buffer: &mut Buffer) -> Output {
-    put_read(out, read(strict, payload), buffer)
+    cojp_configuration_read::read_configuration_as(payload, version)
 }
 
 // The object, or the refusal.
-pub fn put_read(out: Output, read: ConfigurationRead, buffer: &mut Buffer) -> Output {
+pub fn put_read(
+    out: Output,
+    version: Version,
+    read: ConfigurationRead,
+    buffer: &mut Buffer,
+) -> Output {
     let verdict = read.verdict;
     match verdict {
-        Verdict::Accepted => put_configuration(out, read.configuration, buffer),
+        Verdict::Accepted => put_configuration(out, version, read.configuration, buffer),
         Verdict::Refused(refusal) => tool_notation::put_refusal(out, refusal, buffer),
     }
 }
 
-fn put_configuration(out: Output, configuration: Configuration, buffer: &mut Buffer) -> Output {
-    let out = put_keys(out, configuration.keys, buffer);
-    let out = put_address(out, configuration.address, buffer);
-    let out = put_octets(out, b" jrc=", configuration.jrc, buffer);
-    let out = put_octets(out, b" network=", configuration.network, buffer);
-    let out = put_octets(out, b" prefix=", configuration.prefix, buffer);
-    let out = out.text(b" passed=", buffer);
-    out.number(configuration.passed, buffer)
+// The parameters that both forms have, and then those of the one.
+fn put_configuration(
+    out: Output,
+    version: Version,
+    configuration: Configuration,
+    buffer: &mut Buffer,
+) -> Output {
+    let out = put_keys(out, version, configuration.keys, buffer);
+    let out = put_address(out, version, configuration.address, buffer);
+    let out = put_octets(out, b" jrc=", version, configuration.jrc, buffer);
+    match version {
+        Version::Draft => put_draft(out, configuration, buffer),
+        Version::Published => put_published(out, configuration, buffer),
+    }
 }
 
-fn put_keys(out: Output, keys: KeysParameter, buffer: &mut Buffer) -> Output {
+fn put_draft(out: Output, configuration: Configuration, buffer: &mut Buffer) -> Output {
+    let out = put_octets(
+        out,
+        b" network=",
+        Version::Draft,
+        configuration.network,
+        buffer,
+    );
+    let out = put_octets(
+        out,
+        b" prefix=",
+        Version::Draft,
+        configuration.prefix,
+        buffer,
+    );
+    put_passed(out, configuration.passed, buffer)
+}
+
+fn put_published(out: Output, configuration: Configuration, buffer: &mut Buffer) -> Output {
+    let out = put_blacklist(out, configuration.blacklist, buffer);
+    let out = put_rate(out, configuration.rate, buffer);
+    let out = put_passed(out, configuration.passed, buffer);
+    let out = out.text(b" reports=", buffer);
+    tool_notation::put_faults(out, cojp::faults_of(configuration), buffer)
+}
+
+fn put_keys(out: Output, version: Version, keys: KeysParameter, buffer: &mut Buffer) -> Output {
     let report = keys.report;
     let out = out.text(b"accepted keys=", buffer);
-    let out = put_report(out, report, buffer);
+    let out = put_report(out, version, report, buffer);
     let Report::Taken = report else {
         return out;
     };
     tool_notation::put_key_set(out, keys.value, buffer)
 }
 
-// The short address and its lease, which is absent or discarded as the address is.
-fn put_address(out: Output, address: AddressParameter, buffer: &mut Buffer) -> Output {
+// The short address and its lease, which is absent or bad as the address is.
+fn put_address(
+    out: Output,
+    version: Version,
+    address: AddressParameter,
+    buffer: &mut Buffer,
+) -> Output {
     let report = address.report;
     let out = out.text(b" address=", buffer);
     if let Report::Taken = report {
         return put_leased(out, address.value, buffer);
     }
-    let out = put_report(out, report, buffer);
+    let out = put_report(out, version, report, buffer);
     let out = out.text(b" lease=", buffer);
-    put_report(out, report, buffer)
+    put_report(out, version, report, buffer)
 }
 
 fn put_leased(out: Output, address: ShortAddress, buffer: &mut Buffer) -> Output {
@@ -71,4 +113,24 @@ fn put_leased(out: Output, address: ShortAddress, buffer: &mut Buffer) -> Output
         return out.number(address.lease, buffer);
     }
     out.text(b"none", buffer)
+}
+
+fn put_blacklist(out: Output, blacklist: ListParameter, buffer: &mut Buffer) -> Output {
+    let report = blacklist.report;
+    let out = out.text(b" blacklist=", buffer);
+    let out = put_report(out, Version::Published, report, buffer);
+    let Report::Taken = report else {
+        return out;
+    };
+    tool_notation::put_blacklist(out, blacklist.value, buffer)
+}
+
+fn put_rate(out: Output, rate: RateParameter, buffer: &mut Buffer) -> Output {
+    let report = rate.report;
+    let out = out.text(b" rate=", buffer);
+    let out = put_report(out, Version::Published, report, buffer);
+    let Report::Taken = report else {
+        return out;
+    };
+    out.number(rate.value, buffer)
 }

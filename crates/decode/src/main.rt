@@ -103,10 +103,13 @@ fn answer_hex(
 
 // A payload is read as a join request, or else as a configuration.
 fn answer_object(reading: Reading, payload: &[u8], out: Output, buffer: &mut Buffer) -> Output {
+    let version = reading.version;
     if reading.is_request {
-        return request::answer(reading.strict, payload, out, buffer);
+        let read = request::read(version, reading.strict, payload);
+        return request::put_read(out, version, read, buffer);
     }
-    configuration::answer(reading.strict, payload, out, buffer)
+    let read = configuration::read(version, reading.strict, payload);
+    configuration::put_read(out, version, read, buffer)
 }
 
 // Answers the next line; an empty one and a comment are not answered.
@@ -156,7 +159,7 @@ fn main() {
 READING HEX: the object; rewrite READING HEX: the object, written again; head HEX: the first head.\n\
 merge HEX + HEX: two configurations joined and written.\n\
 part HEX, end READING, reset: a payload that comes in parts; store N: how many bytes are lent for it.\n\
-READING is request, configuration, strict-request or strict-configuration.\n",
+READING is request or configuration, new-request or new-configuration (RFC 9031), with strict- before it if heads must be the shortest.\n",
         &mut buffer,
     );
     let cable = Cable::new();

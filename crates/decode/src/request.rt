@@ -1,35 +1,54 @@
-// The commands `request HEX` and `strict-request HEX`.
+// The commands `request HEX`, `new-request HEX` and their strict ones.
 use crate::parameter::put_octets;
+use crate::parameter::put_report;
 use cojp::JoinRequest;
+use cojp::ListParameter;
+use cojp::Report;
 use cojp::RequestRead;
+use cojp::Version;
 use refusal::Verdict;
+use tool_notation::put_passed;
 use tool_text::output::Buffer;
 use tool_text::output::Output;
 
-pub fn read(strict: bool, payload: &[u8]) -> RequestRead {
+pub fn read(version: Version, strict: bool, payload: &[u8]) -> RequestRead {
     if strict {
-        return cojp_request_read::read_strict_request(payload);
+        return cojp_request_read::read_strict_request_as(payload, version);
     }
-    cojp_request_read::read_request(payload)
-}
-
-pub fn answer(strict: bool, payload: &[u8], out: Output, buffer: &mut Buffer) -> Output {
-    put_read(out, read(strict, payload), buffer)
+    cojp_request_read::read_request_as(payload, version)
 }
 
 // The object, or the refusal.
-pub fn put_read(out: Output, read: RequestRead, buffer: &mut Buffer) -> Output {
+pub fn put_read(out: Output, version: Version, read: RequestRead, buffer: &mut Buffer) -> Output {
     let verdict = read.verdict;
     match verdict {
-        Verdict::Accepted => put_request(out, read.request, buffer),
+        Verdict::Accepted => put_request(out, version, read.request, buffer),
         Verdict::Refused(refusal) => tool_notation::put_refusal(out, refusal, buffer),
     }
 }
 
-fn put_request(out: Output, request: JoinRequest, buffer: &mut Buffer) -> Output {
+fn put_request(out: Output, version: Version, request: JoinRequest, buffer: &mut Buffer) -> Output {
     let out = out.text(b"accepted role=", buffer);
     let out = out.number(request.role as u64, buffer);
-    let out = put_octets(out, b" network=", request.network, buffer);
-    let out = out.text(b" passed=", buffer);
-    out.number(request.passed, buffer)
+    let out = put_octets(out, b" network=", version, request.network, buffer);
+    match version {
+        Version::Draft => put_passed(out, request.passed, buffer),
+        Version::Published => {
+            let out = put_unsupported(out, request.unsupported, buffer);
+            let out = put_passed(out, request.passed, buffer);
+            let out = out.text(b" reports=", buffer);
+            tool_notation::put_faults(out, request.faults, buffer)
+        }
+    }
+}
+
+// What a node could not act on.
+fn put_unsupported(out: Output, unsupported: ListParameter, buffer: &mut Buffer) -> Output {
+    let report = unsupported.report;
+    let out = out.text(b" unsupported=", buffer);
+    let out = put_report(out, Version::Published, report, buffer);
+    let Report::Taken = report else {
+        return out;
+    };
+    tool_notation::put_unsupported(out, unsupported.value, buffer)
 }

@@ -1,6 +1,7 @@
 // The command `rewrite READING HEX`: the object that was read, written again.
 use crate::command::Reading;
 use cbor::Written;
+use cojp::Version;
 use refusal::Verdict;
 use tool_text::output::Buffer;
 use tool_text::output::Output;
@@ -18,26 +19,34 @@ pub fn answer(reading: Reading, payload: &[u8], out: Output, buffer: &mut Buffer
 }
 
 fn rewrite(reading: Reading, payload: &[u8], dst: &mut [u8]) -> Written {
+    let version = reading.version;
     if reading.is_request {
-        return rewrite_request(reading.strict, payload, dst);
+        return rewrite_request(version, reading.strict, payload, dst);
     }
-    rewrite_configuration(reading.strict, payload, dst)
+    rewrite_configuration(version, reading.strict, payload, dst)
 }
 
-fn rewrite_request(strict: bool, payload: &[u8], dst: &mut [u8]) -> Written {
-    let read = crate::request::read(strict, payload);
+fn rewrite_request(version: Version, strict: bool, payload: &[u8], dst: &mut [u8]) -> Written {
+    let read = crate::request::read(version, strict, payload);
     let verdict = read.verdict;
     match verdict {
         Verdict::Refused(refusal) => Written::Refused(refusal),
-        Verdict::Accepted => cojp_request_write::write_request(dst, read.request),
+        Verdict::Accepted => cojp_request_write::write_request_as(dst, read.request, version),
     }
 }
 
-fn rewrite_configuration(strict: bool, payload: &[u8], dst: &mut [u8]) -> Written {
-    let read = crate::configuration::read(strict, payload);
+fn rewrite_configuration(
+    version: Version,
+    strict: bool,
+    payload: &[u8],
+    dst: &mut [u8],
+) -> Written {
+    let read = crate::configuration::read(version, strict, payload);
     let verdict = read.verdict;
     match verdict {
         Verdict::Refused(refusal) => Written::Refused(refusal),
-        Verdict::Accepted => cojp_configuration_write::write_configuration(dst, read.configuration),
+        Verdict::Accepted => {
+            cojp_configuration_write::write_configuration_as(dst, read.configuration, version)
+        }
     }
 }

@@ -2,6 +2,7 @@
 use crate::command::Reading;
 use crate::configuration;
 use crate::request;
+use cojp::Version;
 use cojp_serial::Arrival;
 use cojp_serial::ConfigurationEnd;
 use cojp_serial::PartAnswer;
@@ -92,33 +93,39 @@ pub fn end(
     out: Output,
     buffer: &mut Buffer,
 ) -> Answered {
+    let version = reading.version;
     let lent = tool_text::first(store, cable.lent);
     if reading.is_request {
-        let end = end_request(cable.arrival, lent, reading.strict);
+        let end = end_request(cable.arrival, lent, version, reading.strict);
         let arrival = end.arrival;
         return Answered {
             cable: cable.with(arrival),
-            out: request::put_read(out, end.read, buffer),
+            out: request::put_read(out, version, end.read, buffer),
         };
     }
-    let end = end_configuration(cable.arrival, lent, reading.strict);
+    let end = end_configuration(cable.arrival, lent, version, reading.strict);
     let arrival = end.arrival;
     Answered {
         cable: cable.with(arrival),
-        out: configuration::put_read(out, end.read, buffer),
+        out: configuration::put_read(out, version, end.read, buffer),
     }
 }
 
-fn end_request(arrival: Arrival, store: &[u8], strict: bool) -> RequestEnd {
+fn end_request(arrival: Arrival, store: &[u8], version: Version, strict: bool) -> RequestEnd {
     if strict {
-        return cojp_serial::end_strict_request(arrival, store);
+        return cojp_serial::end_strict_request_as(arrival, store, version);
     }
-    cojp_serial::end_request(arrival, store)
+    cojp_serial::end_request_as(arrival, store, version)
 }
 
-fn end_configuration(arrival: Arrival, store: &[u8], strict: bool) -> ConfigurationEnd {
+fn end_configuration(
+    arrival: Arrival,
+    store: &[u8],
+    version: Version,
+    strict: bool,
+) -> ConfigurationEnd {
     if strict {
-        return cojp_serial::end_strict_configuration(arrival, store);
+        return cojp_serial::end_strict_configuration_as(arrival, store, version);
     }
-    cojp_serial::end_configuration(arrival, store)
+    cojp_serial::end_configuration_as(arrival, store, version)
 }

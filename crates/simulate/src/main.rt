@@ -8,7 +8,9 @@ use nodes::execute;
 use nodes::load;
 use nodes::no_nodes;
 use simulate_answers::put_answer;
+use simulate_answers::reply::lent;
 use simulate_answers::reply::marked;
+use simulate_answers::reply::spoken_of;
 use simulate_commands::command::Made;
 use simulate_commands::next_command;
 use tool_text::output::Buffer;
@@ -19,6 +21,8 @@ struct Simulation {
     session: Session,
     nodes: Nodes,
     made: Made,
+    // how many bytes a start may write
+    room: usize,
 }
 
 // Answers the next line; an empty one and a comment are not answered.
@@ -34,15 +38,17 @@ fn answer_line(
     let command = commanded.command;
     let mut session = commanded.session;
     let asked = load(nodes, command.first);
-    let done = execute(nodes, command, payload);
+    let room = simulation.room;
+    let done = execute(nodes, command, room, payload);
     let reply = done.reply;
     let nodes = done.nodes;
-    let made = marked(made, command.first, reply);
-    session.out = put_answer(session.out, reply, asked, command, payload, buffer);
+    let node = spoken_of(reply, asked, load(nodes, command.first));
+    session.out = put_answer(session.out, reply, node, command, payload, buffer);
     Simulation {
         session,
         nodes,
-        made,
+        made: marked(made, command.first, reply),
+        room: lent(room, reply),
     }
 }
 
@@ -67,9 +73,9 @@ fn main() {
     let mut buffer = io::large_buffer();
     let session = Session::begin(
         b"simulate: up to 16 nodes and their life, joining, updates, frames (docs/TOOLS.md).\n\
-node I ROLE NETWORK, start I TIME TIMEOUT, poll I TIME, answer I TIME HEX, update I TIME HEX,\n\
+node I ROLE NETWORK, new-node I ROLE NETWORK (RFC 9031), start I TIME TIMEOUT, poll I TIME, answer I TIME HEX, update I TIME HEX,\n\
 holds I TIME, send I TYPE, receive I TYPE IDENTIFIER, verified I TYPE IDENTIFIER, turn I J TYPE, show I,\n\
-set I FIELD VALUE, set I counter IDENTIFIER N\n",
+room N: how many bytes are lent to a start; set I FIELD VALUE, set I counter IDENTIFIER N\n",
         &mut buffer,
     );
     let nodes = no_nodes();
@@ -77,6 +83,7 @@ set I FIELD VALUE, set I counter IDENTIFIER N\n",
         session,
         nodes,
         made: [false; 16],
+        room: 256,
     };
     run(simulation, &mut bytes, &mut payload, &mut buffer);
 }

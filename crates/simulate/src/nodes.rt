@@ -38,13 +38,18 @@ fn stored(mut nodes: Nodes, number: u64, node: Node) -> Nodes {
     nodes
 }
 
-// Carries the command out. A join request that is sent is written over the payload.
-pub fn execute(nodes: Nodes, command: Command, payload: &mut tool_notation::Payload) -> Executed {
+// Carries the command out. A join request that is sent is written over the first `room` bytes of the payload.
+pub fn execute(
+    nodes: Nodes,
+    command: Command,
+    room: usize,
+    payload: &mut tool_notation::Payload,
+) -> Executed {
     let verb = command.verb;
     if let Verb::Turn = verb {
         return between(nodes, command);
     }
-    let done = perform(load(nodes, command.first), command, payload);
+    let done = perform(load(nodes, command.first), command, room, payload);
     let reply = done.reply;
     Executed {
         nodes: stored(nodes, command.first, done.node),

@@ -2,8 +2,11 @@
 use crate::bench::edited;
 use crate::bench::with_counter;
 use cojp::Octets;
+use cojp::Version;
 use node::Delivered;
+use node::Made;
 use node::Node;
+use node::Started;
 use node_parameters::HeldOctets;
 use node_parameters::octets::absent_octets;
 use refusal::Verdict;
@@ -51,19 +54,31 @@ fn counted(payload: &[u8]) -> usize {
     payload.len()
 }
 
-// The node after a command that names it. A join request that it sends is written over the payload.
-pub fn perform(node: Node, command: Command, payload: &mut tool_notation::Payload) -> Done {
+// The node after a command that names it. A join request that it sends is written over the first `room` bytes of the payload.
+pub fn perform(
+    node: Node,
+    command: Command,
+    room: usize,
+    payload: &mut tool_notation::Payload,
+) -> Done {
     let verb = command.verb;
     if let Verb::Start = verb {
-        return start(node, command, payload);
+        return start(node, command, room, payload);
     }
     call(node, command, tool_text::first(payload, command.len))
 }
 
-fn start(node: Node, command: Command, request: &mut tool_notation::Payload) -> Done {
-    let started = node.start(request, command.second, command.third);
+fn start(node: Node, command: Command, room: usize, payload: &mut [u8]) -> Done {
+    let started = start_within(node, command, room, payload);
     let verdict = started.verdict;
     with_reply(started.node, start_reply(verdict, started.length))
+}
+
+fn start_within(node: Node, command: Command, room: usize, payload: &mut [u8]) -> Started {
+    if payload.len() < room {
+        return node.start(payload, command.second, command.third);
+    }
+    node.start(&mut payload[..room], command.second, command.third)
 }
 
 // Any command but `start`; a question and a line that is no command leave the node.
@@ -71,7 +86,7 @@ fn call(node: Node, command: Command, payload: &[u8]) -> Done {
     let verb = command.verb;
     match verb {
         Verb::Set(edit) => set(node, edit, command, payload),
-        Verb::Make => make(node, command, payload),
+        Verb::Make(version) => make(node, version, command, payload),
         Verb::Answer => delivered(node.join_answer(command.second, payload)),
         Verb::Update => delivered(node.update(command.second, payload)),
         Verb::Poll => poll(node, command.second),
@@ -81,13 +96,21 @@ fn call(node: Node, command: Command, payload: &[u8]) -> Done {
     }
 }
 
-// The command `node I ROLE NETWORK`; a refused one leaves the node that was there.
-fn make(node: Node, command: Command, network: &[u8]) -> Done {
-    let made = Node::new(byte(command.second), identifier(network, command.none));
+// The commands `node I ROLE NETWORK` and `new-node I ROLE NETWORK`; a refused one leaves the node that was there.
+fn make(node: Node, version: Version, command: Command, network: &[u8]) -> Done {
+    let network = identifier(network, command.none);
+    let made = fresh(version, byte(command.second), network);
     let verdict = made.verdict;
     match verdict {
         Verdict::Refused(refusal) => with_reply(node, Reply::Refused(refusal)),
         Verdict::Accepted => with_reply(made.node, Reply::Made),
+    }
+}
+
+fn fresh(version: Version, role: u8, network: HeldOctets) -> Made {
+    match version {
+        Version::Draft => Node::new(role, network),
+        Version::Published => Node::published(role, network),
     }
 }
 
@@ -131,6 +154,7 @@ fn left(node: Node, command: Command) -> Reply {
     let verb = command.verb;
     match verb {
         Verb::Holds => Reply::Held(node.address_holds(command.second)),
+        Verb::Room => Reply::Lent(command.first as usize),
         Verb::Wrong(fault) => Reply::Wrong(fault),
         Verb::Nothing => Reply::Nothing,
         _ => Reply::Asked,

@@ -1,15 +1,14 @@
 // How answers are written.
+use crate::delivery::put_delivery;
 use crate::reply::Reply;
 use crate::show::put_counter;
 use crate::show::put_node;
-use cojp::Report;
 use node::Holding;
 use node::Node;
 use node::Sent;
 use node_attempt::Due;
 use node_key_sets::Change;
 use node_key_sets::KeyAnswer;
-use node_parameters::Reports;
 use refusal::Verdict;
 use simulate_commands::Command;
 use simulate_commands::Verb;
@@ -19,7 +18,7 @@ use tool_text::fault::put_fault;
 use tool_text::output::Buffer;
 use tool_text::output::Output;
 
-// Answers the line; a question is answered from the node that was asked. An empty line and a comment are not answered.
+// Answers the line; the answer speaks of the node. An empty line and a comment are not answered.
 pub fn put_answer(
     out: Output,
     reply: Reply,
@@ -34,10 +33,13 @@ pub fn put_answer(
     if let Reply::Asked = reply {
         return put_asked(out, node, command, buffer).byte(b'\n', buffer);
     }
+    if let Reply::Delivered(reports) = reply {
+        return put_delivery(out, reports, node, buffer).byte(b'\n', buffer);
+    }
     put_reply(out, reply, payload, buffer).byte(b'\n', buffer)
 }
 
-// Any reply but a question's.
+// Any reply that does not speak of a node.
 fn put_reply(out: Output, reply: Reply, payload: &[u8], buffer: &mut Buffer) -> Output {
     match reply {
         Reply::Nothing => out,
@@ -45,14 +47,19 @@ fn put_reply(out: Output, reply: Reply, payload: &[u8], buffer: &mut Buffer) -> 
         Reply::Refused(refusal) => put_refusal(out, refusal, buffer),
         Reply::Made => out.text(b"made", buffer),
         Reply::Set => out.text(b"set", buffer),
+        Reply::Lent(room) => put_lent(out, room, buffer),
         Reply::Sent(length) => put_sent(out, payload, length, buffer),
         Reply::Polled(due) => put_due(out, due, buffer),
-        Reply::Delivered(reports) => put_reports(out, reports, buffer),
+        Reply::Delivered(_) => out,
         Reply::Held(holding) => put_holding(out, holding, buffer),
         Reply::Verified(change) => put_change(out, change, buffer),
         Reply::Failed => out.text(b"failed", buffer),
         Reply::Asked => out,
     }
+}
+
+fn put_lent(out: Output, room: usize, buffer: &mut Buffer) -> Output {
+    out.text(b"lent ", buffer).number(room as u64, buffer)
 }
 
 fn put_sent(out: Output, payload: &[u8], length: usize, buffer: &mut Buffer) -> Output {
@@ -82,31 +89,6 @@ fn put_change(out: Output, change: Change, buffer: &mut Buffer) -> Output {
         Change::Refused(refusal) => put_refusal(out, refusal, buffer),
         Change::Switched => out.text(b"switched", buffer),
         Change::Kept => out.text(b"kept", buffer),
-    }
-}
-
-fn put_reports(out: Output, reports: Reports, buffer: &mut Buffer) -> Output {
-    let keys = reports.keys;
-    let address = reports.address;
-    let jrc = reports.jrc;
-    let network = reports.network;
-    let prefix = reports.prefix;
-    let out = put_report(out, b"accepted keys=", keys, buffer);
-    let out = put_report(out, b" address=", address, buffer);
-    let out = put_report(out, b" jrc=", jrc, buffer);
-    let out = put_report(out, b" network=", network, buffer);
-    let out = put_report(out, b" prefix=", prefix, buffer);
-    let out = out.text(b" passed=", buffer);
-    out.number(reports.passed, buffer)
-}
-
-// What was made of a parameter, after its name.
-fn put_report(out: Output, name: &[u8], report: Report, buffer: &mut Buffer) -> Output {
-    let out = out.text(name, buffer);
-    match report {
-        Report::Absent => out.text(b"absent", buffer),
-        Report::Taken => out.text(b"taken", buffer),
-        Report::Discarded => out.text(b"discarded", buffer),
     }
 }
 

@@ -1,5 +1,6 @@
 // What the commands of simulate are answered, and how that is written (docs/TOOLS.md).
 mod answer;
+mod delivery;
 pub mod reply;
 mod show;
 

@@ -1,5 +1,6 @@
 // What a command is answered, as a value.
 use node::Holding;
+use node::Node;
 use node_attempt::Due;
 use node_key_sets::Change;
 use node_parameters::Reports;
@@ -16,6 +17,8 @@ pub enum Reply {
     Refused(Refusal),
     Made,
     Set,
+    // a start may write so many bytes
+    Lent(usize),
     // a join request of so many bytes
     Sent(usize),
     Polled(Due),
@@ -43,6 +46,22 @@ pub fn delivery_reply(verdict: Verdict, reports: Reports) -> Reply {
         Verdict::Refused(refusal) => Reply::Refused(refusal),
         Verdict::Accepted => Reply::Delivered(reports),
     }
+}
+
+// How many bytes a start may write, after such an answer.
+pub fn lent(room: usize, reply: Reply) -> usize {
+    if let Reply::Lent(room) = reply {
+        return room;
+    }
+    room
+}
+
+// The node that such an answer speaks of: a question's is the one that was asked, any other's the one that the command left.
+pub fn spoken_of(reply: Reply, asked: Node, left: Node) -> Node {
+    if let Reply::Asked = reply {
+        return asked;
+    }
+    left
 }
 
 // Which nodes are made, after such an answer to a command on this one.

@@ -1,16 +1,21 @@
 // The command `show I`: a node on one line.
+use cojp::Version;
 use link_key::Key;
 use link_key_counters::CountedSet;
 use node::Node;
 use node_attempt::Attempt;
 use node_attempt::Phase;
 use node_parameters::HeldAddress;
+use node_parameters::HeldList;
 use node_parameters::HeldOctets;
+use node_parameters::HeldRate;
 use tool_text::output::Buffer;
 use tool_text::output::Output;
 
 // Writes what the node is and holds.
 pub fn put_node(out: Output, node: Node, buffer: &mut Buffer) -> Output {
+    let version = node.version;
+    let out = put_version(out, version, buffer);
     let out = put_number(out, b"role=", node.role as u64, buffer);
     let out = put_attempt(out, node.attempt, buffer);
     let out = put_key_set(out, b" active=", node.sets.active, buffer);
@@ -18,7 +23,41 @@ pub fn put_node(out: Output, node: Node, buffer: &mut Buffer) -> Output {
     let out = put_address(out, node.address, buffer);
     let out = put_octets(out, b" jrc=", node.jrc, buffer);
     let out = put_octets(out, b" network=", node.network, buffer);
-    put_octets(out, b" prefix=", node.prefix, buffer)
+    match version {
+        Version::Draft => put_octets(out, b" prefix=", node.prefix, buffer),
+        Version::Published => put_published(out, node, buffer),
+    }
+}
+
+// A node of the draft is shown without its form.
+fn put_version(out: Output, version: Version, buffer: &mut Buffer) -> Output {
+    match version {
+        Version::Draft => out,
+        Version::Published => out.text(b"form=new ", buffer),
+    }
+}
+
+// What a node of the published form alone holds.
+fn put_published(out: Output, node: Node, buffer: &mut Buffer) -> Output {
+    let out = put_blacklist(out, node.blacklist, buffer);
+    let out = put_rate(out, node.rate, buffer);
+    let out = out.text(b" reports=", buffer);
+    tool_notation::put_faults(out, node.faults, buffer)
+}
+
+fn put_blacklist(out: Output, blacklist: HeldList, buffer: &mut Buffer) -> Output {
+    let out = out.text(b" blacklist=", buffer);
+    if !blacklist.held {
+        return out.text(b"none", buffer);
+    }
+    tool_notation::put_blacklist(out, blacklist.value, buffer)
+}
+
+fn put_rate(out: Output, rate: HeldRate, buffer: &mut Buffer) -> Output {
+    if !rate.held {
+        return out.text(b" rate=none", buffer);
+    }
+    put_number(out, b" rate=", rate.value, buffer)
 }
 
 fn put_number(out: Output, name: &[u8], number: u64, buffer: &mut Buffer) -> Output {

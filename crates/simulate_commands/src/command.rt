@@ -119,14 +119,14 @@ fn has_numbers(line: Line, shape: Shape) -> bool {
     let third = tail.number;
     let next = tail.next;
     let fourth = next.number;
+    let of_first = shape.first;
     let of_second = shape.second;
     let of_third = shape.third;
     let of_fourth = shape.fourth;
-    is_number(first) && fits(of_second, second) && fits(of_third, third) && fits(of_fourth, fourth)
-}
-
-fn is_number(number: Decimal) -> bool {
-    fits(Number::UpTo(u64::MAX), number)
+    fits(of_first, first)
+        && fits(of_second, second)
+        && fits(of_third, third)
+        && fits(of_fourth, fourth)
 }
 
 // Whether the word is what is asked of it as a number.
@@ -146,7 +146,7 @@ fn is_within(number: Decimal, most: u64) -> bool {
 
 // Whether the bytes that the command asks for stand there; `-` in the place of a new node's HEX stands for none.
 fn has_bytes(line: Line, shape: Shape, verb: Verb) -> bool {
-    if let Verb::Make = verb {
+    if let Verb::Make(_) = verb {
         if is_none(line) {
             return true;
         }
@@ -176,13 +176,14 @@ fn is_none(line: Line) -> bool {
     tail.word.is(b"-")
 }
 
-// Whether the numbers name nodes: a turn's two different ones, and that of a new one need not be made.
+// Whether the numbers name nodes: a turn's two different ones, that of a new one need not be made, and `room` names none.
 fn names_nodes(line: Line, verb: Verb, made: Made) -> bool {
     let head = line.head;
     let first = head.first;
     let second = head.second;
     match verb {
-        Verb::Make => value(first) < 16,
+        Verb::Make(_) => value(first) < 16,
+        Verb::Room => true,
         Verb::Turn => are_two(value(first), value(second), made),
         _ => is_made(value(first), made),
     }

@@ -1,6 +1,7 @@
 // The commands by their first words, and which words stand after each.
 use crate::edit::Edit;
 use crate::edit::edit_of;
+use cojp::Version;
 use tool_text::fault::Fault;
 use tool_text::line::Line;
 use tool_text::word::Word;
@@ -11,7 +12,10 @@ pub enum Verb {
     // a line that is no command
     Wrong(Fault),
     Set(Edit),
-    Make,
+    // a node of a form
+    Make(Version),
+    // so many bytes are lent to a start
+    Room,
     Start,
     Poll,
     Answer,
@@ -45,6 +49,7 @@ pub enum Bytes {
 pub struct Shape {
     // how many there are before HEX, the command among them; for what is no command, 0
     pub words: usize,
+    pub first: Number,
     pub second: Number,
     pub third: Number,
     pub fourth: Number,
@@ -57,6 +62,9 @@ const ANY: Number = Number::UpTo(u64::MAX);
 const BYTE: Number = Number::UpTo(255);
 
 const COUNTER: Number = Number::UpTo(4294967295);
+
+// A payload's length.
+const ROOM: Number = Number::UpTo(256);
 
 // The command that the line's first word names, with what a bench command's other words do.
 pub fn verb_of(line: Line) -> Verb {
@@ -75,11 +83,22 @@ fn named(word: Word) -> Verb {
     if word.is(b"show") {
         return Verb::Show;
     }
-    if word.is(b"node") {
-        return Verb::Make;
-    }
     if word.is(b"holds") {
         return Verb::Holds;
+    }
+    made(word)
+}
+
+// A command that makes a node or changes what is lent, or else one of joining.
+fn made(word: Word) -> Verb {
+    if word.is(b"node") {
+        return Verb::Make(Version::Draft);
+    }
+    if word.is(b"new-node") {
+        return Verb::Make(Version::Published);
+    }
+    if word.is(b"room") {
+        return Verb::Room;
     }
     timed(word)
 }
@@ -120,7 +139,15 @@ pub fn shape_of(verb: Verb) -> Shape {
         Verb::Nothing => shaped(0, Number::No, Number::No, Bytes::No),
         Verb::Wrong(_) => shaped(0, Number::No, Number::No, Bytes::No),
         Verb::Set(edit) => edit_shape(edit),
-        Verb::Make => shaped(3, BYTE, Number::No, Bytes::Rest),
+        Verb::Make(_) => shaped(3, BYTE, Number::No, Bytes::Rest),
+        Verb::Room => Shape {
+            words: 2,
+            first: ROOM,
+            second: Number::No,
+            third: Number::No,
+            fourth: Number::No,
+            bytes: Bytes::No,
+        },
         Verb::Start => shaped(4, ANY, ANY, Bytes::No),
         Verb::Poll | Verb::Holds => shaped(3, ANY, Number::No, Bytes::No),
         Verb::Answer | Verb::Update => shaped(3, ANY, Number::No, Bytes::Rest),
@@ -141,6 +168,7 @@ fn edit_shape(edit: Edit) -> Shape {
         Edit::Address => shaped(4, Number::No, Number::No, Bytes::Two),
         Edit::Counter => Shape {
             words: 5,
+            first: ANY,
             second: Number::No,
             third: BYTE,
             fourth: COUNTER,
@@ -153,6 +181,7 @@ fn edit_shape(edit: Edit) -> Shape {
 fn shaped(words: usize, second: Number, third: Number, bytes: Bytes) -> Shape {
     Shape {
         words,
+        first: ANY,
         second,
         third,
         fourth: Number::No,

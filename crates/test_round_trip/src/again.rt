@@ -1,4 +1,5 @@
 // A payload's object, written and read and written again.
+use crate::object::Object;
 use crate::object::rewrite;
 use crate::object::seen;
 use cbor::Written;
@@ -6,55 +7,55 @@ use refusal::Verdict;
 use tool_text::output::Buffer;
 use tool_text::output::Output;
 
-pub fn answer(is_request: bool, payload: &[u8], out: Output, buffer: &mut Buffer) -> Output {
-    let verdict = seen(is_request, payload).verdict;
+pub fn answer(object: Object, payload: &[u8], out: Output, buffer: &mut Buffer) -> Output {
+    let verdict = seen(object, payload).verdict;
     match verdict {
-        Verdict::Accepted => put_twice(is_request, payload, out, buffer),
+        Verdict::Accepted => put_twice(object, payload, out, buffer),
         Verdict::Refused(refusal) => tool_notation::put_refusal(out, refusal, buffer),
     }
 }
 
 // Written with room to spare, which tells the length; then into so many bytes, and into one less; then read and written again.
-fn put_twice(is_request: bool, payload: &[u8], out: Output, buffer: &mut Buffer) -> Output {
+fn put_twice(object: Object, payload: &[u8], out: Output, buffer: &mut Buffer) -> Output {
     let mut dst = [0u8; 256];
-    let len = length_of(rewrite(is_request, payload, &mut dst));
+    let len = length_of(rewrite(object, payload, &mut dst));
     let out = out.text(b"wrote ", buffer);
-    let out = put_attempt(is_request, payload, len, out, buffer);
+    let out = put_attempt(object, payload, len, out, buffer);
     let out = out.text(b" short ", buffer);
-    let out = put_attempt(is_request, payload, less(len), out, buffer);
-    put_again(is_request, tool_text::first(&dst, len), out, buffer)
+    let out = put_attempt(object, payload, less(len), out, buffer);
+    put_again(object, tool_text::first(&dst, len), out, buffer)
 }
 
 // Into a lent part of `room` bytes, each 0xee before: the refusal, if there is one, and the part.
 fn put_attempt(
-    is_request: bool,
+    object: Object,
     payload: &[u8],
     room: usize,
     out: Output,
     buffer: &mut Buffer,
 ) -> Output {
     let mut dst = [0xeeu8; 256];
-    let written = rewrite_within(is_request, payload, room, &mut dst);
+    let written = rewrite_within(object, payload, room, &mut dst);
     let out = put_refused(written, out, buffer);
     out.octets(tool_text::first(&dst, room), buffer)
 }
 
 // Reads what was written, and writes that.
-fn put_again(is_request: bool, payload: &[u8], out: Output, buffer: &mut Buffer) -> Output {
+fn put_again(object: Object, payload: &[u8], out: Output, buffer: &mut Buffer) -> Output {
     let mut dst = [0u8; 256];
-    let written = rewrite(is_request, payload, &mut dst);
+    let written = rewrite(object, payload, &mut dst);
     let out = out.text(b" again ", buffer);
     let out = put_refused(written, out, buffer);
     let out = out.octets(tool_text::first(&dst, length_of(written)), buffer);
     let out = out.text(b" passed ", buffer);
-    out.number(seen(is_request, payload).passed, buffer)
+    out.number(seen(object, payload).passed, buffer)
 }
 
-fn rewrite_within(is_request: bool, payload: &[u8], room: usize, dst: &mut [u8]) -> Written {
+fn rewrite_within(object: Object, payload: &[u8], room: usize, dst: &mut [u8]) -> Written {
     if dst.len() < room {
-        return rewrite(is_request, payload, dst);
+        return rewrite(object, payload, dst);
     }
-    rewrite(is_request, payload, &mut dst[0..room])
+    rewrite(object, payload, &mut dst[0..room])
 }
 
 fn put_refused(written: Written, out: Output, buffer: &mut Buffer) -> Output {

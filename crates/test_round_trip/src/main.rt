@@ -3,6 +3,7 @@
 mod again;
 mod object;
 
+use object::object_of;
 use tool_text::fault::Fault;
 use tool_text::fault::put_fault;
 use tool_text::hex::Hex;
@@ -26,7 +27,7 @@ fn answer(command: Word, hex: Hex, payload: &[u8], out: Output, buffer: &mut Buf
         return put_fault(out, Fault::Hex, buffer);
     };
     again::answer(
-        command.is(b"request"),
+        object_of(command),
         tool_text::first(payload, len),
         out,
         buffer,

@@ -1,6 +1,14 @@
-// The two objects by one name: a payload is read as a join request, or else as a configuration.
+// The objects by one name: a payload is read as a join request, or else as a configuration, of one form or the other.
 use cbor::Written;
+use cojp::Version;
 use refusal::Verdict;
+use tool_text::word::Word;
+
+// Which object a payload is read as.
+pub struct Object {
+    pub is_request: bool,
+    pub version: Version,
+}
 
 // What the reader answered, and how many labels were passed over.
 pub struct Reading {
@@ -8,16 +16,38 @@ pub struct Reading {
     pub passed: u64,
 }
 
-pub fn seen(is_request: bool, payload: &[u8]) -> Reading {
-    if is_request {
-        let read = cojp_request_read::read_request(payload);
+// What decode's command names; what is no command counts as a configuration of the draft.
+pub fn object_of(command: Word) -> Object {
+    if command.is(b"request") {
+        return named(true, Version::Draft);
+    }
+    if command.is(b"new-request") {
+        return named(true, Version::Published);
+    }
+    if command.is(b"new-configuration") {
+        return named(false, Version::Published);
+    }
+    named(false, Version::Draft)
+}
+
+fn named(is_request: bool, version: Version) -> Object {
+    Object {
+        is_request,
+        version,
+    }
+}
+
+pub fn seen(object: Object, payload: &[u8]) -> Reading {
+    let version = object.version;
+    if object.is_request {
+        let read = cojp_request_read::read_request_as(payload, version);
         let verdict = read.verdict;
         return Reading {
             verdict,
             passed: read.request.passed,
         };
     }
-    let read = cojp_configuration_read::read_configuration(payload);
+    let read = cojp_configuration_read::read_configuration_as(payload, version);
     let verdict = read.verdict;
     Reading {
         verdict,
@@ -26,11 +56,12 @@ pub fn seen(is_request: bool, payload: &[u8]) -> Reading {
 }
 
 // Reads the payload, and writes its object.
-pub fn rewrite(is_request: bool, payload: &[u8], dst: &mut [u8]) -> Written {
-    if is_request {
-        let read = cojp_request_read::read_request(payload);
-        return cojp_request_write::write_request(dst, read.request);
+pub fn rewrite(object: Object, payload: &[u8], dst: &mut [u8]) -> Written {
+    let version = object.version;
+    if object.is_request {
+        let read = cojp_request_read::read_request_as(payload, version);
+        return cojp_request_write::write_request_as(dst, read.request, version);
     }
-    let read = cojp_configuration_read::read_configuration(payload);
-    cojp_configuration_write::write_configuration(dst, read.configuration)
+    let read = cojp_configuration_read::read_configuration_as(payload, version);
+    cojp_configuration_write::write_configuration_as(dst, read.configuration, version)
 }

@@ -1,8 +1,16 @@
-// How the desk tools write refusals, byte strings, keys and key sets (docs/TOOLS.md), after CBOR's diagnostic notation; and how much of a
-// payload they keep.
+// How the desk tools write refusals, byte strings, bad parameters, keys, key sets, lists and reports (docs/TOOLS.md), after CBOR's
+// diagnostic notation; and how much of a payload they keep.
+pub mod fault;
+pub mod key;
+pub mod list;
+
 use cojp::Octets;
-use link_key::Key;
-use link_key_set::KeySet;
+use cojp::Version;
+pub use fault::put_faults;
+pub use key::put_key;
+pub use key::put_key_set;
+pub use list::put_blacklist;
+pub use list::put_unsupported;
 use refusal::Refusal;
 use tool_text::output::Buffer;
 use tool_text::output::Output;
@@ -30,37 +38,15 @@ pub fn put_octets(out: Output, octets: Octets, buffer: &mut Buffer) -> Output {
     out.octets(tool_text::first(&bytes, octets.len), buffer)
 }
 
-// A key, as 1/0/h'000102030405060708090a0b0c0d0e0f'.
-pub fn put_key(out: Output, key: Key, buffer: &mut Buffer) -> Output {
-    let value = key.value;
-    let out = out.number(key.identifier as u64, buffer);
-    let out = out.byte(b'/', buffer);
-    let out = out.number(key.usage as u64, buffer);
-    let out = out.byte(b'/', buffer);
-    out.octets(&value, buffer)
-}
-
-// A key set, as [KEY,KEY].
-pub fn put_key_set(out: Output, set: KeySet, buffer: &mut Buffer) -> Output {
-    let keys = set.keys;
-    let out = out.byte(b'[', buffer);
-    let out = put_keys(out, keys, set.count, buffer);
-    out.byte(b']', buffer)
-}
-
-// The first `count` of eight keys, with commas between them.
-fn put_keys(out: Output, keys: [Key; 8], count: usize, buffer: &mut Buffer) -> Output {
-    let mut out = out;
-    let mut i = 0;
-    while i < count {
-        if 8 <= i {
-            return out;
-        }
-        if 0 < i {
-            out = out.byte(b',', buffer);
-        }
-        out = put_key(out, keys[i], buffer);
-        i += 1;
+// The word for a bad parameter: the draft's are discarded, those of RFC 9031 malformed.
+pub fn put_bad(out: Output, version: Version, buffer: &mut Buffer) -> Output {
+    match version {
+        Version::Draft => out.text(b"discarded", buffer),
+        Version::Published => out.text(b"malformed", buffer),
     }
-    out
+}
+
+// How many labels were passed over.
+pub fn put_passed(out: Output, passed: u64, buffer: &mut Buffer) -> Output {
+    out.text(b" passed=", buffer).number(passed, buffer)
 }

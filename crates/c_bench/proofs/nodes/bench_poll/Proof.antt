@@ -48,9 +48,9 @@ bench-poll-spec =
     μ-loop
     joined-requires
     loop-holds
+    add-i
     add-poll
     poll-requires
-    add-i
     loop-less
     loop-again
     node-number-requires

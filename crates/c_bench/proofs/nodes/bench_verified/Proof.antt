@@ -45,8 +45,8 @@ bench-verified-spec =
     μ-loop
     joined-requires
     loop-holds
-    verified-requires
     add-i
+    verified-requires
     loop-less
     loop-again
     node-number-requires
