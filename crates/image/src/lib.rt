@@ -1,0 +1,17 @@
+// Images: values as bytes at fixed places, for memory that a C program lends. The definitions and laws of parts stand in specs/; here are the
+// leaves: a head, a byte, a number, bytes as they are. Each is put at the front of a lent slice, and got from a place of one.
+mod head;
+mod number;
+mod octets;
+
+pub use head::is_headed;
+pub use head::put_head;
+pub use number::number_at;
+pub use number::put_number;
+pub use octets::clear;
+pub use octets::eight_at;
+pub use octets::put_byte;
+pub use octets::put_eight;
+pub use octets::put_sixteen;
+pub use octets::sixteen_at;
+pub use octets::thirteen_at;

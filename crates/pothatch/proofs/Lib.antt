@@ -1,0 +1,6 @@
+mod Lent
+mod Ledgers
+mod Ciphers
+mod Proxies
+mod Keeps
+mod Names

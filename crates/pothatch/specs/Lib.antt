@@ -1,0 +1,6 @@
+pub mod Left
+pub mod Library
+pub mod Ledger
+pub mod Cipher
+pub mod Proxy
+pub mod Laws
