@@ -88,10 +88,6 @@ abbrev pub keysJudgedAs : Bool → View → Judgement KeySet
 keysJudgedAs informed (plain p) = broken
 keysJudgedAs informed (list ps) = keysIn (groups informed ps)
 
--- in draft 004 keys have no additional information
-abbrev pub keysJudged : View → Judgement KeySet
-keysJudged v = keysJudgedAs false v
-
 -- a set outside the limits refuses the payload
 abbrev pub keysConcluded : Judgement KeySet → Reading KeysParameter
 keysConcluded j = concluded (refused Keys) (keysParameter Taken) j
@@ -99,6 +95,7 @@ keysConcluded j = concluded (refused Keys) (keysParameter Taken) j
 abbrev pub keysReadAs : Bool → View → Reading KeysParameter
 keysReadAs informed v = keysConcluded (keysJudgedAs informed v)
 
+-- in draft 004 keys have no additional information
 abbrev pub keysRead : View → Reading KeysParameter
 keysRead v = keysReadAs false v
 

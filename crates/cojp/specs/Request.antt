@@ -50,9 +50,6 @@ roleJudged (list ps) = broken
 abbrev pub roleConcluded : Judgement ℕ → Reading ℕ
 roleConcluded j = concluded (refused refusal.Role) (λ n. n) j
 
-abbrev pub roleRead : View → Reading ℕ
-roleRead v = roleConcluded (roleJudged v)
-
 -- ---- what is gathered: the request, and whether a role was seen
 abbrev pub gathered : Bool → JoinRequest → Gathered
 gathered named q = record { named = named; request = q }

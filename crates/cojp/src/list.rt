@@ -16,10 +16,10 @@ pub struct ListRead {
     pub value: ItemList,
 }
 
-// The value counts where it is taken.
+// The value counts where it is taken. It stands first, where its numbers are aligned: a report before it makes each copy dearer.
 pub struct ListParameter {
-    pub report: Report,
     pub value: ItemList,
+    pub report: Report,
 }
 
 // A parameter with no value.
@@ -33,7 +33,7 @@ pub fn no_list(report: Report) -> ListParameter
         bytes: zeros,
     };
     ListParameter {
-        report: report,
         value: value,
+        report: report,
     }
 }

@@ -1,2 +1,3 @@
 mod Configurations
+mod Follows
 mod Labels

@@ -1,14 +1,18 @@
 // Configurations, which join responses and parameter updates carry.
+use crate::once::KeysStep;
 use crate::once::address_once;
+use crate::once::is_informed;
 use crate::once::keys_once;
 use crate::published::blacklist_once;
 use crate::published::noted_label;
 use crate::published::rate_once;
 use cojp::ConfigurationRead;
+use cojp::KeysParameter;
 use cojp::Parameter;
 use cojp::Version;
 use cojp::empty_configuration;
 use cojp::parameter_of;
+use cojp_key_set_read::read_keys;
 use cojp_map::Start;
 use cojp_map::item_end;
 use cojp_map::labelled_at;
@@ -32,92 +36,116 @@ fn refused_configuration(why: Refusal) -> ConfigurationRead
     }
 }
 
-// The next pairs in payload order, up to the first refusal. The parameters are stored where they stand: a Configuration that is
-// handed down and back for each pair costs a third of a short read.
-fn take_pairs(s: &[u8], mut at: usize, mut left: u64, version: Version) -> ConfigurationRead
-    ensures { λ r. ⌜ r ≡ configurationAnswer (walkAt (configurationForm version) left emptyConfiguration (drop at (now (s .entry)))) ⌝ }
-{
-    let mut c = empty_configuration();
-    while 0 < left {
-        let pair = labelled_at(s, at);
-        let mut verdict = pair.verdict;
-        let came = noted_label(c.came, version, pair.label);
-        c.came = came;
-        let named = parameter_of(version, pair.label);
-        match named {
-            Parameter::Keys => {
-                let r = keys_once(s, pair.value, c.keys, version);
-                verdict = r.verdict;
-                let parameter = r.parameter;
-                c.keys = parameter;
-                at = r.next;
-            }
-            Parameter::Address => {
-                let r = address_once(s, pair.value, c.address, version);
-                verdict = r.verdict;
-                let parameter = r.parameter;
-                c.address = parameter;
-                at = r.next;
-            }
-            Parameter::Jrc => {
-                let r = octets_once(s, pair.value, c.jrc, 16, version);
-                verdict = r.verdict;
-                let parameter = r.parameter;
-                c.jrc = parameter;
-                at = r.next;
-            }
-            Parameter::Network => {
-                let r = octets_once(s, pair.value, c.network, 0, Version::Draft);
-                verdict = r.verdict;
-                let parameter = r.parameter;
-                c.network = parameter;
-                at = r.next;
-            }
-            Parameter::Prefix => {
-                let r = octets_once(s, pair.value, c.prefix, 0, Version::Draft);
-                verdict = r.verdict;
-                let parameter = r.parameter;
-                c.prefix = parameter;
-                at = r.next;
-            }
-            Parameter::Blacklist => {
-                let r = blacklist_once(s, pair.value, c.blacklist);
-                verdict = r.verdict;
-                let parameter = r.parameter;
-                c.blacklist = parameter;
-                at = r.next;
-            }
-            Parameter::Rate => {
-                let r = rate_once(s, pair.value, c.rate);
-                verdict = r.verdict;
-                let parameter = r.parameter;
-                c.rate = parameter;
-                at = r.next;
-            }
-            Parameter::Unknown => {
-                c.passed += 1;
-                at = item_end(s, pair.value);
-            }
-        }
-        if let Verdict::Refused(why) = verdict {
-            return refused_configuration(why);
-        }
-        left -= 1;
-    }
-    ConfigurationRead {
-        verdict: Verdict::Accepted,
-        configuration: c,
-    }
-}
-
-// Reads a configuration of a form from a payload, strictly or not.
+// Reads a configuration of a form from a payload, strictly or not: the pairs in payload order, up to the first refusal. The parameters are
+// stored where they stand, and each answer is returned where it is made: to hand a Configuration on costs a fifth of a short read. The
+// pairs are read from a slice of their own, so that the payload's place and length need not be fetched from memory as one.
 fn read_by(payload: &[u8], version: Version, strict: bool) -> ConfigurationRead
     ensures { λ r. ⌜ r ≡ readConfigurationBy version (headBy strict) (now (payload .entry)) ⌝ }
 {
     let opened = open_payload(payload, strict);
     match opened {
-        Start::Refused(k) => refused_configuration(k),
-        Start::Pairs { count, start } => take_pairs(payload, start, count, version),
+        Start::Refused(k) => return refused_configuration(k),
+        Start::Pairs { count, start } => {
+            let s = &payload[0..];
+            let mut at = start;
+            let mut left = count;
+            let mut c = empty_configuration();
+            while 0 < left {
+                let pair = labelled_at(s, at);
+                let mut verdict = pair.verdict;
+                let came = noted_label(c.came, version, pair.label);
+                c.came = came;
+                let named = parameter_of(version, pair.label);
+                match named {
+                    Parameter::Keys => {
+                        let before = c.keys;
+                        let held = before.report;
+                        let informed = is_informed(version);
+                        let r = read_keys(s, pair.value, informed);
+                        let parameter = r.parameter;
+                        c.keys = parameter;
+                        let said = r.verdict;
+                        let report = parameter.report;
+                        let told = KeysStep {
+                            verdict: said,
+                            report: report,
+                            next: r.next,
+                        };
+                        let step = keys_once(s, pair.value, held, version, told);
+                        verdict = step.verdict;
+                        let became = step.report;
+                        let stored = c.keys;
+                        let set = stored.value;
+                        let settled = KeysParameter {
+                            report: became,
+                            value: set,
+                        };
+                        c.keys = settled;
+                        at = step.next;
+                    }
+                    Parameter::Address => {
+                        let r = address_once(s, pair.value, c.address, version);
+                        verdict = r.verdict;
+                        let parameter = r.parameter;
+                        c.address = parameter;
+                        at = r.next;
+                    }
+                    Parameter::Jrc => {
+                        let held = c.jrc;
+                        let report = held.report;
+                        let r = octets_once(s, pair.value, report, 16, version);
+                        verdict = r.verdict;
+                        let parameter = r.parameter;
+                        c.jrc = parameter;
+                        at = r.next;
+                    }
+                    Parameter::Network => {
+                        let held = c.network;
+                        let report = held.report;
+                        let r = octets_once(s, pair.value, report, 0, Version::Draft);
+                        verdict = r.verdict;
+                        let parameter = r.parameter;
+                        c.network = parameter;
+                        at = r.next;
+                    }
+                    Parameter::Prefix => {
+                        let held = c.prefix;
+                        let report = held.report;
+                        let r = octets_once(s, pair.value, report, 0, Version::Draft);
+                        verdict = r.verdict;
+                        let parameter = r.parameter;
+                        c.prefix = parameter;
+                        at = r.next;
+                    }
+                    Parameter::Blacklist => {
+                        let r = blacklist_once(s, pair.value, c.blacklist);
+                        verdict = r.verdict;
+                        let parameter = r.parameter;
+                        c.blacklist = parameter;
+                        at = r.next;
+                    }
+                    Parameter::Rate => {
+                        let r = rate_once(s, pair.value, c.rate);
+                        verdict = r.verdict;
+                        let parameter = r.parameter;
+                        c.rate = parameter;
+                        at = r.next;
+                    }
+                    Parameter::Unknown => {
+                        c.passed += 1;
+                        at = item_end(s, pair.value);
+                    }
+                }
+                if let Verdict::Refused(why) = verdict {
+                    return refused_configuration(why);
+                }
+                left -= 1;
+            }
+            return ConfigurationRead {
+                verdict: Verdict::Accepted,
+                configuration: c,
+            };
+        }
     }
 }
 

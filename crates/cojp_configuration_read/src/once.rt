@@ -1,66 +1,83 @@
 // The parameters of both forms that may come once: key set and short address.
 use cojp::AddressParameter;
 use cojp::AddressRead;
-use cojp::KeysParameter;
-use cojp::KeysRead;
 use cojp::Report;
 use cojp::Version;
 use cojp::no_address;
-use cojp::no_key_set;
 use cojp::read_address;
-use cojp_key_set_read::read_keys;
 use cojp_map::is_seen;
 use cojp_map::item_end;
 use refusal::Refusal;
 use refusal::Verdict;
 ghost use mathlib.Core.Path.{_≡_};
-ghost use mathlib.Core.Bool.{true};
 ghost use lib.ListN.{drop};
 ghost use Rattle.cojp.specs.Address.{noAddressParameter, addressRead};
 ghost use Rattle.cojp.specs.Bytes.{valueView, afterValue};
-ghost use Rattle.cojp.specs.KeySet.{noKeysParameter, keysReadAs};
+ghost use Rattle.cojp.specs.KeySet.{noKeysParameter};
 ghost use Rattle.cojp.specs.Reading.{read, said, forgiven, following, Accepting};
 ghost use Rattle.cojp.specs.Version.{informed};
 ghost use Rattle.cojp_map.specs.Pairs.{seen, once};
+ghost use Rattle.cojp_configuration_read.specs.Follow.{KeysFollow, RestFollows};
 
-// The key set at a place, in the published form: nothing of a bad one is taken, and the bytes go on after it.
-fn forgiven_keys(s: &[u8], at: usize) -> KeysRead
-    ensures { λ r. ⌜ said (r .verdict) (r .parameter) ≡ read (forgiven (noKeysParameter Report.Discarded) (keysReadAs true (valueView (drop at (now (s .entry)))))) ⌝ }
-    ensures rest { λ r. ⌜ Accepting (r .verdict) (drop (r .next) (now (s .entry)) ≡ afterValue (drop at (now (s .entry)))) ⌝ }
+// Whether keys may have additional information.
+pub(crate) fn is_informed(version: Version) -> bool
+    ensures { λ r. ⌜ r ≡ informed version ⌝ }
 {
-    let r = read_keys(s, at, true);
-    let verdict = r.verdict;
+    match version {
+        Version::Draft => false,
+        Version::Published => true,
+    }
+}
+
+// What is told of a key set beside its keys, which the walk stores as they were read: a set that is handed on is copied at each step, a
+// tenth of a short read. `next` is where the bytes go on.
+pub(crate) struct KeysStep {
+    pub verdict: Verdict,
+    pub report: Report,
+    pub next: usize,
+}
+
+// What follows in the published form from what was told of the key set at a place: nothing of a bad one is taken, and the bytes go on after it.
+fn forgiven_keys(s: &[u8], at: usize, told: KeysStep) -> KeysStep
+    ensures { λ r. ⌜ KeysFollow told r (λ x. read (forgiven (noKeysParameter Report.Discarded) x)) ⌝ }
+    ensures rest { λ r. ⌜ RestFollows (now (s .entry)) at told r ⌝ }
+{
+    let verdict = told.verdict;
     match verdict {
-        Verdict::Accepted => r,
+        Verdict::Accepted => told,
         Verdict::Refused(_) => {
-            let bad = no_key_set(Report::Discarded);
             let next = item_end(s, at);
-            KeysRead {
+            KeysStep {
                 verdict: Verdict::Accepted,
-                parameter: bad,
+                report: Report::Discarded,
                 next: next,
             }
         }
     }
 }
 
-// The key set at a place: TWICE where its label came before, with what is held; what follows from a bad one is the form's.
-pub(crate) fn keys_once(s: &[u8], at: usize, held: KeysParameter, version: Version) -> KeysRead
-    ensures { λ r. ⌜ said (r .verdict) (r .parameter) ≡ once (seen (held .report)) (following version (noKeysParameter Report.Discarded) (keysReadAs (informed version) (valueView (drop at (now (s .entry)))))) ⌝ }
-    ensures rest { λ r. ⌜ Accepting (r .verdict) (drop (r .next) (now (s .entry)) ≡ afterValue (drop at (now (s .entry)))) ⌝ }
+// What follows from what was told of the key set at a place: TWICE where its label came before, with what became of it then; what follows
+// from a bad one is the form's.
+pub(crate) fn keys_once(
+    s: &[u8],
+    at: usize,
+    held: Report,
+    version: Version,
+    told: KeysStep,
+) -> KeysStep
+    ensures { λ r. ⌜ KeysFollow told r (λ x. once (seen held) (following version (noKeysParameter Report.Discarded) x)) ⌝ }
+    ensures rest { λ r. ⌜ RestFollows (now (s .entry)) at told r ⌝ }
 {
-    let report = held.report;
-    if is_seen(report) {
-        let none = no_key_set(Report::Absent);
-        return KeysRead {
+    if is_seen(held) {
+        return KeysStep {
             verdict: Verdict::Refused(Refusal::Twice),
-            parameter: none,
+            report: Report::Absent,
             next: 0,
         };
     }
     match version {
-        Version::Draft => read_keys(s, at, false),
-        Version::Published => forgiven_keys(s, at),
+        Version::Draft => told,
+        Version::Published => forgiven_keys(s, at, told),
     }
 }
 

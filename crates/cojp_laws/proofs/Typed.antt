@@ -26,7 +26,7 @@ each-byte (x ∷ s) (u ∷ us) h y (List·Memᴰ·tail m) = each-byte s us (h .1
 -- a list's bytes are bytes
 list-bytes : (p : ListParameter) (vs : List Val) → Is (row parameter.the-type) p vs → Bytes (p .value .bytes)
 list-bytes p vs h =
-    let value = h .1 .1 .1 .0 in
+    let value = h .1 .1 .0 in
     let array = value .1 .1 .1 .1 .0 in
     each-byte (p .value .bytes) (array .0) (array .1 .1)
 

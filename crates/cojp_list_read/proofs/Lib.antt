@@ -5,3 +5,4 @@ mod Again
 mod Back
 mod Writing
 mod Listing
+mod InRange

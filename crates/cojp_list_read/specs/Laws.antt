@@ -1,13 +1,19 @@
 -- What is promised of lists that are kept.
+use Prim.Native.Nat.{_*_}
 use mathlib.Core.Path.{_≡_}
 use mathlib.Core.Bool.{true}
 use mathlib.Core.List.{List, _++_}
+use lib.ListN.{length}
 use Rattle.cbor.specs.Encode.{encode, shortest}
 use Rattle.cbor.specs.Item.{array}
 use Rattle.cbor.specs.View.{Plain, viewOf}
+use Rattle.cojp.specs.Faults.{faultList, validFaults}
 use Rattle.cojp.specs.Lists.{Picked, fitting, stringsIn, faultsIn, some, inArray, listAnswer, bytesIn, kept, itemsIn}
+use Rattle.cojp.specs.Writing.{listInRange}
+use Rattle.cojp.specs.declared.fault.Faults.{Faults}
 use Rattle.cojp.specs.declared.list.ItemList.{ItemList}
 use Rattle.cojp.specs.declared.list.ListRead.{ListRead}
+use Rattle.cojp_list_read.specs.Listed.{listedIn}
 
 -- the array of a list is the head of its count and its bytes
 abbrev pub ListWritten : (List Plain → Picked) → Type 0
@@ -25,3 +31,7 @@ pub record ListLaws : Type 0 where
   pub blacklist-back : ListRoundTrip stringsIn
   pub unsupported-written : ListWritten (some faultsIn)
   pub unsupported-back : ListRoundTrip (some faultsIn)
+  -- the reports that may be kept make a list that may be written, three bytes each
+  pub listed-in-range : (f : Faults) → validFaults f ≡ true → listInRange (some faultsIn) (listedIn f) ≡ true
+  pub listed-long : (f : Faults) → validFaults f ≡ true → listedIn f .value .len ≡ 3 * length (faultList f)
+  pub listed-members : (f : Faults) → listedIn f .value .count ≡ 3 * length (faultList f)

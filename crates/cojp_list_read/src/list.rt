@@ -34,8 +34,8 @@ pub fn taken_list(list: ListRead) -> ListParameter
     if list.good {
         let value = list.value;
         return ListParameter {
-            report: Report::Taken,
             value: value,
+            report: Report::Taken,
         };
     }
     no_list(Report::Discarded)

@@ -70,8 +70,8 @@ pub fn unsupported_of(reports: Faults) -> ListParameter
                 bytes: bytes,
             };
             ListParameter {
-                report: Report::Taken,
                 value: value,
+                report: Report::Taken,
             }
         }
     }

@@ -1,6 +1,5 @@
 // A known label may come once.
 use crate::pair::item_end;
-use cojp::OctetsParameter;
 use cojp::OctetsRead;
 use cojp::Report;
 use cojp::Version;
@@ -49,18 +48,11 @@ fn forgiven_octets(s: &[u8], at: usize, least: usize) -> OctetsRead
 
 // The byte string of `least` to 16 bytes at a place of a payload that passed the item scan: TWICE where its label came before, with what is
 // held; what follows from a bad one is the form's.
-pub fn octets_once(
-    s: &[u8],
-    at: usize,
-    held: OctetsParameter,
-    least: usize,
-    version: Version,
-) -> OctetsRead
-    ensures { λ r. ⌜ r ≡ octetsAnswer (once (seen (held .report)) (following version (noOctetsParameter Report.Discarded) (octetsRead least (valueView (drop at (now (s .entry))))))) (r .next) ⌝ }
+pub fn octets_once(s: &[u8], at: usize, held: Report, least: usize, version: Version) -> OctetsRead
+    ensures { λ r. ⌜ r ≡ octetsAnswer (once (seen held) (following version (noOctetsParameter Report.Discarded) (octetsRead least (valueView (drop at (now (s .entry))))))) (r .next) ⌝ }
     ensures rest { λ r. ⌜ Accepting (r .verdict) (drop (r .next) (now (s .entry)) ≡ afterValue (drop at (now (s .entry)))) ⌝ }
 {
-    let report = held.report;
-    if is_seen(report) {
+    if is_seen(held) {
         let none = no_octets(Report::Absent);
         return OctetsRead {
             verdict: Verdict::Refused(Refusal::Twice),

@@ -69,7 +69,9 @@ fn take_pairs(s: &[u8], mut at: usize, mut left: u64, version: Version) -> Reque
                 at = r.next;
             }
             RequestParameter::Network => {
-                let r = octets_once(s, pair.value, q.network, 0, version);
+                let held = q.network;
+                let report = held.report;
+                let r = octets_once(s, pair.value, report, 0, version);
                 verdict = r.verdict;
                 let network = r.parameter;
                 q.network = network;

@@ -6,9 +6,14 @@ use native.Mathlib.Omega.{arith}
 use borrow.Author.Needs.{needs}
 use borrow.Fn.Kinds.{In, Out}
 use borrow.Fn.PlainCycle.{Measures, is, falls, and}
+use mathlib.Core.Bool.{Bool}
+use mathlib.Core.List.{List}
 use lib.ListN.{length, drop}
+use lib.Seq.{take-all}
+use Rattle.cbor.specs.Answer.{skipAnswer}
 use Rattle.cbor.specs.Decode.{members}
 use Rattle.cbor.specs.declared.head.HeadRead.the-variants as hv
+use Rattle.cbor.specs.declared.item.Skip.{Skip}
 use Rattle.cbor.specs.declared.item.Skip.the-variants as sv
 use Rattle.cbor.proofs.Answers.{skip-answer, skip-tells, head-says, passed-item, passed-members}
 use Rattle.cbor_scan.proofs.Items.{itemBy, item-deep, item-refused, item-alone, item-string, item-short, item-array}
@@ -132,9 +137,22 @@ skip-item-skip-members-requires-3 t c κs =
     let h = arm .h2 .given .0 .0 in
     (omega (arith, arm .before .before .before .before .before .pre .0), tt)
 
+-- a tag's content is passed over in a slice that is the whole one
+passed-whole : (b : Bool) (s : List ℕ) (at d : ℕ) (p : List ℕ) (r : Skip) → p ≡ s → r ≡ skipAnswer (length p) (itemBy b d (drop at p)) → Passed s (itemBy b d (drop at s)) r
+passed-whole b s at d p r same said = passed-item b s at d r (rw same at said)
+
+skip-item-sub-skip-item : item-need skip-item-lts.Need-sub-skip-item
+skip-item-sub-skip-item t c = omega arith
+
+skip-item-part-skip-item-start : item-need skip-item-lts.Need-part-skip-item-start
+skip-item-part-skip-item-start t c = omega arith
+
+skip-item-part-skip-item-end : item-need skip-item-lts.Need-part-skip-item-end
+skip-item-part-skip-item-end t c = omega arith
+
 skip-item-skip-item-requires : item-need skip-item-lts.Need-skip-item-requires
 skip-item-skip-item-requires t c κs =
-    let arm = c .before .before in
+    let arm = c .before .before .before in
     let a = arm .before .before .before .before .before .args in
     let h = arm .h2 .given .0 .0 in
     (omega (arith, arm .before .before .before .before .before .pre .0), tt)
@@ -193,12 +211,13 @@ skip-item-returns-5 t c =
 
 skip-item-returns-6 : item-need skip-item-lts.Need-returns-6
 skip-item-returns-6 t c =
-    let arm = c .before .before .before in
+    let arm = c .before .before .before .before in
     let a = arm .before .before .before .before .before .args in
     let h = arm .h2 .given .0 .0 in
     skip-tells (a .s .now) (itemBy (a .strict) (a .levels) (drop (a .at) (a .s .now))) _
     (item-tag (a .strict) (a .s .now) (a .at) (a .levels) h (arm .before .before .before .if1 .left) (head-of t arm) (omega arith) _
-    (passed-item (a .strict) (a .s .now) (h .next) (a .levels - 1) (c .skip-item .result) (c .skip-item .ensures .is)))
+    (passed-whole (a .strict) (a .s .now) (h .next) (a .levels - 1) _ (c .skip-item .result) (take-all (length (a .s .now) - 0) (a .s .now) (omega arith))
+    (c .skip-item .ensures .is)))
 
 skip-item-returns-7 : item-need skip-item-lts.Need-returns-7
 skip-item-returns-7 t c =
@@ -328,6 +347,9 @@ pub +skip-item+skip-members-spec : {M : Type 1} → statement M
     (skip-item-enum-known-half-2 t)
     (skip-item-skip-members-requires-3 t)
     (skip-item-returns-5 t)
+    (skip-item-sub-skip-item t)
+    (skip-item-part-skip-item-start t)
+    (skip-item-part-skip-item-end t)
     (skip-item-skip-item-requires t)
     (skip-item-returns-6 t)
     (skip-item-sub-if4 t)

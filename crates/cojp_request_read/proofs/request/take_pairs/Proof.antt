@@ -69,7 +69,7 @@ turn m =
     let p = m .before .before .labelled-at in
     let names = sym (m .before .request-parameter-of .ensures) in
     ⊎-elim (λ w. turn-role _ _ _ _ _ _ (p .ensures) _ _ _ _ (names ∙ w .1 .given .1) (w .2 .result) (w .2 .ensures) (w .4) (w .5) (w .6) (w .7))
-    (⊎-elim (λ w. turn-network _ _ _ _ _ _ (p .ensures) _ _ _ _ (names ∙ w .1 .given .1) (w .2 .result) (w .2 .ensures) (w .4) (w .5) (w .6) (w .7))
+    (⊎-elim (λ w. turn-network _ _ _ _ _ _ (p .ensures) _ _ _ _ (names ∙ w .1 .given .1) (w .3 .result) (w .3 .ensures) (w .5) (w .6) (w .7) (w .8))
     (⊎-elim (λ w. turn-unsupported _ _ _ _ _ _ (p .ensures) _ _ _ _ (names ∙ w .1 .given .1) (w .2 .result) (w .2 .ensures) (w .5) (w .6) (w .7) (w .8))
     (λ w. turn-passed _ _ _ _ _ _ (p .ensures) _ _ _ _ (names ∙ w .1 .given .1) (w .3 .result) (w .3 .ensures) (w .4) (w .5) (w .6) (w .7))))
     (m .match .came)
