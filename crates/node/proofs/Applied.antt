@@ -1,30 +1,57 @@
--- What a node makes of a configuration, by the answers of the functions that judge and change it.
+-- What a node makes of a payload, by the answers of the functions that judge it, read it and place its key set.
 use Prim.Native.Nat.{ℕ}
 use mathlib.Core.Path.{_≡_, refl, sym, _∙_, ap}
-use mathlib.Core.Bool.{true, false}
+use mathlib.Core.Bool.{Bool, true, false}
+use mathlib.Core.List.{List}
+use lib.ListN.{length}
 use Rattle.refusal.specs.declared.Refusal.{Refusal}
 use Rattle.refusal.specs.declared.Refusal.the-variants as refusal
 use Rattle.refusal.specs.declared.Verdict.{Verdict}
 use Rattle.refusal.specs.declared.Verdict.the-variants as verdict
+use Rattle.node_key_sets.specs.Sets.{placed, install, setAt, placing}
+use Rattle.node_key_sets.specs.declared.sets.KeySets.{KeySets}
+use Rattle.node_key_sets.specs.declared.sets.Place.{Place}
+use Rattle.node_key_sets.specs.declared.sets.Place.the-variants as place
 use Rattle.node_key_sets.specs.declared.sets.Placement.{Placement}
-use Rattle.cojp.specs.Configuration.{withKeys}
+use Rattle.node_key_sets.specs.declared.sets.Spot.{Spot}
+use Rattle.node_delivery.specs.Delivery.{mayCome}
+use Rattle.node_delivery.specs.declared.Delivery.{Delivery}
+use Rattle.cojp.specs.Configuration.{withKeys, readConfigurationAs}
 use Rattle.cojp.specs.KeySet.{noKeysParameter}
+use Rattle.cojp.specs.Reading.{ifTaken}
 use Rattle.cojp.specs.Version.{byVersion}
 use Rattle.cojp.specs.declared.configuration.Configuration.{Configuration}
+use Rattle.cojp.specs.declared.configuration.ConfigurationRead.{ConfigurationRead}
 use Rattle.cojp.specs.declared.report.Report.the-variants.{Discarded}
 use Rattle.cojp.specs.declared.version.Version.{Version}
 use Rattle.cojp.specs.declared.version.Version.the-variants.{Draft, Published}
-use Rattle.node.specs.Delivery.{placementOf, fittedBy, fitted, undelivered, owesIdentifier, placedBy, apply}
-use Rattle.node_delivery.specs.declared.Delivery.{Delivery}
+use Rattle.node_parameters.specs.Reports.{reportsOf}
+use Rattle.node_parameters.proofs.Taken.{taken-is, taken-not}
+use Rattle.node.specs.Delivery.{placementOf, fittedBy, fitted, configured, undelivered, delivered, owesIdentifier, placedBy, apply, deliverVerdict, deliver}
+use Rattle.node.specs.Node.{isBorder, keyed}
+use Rattle.node.specs.Range.{valid}
 use Rattle.node.specs.declared.node.Node.{Node}
 
--- ---- by the form
-module _ {A : Type 0} (v : Version) (a b : A) where
-  pub by-draft : v ≡ Draft → a ≡ byVersion v a b
-  by-draft e = rw e
+-- ---- a payload that is refused, and one that was read
+module _ (delivery : Delivery) (n : Node) (time : ℕ) (payload : List ℕ) where
+  pub deliver-invalid : valid n ≡ false → undelivered refusal.Range n ≡ deliver delivery n time payload
+  unfolding deliver deliverVerdict
+  deliver-invalid e = rw e
 
-  pub by-published : v ≡ Published → b ≡ byVersion v a b
-  by-published e = rw e
+  module _ (ok : valid n ≡ true) {v : Verdict} (is : v ≡ mayCome delivery (n .attempt) time (length payload)) where
+    pub deliver-early : {k : Refusal} → v ≡ verdict.Refused k → undelivered k n ≡ deliver delivery n time payload
+    unfolding deliver deliverVerdict
+    deliver-early e = rw (ok, sym is ∙ e)
+
+    module _ (may : v ≡ verdict.Accepted) {read : ConfigurationRead} (got : read ≡ readConfigurationAs (n .version) payload) where
+      pub deliver-unread : {k : Refusal} → read .verdict ≡ verdict.Refused k → undelivered k n ≡ deliver delivery n time payload
+      unfolding deliver deliverVerdict
+      deliver-unread e = rw (ok, sym is ∙ may, ← got, e)
+
+      pub deliver-read :
+          read .verdict ≡ verdict.Accepted → apply delivery n time (fitted n (read .configuration)) ≡ deliver delivery n time payload
+      unfolding deliver deliverVerdict
+      deliver-read e = rw (ok, sym is ∙ may, ← got, e)
 
 -- ---- a configuration as the node's form takes it
 module _ (n : Node) (c : Configuration) where
@@ -46,31 +73,54 @@ module _ (n : Node) (c : Configuration) where
       go Draft = refl
       go Published = refl
 
+  -- where the key set goes, by the answers of the code
+  module _ {t : Bool} (asked : t ≡ ifTaken (c .keys .report) true false) where
+    not-placed : t ≡ false → placementOf n (c .keys) ≡ placed (n .sets)
+    not-placed e = taken-not (c .keys .report) (install (isBorder n) (n .sets) (c .keys .value)) (placed (n .sets)) t asked e
+
+    placed-at :
+        (p : Place) → t ≡ true → install (isBorder n) (n .sets) (c .keys .value) ≡ placing p (n .sets) (c .keys .value) →
+        placementOf n (c .keys) ≡ placing p (n .sets) (c .keys .value)
+    placed-at p e f = taken-is (c .keys .report) (install (isBorder n) (n .sets) (c .keys .value)) (placed (n .sets)) t asked e ∙ f
+
 -- ---- applying
 module _ (delivery : Delivery) (n : Node) (time : ℕ) (c : Configuration) where
-  -- what is left where the set is not taken
-  abbrev pub rest : Configuration
-  rest = withKeys c (noKeysParameter Discarded)
-
   pub apply-owed : owesIdentifier delivery n (c .network .report) ≡ true → undelivered refusal.Owed n ≡ apply delivery n time (fitted n c)
   unfolding apply
   apply-owed e = rw (fitted-network n c, e)
 
-  module _ (owes : owesIdentifier delivery n (c .network .report) ≡ false) (place : Placement) (placed : place ≡ placementOf n (c .keys)) where
-    judged : {v : Verdict} → place .verdict ≡ v → placementOf n (c .keys) .verdict ≡ v
-    judged e = ap (λ (p : Placement). p .verdict) (sym placed) ∙ e
+  -- a node m with its key sets placed, and what is left of the configuration: all else changes by them as the definition says
+  pub record Placed (m : Node) (left : Configuration) : Type 0 where
+    pub held : m ≡ keyed n (m .sets)
+    pub does : placedBy verdict.Accepted delivery n time left (m .sets) ≡ apply delivery n time (fitted n c)
 
-    pub apply-placed : place .verdict ≡ verdict.Accepted →
-        placedBy verdict.Accepted delivery n time c (place .sets) ≡ apply delivery n time (fitted n c)
+  module _ (owes : owesIdentifier delivery n (c .network .report) ≡ false) where
+    apply-placed : {s : KeySets} → placementOf n (c .keys) ≡ placed s → placedBy verdict.Accepted delivery n time c s ≡ apply delivery n time (fitted n c)
     unfolding apply
-    apply-placed e = rw (fitted-placed n c (judged e), owes, judged e, placed)
+    apply-placed e = rw (fitted-placed n c (ap (λ (p : Placement). p .verdict) e), owes, e)
 
-    pub apply-misfit : {k : Refusal} → place .verdict ≡ verdict.Refused k →
-        byVersion (n .version) (undelivered k n) (placedBy verdict.Accepted delivery n time rest (n .sets)) ≡ apply delivery n time (fitted n c)
-    unfolding apply fitted
-    apply-misfit {k} e = rw (judged e) (go (n .version))
-      where
-        go : (v : Version) →
-            byVersion v (undelivered k n) (placedBy verdict.Accepted delivery n time rest (n .sets)) ≡ apply delivery n time (byVersion v c rest)
-        go Draft = rw (owes, judged e)
-        go Published = rw owes
+    module _ {t : Bool} (asked : t ≡ ifTaken (c .keys .report) true false) where
+      pub none-placed : t ≡ false → Placed n c
+      none-placed e = record { held = refl; does = apply-placed (not-placed n c asked e) }
+
+      module _ (took : t ≡ true) {p : Place} (told : install (isBorder n) (n .sets) (c .keys .value) ≡ placing p (n .sets) (c .keys .value)) where
+        goes : {q : Place} → p ≡ q → placementOf n (c .keys) ≡ placing q (n .sets) (c .keys .value)
+        goes e = rw (← e) (placed-at n c asked p took told)
+
+        pub set-placed : {spot : Spot} → p ≡ place.At spot → Placed (keyed n (setAt spot (n .sets) (c .keys .value))) c
+        set-placed e = record { held = refl; does = apply-placed (goes e) }
+
+        pub apply-clash : {k : Refusal} → p ≡ place.Refused k → n .version ≡ Draft → undelivered k n ≡ apply delivery n time (fitted n c)
+        unfolding apply fitted
+        apply-clash e draft = rw (draft, owes, goes e)
+
+        pub set-discarded : {k : Refusal} → p ≡ place.Refused k → n .version ≡ Published → Placed n (withKeys c (noKeysParameter Discarded))
+        unfolding apply fitted
+        set-discarded e form = record { held = refl; does = rw (form, goes e, owes) }
+
+  -- the answer, from the node with its key sets placed
+  pub apply-changed :
+      (m : Node) (left : Configuration) → Placed m left →
+      delivered (reportsOf (isBorder m) left) (configured delivery m time left (m .sets) (reportsOf (isBorder m) left)) ≡ apply delivery n time (fitted n c)
+  unfolding configured
+  apply-changed m left h = rw (h .held) (h .does)

@@ -20,7 +20,7 @@ use Rattle.node_key_sets.specs.declared.sets.Placement.{Placement}
 use Rattle.logic_facts.specs.Tests.{both, both-left, both-right, never, first, second, third, fourth, all-four, then-so}
 
 -- whether keys may be informed is asked of each set, or of both after all else
-pub regrouped : (a b s t i p q : Bool) → ((a && (i || p)) && (b && (i || q)) && s && t) ≡ ((a && b && s && t) && (i || (p && q)))
+pub regrouped : (a b s t i p q : Bool) → ((a && (i || p)) && (b && (i || q)) && (s && t)) ≡ ((a && b && s && t) && (i || (p && q)))
 regrouped false b s t i p q = refl
 regrouped true false s t true p q = refl
 regrouped true false s t false true q = refl
@@ -89,12 +89,18 @@ module _ (K : KeyLaws) where
   none-empty : (set : KeySet) → isNone set ≡ true → keysOf set ≡ []
   none-empty set e = K .keys-of-count-0 set (eqb-true (set .count) 0 e)
 
-  pub border-empty : (border : Bool) (s : KeySets) → valid border s ≡ true → border ≡ true → pendingIn s ≡ []
-  border-empty border s e b = none-empty (s .pending .set) (border-alone border s e b)
-
   -- one set and no other
   apart-none : (ks : List Key) → shares ks [] ≡ false
   apart-none ks = K .apart-shares ks [] (λ k l m i e. List·Memᴰ·not-nil i)
+
+  -- nothing is shared with no set, and a border node may have it
+  pub alone-apart :
+      (border : Bool) (s : KeySets) → isNone (s .pending .set) ≡ true →
+      true ≡ (not (shares (activeIn s) (pendingIn s)) && (not border || isNone (s .pending .set)))
+  alone-apart border s e = rw (none-empty (s .pending .set) e, apart-none (activeIn s), e, or-true (not border))
+
+  pub border-empty : (border : Bool) (s : KeySets) → valid border s ≡ true → border ≡ true → pendingIn s ≡ []
+  border-empty border s e b = none-empty (s .pending .set) (border-alone border s e b)
 
   pub alone-valid : (border : Bool) (a : CountedSet) → noneOrValid (a .set) ≡ true → valid border (twoSets a noCounted) ≡ true
   alone-valid border a e = valid-by border (twoSets a noCounted) e refl (apart-none (keysOf (a .set))) (or-true (not border))

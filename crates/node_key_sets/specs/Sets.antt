@@ -11,7 +11,11 @@ use Rattle.link_key_set.specs.declared.key_set.KeySet.{KeySet}
 use Rattle.link_key_counters.specs.Counters.{Slot, slotsOf, arrived, noCounted, succeeded}
 use Rattle.link_key_counters.specs.declared.CountedSet.{CountedSet}
 use Rattle.node_key_sets.specs.declared.sets.KeySets.{KeySets}
+use Rattle.node_key_sets.specs.declared.sets.Place.{Place}
+use Rattle.node_key_sets.specs.declared.sets.Place.the-variants as at
 use Rattle.node_key_sets.specs.declared.sets.Placement.{Placement}
+use Rattle.node_key_sets.specs.declared.sets.Spot.{Spot}
+use Rattle.node_key_sets.specs.declared.sets.Spot.the-variants as spot
 
 -- the keys of the two, in order; no keys are no set
 abbrev pub activeIn : KeySets → List Key
@@ -77,3 +81,13 @@ install border s set =
     cond (validSet set)
     (place s set border (sameKeys (keysOf set) (activeIn s)) (shares (keysOf set) (activeIn s)))
     (unplaced refusal.Range s)
+
+-- ---- the same, by where the new set goes
+abbrev pub setAt : Spot → KeySets → KeySet → KeySets
+setAt spot.Active s set = twoSets (succeeded (s .active) set) noCounted
+setAt spot.Same s set = twoSets (s .active) noCounted
+setAt spot.Pending s set = twoSets (s .active) (arrived set)
+
+abbrev pub placing : Place → KeySets → KeySet → Placement
+placing (at.Refused k) s set = unplaced k s
+placing (at.At spot) s set = placed (setAt spot s set)

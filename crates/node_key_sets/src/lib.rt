@@ -7,7 +7,9 @@ pub use frames::KeyAnswer;
 pub use frames::Sending;
 pub use frames::without_key;
 pub use sets::KeySets;
+pub use sets::Place;
 pub use sets::Placement;
+pub use sets::Spot;
 pub use sets::no_sets;
 ghost use Rattle.node_key_sets.specs.Demand1.{KeySetsDemand1};
 

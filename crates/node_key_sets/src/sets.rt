@@ -5,10 +5,10 @@ use link_key_counters::none_counted;
 use link_key_set::KeySet;
 use refusal::Refusal;
 use refusal::Verdict;
-ghost use mathlib.Core.Bool.{_&&_};
+ghost use mathlib.Core.Bool.{not, _&&_, _||_};
 ghost use mathlib.Core.Path.{_≡_};
-ghost use Rattle.link_key_set.specs.KeySet.{keysOf, mayInform};
-ghost use Rattle.node_key_sets.specs.Sets.{noSets, noneOrValid, validAs, twoSets, placed, unplaced, install};
+ghost use Rattle.link_key_set.specs.KeySet.{keysOf, mayInform, shares};
+ghost use Rattle.node_key_sets.specs.Sets.{activeIn, pendingIn, isNone, noSets, noneOrValid, validAs, install, setAt, placing};
 
 // A set whose count is 0 stands for no set.
 pub struct KeySets {
@@ -16,10 +16,23 @@ pub struct KeySets {
     pub pending: CountedSet,
 }
 
-// The sets after a new one came; beside a refusal they are as they were.
+// The sets after a new one came; beside a refusal they are as they were. The definitions' answer: the code gives the place alone, and
+// changes the sets where they stand.
 pub struct Placement {
     pub verdict: Verdict,
     pub sets: KeySets,
+}
+
+// Where a new set goes: it is the active one at once, it is the one that is active already, or it waits.
+pub enum Spot {
+    Active,
+    Same,
+    Pending,
+}
+
+pub enum Place {
+    Refused(Refusal),
+    At(Spot),
 }
 
 pub fn no_sets() -> KeySets
@@ -39,17 +52,21 @@ fn none_or_valid(set: KeySet, informed: bool) -> bool
     set.count == 0 || set.valid_as(informed)
 }
 
-// The two sets after a new one that is not refused.
-fn placed(active: CountedSet, pending: CountedSet) -> Placement
-    ensures { λ r. ⌜ r ≡ placed (twoSets active pending) ⌝ }
-{
-    Placement {
-        verdict: Verdict::Accepted,
-        sets: KeySets { active, pending },
-    }
-}
-
 impl KeySets {
+    // Whether the two may stand beside each other: no identifier in both, none pending at a border node.
+    fn apart(self, border: bool) -> bool
+        ensures { λ r. ⌜ r ≡ (not (shares (activeIn self) (pendingIn self)) && (not border || isNone (self .pending .set))) ⌝ }
+    {
+        link_key_set::laws();
+        if self.pending.set.count == 0 {
+            return true;
+        }
+        if border {
+            return false;
+        }
+        !self.active.set.shares(self.pending.set)
+    }
+
     // Whether a node may hold the two: each in range, no identifier in both, none pending at a border node, additional information only
     // where keys may have it.
     pub fn valid(self, border: bool, informed: bool) -> bool
@@ -57,36 +74,47 @@ impl KeySets {
     {
         none_or_valid(self.active.set, informed)
             && none_or_valid(self.pending.set, informed)
-            && !self.active.set.shares(self.pending.set)
-            && (!border || self.pending.set.count == 0)
+            && self.apart(border)
     }
 
-    fn unplaced(self, why: Refusal) -> Placement
-        ensures { λ r. ⌜ r ≡ unplaced why self ⌝ }
-    {
-        Placement {
-            verdict: Verdict::Refused(why),
-            sets: self,
-        }
-    }
-
-    // The sets after a new set: a border node's is active at once; an ordinary node's is the active one, or waits as the pending one.
+    // Where a new set goes: a border node's is active at once; an ordinary node's is the active one, or waits as the pending one.
     // RANGE: the new set; CLASH. The two sets themselves are judged by the node's call that this is a part of.
-    pub fn install(self, border: bool, set: KeySet) -> Placement
-        ensures { λ r. ⌜ r ≡ install border self set ⌝ }
+    pub fn place_of(self, border: bool, set: KeySet) -> Place
+        ensures { λ r. ⌜ install border self set ≡ placing r self set ⌝ }
     {
         if !set.valid() {
-            return self.unplaced(Refusal::Range);
+            return Place::Refused(Refusal::Range);
         }
         if border {
-            return placed(self.active.succeeded(set), none_counted());
+            return Place::At(Spot::Active);
         }
         if set.same_keys(self.active.set) {
-            return placed(self.active, none_counted());
+            return Place::At(Spot::Same);
         }
         if set.shares(self.active.set) {
-            return self.unplaced(Refusal::Clash);
+            return Place::Refused(Refusal::Clash);
         }
-        placed(self.active, arrived(set))
+        Place::At(Spot::Pending)
+    }
+
+    // The sets with a new one at its place.
+    pub fn with_set(self, spot: Spot, set: KeySet) -> KeySets
+        ensures { λ r. ⌜ r ≡ setAt spot self set ⌝ }
+    {
+        let active = self.active;
+        match spot {
+            Spot::Active => KeySets {
+                active: active.succeeded(set),
+                pending: none_counted(),
+            },
+            Spot::Same => KeySets {
+                active,
+                pending: none_counted(),
+            },
+            Spot::Pending => KeySets {
+                active,
+                pending: arrived(set),
+            },
+        }
     }
 }

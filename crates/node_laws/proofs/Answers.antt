@@ -71,9 +71,12 @@ use Rattle.node.specs.declared.frames.Reported.{Reported}
 use Rattle.node.specs.declared.frames.Sent.{Sent}
 use Rattle.node.specs.declared.lease.Holding.the-variants as holding
 use Rattle.node.specs.declared.node.Node.{Node}
+use Rattle.cojp_list_read.specs.Laws.{ListLaws}
+use Rattle.cbor.specs.HeadLaws.{HeadLaws}
 use Rattle.node_laws.specs.Answers.{early, reached, isPolled, isDue, clashes, isMissing, isUncovered, writtenNumber, AnswersSay}
 use Rattle.node_laws.specs.Phases.{waits}
 use Rattle.node_laws.specs.Calls.{NodeCall, starting, polling, delivering, asking, sending, receiving, reporting, perform}
+use Rattle.node_laws.proofs.OwnRequest.{request-number, short}
 use Rattle.node_laws.proofs.Deliveries.{accepted-reports, accepted-reading}
 use Rattle.node_laws.proofs.Forms.{fitted-network, fitted-keys}
 use Rattle.node_laws.proofs.FrameKeys.{send-counts}
@@ -605,11 +608,13 @@ module _ (n : Node) (type identifier : ℕ) where
       go true = kept-by (receivingKey (n .sets) type identifier .verdict) active
       go false = refl
 
-pub answers-say : CounterLaws → ReadsInRange → AnswersSay
-answers-say C R = record {
+pub answers-say : CounterLaws → ReadsInRange → HeadLaws → ListLaws → AnswersSay
+answers-say C R H L = record {
   invalid = invalid;
   made-number = made-number;
   start-number = start-number;
+  request-number = λ n d v. request-number H L n v d;
+  request-short = λ n v. short H L n v;
   poll-number = poll-number;
   delivery-number = λ delivery n time payload. delivery-number delivery n time R payload;
   holding-number = holding-number;

@@ -13,3 +13,4 @@ mod Answers
 mod Waiting
 mod Reserved
 mod Reporting
+mod OwnRequest

@@ -1,6 +1,6 @@
 -- What the answers of a node's calls say in document 01's numbers and values: each number in 01's order, each value exactly when 01
 -- gives it.
-use Prim.Native.Nat.{ℕ, _-_}
+use Prim.Native.Nat.{ℕ, _-_, _≤_}
 use mathlib.Core.Path.{_≡_}
 use mathlib.Core.Bool.{Bool, true, false, not, _&&_}
 use mathlib.Core.List.{List, [], _∷_}
@@ -17,11 +17,14 @@ use Rattle.link_key.specs.declared.Key.{Key}
 use Rattle.link_key_set.specs.KeySet.{keysOf, sameKeys, shares, has}
 use Rattle.link_key_counters.specs.Counters.{Slot, firstServing}
 use Rattle.cbor.specs.Answer.{answer}
+use Rattle.cbor.specs.Encode.{encode}
+use Rattle.cbor.specs.Item.{map}
 use Rattle.cbor.specs.declared.write.Written.{Written}
 use Rattle.cbor.specs.declared.write.Written.the-variants as written
 use Rattle.cojp.specs.Reading.{ifTaken}
 use Rattle.cojp.specs.Version.{byVersion}
-use Rattle.cojp.specs.Writing.{requestPlan}
+use Rattle.cojp.specs.Request.{owing}
+use Rattle.cojp.specs.Writing.{requestPlan, requestPairs}
 use Rattle.cojp.specs.declared.key_set.KeysParameter.{KeysParameter}
 use Rattle.cojp.specs.declared.report.Report.the-variants.{Discarded}
 use Rattle.cojp.specs.declared.version.Version.{Version}
@@ -32,7 +35,7 @@ use Rattle.node_attempt.specs.Poll.{dueNumber, notYet, sendsAgain, givesUp}
 use Rattle.node_delivery.specs.Delivery.{belongs}
 use Rattle.node_delivery.specs.declared.Delivery.{Delivery}
 use Rattle.node_parameters.specs.Lease.{holdsAt}
-use Rattle.node_parameters.specs.Octets.{validOctets}
+use Rattle.node_parameters.specs.Octets.{validOctets, identifierIn}
 use Rattle.node_parameters.specs.Reports.{reportsOf}
 use Rattle.node_parameters.specs.declared.octets.HeldOctets.{HeldOctets}
 use Rattle.node.specs.Delivery.{owesIdentifier, readFor, deliver}
@@ -101,6 +104,15 @@ pub record AnswersSay : Type 0 where
       ∷ refusedIf (not (firstTimeout timeout)) 13
       ∷ writtenNumber (answer (requestPlan (n .version) (requestOf n)) d)
       ∷ [])
+  -- a valid node's own request is within its limits and fits a payload, so its writer refuses OWED and ROOM (12) alone
+  pub request-number :
+      (n : Node) (d : List ℕ) → valid n ≡ true →
+      writtenNumber (answer (requestPlan (n .version) (requestOf n)) d)
+      ≡ inOrder
+      (refusedIf (owing (n .version) (n .role) (identifierIn (n .network) .report)) 9
+      ∷ refusedIf (not (leb (length (encode (map (requestPairs (requestOf n))))) (length d))) 12
+      ∷ [])
+  pub request-short : (n : Node) → valid n ≡ true → length (encode (map (requestPairs (requestOf n)))) ≤ 38
   pub poll-number :
       (n : Node) (time : ℕ) →
       dueNumber (poll n time .due)

@@ -48,6 +48,8 @@ pub fn answers_say()
 {
     link_key_counters::laws();
     cojp::reads_in_range();
+    cbor::head_laws();
+    cojp_list_read::laws();
 }
 
 // When a node waits for its join answer: by an accepted start alone, and until an accepted join answer or giving up.

@@ -11,8 +11,16 @@ laws-requires c κs = search needs
 reads-in-range-requires : tie.Need-reads-in-range-requires
 reads-in-range-requires c κs = search needs
 
+head-laws-requires : tie.Need-head-laws-requires
+head-laws-requires c κs = search needs
+
+laws-requires-2 : tie.Need-laws-requires-2
+laws-requires-2 c κs = search needs
+
 returns : tie.Need-returns
-returns c = answers-say (c .before .laws .ensures) (c .reads-in-range .ensures)
+returns c =
+    let at-reads = c .before .before in
+    answers-say (at-reads .before .laws .ensures) (at-reads .reads-in-range .ensures) (c .before .head-laws .ensures) (c .laws2 .ensures)
 
 pub answers-say-spec : {M : Type 1} → statement M
-answers-say-spec = tie.close (tie.spec laws-requires reads-in-range-requires returns)
+answers-say-spec = tie.close (tie.spec laws-requires reads-in-range-requires head-laws-requires laws-requires-2 returns)

@@ -1,5 +1,5 @@
 -- `valid` meets its contract: each test of the code is one of the definition's, and both sets are asked about additional information.
-use mathlib.Core.Path.{_≡_, sym, _∙_, ap}
+use mathlib.Core.Path.{_≡_, sym, _∙_}
 use mathlib.Core.Bool.{Bool, not, _&&_, _||_}
 use mathlib.Core.Logic.{⊎-elim}
 use borrow.Author.Needs.{needs}
@@ -17,8 +17,8 @@ none-or-valid-requires c κs = search needs
 none-or-valid-requires-2 : tie.Need-none-or-valid-requires-2
 none-or-valid-requires-2 c κs = search needs
 
-shares-requires : tie.Need-shares-requires
-shares-requires c κs = search needs
+apart-requires : tie.Need-apart-requires
+apart-requires c κs = search needs
 
 -- what the code asks of each set
 abbrev activeFits : Bool → KeySets → Bool
@@ -27,7 +27,7 @@ activeFits informed s = (noneOrValid (s .active .set) && mayInform informed (act
 abbrev pendingFits : Bool → KeySets → Bool
 pendingFits informed s = (noneOrValid (s .pending .set) && mayInform informed (pendingIn s))
 
--- where the ways meet, after the second test and after the third
+-- where the ways meet, after the second test
 both-met : (c : tie.Joined1) →
     c .if1 .if2
     ≡ (activeFits (c .before .before .args .informed) (c .before .before .args .self)
@@ -40,52 +40,29 @@ both-met c =
     (λ w. and-stops (pendingFits (a .informed) (a .self)) first (w .0 .left) (w .1))
     (c .if1 .came)
 
-three-met : (c : tie.Joined2) →
-    c .if2 .if3
-    ≡ (activeFits (c .before .before .before .args .informed) (c .before .before .before .args .self)
-    && pendingFits (c .before .before .before .args .informed) (c .before .before .before .args .self)
-    && not (shares (activeIn (c .before .before .before .args .self)) (pendingIn (c .before .before .before .args .self))))
-three-met c =
-    let s = c .before .before .before .args .self in
-    ⊎-elim
-    (λ w. and-next (both-met (c .before)) (w .0 .taken) (ap not (w .1 .ensures)) (w .2))
-    (λ w. and-stops (not (shares (activeIn s) (pendingIn s))) (both-met (c .before)) (w .0 .left) (w .1))
-    (c .if2 .came)
-
--- the four tests of the code are the definition's
-four : (informed border : Bool) (s : KeySets) →
-    (activeFits informed s && pendingFits informed s && not (shares (activeIn s) (pendingIn s)) && (not border || isNone (s .pending .set)))
+-- the three tests of the code are the definition's
+three : (informed border : Bool) (s : KeySets) →
+    (activeFits informed s && pendingFits informed s
+    && (not (shares (activeIn s) (pendingIn s)) && (not border || isNone (s .pending .set))))
     ≡ validAs informed border s
 unfolding valid validAs
-four informed border s =
+three informed border s =
     regrouped (noneOrValid (s .active .set)) (noneOrValid (s .pending .set)) (not (shares (activeIn s) (pendingIn s)))
     (not border || isNone (s .pending .set)) informed (plainKeys (activeIn s)) (plainKeys (pendingIn s))
 
 returns : tie.Need-returns
 returns c =
     let met = c .before .before in
-    let a = met .before .before .before .args in
-    rw (← four (a .informed) (a .border) (a .self), sym (three-met met) ∙ c .before .if3 .taken, c .if4 .taken)
+    let a = met .before .before .args in
+    rw (← three (a .informed) (a .border) (a .self), sym (both-met met) ∙ c .before .if2 .taken) (c .apart .ensures)
 
 returns-2 : tie.Need-returns-2
 returns-2 c =
-    let met = c .before .before .before in
-    let a = met .before .before .before .args in
-    rw (← four (a .informed) (a .border) (a .self), sym (three-met met) ∙ c .before .before .if3 .taken, c .before .if4 .left)
-
-returns-3 : tie.Need-returns-3
-returns-3 c =
     let met = c .before in
-    let a = met .before .before .before .args in
-    rw (← four (a .informed) (a .border) (a .self), sym (three-met met) ∙ c .if3 .left) (c .if3 .left)
+    let a = met .before .before .args in
+    rw (← three (a .informed) (a .border) (a .self), sym (both-met met) ∙ c .if2 .left) (c .if2 .left)
 
 pub valid-spec : {M : Type 1} → statement M
 valid-spec =
     tie.close
-    (tie.spec
-    none-or-valid-requires
-    none-or-valid-requires-2
-    shares-requires
-    returns
-    returns-2
-    returns-3)
+    (tie.spec none-or-valid-requires none-or-valid-requires-2 apart-requires returns returns-2)
