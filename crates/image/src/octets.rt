@@ -13,6 +13,14 @@ pub fn put_byte(dst: &mut [u8], b: u8)
     dst[0] = b;
 }
 
+// Writes two bytes.
+pub fn put_two(dst: &mut [u8], value: [u8; 2])
+    requires { ⌜ 2 ≤ length (now dst) ⌝ }
+    ensures { λ _. ⌜ Wrote value (now (dst .entry)) 2 (now (dst .exit)) ⌝ }
+{
+    bytes::copy(&value, dst);
+}
+
 // Writes eight bytes.
 pub fn put_eight(dst: &mut [u8], value: [u8; 8])
     requires { ⌜ 8 ≤ length (now dst) ⌝ }
@@ -29,6 +37,14 @@ pub fn put_sixteen(dst: &mut [u8], value: [u8; 16])
     bytes::copy(&value, dst);
 }
 
+// Writes 253 bytes.
+pub fn put_bytes253(dst: &mut [u8], value: [u8; 253])
+    requires { ⌜ 253 ≤ length (now dst) ⌝ }
+    ensures { λ _. ⌜ Wrote value (now (dst .entry)) 253 (now (dst .exit)) ⌝ }
+{
+    bytes::copy(&value, dst);
+}
+
 // Writes zeros to all of it.
 pub fn clear(dst: &mut [u8])
     ensures { λ _. ⌜ now (dst .exit) ≡ replicate (length (now (dst .entry))) 0 ⌝ }
@@ -38,6 +54,16 @@ pub fn clear(dst: &mut [u8])
         dst[i] = 0;
         i += 1;
     }
+}
+
+// Two bytes from a place on.
+pub fn two_at(s: &[u8], at: usize) -> [u8; 2]
+    requires { ⌜ at + 2 ≤ length (now s) ⌝ }
+    ensures { λ r. ⌜ r ≡ take 2 (drop at (now (s .entry))) ⌝ }
+{
+    let mut out = [0u8; 2];
+    bytes::copy(&s[at..at + 2], &mut out);
+    out
 }
 
 // Eight bytes from a place on.
@@ -67,5 +93,15 @@ pub fn sixteen_at(s: &[u8], at: usize) -> [u8; 16]
 {
     let mut out = [0u8; 16];
     bytes::copy(&s[at..at + 16], &mut out);
+    out
+}
+
+// 253 bytes from a place on.
+pub fn bytes253_at(s: &[u8], at: usize) -> [u8; 253]
+    requires { ⌜ at + 253 ≤ length (now s) ⌝ }
+    ensures { λ r. ⌜ r ≡ take 253 (drop at (now (s .entry))) ⌝ }
+{
+    let mut out = [0u8; 253];
+    bytes::copy(&s[at..at + 253], &mut out);
     out
 }

@@ -1,0 +1,3 @@
+pub mod Info
+pub mod Key
+pub mod Laws

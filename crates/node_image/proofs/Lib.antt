@@ -1,0 +1,6 @@
+mod Places
+mod Attempts
+mod Versions
+mod Nodes
+mod Images
+mod Renewed

@@ -1,0 +1,38 @@
+-- What node calls answer with. Reports, 17 bytes: kind R, layout, reports on key set, short address, JRC address, network identifier,
+-- prefix, blacklist and join rate 1 each, labels passed over 8. A frame's key, 33 bytes: kind K, layout, key 27, frame counter 4.
+use Prim.Native.Nat.{ℕ}
+use Rattle.image.specs.Part.{Part, number, both, viewed, headed}
+use Rattle.cojp.specs.declared.report.Report.{Report}
+use Rattle.key_image.specs.Key.{keyPart}
+use Rattle.link_key.specs.declared.Key.{Key}
+use Rattle.node_parameters.specs.declared.reports.Reports.{Reports}
+use Rattle.object_image.specs.Codes.{reportPart}
+
+abbrev pub ReportsFields : Type 0
+ReportsFields = Report × (Report × (Report × (Report × (Report × (Report × (Report × ℕ))))))
+
+abbrev pub reportsFields : Part ReportsFields
+reportsFields =
+    both reportPart (both reportPart (both reportPart (both reportPart (both reportPart (both reportPart (both reportPart (number 8)))))))
+
+abbrev pub reportsTo : ReportsFields → Reports
+reportsTo x = record {
+  keys = x .0;
+  address = x .1 .0;
+  jrc = x .1 .1 .0;
+  network = x .1 .1 .1 .0;
+  prefix = x .1 .1 .1 .1 .0;
+  blacklist = x .1 .1 .1 .1 .1 .0;
+  rate = x .1 .1 .1 .1 .1 .1 .0;
+  passed = x .1 .1 .1 .1 .1 .1 .1;
+}
+
+abbrev pub reportsFrom : Reports → ReportsFields
+reportsFrom r = (r .keys, (r .address, (r .jrc, (r .network, (r .prefix, (r .blacklist, (r .rate, r .passed)))))))
+
+abbrev pub reportsImage : Part Reports
+reportsImage = headed 0x52 (viewed reportsFields reportsTo reportsFrom)
+
+-- the key and the counter that a frame is sent with
+abbrev pub frameKeyImage : Part (Key × ℕ)
+frameKeyImage = headed 0x4b (both keyPart (number 4))

@@ -1,0 +1,30 @@
+// The image of a node, and of what its calls answer with: reports on a configuration's parameters, and a frame's key.
+mod answers;
+mod attempt;
+mod change;
+mod held;
+mod state;
+mod version;
+
+pub use answers::put_frame_key;
+pub use answers::put_reports;
+pub use change::put_node_attempt;
+pub use change::put_node_counters;
+pub use state::is_node;
+pub use state::node_in;
+pub use state::put_node;
+ghost use Rattle.node_image.specs.Change.{NodeChanges};
+ghost use Rattle.node_image.specs.Laws.{NodeImages};
+
+// What was stored is loaded as it was, and there is one image for each value.
+pub fn laws()
+    ensures { λ _. ⌜ NodeImages ⌝ }
+{
+    key_image::laws();
+    object_image::laws();
+}
+
+// What a start, a poll and a send may change of a node.
+pub fn changes()
+    ensures { λ _. ⌜ NodeChanges ⌝ }
+{}

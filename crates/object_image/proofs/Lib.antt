@@ -1,0 +1,4 @@
+mod Got
+mod Put
+mod Images
+mod Objects

@@ -1,0 +1,57 @@
+-- Fields written one after the other are the record's bytes: they are only grouped otherwise.
+use Prim.Native.Nat.{ℕ}
+use mathlib.Core.Path.{_≡_, ap}
+use mathlib.Core.List.{List, [], _∷_, _++_}
+use native.Mathlib.Omega.{arith}
+use lib.ListN.{length, getD, drop-of-length-le}
+use lib.Seq.{drop-cons}
+use Rattle.cbor.specs.Answer.{Wrote}
+use Rattle.cbor.specs.Encode.{bytesOf}
+use Rattle.image.specs.Fields.{two-fields}
+use Rattle.image.specs.Part.{puts}
+use Rattle.cojp.specs.Faults.{faultOf}
+use Rattle.cojp.specs.declared.address.ShortAddress.{ShortAddress}
+use Rattle.cojp.specs.declared.fault.Fault.{Fault}
+use Rattle.cojp.specs.declared.list.ItemList.{ItemList}
+use Rattle.object_image.specs.Address.{shortAddressPart}
+use Rattle.object_image.specs.Codes.{boolPart}
+use Rattle.object_image.specs.Faults.{faultPart}
+use Rattle.object_image.specs.Lists.{listPart}
+use Rattle.object_image.specs.Request as request
+
+-- the same bytes
+pub wrote-same : {p q d e : List ℕ} {n : ℕ} → p ≡ q → Wrote p d n e → Wrote q d n e
+wrote-same h w = rw h at w
+
+pub byte-wrote : {m k n : ℕ} {d e : List ℕ} → m ≡ k → Wrote (m ∷ []) d n e → Wrote (k ∷ []) d n e
+byte-wrote h w = rw h at w
+
+pub address-wrote : (a : ShortAddress) {d e : List ℕ} {n : ℕ}
+    → Wrote ((a .bytes ++ boolPart .put (a .leased)) ++ bytesOf 8 (a .lease)) d n e
+    → Wrote (shortAddressPart .put a) d n e
+address-wrote a w = wrote-same (two-fields (a .bytes) (boolPart .put (a .leased)) (bytesOf 8 (a .lease))) w
+
+pub list-wrote : (l : ItemList) {d e : List ℕ} {n : ℕ} → Wrote ((bytesOf 1 (l .count) ++ bytesOf 1 (l .len)) ++ l .bytes) d n e
+    → Wrote (listPart .put l) d n e
+list-wrote l w = wrote-same (two-fields (bytesOf 1 (l .count)) (bytesOf 1 (l .len)) (l .bytes)) w
+
+-- ---- five reports
+-- the one at a place
+abbrev pub at : List Fault → ℕ → Fault
+at xs i = getD xs i (faultOf 0 0)
+
+all-five : (xs : List Fault) → length xs ≡ 5 → at xs 0 ∷ at xs 1 ∷ at xs 2 ∷ at xs 3 ∷ at xs 4 ∷ [] ≡ xs
+all-five xs e =
+    let z = faultOf 0 0 in
+    rw (← drop-of-length-le xs {i = 5} (omega arith), ← drop-cons xs 4 z (omega arith), ← drop-cons xs 3 z (omega arith))
+    (rw (← drop-cons xs 2 z (omega arith), ← drop-cons xs 1 z (omega arith), ← drop-cons xs 0 z (omega arith)))
+
+abbrev pub fiveBytes : Fault → Fault → Fault → Fault → Fault → List ℕ
+fiveBytes v w x y z = (((faultPart .put v ++ faultPart .put w) ++ faultPart .put x) ++ faultPart .put y) ++ faultPart .put z
+
+pub five-wrote : (xs : List Fault) {v w x y z : Fault} {d e : List ℕ} {n : ℕ} → length xs ≡ 5 → v ≡ at xs 0 → w ≡ at xs 1 → x ≡ at xs 2
+    → y ≡ at xs 3 → z ≡ at xs 4 → Wrote (fiveBytes v w x y z) d n e → Wrote (puts faultPart xs) d n e
+five-wrote xs h f g i j k u =
+    let same : puts faultPart (at xs 0 ∷ at xs 1 ∷ at xs 2 ∷ at xs 3 ∷ at xs 4 ∷ []) ≡ puts faultPart xs =
+    ap (puts faultPart) (all-five xs h) in
+    wrote-same (rw (f, g, i, j, k) same) u

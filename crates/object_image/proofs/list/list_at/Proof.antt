@@ -1,0 +1,39 @@
+-- The fields stand one after the other.
+use Rattle.object_image.proofs.Got.{list-here}
+use borrow.Author.Needs.{needs}
+use Rattle.object_image.proofs.list.list_at.Statement.{statement}
+use Rattle.object_image.proofs.list.list_at.Tie as tie
+
+number-at-requires : tie.Need-number-at-requires
+number-at-requires c κs = search needs
+
+add-number-at : tie.Need-add-number-at
+add-number-at c = search needs
+
+number-at-requires-2 : tie.Need-number-at-requires-2
+number-at-requires-2 c κs = search needs
+
+add-bytes253-at : tie.Need-add-bytes253-at
+add-bytes253-at c = search needs
+
+bytes253-at-requires : tie.Need-bytes253-at-requires
+bytes253-at-requires c κs = search needs
+
+returns : tie.Need-returns
+returns c =
+    let at-number-at2 = c .before in
+    let at-number-at = at-number-at2 .before in
+    let start = at-number-at .before .before in
+    list-here (start .args .s .now) (start .args .at) (at-number-at .number-at .ensures) (at-number-at2 .number-at2 .ensures)
+    (c .bytes253-at .ensures)
+
+pub list-at-spec : {M : Type 1} → statement M
+list-at-spec =
+    tie.close
+    (tie.spec
+    number-at-requires
+    add-number-at
+    number-at-requires-2
+    add-bytes253-at
+    bytes253-at-requires
+    returns)

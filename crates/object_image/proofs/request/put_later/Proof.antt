@@ -1,0 +1,63 @@
+-- Each field is written to the part after those before it.
+use native.Mathlib.Omega.{arith}
+use Rattle.image.specs.Fields.{next-field}
+use Rattle.object_image.proofs.Objects.{later-request-wrote}
+use borrow.Author.Needs.{needs}
+use Rattle.object_image.proofs.request.put_later.Statement.{statement}
+use Rattle.object_image.proofs.request.put_later.Tie as tie
+
+put-list-parameter-requires : tie.Need-put-list-parameter-requires
+put-list-parameter-requires c κs = search needs
+
+sub-put-faults : tie.Need-sub-put-faults
+sub-put-faults c = search needs
+
+part-put-faults-start : tie.Need-part-put-faults-start
+part-put-faults-start c = search needs
+
+part-put-faults-end : tie.Need-part-put-faults-end
+part-put-faults-end c = search needs
+
+put-faults-requires : tie.Need-put-faults-requires
+put-faults-requires c κs = search needs
+
+sub-put-number : tie.Need-sub-put-number
+sub-put-number c = search needs
+
+part-put-number-start : tie.Need-part-put-number-start
+part-put-number-start c = search needs
+
+part-put-number-end : tie.Need-part-put-number-end
+part-put-number-end c = search needs
+
+put-number-requires : tie.Need-put-number-requires
+put-number-requires c κs = search needs
+
+same-length : tie.Need-same-length
+same-length c = search needs
+
+returns : tie.Need-returns
+returns c =
+    let at-put-number = c .before .before in
+    let at-put-faults = at-put-number .before .before .before .before in
+    let at-put-list-parameter = at-put-faults .before .before .before .before in
+    let start = at-put-list-parameter .before .before .before .before .before in
+    let w =
+    next-field (omega arith) (at-put-list-parameter .put-list-parameter .ensures) (at-put-faults .put-faults .ensures) in
+    later-request-wrote (start .args .request) (next-field (omega arith) w (at-put-number .put-number .ensures))
+
+pub put-later-spec : {M : Type 1} → statement M
+put-later-spec =
+    tie.close
+    (tie.spec
+    put-list-parameter-requires
+    sub-put-faults
+    part-put-faults-start
+    part-put-faults-end
+    put-faults-requires
+    sub-put-number
+    part-put-number-start
+    part-put-number-end
+    put-number-requires
+    same-length
+    returns)

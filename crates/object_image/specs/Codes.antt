@@ -1,0 +1,31 @@
+-- One byte that says which of several: a report (0 absent, 1 taken, 2 discarded), or a truth value (0 no, 1 yes).
+use Prim.Native.Nat.{ℕ, zero, suc}
+use mathlib.Core.Bool.{Bool, true, false}
+use Rattle.image.specs.Part.{Part, code}
+use Rattle.cojp.specs.declared.report.Report.{Report}
+use Rattle.cojp.specs.declared.report.Report.the-variants.{Absent, Taken, Discarded}
+
+abbrev pub reportNumber : Report → ℕ
+reportNumber Absent = 0
+reportNumber Taken = 1
+reportNumber Discarded = 2
+
+-- of a number over 2, which no image has, too
+abbrev pub reportOf : ℕ → Report
+reportOf zero = Absent
+reportOf (suc zero) = Taken
+reportOf (suc (suc n)) = Discarded
+
+abbrev pub reportPart : Part Report
+reportPart = code reportNumber reportOf 2
+
+abbrev pub boolNumber : Bool → ℕ
+boolNumber false = 0
+boolNumber true = 1
+
+abbrev pub boolOf : ℕ → Bool
+boolOf zero = false
+boolOf (suc n) = true
+
+abbrev pub boolPart : Part Bool
+boolPart = code boolNumber boolOf 1

@@ -1,0 +1,74 @@
+-- The image of a configuration, 570 bytes: kind C, layout, report of the key set 1, key set 217, short address 12, JRC address 18, network
+-- identifier 18, prefix 18, blacklist 256, join rate 9, known labels that came 11, labels passed over 8.
+use Prim.Native.Nat.{ℕ}
+use Rattle.image.specs.Part.{Part, number, both, viewed, headed}
+use Rattle.key_image.specs.Key.{keySetPart}
+use Rattle.link_key_set.specs.declared.key_set.KeySet.{KeySet}
+use Rattle.cojp.specs.declared.address.AddressParameter.{AddressParameter}
+use Rattle.cojp.specs.declared.configuration.Configuration.{Configuration}
+use Rattle.cojp.specs.declared.fault.Faults.{Faults}
+use Rattle.cojp.specs.declared.key_set.KeysParameter.{KeysParameter}
+use Rattle.cojp.specs.declared.list.ListParameter.{ListParameter}
+use Rattle.cojp.specs.declared.octets.OctetsParameter.{OctetsParameter}
+use Rattle.cojp.specs.declared.rate.RateParameter.{RateParameter}
+use Rattle.cojp.specs.declared.report.Report.{Report}
+use Rattle.object_image.specs.Address.{addressParameterPart}
+use Rattle.object_image.specs.Codes.{reportPart}
+use Rattle.object_image.specs.Faults.{faultsPart}
+use Rattle.object_image.specs.Lists.{listParameterPart}
+use Rattle.object_image.specs.Octets.{octetsParameterPart}
+use Rattle.object_image.specs.Rate.{rateParameterPart}
+
+abbrev pub keysParameterTo : Report × KeySet → KeysParameter
+keysParameterTo x = record { report = x .0; value = x .1 }
+
+abbrev pub keysParameterFrom : KeysParameter → Report × KeySet
+keysParameterFrom p = (p .report, p .value)
+
+-- 218 bytes: its report stands in front of the key set
+abbrev pub keysParameterPart : Part KeysParameter
+keysParameterPart = viewed (both reportPart keySetPart) keysParameterTo keysParameterFrom
+
+-- ---- two halves of 284 bytes: the fields up to the prefix, and those from the blacklist on
+abbrev pub EarlierFields : Type 0
+EarlierFields = KeysParameter × (AddressParameter × (OctetsParameter × (OctetsParameter × OctetsParameter)))
+
+abbrev pub earlierFields : Part EarlierFields
+earlierFields =
+    both keysParameterPart (both addressParameterPart (both octetsParameterPart (both octetsParameterPart octetsParameterPart)))
+
+abbrev pub earlierFrom : Configuration → EarlierFields
+earlierFrom c = (c .keys, (c .address, (c .jrc, (c .network, c .prefix))))
+
+abbrev pub LaterFields : Type 0
+LaterFields = ListParameter × (RateParameter × (Faults × ℕ))
+
+abbrev pub laterFields : Part LaterFields
+laterFields = both listParameterPart (both rateParameterPart (both faultsPart (number 8)))
+
+abbrev pub laterFrom : Configuration → LaterFields
+laterFrom c = (c .blacklist, (c .rate, (c .came, c .passed)))
+
+-- ---- the whole
+abbrev pub configurationTo : EarlierFields × LaterFields → Configuration
+configurationTo x =
+    record {
+      keys = x .0 .0;
+      address = x .0 .1 .0;
+      jrc = x .0 .1 .1 .0;
+      network = x .0 .1 .1 .1 .0;
+      prefix = x .0 .1 .1 .1 .1;
+      blacklist = x .1 .0;
+      rate = x .1 .1 .0;
+      came = x .1 .1 .1 .0;
+      passed = x .1 .1 .1 .1;
+    }
+
+abbrev pub configurationFrom : Configuration → EarlierFields × LaterFields
+configurationFrom c = (earlierFrom c, laterFrom c)
+
+abbrev pub configurationPart : Part Configuration
+configurationPart = viewed (both earlierFields laterFields) configurationTo configurationFrom
+
+abbrev pub configurationImage : Part Configuration
+configurationImage = headed 0x43 configurationPart

@@ -1,0 +1,28 @@
+-- What is promised of the images of objects: their sizes, and that what was stored is loaded as it was, and stored as it stood.
+use mathlib.Core.Path.{_≡_}
+use Rattle.image.specs.Part.{Lawful}
+use Rattle.object_image.specs.Address.{shortAddressPart}
+use Rattle.object_image.specs.Codes.{reportPart, boolPart}
+use Rattle.object_image.specs.Configuration.{configurationImage}
+use Rattle.object_image.specs.Faults.{faultsPart}
+use Rattle.object_image.specs.Lists.{listPart}
+use Rattle.object_image.specs.Octets.{octetsPart}
+use Rattle.object_image.specs.Request.{requestImage}
+
+pub record ObjectImages : Type 0 where
+  -- the parts that a node is made of, too
+  pub report : Lawful reportPart
+  pub bool : Lawful boolPart
+  pub octets-size : octetsPart .size ≡ 17
+  pub octets : Lawful octetsPart
+  pub address-size : shortAddressPart .size ≡ 11
+  pub address : Lawful shortAddressPart
+  pub list-size : listPart .size ≡ 255
+  pub list : Lawful listPart
+  pub faults-size : faultsPart .size ≡ 11
+  pub faults : Lawful faultsPart
+  -- the objects
+  pub request-size : requestImage .size ≡ 296
+  pub request : Lawful requestImage
+  pub configuration-size : configurationImage .size ≡ 570
+  pub configuration : Lawful configurationImage

@@ -1,0 +1,9 @@
+pub mod Codes
+pub mod Octets
+pub mod Address
+pub mod Lists
+pub mod Rate
+pub mod Faults
+pub mod Request
+pub mod Configuration
+pub mod Laws
