@@ -17,7 +17,7 @@ use Rattle.address_ledger.specs.declared.answer.Opened.{Opened}
 use Rattle.address_ledger.specs.declared.ledger.Ledger.{Ledger}
 use Rattle.address_ledger_laws.specs.Demand1.{LedgerCall, asking, returning, Performed, performed, perform, Demand1}
 use Rattle.state_image.specs.Ledger.{ledgerImage}
-use Rattle.pothatch.specs.Left.{left}
+use Rattle.image.specs.Left.{left}
 use Rattle.pothatch.specs.Ledger.{Opens, boardFits, performedIn, LedgerDid, Counts}
 
 -- ---- opening

@@ -22,7 +22,7 @@ use Rattle.join_proxy.specs.declared.proxy.Keyed.{Keyed}
 use Rattle.join_proxy.specs.declared.proxy.Proxy.{Proxy}
 use Rattle.state_image.specs.Proxy.{proxyImage, pledgeImage}
 use Rattle.pothatch.specs.Cipher.{planVerdict}
-use Rattle.pothatch.specs.Left.{left}
+use Rattle.image.specs.Left.{left}
 use Rattle.pothatch.specs.Proxy.{Makes, SetsKey, issueOf, IssuesIn, JudgesIn}
 
 -- ---- making

@@ -11,7 +11,7 @@ use Rattle.image.specs.Part.{isImage}
 use Rattle.address_ledger.specs.Ledger.{opened}
 use Rattle.address_ledger_laws.specs.Demand1.{LedgerCall, opening, asking, returning, counting, Performed, perform}
 use Rattle.state_image.specs.Ledger.{ledgerImage}
-use Rattle.pothatch.specs.Left.{left, judgedFirst, handed}
+use Rattle.image.specs.Left.{left, judgedFirst, handed}
 
 -- ---- opening hands back an image
 abbrev pub openVerdict : ℕ → ℕ → List ℕ → List ℕ → Verdict

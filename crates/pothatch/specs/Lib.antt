@@ -1,4 +1,3 @@
-pub mod Left
 pub mod Library
 pub mod Ledger
 pub mod Cipher

@@ -7,15 +7,29 @@ use lib.Dec.{eqb}
 use lib.ListN.{length, replicate}
 use Rattle.refusal.specs.Refusal.{numberOf, nameOf}
 use Rattle.refusal.specs.declared.Refusal.{Refusal}
+use Rattle.object_image.specs.Request.{requestImage}
+use Rattle.object_image.specs.Configuration.{configurationImage}
+use Rattle.node_image.specs.Node.{nodeImage}
+use Rattle.node_image.specs.Answers.{reportsImage, frameKeyImage}
 use Rattle.state_image.specs.Ledger.{ledgerImage}
 use Rattle.state_image.specs.Proxy.{proxyImage, pledgeImage}
+use Rattle.serial_calls.specs.Serial.{serialImage}
+use Rattle.replay_calls.specs.Replayed.{replayedImage}
 
--- the size of the struct of a kind: ledger L, proxy P, pledge G; 0 where there is none
+-- the size of the struct of a kind: join request Q, configuration C, node N, reports R, frame key K, ledger L, proxy P, pledge G, serial
+-- S, what a replay tells T; 0 where there is none
 abbrev pub sizeOf : ℕ → ℕ
 sizeOf kind =
-    cond (eqb kind 0x4c) (ledgerImage .size)
+    cond (eqb kind 0x51) (requestImage .size)
+    (cond (eqb kind 0x43) (configurationImage .size)
+    (cond (eqb kind 0x4e) (nodeImage .size)
+    (cond (eqb kind 0x52) (reportsImage .size)
+    (cond (eqb kind 0x4b) (frameKeyImage .size)
+    (cond (eqb kind 0x4c) (ledgerImage .size)
     (cond (eqb kind 0x50) (proxyImage .size)
-    (cond (eqb kind 0x47) (pledgeImage .size) 0))
+    (cond (eqb kind 0x47) (pledgeImage .size)
+    (cond (eqb kind 0x53) (serialImage .size)
+    (cond (eqb kind 0x54) (replayedImage .size) 0)))))))))
 
 -- RANGE where there is no such kind
 abbrev pub sizeNumber : ℕ → ℕ

@@ -15,7 +15,7 @@ use Rattle.join_proxy.specs.Judging.{judgeBody}
 use Rattle.join_proxy.specs.Keys.{fresh, setKey}
 use Rattle.state_image.specs.Proxy.{proxyImage, pledgeImage}
 use Rattle.pothatch.specs.Cipher.{planVerdict, rangeFirst}
-use Rattle.pothatch.specs.Left.{left, judgedFirst, handed}
+use Rattle.image.specs.Left.{left, judgedFirst, handed}
 
 -- ---- making hands back an image
 abbrev pub makeVerdict : List ℕ → List ℕ → Verdict

@@ -4,7 +4,11 @@ mod cipher;
 mod ledger;
 mod library;
 mod name;
+mod nodes;
+mod payload;
 mod proxy;
+mod replay;
+mod serial;
 mod told;
 
 ghost use Rattle.pothatch.specs.Laws.{RefusalsKeep, EmptiedIsNone};
@@ -12,7 +16,12 @@ ghost use Rattle.pothatch.specs.Laws.{RefusalsKeep, EmptiedIsNone};
 // A refused call leaves state and destination byte for byte, and its results all zero.
 pub fn refusals_keep()
     ensures { λ _. ⌜ RefusalsKeep ⌝ }
-{}
+{
+    payload_calls::refusals_keep();
+    node_calls::refusals_keep();
+    serial_calls::refusals_keep();
+    replay_calls::refusals_keep();
+}
 
 // An emptied result is no image, so every call refuses it.
 pub fn emptied_is_none()

@@ -19,6 +19,26 @@ pub extern "C" fn pothatch_size(kind: u8, size: &mut u32) -> u32
     ensures size { λ _. ⌜ now (size .exit) ≡ sizeOf kind ⌝ }
 {
     match kind {
+        b'Q' => {
+            *size = 296;
+            0
+        }
+        b'C' => {
+            *size = 570;
+            0
+        }
+        b'N' => {
+            *size = 878;
+            0
+        }
+        b'R' => {
+            *size = 17;
+            0
+        }
+        b'K' => {
+            *size = 33;
+            0
+        }
         b'L' => {
             *size = 16;
             0
@@ -29,6 +49,14 @@ pub extern "C" fn pothatch_size(kind: u8, size: &mut u32) -> u32
         }
         b'G' => {
             *size = 21;
+            0
+        }
+        b'S' => {
+            *size = 6;
+            0
+        }
+        b'T' => {
+            *size = 251;
             0
         }
         _ => {

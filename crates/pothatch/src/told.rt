@@ -16,7 +16,7 @@ ghost use Rattle.address_ledger.specs.Answers.{addressVerdict, addressValue};
 ghost use Rattle.aes_ccm.specs.Plan.{numberIn, lengthIn};
 ghost use Rattle.state_image.specs.Ledger.{ledgerImage};
 ghost use Rattle.state_image.specs.Proxy.{proxyImage, pledgeImage};
-ghost use Rattle.pothatch.specs.Left.{left};
+ghost use Rattle.image.specs.Left.{left};
 
 // The number of RANGE.
 pub(crate) const RANGE: u32 = 13;

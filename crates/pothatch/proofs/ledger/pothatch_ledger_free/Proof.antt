@@ -4,7 +4,7 @@ use Rattle.address_ledger.specs.Ledger.{freeCount}
 use Rattle.logic_facts.specs.Tests.{denied, granted}
 use Rattle.state_image.specs.Ledger.{ledgerImage}
 use Rattle.pothatch.proofs.Ledgers.{count-unfit, counted}
-use Rattle.pothatch.proofs.Lent.{long}
+use Rattle.image.specs.Lent.{long}
 use borrow.Author.Needs.{needs}
 use Rattle.pothatch.proofs.ledger.pothatch_ledger_free.Statement.{statement}
 use Rattle.pothatch.proofs.ledger.pothatch_ledger_free.Tie as tie

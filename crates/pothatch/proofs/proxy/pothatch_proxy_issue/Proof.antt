@@ -4,7 +4,7 @@ use Rattle.logic_facts.specs.Tests.{denied, granted}
 use Rattle.image.specs.Part.{isImage}
 use Rattle.state_image.specs.Proxy.{proxyImage}
 use Rattle.pothatch.proofs.Proxies.{issue-unfit, issue-as, issue-done, issue-refused}
-use Rattle.pothatch.proofs.Lent.{whole, long, other-length, then-not, then-so}
+use Rattle.image.specs.Lent.{whole, long, other-length, then-not, then-so}
 use borrow.Author.Needs.{needs}
 use Rattle.pothatch.proofs.proxy.pothatch_proxy_issue.Statement.{statement}
 use Rattle.pothatch.proofs.proxy.pothatch_proxy_issue.Tie as tie

@@ -5,7 +5,7 @@ use Rattle.join_proxy.specs.Judging.{judgeBody}
 use Rattle.logic_facts.specs.Tests.{denied, granted}
 use Rattle.state_image.specs.Proxy.{proxyImage}
 use Rattle.pothatch.proofs.Proxies.{judge-unfit, judge-none, judge-told}
-use Rattle.pothatch.proofs.Lent.{long}
+use Rattle.image.specs.Lent.{long}
 use borrow.Author.Needs.{needs}
 use Rattle.pothatch.proofs.proxy.pothatch_proxy_judge.Statement.{statement}
 use Rattle.pothatch.proofs.proxy.pothatch_proxy_judge.Tie as tie

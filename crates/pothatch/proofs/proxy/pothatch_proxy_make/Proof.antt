@@ -1,7 +1,7 @@
 -- The lengths come first; then a fresh proxy is stored.
 use native.Mathlib.Omega.{arith}
 use Rattle.pothatch.proofs.Proxies.{make-unfit, make-short, made}
-use Rattle.pothatch.proofs.Lent.{whole}
+use Rattle.image.specs.Lent.{whole}
 use borrow.Author.Needs.{needs}
 use Rattle.pothatch.proofs.proxy.pothatch_proxy_make.Statement.{statement}
 use Rattle.pothatch.proofs.proxy.pothatch_proxy_make.Tie as tie

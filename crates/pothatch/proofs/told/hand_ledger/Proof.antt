@@ -2,7 +2,7 @@
 use mathlib.Core.Path.{ap, _∙_}
 use lib.ListN.{replicate}
 use Rattle.state_image.specs.Ledger.{ledgerImage}
-use Rattle.pothatch.proofs.Lent.{accepted, refused}
+use Rattle.image.specs.Lent.{accepted, refused}
 use borrow.Author.Needs.{needs}
 use Rattle.pothatch.proofs.told.hand_ledger.Statement.{statement}
 use Rattle.pothatch.proofs.told.hand_ledger.Tie as tie

@@ -2,7 +2,7 @@
 use mathlib.Core.Path.{ap, _∙_}
 use lib.ListN.{replicate}
 use Rattle.state_image.specs.Proxy.{pledgeImage}
-use Rattle.pothatch.proofs.Lent.{accepted, refused}
+use Rattle.image.specs.Lent.{accepted, refused}
 use borrow.Author.Needs.{needs}
 use Rattle.pothatch.proofs.told.hand_pledge.Statement.{statement}
 use Rattle.pothatch.proofs.told.hand_pledge.Tie as tie

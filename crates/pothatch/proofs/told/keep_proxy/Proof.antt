@@ -1,7 +1,7 @@
 -- One answer for each case of the verdict.
 use mathlib.Core.Path.{refl}
 use Rattle.state_image.specs.Proxy.{proxyImage}
-use Rattle.pothatch.proofs.Lent.{accepted, refused}
+use Rattle.image.specs.Lent.{accepted, refused}
 use borrow.Author.Needs.{needs}
 use Rattle.pothatch.proofs.told.keep_proxy.Statement.{statement}
 use Rattle.pothatch.proofs.told.keep_proxy.Tie as tie

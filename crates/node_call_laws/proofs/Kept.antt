@@ -1,0 +1,217 @@
+-- Every call leaves a node that fits its image with one that does: what it changes of it fits, and all else stays.
+use Prim.Native.Nat.{ℕ}
+use mathlib.Core.Bool.{Bool, true, false}
+use mathlib.Core.List.{List}
+use native.Mathlib.Omega.{arith}
+use lib.ListN.{length}
+use Rattle.refusal.specs.declared.Verdict.{Verdict}
+use Rattle.refusal.specs.declared.Verdict.the-variants.{Accepted, Refused}
+use Rattle.cbor.specs.Answer.{answer}
+use Rattle.cbor.specs.declared.write.Written.{Written}
+use Rattle.cbor.specs.declared.write.Written.the-variants as written
+use Rattle.cojp.specs.Configuration.{withKeys}
+use Rattle.cojp.specs.Faults.{noFaults, faultList}
+use Rattle.cojp.specs.KeySet.{noKeysParameter}
+use Rattle.cojp.specs.Reported.{faultsOf}
+use Rattle.cojp.specs.Version.{byVersion}
+use Rattle.cojp.specs.declared.configuration.Configuration.{Configuration}
+use Rattle.cojp.specs.declared.configuration.ConfigurationRead.{ConfigurationRead}
+use Rattle.cojp.specs.declared.report.Report.the-variants.{Discarded}
+use Rattle.cojp.specs.declared.version.Version.{Version}
+use Rattle.cojp.specs.declared.version.Version.the-variants.{Draft, Published}
+use Rattle.link_key_usage.specs.Usage.{knownType}
+use Rattle.link_key_counters.specs.Counters.{spend}
+use Rattle.link_key_set.specs.KeyLaws.{KeyLaws}
+use Rattle.link_key_set.specs.KeySet.{has}
+use Rattle.node.specs.Delivery.{placementOf, fittedBy, fitted, configured, owesIdentifier, placedBy, apply, deliverVerdict, applyRead, deliverBy, readFor, deliver}
+use Rattle.node.specs.Frames as frames
+use Rattle.node.specs.Node.{isBorder, attempting, keyed}
+use Rattle.node.specs.Range.{valid}
+use Rattle.node.specs.Timing.{startPlan, startedFrom, startedBy, start, poll}
+use Rattle.node.specs.declared.delivery.Delivered.{Delivered}
+use Rattle.node.specs.declared.frames.Reported.{Reported}
+use Rattle.node.specs.declared.frames.Sent.{Sent}
+use Rattle.node.specs.declared.node.Node.{Node}
+use Rattle.node.specs.declared.timing.Polled.{Polled}
+use Rattle.node_attempt.specs.Attempt.{waitingFrom}
+use Rattle.node_attempt.specs.Poll as attempt
+use Rattle.node_attempt.specs.declared.attempt.Attempt.{Attempt}
+use Rattle.node_attempt.specs.declared.attempt.Phase.the-variants as phase
+use Rattle.node_delivery.specs.Delivery.{phaseAfter}
+use Rattle.node_delivery.specs.declared.Delivery.{Delivery}
+use Rattle.node_image.specs.Attempt.{attemptPart}
+use Rattle.node_image.specs.Held.{heldOctetsPart, heldAddressPart, heldListPart, heldRatePart}
+use Rattle.node_image.specs.Node.{setsPart, nodeImage}
+use Rattle.node_key_sets.specs.Frames as sets
+use Rattle.node_key_sets.specs.Frames.{effectBy, receivingKey, verifiedIn}
+use Rattle.node_key_sets.specs.Sets.{activeIn}
+use Rattle.node_key_sets.specs.declared.frames.Sending.{Sending}
+use Rattle.node_key_sets.specs.declared.sets.KeySets.{KeySets}
+use Rattle.node_key_sets.specs.declared.sets.Placement.{Placement}
+use Rattle.node_laws.specs.Calls.{NodeCall, starting, polling, delivering, asking, sending, receiving, reporting, perform}
+use Rattle.node_parameters.specs.Reports.{reportsOf}
+use Rattle.node_parameters.specs.declared.reports.Reports.{Reports}
+use Rattle.object_image.specs.Configuration.{configurationImage}
+use Rattle.node_call_laws.specs.Follow.{Time, ReadsFit, Callable}
+use Rattle.node_call_laws.proofs.Lists.{by-cond}
+use Rattle.node_call_laws.proofs.Payloads.{reads-fit}
+use Rattle.node_call_laws.proofs.Values.{by-report, bool-fits, report-fits, no-keys-fit, none-counted-fits, spend-fits, install-fits, attempt-fits, poll-fits, no-faults-fit, each-taken, reports-fit}
+
+abbrev NodeFits : Node → Type 0
+NodeFits n = nodeImage .Fit n
+
+-- ---- a node with another join attempt, or other key sets
+attempting-fits : (n : Node) (a : Attempt) → NodeFits n → attemptPart .Fit a → NodeFits (attempting n a)
+attempting-fits n a f h = (f .0, (h, f .1 .1))
+
+keyed-fits : (n : Node) (s : KeySets) → NodeFits n → setsPart .Fit s → NodeFits (keyed n s)
+keyed-fits n s f h = (f .0, (f .1 .0, (h, f .1 .1 .1)))
+
+-- ---- starting and polling
+started-fits : (w : Written) (n m : Node) → NodeFits n → NodeFits m → NodeFits (startedBy w n m .node)
+started-fits (written.Refused k) n m f g = f
+started-fits (written.Length l) n m f g = g
+
+start-fits : (n : Node) (time timeout : ℕ) (d : List ℕ) → Time time → Time timeout → NodeFits n → NodeFits (start n time timeout d .node)
+unfolding start
+start-fits n time timeout d t u f =
+    started-fits (answer (startPlan n time timeout) d) n (startedFrom n time timeout) f
+    (attempting-fits n (waitingFrom time timeout) f (attempt-fits phase.Waiting t t u (omega arith)))
+
+node-poll-fits : (n : Node) (time : ℕ) → Time time → NodeFits n → NodeFits (poll n time .node)
+unfolding poll
+node-poll-fits n time t f =
+    by-cond (λ (p : Polled). NodeFits (p .node)) (valid n)
+    (λ _. attempting-fits n (attempt.poll (n .attempt) time .attempt) f (poll-fits (n .attempt) time t (f .1 .0)))
+    (λ _. f)
+
+-- ---- frames
+sending-fits : (s : KeySets) (type : ℕ) → setsPart .Fit s → setsPart .Fit (sets.sending s type .sets)
+unfolding sets.sending
+sending-fits s type f =
+    let P : Sending → Type 0 = λ x. setsPart .Fit (x .sets) in
+    by-cond P (knownType type)
+    (λ _. by-cond P (spend type (s .active) .found) (λ _. (spend-fits type (s .active) (f .0), f .1)) (λ _. f))
+    (λ _. f)
+
+send-fits : (n : Node) (type : ℕ) → NodeFits n → NodeFits (frames.afterSend n type)
+unfolding frames.afterSend frames.sending
+send-fits n type f =
+    by-cond (λ (x : Sent). NodeFits (x .node)) (valid n)
+    (λ _. keyed-fits n (sets.sending (n .sets) type .sets) f (sending-fits (n .sets) type (f .1 .1 .0)))
+    (λ _. f)
+
+effect-fits : (v : Verdict) (active : Bool) (s : KeySets) → setsPart .Fit s → setsPart .Fit (effectBy v active s .sets)
+effect-fits (Refused k) active s f = f
+effect-fits Accepted true s f = f
+effect-fits Accepted false s f = (f .1, none-counted-fits)
+
+report-node-fits : (n : Node) (type identifier : ℕ) → NodeFits n → NodeFits (frames.verified n type identifier .node)
+unfolding frames.verified verifiedIn
+report-node-fits n type identifier f =
+    by-cond (λ (x : Reported). NodeFits (x .node)) (valid n)
+    (λ _. keyed-fits n (verifiedIn (n .sets) type identifier .sets) f
+    (effect-fits (receivingKey (n .sets) type identifier .verdict) (has identifier (activeIn (n .sets))) (n .sets) (f .1 .1 .0)))
+    (λ _. f)
+
+-- ---- a configuration
+abbrev ConfigurationFits : Configuration → Type 0
+ConfigurationFits c = configurationImage .Fit c
+
+without-keys : (c : Configuration) → ConfigurationFits c → ConfigurationFits (withKeys c (noKeysParameter Discarded))
+without-keys c f = (((report-fits Discarded, no-keys-fit), f .0 .1), f .1)
+
+fitted-by : (v : Verdict) (c : Configuration) → ConfigurationFits c → ConfigurationFits (fittedBy v c)
+fitted-by Accepted c f = f
+fitted-by (Refused k) c f = without-keys c f
+
+fitted-fits : (v : Version) (c d : Configuration) → ConfigurationFits c → ConfigurationFits d → ConfigurationFits (byVersion v c d)
+fitted-fits Draft c d f g = f
+fitted-fits Published c d f g = g
+
+placement-fits : (n : Node) (c : Configuration) → NodeFits n → ConfigurationFits c → setsPart .Fit (placementOf n (c .keys) .sets)
+placement-fits n c f g =
+    by-report (λ (p : Placement). setsPart .Fit (p .sets)) (c .keys .report)
+    (install-fits (isBorder n) (n .sets) (c .keys .value) (f .1 .1 .0) (g .0 .0 .1))
+    (f .1 .1 .0)
+
+configured-fits : (d : Delivery) (n : Node) (time : ℕ) (c : Configuration) (s : KeySets) (r : Reports) → Time time → NodeFits n
+    → ConfigurationFits c → setsPart .Fit s → NodeFits (configured d n time c s r)
+unfolding configured faultsOf
+configured-fits d n time c s r t f g h =
+    let a = f .1 .0 in
+    let held = f .1 .1 .1 in
+    let early = g .0 .1 in
+    let late = g .1 in (
+      f .0,
+      (
+        attempt-fits (phaseAfter d (n .attempt .phase)) t (a .1 .1 .0) (a .1 .1 .1 .0) (a .1 .1 .1 .1),
+        (
+          h,
+          (
+            by-report (heldAddressPart .Fit) (c .address .report) (bool-fits true, (early .0 .1, t)) (held .0),
+            (
+              by-report (heldOctetsPart .Fit) (r .jrc) (bool-fits true, early .1 .0 .1) (held .1 .0),
+              (
+                by-report (heldOctetsPart .Fit) (r .network) (bool-fits true, early .1 .1 .0 .1) (held .1 .1 .0),
+                (
+                  by-report (heldOctetsPart .Fit) (r .prefix) (bool-fits true, early .1 .1 .1 .1) (held .1 .1 .1 .0),
+                  (
+                    held .1 .1 .1 .1 .0,
+                    (
+                      by-report (heldListPart .Fit) (c .blacklist .report) (bool-fits true, late .0 .1) (held .1 .1 .1 .1 .1 .0),
+                      (
+                        by-report (heldRatePart .Fit) (c .rate .report) (bool-fits true, late .1 .0 .1) (held .1 .1 .1 .1 .1 .1 .0),
+                        reports-fit c noFaults (faultList (c .came)) (each-taken (c .came .count) 5 (c .came .faults) (late .1 .1 .0 .1)) no-faults-fit,
+                      ),
+                    ),
+                  ),
+                ),
+              ),
+            ),
+          ),
+        ),
+      ),
+    )
+
+placed-fits : (v : Verdict) (d : Delivery) (n : Node) (time : ℕ) (c : Configuration) (s : KeySets) → Time time → NodeFits n → ConfigurationFits c
+    → setsPart .Fit s → NodeFits (placedBy v d n time c s .node)
+placed-fits (Refused k) d n time c s t f g h = f
+placed-fits Accepted d n time c s t f g h = configured-fits d n time c s (reportsOf (isBorder n) c) t f g h
+
+apply-fits : (d : Delivery) (n : Node) (time : ℕ) (c : Configuration) → Time time → NodeFits n → ConfigurationFits c → NodeFits (apply d n time c .node)
+unfolding apply
+apply-fits d n time c t f g =
+    by-cond (λ (x : Delivered). NodeFits (x .node)) (owesIdentifier d n (c .network .report))
+    (λ _. f)
+    (λ _. placed-fits (placementOf n (c .keys) .verdict) d n time c (placementOf n (c .keys) .sets) t f g (placement-fits n c f g))
+
+read-fits : (v : Verdict) (d : Delivery) (n : Node) (time : ℕ) (c : Configuration) → Time time → NodeFits n → ConfigurationFits c
+    → NodeFits (applyRead v d n time c .node)
+unfolding fitted
+read-fits (Refused k) d n time c t f g = f
+read-fits Accepted d n time c t f g =
+    apply-fits d n time (fitted n c) t f
+    (fitted-fits (n .version) c (fittedBy (placementOf n (c .keys) .verdict) c) g (fitted-by (placementOf n (c .keys) .verdict) c g))
+
+deliver-by : (v : Verdict) (d : Delivery) (n : Node) (time : ℕ) (r : ConfigurationRead) → Time time → NodeFits n
+    → ConfigurationFits (r .configuration) → NodeFits (deliverBy v d n time r .node)
+deliver-by (Refused k) d n time r t f g = f
+deliver-by Accepted d n time r t f g = read-fits (r .verdict) d n time (r .configuration) t f g
+
+deliver-fits : (d : Delivery) (n : Node) (time : ℕ) (payload : List ℕ) → Time time → ReadsFit payload → NodeFits n
+    → NodeFits (deliver d n time payload .node)
+unfolding deliver
+deliver-fits d n time payload t r f = deliver-by (deliverVerdict d n time (length payload)) d n time (readFor n payload) t f (r (n .version))
+
+-- ---- every call
+module _ (laws : KeyLaws) where
+  pub keeps-fit : (c : NodeCall) (n : Node) → Callable c → nodeImage .Fit n → nodeImage .Fit (perform c n .node)
+  unfolding perform
+  keeps-fit (starting time timeout d) n h f = start-fits n time timeout d (h .0) (h .1) f
+  keeps-fit (polling time) n h f = node-poll-fits n time h f
+  keeps-fit (delivering d time payload) n h f = deliver-fits d n time payload (h .0) (reads-fit laws payload (h .1)) f
+  keeps-fit (asking time) n h f = f
+  keeps-fit (sending type) n h f = send-fits n type f
+  keeps-fit (receiving type identifier) n h f = f
+  keeps-fit (reporting type identifier) n h f = report-node-fits n type identifier f

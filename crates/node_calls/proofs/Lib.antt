@@ -1,0 +1,3 @@
+mod Answers
+mod Nodes
+mod Keeps

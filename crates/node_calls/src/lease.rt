@@ -1,0 +1,42 @@
+// Whether the short address holds.
+use crate::told::RANGE;
+use node::Holding;
+use node_image::is_node;
+use node_image::node_in;
+ghost use mathlib.Core.Path.{_≡_};
+ghost use Rattle.node.specs.Lease.{holdingNumber};
+ghost use Rattle.node_laws.specs.Calls.{asking};
+ghost use Rattle.node_calls.specs.Calls.{Tells};
+ghost use Rattle.node_calls.specs.Results.{holdingCode};
+
+fn tell_holding(holding: Holding, holds: &mut u32) -> u32
+    ensures number { λ r. ⌜ r ≡ holdingNumber holding ⌝ }
+    ensures holds { λ _. ⌜ now (holds .exit) ≡ holdingCode holding ⌝ }
+{
+    match holding {
+        Holding::Refused(why) => {
+            *holds = 0;
+            why.number() as u32
+        }
+        Holding::Yes => {
+            *holds = 1;
+            0
+        }
+        Holding::No => {
+            *holds = 2;
+            0
+        }
+    }
+}
+
+// Whether the short address holds: 1 it does, 2 it does not.
+pub fn node_holds(node: &[u8], time: u64, holds: &mut u32) -> u32
+    ensures { λ r. ⌜ Tells (asking time) (now (node .entry)) r (now (holds .exit)) ⌝ }
+{
+    node_laws::demand1();
+    if !is_node(node) {
+        *holds = 0;
+        return RANGE;
+    }
+    tell_holding(node_in(node).address_holds(time), holds)
+}

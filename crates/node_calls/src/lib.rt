@@ -1,0 +1,24 @@
+// The calls of a node over images: each loads the node that stands in the lent bytes, calls it, and stores what that left. A call answers
+// 0, or the refusal's number.
+mod attempt;
+mod delivery;
+mod frames;
+mod lease;
+mod made;
+mod told;
+
+pub use attempt::node_poll;
+pub use attempt::node_start;
+pub use delivery::node_answer;
+pub use delivery::node_update;
+pub use frames::node_receive;
+pub use frames::node_send;
+pub use frames::node_verified;
+pub use lease::node_holds;
+pub use made::node_make;
+ghost use Rattle.node_calls.specs.Laws.{NodeRefusals};
+
+// A refused call leaves node and destination byte for byte, and its results all zero.
+pub fn refusals_keep()
+    ensures { λ _. ⌜ NodeRefusals ⌝ }
+{}

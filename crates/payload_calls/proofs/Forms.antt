@@ -1,0 +1,20 @@
+-- A number asks for its form or reading.
+use Prim.Native.Nat.{ℕ}
+use mathlib.Core.Path.{_≡_}
+use borrow.Author.Tests.{ne-eqb}
+use Rattle.cojp.specs.declared.version.Version.the-variants.{Draft, Published}
+use Rattle.payload_calls.specs.Asked.{formOf, byReading}
+
+module _ (n : ℕ) where
+  pub draft : n ≡ 0 → Draft ≡ formOf n
+  draft e = rw e
+
+  pub published : ¬ (n ≡ 0) → Published ≡ formOf n
+  published h = rw (ne-eqb n 0 h)
+
+module _ {A : Type 0} (n : ℕ) (a b : A) {r : A} where
+  pub ordinary : n ≡ 0 → r ≡ a → r ≡ byReading n a b
+  ordinary e h = rw e h
+
+  pub strict : ¬ (n ≡ 0) → r ≡ b → r ≡ byReading n a b
+  strict e h = rw (ne-eqb n 0 e) h

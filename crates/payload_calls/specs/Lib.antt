@@ -1,0 +1,5 @@
+pub mod Asked
+pub mod Read
+pub mod Write
+pub mod Merge
+pub mod Laws

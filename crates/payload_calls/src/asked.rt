@@ -1,0 +1,59 @@
+// The function behind a call, by the numbers that ask for it.
+use cojp::ConfigurationRead;
+use cojp::RequestRead;
+use cojp::Version;
+use cojp_configuration_read::read_configuration_as;
+use cojp_configuration_read::read_strict_configuration_as;
+use cojp_request_read::read_request_as;
+use cojp_request_read::read_strict_request_as;
+ghost use mathlib.Core.Path.{_≡_};
+ghost use Rattle.payload_calls.specs.Asked.{isForm, isReading, formOf};
+ghost use Rattle.payload_calls.specs.Read.{requestAsked, configurationAsked};
+
+// Whether there is such a form.
+pub(crate) fn is_form(form: u8) -> bool
+    ensures { λ r. ⌜ r ≡ isForm form ⌝ }
+{
+    form <= 1
+}
+
+// Whether there is such a form and such a reading.
+pub fn is_reading(form: u8, reading: u8) -> bool
+    ensures { λ r. ⌜ r ≡ isReading form reading ⌝ }
+{
+    if !is_form(form) {
+        return false;
+    }
+    reading <= 1
+}
+
+// 0 is document 01's form, 1 that of RFC 9031.
+pub fn form_of(form: u8) -> Version
+    ensures { λ r. ⌜ r ≡ formOf form ⌝ }
+{
+    if form == 0 {
+        return Version::Draft;
+    }
+    Version::Published
+}
+
+// Reading 0 is the ordinary one, 1 the strict one.
+pub(crate) fn request_asked(form: u8, reading: u8, payload: &[u8]) -> RequestRead
+    ensures { λ r. ⌜ r ≡ requestAsked form reading (now (payload .entry)) ⌝ }
+{
+    let version = form_of(form);
+    if reading == 0 {
+        return read_request_as(payload, version);
+    }
+    read_strict_request_as(payload, version)
+}
+
+pub(crate) fn configuration_asked(form: u8, reading: u8, payload: &[u8]) -> ConfigurationRead
+    ensures { λ r. ⌜ r ≡ configurationAsked form reading (now (payload .entry)) ⌝ }
+{
+    let version = form_of(form);
+    if reading == 0 {
+        return read_configuration_as(payload, version);
+    }
+    read_strict_configuration_as(payload, version)
+}

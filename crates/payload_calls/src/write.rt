@@ -1,0 +1,44 @@
+// Objects are written.
+use crate::asked::form_of;
+use crate::asked::is_form;
+use crate::told::RANGE;
+use crate::told::tell_length;
+use cojp_configuration_write::write_configuration_as;
+use cojp_request_write::write_request_as;
+use object_image::configuration_in;
+use object_image::is_configuration;
+use object_image::is_request;
+use object_image::request_in;
+ghost use Rattle.payload_calls.specs.Write.{Writes, requestWriting, configurationWriting};
+
+// Writes the join request in an image.
+pub fn request_write(form: u8, object: &[u8], dst: &mut [u8], length: &mut u64) -> u32
+    ensures { λ r. ⌜ Writes (requestWriting form (now (object .entry))) (now (dst .entry)) r (now (dst .exit)) (now (length .exit)) ⌝ }
+{
+    if !is_form(form) {
+        *length = 0;
+        return RANGE;
+    }
+    if !is_request(object) {
+        *length = 0;
+        return RANGE;
+    }
+    let written = write_request_as(dst, request_in(object), form_of(form));
+    tell_length(written, length)
+}
+
+// Writes the configuration in an image.
+pub fn configuration_write(form: u8, object: &[u8], dst: &mut [u8], length: &mut u64) -> u32
+    ensures { λ r. ⌜ Writes (configurationWriting form (now (object .entry))) (now (dst .entry)) r (now (dst .exit)) (now (length .exit)) ⌝ }
+{
+    if !is_form(form) {
+        *length = 0;
+        return RANGE;
+    }
+    if !is_configuration(object) {
+        *length = 0;
+        return RANGE;
+    }
+    let written = write_configuration_as(dst, configuration_in(object), form_of(form));
+    tell_length(written, length)
+}

@@ -1,0 +1,188 @@
+-- Every call keeps a ledger that an image can hold: addresses have sixteen bits, no more are free than there are, and there is a mark for
+-- each of 64 groups.
+use Prim.Native.Nat.{ℕ, zero, suc, _+_, _-_, _*_, _/_, _^_, _≤_, _<_}
+use mathlib.Core.Path.{_≡_, refl, ap}
+use mathlib.Core.Bool.{Bool, true, false, cond}
+use mathlib.Core.List.{List, [], _∷_}
+use native.Mathlib.Omega.{arith}
+use native.Mathlib.Nat.{pow-suc}
+use borrow.Author.Tests.{ltb-true, leb-true}
+use lib.Dec.{leb, ltb}
+use lib.ListN.{length, take, drop}
+use Rattle.refusal.specs.declared.Verdict.{Verdict}
+use Rattle.refusal.specs.declared.Verdict.the-variants as verdict
+use Rattle.short_address.specs.Address.{isAddress, bytesOf}
+use Rattle.address_places.specs.Marks.{bit, withMark, groupAt, groupOf, marksOf, anew, soughtBy}
+use Rattle.address_places.specs.Place.{Place, places, isFree, has, countFree, hold, freed, sought}
+use Rattle.address_places.specs.declared.place.Sought.{Sought}
+use Rattle.address_places.specs.declared.place.Sought.the-variants.{Held, Free, Nothing}
+use Rattle.address_range.specs.Range.{judged, counted}
+use Rattle.address_ledger.specs.Ledger.{countedOf, placesOf, judgedOf, cut, opened, openedBy, granted, grantedBy, granting, givenBack, givenBackBy, givingBack}
+use Rattle.address_ledger.specs.declared.ledger.Ledger.{Ledger}
+
+-- what C can hand in
+pub record Sixteen (first size : ℕ) : Type 0 where
+  pub first-fits : first < 65536
+  pub size-fits : size < 65536
+
+pub record Fits (l : Ledger) : Type 0 where
+  pub first : l .first < 65536
+  pub size : l .size < 65536
+  pub free : l .free < 65536
+  pub marks : l .marks < 2 ^ 64
+
+-- ---- marks
+bit-most : (b : Bool) → bit b ≤ 1
+bit-most true = omega arith
+bit-most false = omega arith
+
+marked-below : (g n : ℕ) (b : Bool) (x : ℕ) → g < n → x < 2 ^ n → withMark g b x < 2 ^ n
+unfolding withMark
+marked-below g zero b x h k = absurd (omega arith)
+marked-below zero (suc n) b x h k =
+    let l : x < 2 ^ n * 2 = rw (pow-suc 2 n) at k in
+    rw (pow-suc 2 n) (omega (arith, bit-most b))
+marked-below (suc g) (suc n) b x h k =
+    let l : x < 2 ^ n * 2 = rw (pow-suc 2 n) at k in
+    rw (pow-suc 2 n) (omega (arith, marked-below g n b (x / 2) (omega arith) (omega arith)))
+
+marks-below : (n : ℕ) (ps : List Place) → marksOf n ps < 2 ^ n
+unfolding marksOf
+marks-below zero ps = omega arith
+marks-below (suc n) ps = rw (pow-suc 2 n) (omega (arith, bit-most (has isFree (take 64 ps)), marks-below n (drop 64 ps)))
+
+anew-by : (t b : Bool) (x k : ℕ) → ltb k 4096 ≡ t → x < 2 ^ 64 → cond t (withMark (groupOf k) b x) x < 2 ^ 64
+anew-by true b x k e h = let l : k < 4096 = ltb-true k 4096 e in marked-below (k / 64) 64 b x (omega arith) h
+anew-by false b x k e h = h
+
+anew-below : (x k : ℕ) (ps : List Place) → x < 2 ^ 64 → anew x k ps < 2 ^ 64
+unfolding anew
+anew-below x k ps h = anew-by (ltb k 4096) (has isFree (groupAt (groupOf k) ps)) x k refl h
+
+-- ---- counts
+counted-most : (first n : ℕ) → counted first n ≤ n
+unfolding counted
+counted-most first zero = omega arith
+counted-most first (suc n) = pick (isAddress (bytesOf first)) (counted-most (suc first) n)
+  where
+    pick : (b : Bool) {x : ℕ} → x ≤ n → cond b (suc x) x ≤ suc n
+    pick true h = omega arith
+    pick false h = omega arith
+
+places-many : (n : ℕ) (m : List ℕ) → length (places n m) ≡ n
+unfolding places
+places-many zero m = refl
+places-many (suc n) m = ap suc (places-many n (drop 9 m))
+
+free-most : (ps : List Place) → countFree ps ≤ length ps
+unfolding countFree
+free-most [] = omega arith
+free-most (p ∷ ps) = pick (isFree p) (free-most ps)
+  where
+    pick : (b : Bool) {x : ℕ} → x ≤ length ps → cond b (suc x) x ≤ suc (length ps)
+    pick true h = omega arith
+    pick false h = omega arith
+
+cut-most : (n x : ℕ) → cut n x ≤ n
+cut-most n x = by (leb x n) refl
+  where
+    by : (b : Bool) → leb x n ≡ b → cond b x n ≤ n
+    by true e = leb-true x n e
+    by false e = omega arith
+
+-- ---- the calls
+module _ (l : Ledger) (m b : List ℕ) (f : Fits l) where
+  granting-fits : (n : ℕ) (s : Sought) → n < 65536 → Fits (granting n l m b s .ledger)
+  unfolding granting
+  granting-fits n (Held k) h = f
+  granting-fits n (Free k) h =
+      record {
+        first = f .first;
+        size = f .size;
+        free = omega (arith, cut-most n (l .free - 1));
+        marks = anew-below (l .marks) k (places n (hold m k b)) (f .marks);
+      }
+  granting-fits n Nothing h = f
+
+  giving-fits : (n : ℕ) (s : Sought) → n < 65536 → Fits (givingBack n l m s .ledger)
+  unfolding givingBack
+  giving-fits n (Held k) h =
+      record {
+        first = f .first;
+        size = f .size;
+        free = omega (arith, cut-most n (l .free + 1));
+        marks = anew-below (l .marks) k (places n (freed m k)) (f .marks);
+      }
+  giving-fits n (Free k) h = f
+  giving-fits n Nothing h = f
+
+  few : countedOf l < 65536
+  few = omega (arith, counted-most (l .first) (l .size), f .size)
+
+  granted-by : (v : Verdict) → Fits (grantedBy v l m b .ledger)
+  unfolding grantedBy
+  granted-by verdict.Accepted = granting-fits (countedOf l) (soughtBy (l .marks) b (placesOf l m)) few
+  granted-by (verdict.Refused r) = f
+
+  pub granted-fits : Fits (granted l m b .ledger)
+  unfolding granted
+  granted-fits = granted-by (judgedOf l m)
+
+  given-by : (v : Verdict) → Fits (givenBackBy v l m b .ledger)
+  unfolding givenBackBy
+  given-by verdict.Accepted = giving-fits (countedOf l) (sought b (placesOf l m)) few
+  given-by (verdict.Refused r) = f
+
+  pub given-fits : Fits (givenBack l m b .ledger)
+  unfolding givenBack
+  given-fits = given-by (judgedOf l m)
+
+module _ (first size : ℕ) (m : List ℕ) (h : Sixteen first size) where
+  opened-by : (v : Verdict) → Fits (openedBy v first size m .ledger)
+  unfolding openedBy
+  opened-by verdict.Accepted =
+      record {
+        first = h .first-fits;
+        size = h .size-fits;
+        free =
+            omega
+            (arith, h .size-fits, counted-most first size, places-many (counted first size) m, free-most (places (counted first size) m));
+        marks = marks-below 64 (places (counted first size) m);
+      }
+  opened-by (verdict.Refused r) = record { first = omega arith; size = omega arith; free = omega arith; marks = omega arith }
+
+  pub opened-fits : Fits (opened first size m .ledger)
+  unfolding opened
+  opened-fits = opened-by (judged first size (length m))
+
+-- ---- the range stays
+module _ (l : Ledger) (m b : List ℕ) where
+  granting-size : (n : ℕ) (s : Sought) → granting n l m b s .ledger .size ≡ l .size
+  unfolding granting
+  granting-size n (Held k) = refl
+  granting-size n (Free k) = refl
+  granting-size n Nothing = refl
+
+  giving-size : (n : ℕ) (s : Sought) → givingBack n l m s .ledger .size ≡ l .size
+  unfolding givingBack
+  giving-size n (Held k) = refl
+  giving-size n (Free k) = refl
+  giving-size n Nothing = refl
+
+  size-by : (v : Verdict) → grantedBy v l m b .ledger .size ≡ l .size
+  unfolding grantedBy
+  size-by verdict.Accepted = granting-size (countedOf l) (soughtBy (l .marks) b (placesOf l m))
+  size-by (verdict.Refused r) = refl
+
+  pub granted-size : granted l m b .ledger .size ≡ l .size
+  unfolding granted
+  granted-size = size-by (judgedOf l m)
+
+  given-size-by : (v : Verdict) → givenBackBy v l m b .ledger .size ≡ l .size
+  unfolding givenBackBy
+  given-size-by verdict.Accepted = giving-size (countedOf l) (sought b (placesOf l m))
+  given-size-by (verdict.Refused r) = refl
+
+  pub given-size : givenBack l m b .ledger .size ≡ l .size
+  unfolding givenBack
+  given-size = given-size-by (judgedOf l m)

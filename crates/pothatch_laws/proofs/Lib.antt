@@ -1,0 +1,5 @@
+mod Following
+mod Images
+mod Bounds
+mod Ledgers
+mod Arriving

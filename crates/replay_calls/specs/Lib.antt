@@ -1,0 +1,3 @@
+pub mod Replayed
+pub mod Replays
+pub mod Laws

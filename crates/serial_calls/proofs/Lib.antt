@@ -1,0 +1,4 @@
+mod Images
+mod Coming
+mod Ending
+mod Keeps

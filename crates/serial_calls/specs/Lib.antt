@@ -1,0 +1,4 @@
+pub mod Serial
+pub mod Parts
+pub mod Ends
+pub mod Laws
