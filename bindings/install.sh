@@ -1,5 +1,5 @@
 #!/bin/sh
-# install.sh PREFIX: proves and builds the library, and puts header, archive, shared library and pkg-config file under PREFIX.
+# install.sh PREFIX: proves and builds the library, and puts header, archive, shared library, pkg-config file and examples under PREFIX.
 # RT names the toolchain's command where it is not `rt`; ARCHIVE names an archive that is built already.
 set -eu
 prefix=${1:?"use: install.sh PREFIX"}
@@ -10,11 +10,14 @@ if [ -z "${ARCHIVE:-}" ]; then
   ARCHIVE=target/staticlib/libpothatch.a
 fi
 python3 bindings/header.py
-mkdir -p "$prefix/include" "$prefix/lib/pkgconfig" "$prefix/share/pothatch/python"
+mkdir -p "$prefix/include" "$prefix/lib/pkgconfig"
+for part in python rust examples; do mkdir -p "$prefix/share/pothatch/$part"; done
 prefix=$(cd "$prefix" && pwd)
 cp bindings/pothatch.h "$prefix/include/"
 cp "$ARCHIVE" "$prefix/lib/libpothatch.a"
-cp bindings/python/pothatch.py "$prefix/share/pothatch/python/"
+cp bindings/python/pothatch.py bindings/python/fixture.py "$prefix/share/pothatch/python/"
+cp bindings/rust/pothatch.rs bindings/rust/board.rs "$prefix/share/pothatch/rust/"
+cp bindings/c/board.c "$prefix/share/pothatch/examples/"
 "${CC:-cc}" -shared -Wl,-soname,libpothatch.so.1 -o "$prefix/lib/libpothatch.so.1" \
   -Wl,--whole-archive "$prefix/lib/libpothatch.a" -Wl,--no-whole-archive
 ln -sf libpothatch.so.1 "$prefix/lib/libpothatch.so"

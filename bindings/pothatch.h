@@ -7,22 +7,27 @@
  *
  * WHAT A CALL LEAVES IN WHAT IT IS LENT. Each parameter is one of four kinds, named in brackets at each function:
  *   [in]     read, never written.
- *   [state]  an image (ledger, proxy) or the ledger's memory. Accepted: as the rule says. Refused: not one byte changes.
+ *   [state]  an image (node, ledger, proxy, serial), the ledger's memory or the serial store. Accepted: as the rule says, all other bytes
+ *            as they were. Refused: not one byte changes, but for the two marks of a serial image that their calls name.
  *   [dst]    a destination for bytes. Accepted: the first bytes are written, the others stay. Refused: not one byte changes.
  *   [result] what the call hands back: a struct below, or a number. Accepted: every byte of it is written. Refused: every byte is 0, the
- *            number is 0. Such a struct is no image, and a call that is handed it answers RANGE. Where the length given is not the struct's
- *            size the answer is RANGE, and the struct is not touched.
+ *            number is 0. Such a struct reads as the empty object (all absent), so nothing of an earlier board is left in it; it is no
+ *            image, and a call that is handed it answers RANGE. Where the length given is not the struct's size the answer is RANGE, and
+ *            the struct is not touched.
  *
  * LENDING. A pointer and its length in bytes; the bytes need no alignment. With length 0 the pointer may be NULL. A pointer to a number is
  *   aligned for it and not NULL. No byte that a call may write ([state], [dst], [result]) may be lent to it twice: what was proved says
  *   nothing of such a call. Bytes that are only read may overlap. Nothing else may write or read the bytes while the call runs; calls on
  *   different bytes may run at the same time, since the library has no variables of its own.
  *
- * IMAGES are structs of bytes alone (alignment 1, no padding, any byte order); numbers of several bytes are big-endian, and
- *   pothatch_u16, _u32 and _u64 below read them. An image is made by its _open or _make call and changed by calls alone: one of a wrong
- *   length, kind or layout answers RANGE before all else. There is no checksum: damage that makes another permitted image is not noticed.
- *   A proxy's image holds its key: keep and erase it as you do keys. A call that is cut off by a reset may leave an image half stored:
- *   keep two, and switch after the call. */
+ * IMAGES AND OBJECTS are structs of bytes alone (alignment 1, no padding, any byte order); numbers of several bytes are big-endian, and
+ *   pothatch_u16, _u32 and _u64 below read them, pothatch_put16, _put32 and _put64 write them. An object (request, configuration) may be
+ *   made by hand: clear the struct first. An image of a state is made by its _make, _open or _reset call, a node's by pothatch_replay too,
+ *   and changed by calls alone; read its members freely. Bytes that are none (a wrong length, kind or layout; a member with a code that
+ *   there is not) answer RANGE before all else. There is no checksum: damage that makes another permitted image is not noticed. Images of
+ *   nodes and proxies, and configurations, hold keys: keep and erase them as you do keys. What a call stores is one image for each value,
+ *   so states that memcmp finds equal are equal. An image may be stored, and used later by a library of the same layout number. A call
+ *   that is cut off by a reset may leave an image half stored: keep two, and switch after the call. */
 #ifndef POTHATCH_H
 #define POTHATCH_H
 #include <stdint.h>
@@ -39,16 +44,132 @@ enum {
     POTHATCH_SEAL = 20, POTHATCH_SPENT = 21, POTHATCH_STALE = 22
 };
 
+/* ---- numbers that parameters and members take */
+enum { POTHATCH_DRAFT = 0, POTHATCH_PUBLISHED = 1 };   /* form: draft-ietf-6tisch-minimal-security-06, RFC 9031 */
+enum { POTHATCH_ORDINARY = 0, POTHATCH_STRICT = 1 };   /* reading: any heads; the shortest heads alone, else LOOSE */
+enum { POTHATCH_NODE = 0, POTHATCH_BORDER = 1 };       /* role: ordinary node, border router (6LBR) */
+enum { POTHATCH_ABSENT = 0, POTHATCH_TAKEN = 1, POTHATCH_DISCARDED = 2 };   /* report; in the published form 2 is bad and reported */
+enum { POTHATCH_IDLE = 0, POTHATCH_WAITING = 1, POTHATCH_JOINED = 2, POTHATCH_GAVE_UP = 3 };   /* phase */
+enum { POTHATCH_BEACON = 0, POTHATCH_DATA = 1 };       /* frame type; an acknowledgement is data */
+/* answers: none is 0, which stands where a call was refused */
+enum { POTHATCH_DUE_NOT_YET = 1, POTHATCH_DUE_SEND = 2, POTHATCH_DUE_GAVE_UP = 3 };
+enum { POTHATCH_HOLDS = 1, POTHATCH_LAPSED = 2 };
+enum { POTHATCH_KEPT = 1, POTHATCH_SWITCHED = 2 };
+
 #define POTHATCH_LAYOUT 1u
+#define POTHATCH_PAYLOAD_MOST 256u   /* bytes of a payload; also those of a serial store */
 #define POTHATCH_BODY 31u            /* a join proxy's option body */
 #define POTHATCH_TAG 8u              /* what sealing adds to a text */
 #define POTHATCH_PLACE 9u            /* bytes of a ledger's memory for each address */
 
-/* Lends a struct: pothatch_ledger_free(POTHATCH_LEND_IN(&ledger), &count). */
+/* Lends a struct: pothatch_node_poll(POTHATCH_LEND(&node), time, &due). */
 #define POTHATCH_LEND(p) ((uint8_t *)(void *)(p)), sizeof *(p)
 #define POTHATCH_LEND_IN(p) ((const uint8_t *)(const void *)(p)), sizeof *(p)
 
+/* ---- objects, and the members of nodes. In a node `report` says whether there is one: 0 none, 1 held. */
+struct pothatch_key {                /* 27 bytes */
+    uint8_t identifier;              /* 1 to 255 */
+    uint8_t usage;                   /* 0 to 14 */
+    uint8_t value[16];
+    uint8_t info_len;                /* additional information (published form): 0, 4 or 8 */
+    uint8_t info[8];                 /* zeros after the first info_len */
+};
+
+struct pothatch_key_set {            /* 217 bytes */
+    uint8_t count;                   /* 1 to 8; 0: no set */
+    struct pothatch_key keys[8];     /* those after the first count do not count; their info is judged all the same */
+};
+
+struct pothatch_octets {             /* 18 bytes: a JRC address, network identifier or prefix */
+    uint8_t report;
+    uint8_t len;                     /* 0 to 16; an empty one is not an absent one */
+    uint8_t bytes[16];
+};
+
+struct pothatch_address {            /* 12 bytes */
+    uint8_t report;
+    uint8_t bytes[2];
+    uint8_t leased;                  /* 0: no end, 1: for `lease` */
+    uint8_t lease[8];                /* seconds; in the published form hours */
+};
+
+struct pothatch_list {               /* 256 bytes: a CBOR array's members, shortest heads, one after another */
+    uint8_t report;
+    uint8_t count;                   /* members */
+    uint8_t len;                     /* bytes, 0 to 253 */
+    uint8_t bytes[253];
+};
+
+struct pothatch_rate {               /* 9 bytes */
+    uint8_t report;
+    uint8_t value[8];                /* bytes a second */
+};
+
+struct pothatch_faults {             /* 11 bytes: reports of parameters, in payload order */
+    uint8_t count;                   /* 0 to 5 */
+    uint8_t entry[5][2];             /* error code (0 unsupported, 1 malformed), label */
+};
+
+struct pothatch_request {            /* 296 bytes */
+    uint8_t kind, layout;            /* 'Q', 1 */
+    uint8_t role;
+    struct pothatch_octets network;
+    struct pothatch_list unsupported;    /* label 8, published form: for each report its code, its label and null */
+    struct pothatch_faults faults;   /* what was bad in this request, published form */
+    uint8_t passed[8];               /* labels passed over */
+};
+
+struct pothatch_configuration {      /* 570 bytes */
+    uint8_t kind, layout;            /* 'C', 1 */
+    uint8_t keys_report;
+    struct pothatch_key_set keys;
+    struct pothatch_address address;
+    struct pothatch_octets jrc, network, prefix;   /* network and prefix: draft form */
+    struct pothatch_list blacklist;  /* byte strings, published form */
+    struct pothatch_rate rate;       /* join rate, published form */
+    struct pothatch_faults came;     /* published form: each known label that came, good or bad, in payload order, with code 1 */
+    uint8_t passed[8];               /* labels passed over */
+};
+
+struct pothatch_reports {            /* 17 bytes: what a node made of each parameter */
+    uint8_t kind, layout;            /* 'R', 1 */
+    uint8_t keys, address, jrc, network, prefix, blacklist, rate;
+    uint8_t passed[8];
+};
+
+struct pothatch_frame_key {          /* 33 bytes: the key for a frame */
+    uint8_t kind, layout;            /* 'K', 1 */
+    struct pothatch_key key;
+    uint8_t counter[4];              /* sending: the frame counter to use. Receiving: 0 */
+};
+
 /* ---- images */
+struct pothatch_counted_set {        /* 249 bytes: a key set with the next frame counter of each key */
+    struct pothatch_key_set set;
+    uint8_t counters[8][4];
+};
+
+struct pothatch_attempt {            /* 26 bytes; times in milliseconds */
+    uint8_t phase;
+    uint8_t clock[8];                /* the last accepted time */
+    uint8_t sent[8], timeout[8];     /* when the request was last sent, and how long after that the next step is due */
+    uint8_t count;                   /* retransmissions made, 0 to 4 */
+};
+
+struct pothatch_node {               /* 878 bytes */
+    uint8_t kind, layout;            /* 'N', 1 */
+    uint8_t role;
+    struct pothatch_attempt attempt;
+    struct pothatch_counted_set active, pending;
+    struct pothatch_address address;
+    uint8_t received[8];             /* when the address came */
+    struct pothatch_octets jrc, network, prefix;
+    uint8_t form;                    /* from when the node is made */
+    struct pothatch_list blacklist;
+    struct pothatch_rate rate;
+    struct pothatch_faults faults;   /* what the next request lists */
+};
+
 struct pothatch_ledger {             /* 16 bytes; the addresses themselves stand in lent memory, nine bytes each */
     uint8_t kind, layout;            /* 'L', 1 */
     uint8_t first[2], size[2];       /* the range */
@@ -67,6 +188,23 @@ struct pothatch_pledge {             /* 21 bytes: where a join response goes */
     uint8_t interface_id[8], port[2], token_len, token[8];
 };
 
+struct pothatch_serial {             /* 6 bytes; the bytes that came stand in a lent store of 256 */
+    uint8_t kind, layout;            /* 'S', 1 */
+    uint8_t arrived[2];              /* how many bytes came, 0 to 256 */
+    uint8_t overrun;                 /* 1: a part passed 256 */
+    uint8_t ended;                   /* 1: the end was marked */
+};
+
+struct pothatch_replayed {           /* 251 bytes */
+    uint8_t kind, layout;            /* 'T', 1 */
+    uint8_t kinds[6][8];             /* records by kind, 1 first */
+    uint8_t refusals[22][8];         /* refusals by number, 1 first */
+    uint8_t switches[8];             /* from pending to active */
+    uint8_t longest[8];              /* the longest wait from an accepted start to its accepted join answer, ms */
+    uint8_t stopped;                 /* 0: the whole trace was walked; 1: it stopped at `place` */
+    uint8_t place[8];                /* where that record begins; walked to the end, the trace's length */
+};
+
 /* ---- the library
  * The number of the layout of every image that the library was built with. */
 uint32_t pothatch_layout(void);
@@ -74,6 +212,52 @@ uint32_t pothatch_layout(void);
 uint32_t pothatch_size(uint8_t kind, uint32_t *size);
 /* The refusal's name in ASCII with zeros after it, 8 bytes. RANGE: no such number, name_len not 8. [result] name */
 uint32_t pothatch_refusal_name(uint32_t number, uint8_t *name, uint64_t name_len);
+
+/* ---- payloads
+ * Reads a payload. RANGE: form or reading over 1; then as the documents order (LONG first; LOOSE in a strict reading).
+ * [in] payload [result] out: a request, a configuration */
+uint32_t pothatch_request_read(uint8_t form, uint8_t reading, const uint8_t *payload, uint64_t payload_len, uint8_t *out,
+    uint64_t out_len);
+uint32_t pothatch_configuration_read(uint8_t form, uint8_t reading, const uint8_t *payload, uint64_t payload_len, uint8_t *out,
+    uint64_t out_len);
+/* Writes an object: shortest heads, labels ascending. RANGE: form over 1, no such object, one outside its limits or over 256 bytes; OWED
+ * (request); ROOM. [in] object [dst] dst [result] length */
+uint32_t pothatch_request_write(uint8_t form, const uint8_t *object, uint64_t object_len, uint8_t *dst, uint64_t dst_len, uint64_t *length);
+uint32_t pothatch_configuration_write(uint8_t form, const uint8_t *object, uint64_t object_len, uint8_t *dst, uint64_t dst_len,
+    uint64_t *length);
+/* Joins two configurations of the draft form: each parameter from the second where taken there, else from the first. RANGE: one that is
+ * none or outside its limits. [in] first, second [result] out: a configuration */
+uint32_t pothatch_configuration_merge(const uint8_t *first, uint64_t first_len, const uint8_t *second, uint64_t second_len, uint8_t *out,
+    uint64_t out_len);
+
+/* ---- the node. RANGE comes first where the image is none, or is one of a node that no call may be handed. Times are milliseconds and
+ * never go back (CLOCK).
+ * Makes a node, idle. has_network 0: it has no network identifier, and network is not read. RANGE: form, role or has_network over 1,
+ * with has_network 1 a network over 16 bytes. [in] network [result] node */
+uint32_t pothatch_node_make(uint8_t form, uint8_t role, uint8_t has_network, const uint8_t *network, uint64_t network_len, uint8_t *node,
+    uint64_t node_len);
+/* Starts a join attempt: the join request, at most 38 bytes, goes to dst. CLOCK, PHASE; RANGE: first timeout not 10,000 to 15,000; OWED,
+ * ROOM. [state] node [dst] dst [result] length */
+uint32_t pothatch_node_start(uint8_t *node, uint64_t node_len, uint64_t time, uint64_t timeout, uint8_t *dst, uint64_t dst_len,
+    uint64_t *length);
+/* What is due in the join attempt, at most one step a call. CLOCK, PHASE. [state] node [result] due: POTHATCH_DUE_.. */
+uint32_t pothatch_node_poll(uint8_t *node, uint64_t node_len, uint64_t time, uint32_t *due);
+/* A join answer, an update. LONG, CLOCK, PHASE; then as the reading; OWED, CLASH. [state] node [in] payload [result] reports */
+uint32_t pothatch_node_answer(uint8_t *node, uint64_t node_len, uint64_t time, const uint8_t *payload, uint64_t payload_len,
+    uint8_t *reports, uint64_t reports_len);
+uint32_t pothatch_node_update(uint8_t *node, uint64_t node_len, uint64_t time, const uint8_t *payload, uint64_t payload_len,
+    uint8_t *reports, uint64_t reports_len);
+/* Whether the short address holds; without one it is lapsed. CLOCK. [in] node [result] holds: POTHATCH_HOLDS, POTHATCH_LAPSED */
+uint32_t pothatch_node_holds(const uint8_t *node, uint64_t node_len, uint64_t time, uint32_t *holds);
+/* The key to send a frame with, and its counter, which rises by one in the node. RANGE: frame_type over 1; SILENT. [state] node
+ * [result] key */
+uint32_t pothatch_node_send(uint8_t *node, uint64_t node_len, uint8_t frame_type, uint8_t *key, uint64_t key_len);
+/* The key to receive a frame with. RANGE: frame_type over 1, identifier 0; SILENT. [in] node [result] key */
+uint32_t pothatch_node_receive(const uint8_t *node, uint64_t node_len, uint8_t frame_type, uint8_t identifier, uint8_t *key,
+    uint64_t key_len);
+/* The radio verified such a frame; under a pending key the pending set becomes active. Refused as receiving is. [state] node
+ * [result] change: POTHATCH_KEPT, POTHATCH_SWITCHED */
+uint32_t pothatch_node_verified(uint8_t *node, uint64_t node_len, uint8_t frame_type, uint8_t identifier, uint32_t *change);
 
 /* ---- the ledger of short addresses
  * Opens one over memory that may hold earlier grants; for a fresh one fill it with 0 first. RANGE: a size that is not 1 to 4,096, the
@@ -110,10 +294,31 @@ uint32_t pothatch_proxy_issue(uint8_t *proxy, uint64_t proxy_len, const uint8_t 
 uint32_t pothatch_proxy_judge(const uint8_t *proxy, uint64_t proxy_len, const uint8_t *body, uint64_t body_len, uint8_t *pledge,
     uint64_t pledge_len);
 
+/* ---- payloads that come in parts, into a store that is lent. RANGE comes first: a store under 256 bytes, an image that is none.
+ * Begins anew, whatever stood in the image; the store need not be cleared. [result] serial */
+uint32_t pothatch_serial_reset(uint8_t *serial, uint64_t serial_len);
+/* One part more. LONG: it would pass 256 bytes, or one did; none of it is stored, and the overrun is marked in the image. PHASE: after the
+ * end. [state] serial, store [in] part */
+uint32_t pothatch_serial_part(uint8_t *serial, uint64_t serial_len, uint8_t *store, uint64_t store_len, const uint8_t *part,
+    uint64_t part_len);
+/* The end: reads what arrived as pothatch_request_read or _configuration_read does. RANGE: form or reading over 1; LONG, PHASE; then as the
+ * reading, and the end is marked in the image, also where the reading was refused. [state] serial [in] store [result] out */
+uint32_t pothatch_serial_end_request(uint8_t *serial, uint64_t serial_len, const uint8_t *store, uint64_t store_len, uint8_t form,
+    uint8_t reading, uint8_t *out, uint64_t out_len);
+uint32_t pothatch_serial_end_configuration(uint8_t *serial, uint64_t serial_len, const uint8_t *store, uint64_t store_len, uint8_t form,
+    uint8_t reading, uint8_t *out, uint64_t out_len);
+
+/* ---- a recorded night (draft form), walked record by record. 0 also where it stopped early: `out` says so. RANGE: a struct's length.
+ * [in] trace [result] node: all 0 where the trace made none; out: a struct pothatch_replayed */
+uint32_t pothatch_replay(const uint8_t *trace, uint64_t trace_len, uint8_t *node, uint64_t node_len, uint8_t *out, uint64_t out_len);
+
 /* ---- numbers of several bytes (the only code in this file) */
 static inline uint16_t pothatch_u16(const uint8_t p[2]) { return (uint16_t)((p[0] << 8) | p[1]); }
 static inline uint32_t pothatch_u32(const uint8_t p[4]) { return ((uint32_t)pothatch_u16(p) << 16) | pothatch_u16(p + 2); }
 static inline uint64_t pothatch_u64(const uint8_t p[8]) { return ((uint64_t)pothatch_u32(p) << 32) | pothatch_u32(p + 4); }
+static inline void pothatch_put16(uint8_t p[2], uint16_t v) { p[0] = (uint8_t)(v >> 8); p[1] = (uint8_t)v; }
+static inline void pothatch_put32(uint8_t p[4], uint32_t v) { pothatch_put16(p, (uint16_t)(v >> 16)); pothatch_put16(p + 2, (uint16_t)v); }
+static inline void pothatch_put64(uint8_t p[8], uint64_t v) { pothatch_put32(p, (uint32_t)(v >> 32)); pothatch_put32(p + 4, (uint32_t)v); }
 
 /* ---- a struct with padding would be no image: refuse to compile */
 #if defined(__cplusplus)
@@ -121,9 +326,25 @@ static inline uint64_t pothatch_u64(const uint8_t p[8]) { return ((uint64_t)poth
 #else
 #define POTHATCH_IS(t, n) _Static_assert(sizeof(struct t) == (n), #t)
 #endif
+POTHATCH_IS(pothatch_key, 27);
+POTHATCH_IS(pothatch_key_set, 217);
+POTHATCH_IS(pothatch_octets, 18);
+POTHATCH_IS(pothatch_address, 12);
+POTHATCH_IS(pothatch_list, 256);
+POTHATCH_IS(pothatch_rate, 9);
+POTHATCH_IS(pothatch_faults, 11);
+POTHATCH_IS(pothatch_request, 296);
+POTHATCH_IS(pothatch_configuration, 570);
+POTHATCH_IS(pothatch_reports, 17);
+POTHATCH_IS(pothatch_frame_key, 33);
+POTHATCH_IS(pothatch_counted_set, 249);
+POTHATCH_IS(pothatch_attempt, 26);
+POTHATCH_IS(pothatch_node, 878);
 POTHATCH_IS(pothatch_ledger, 16);
 POTHATCH_IS(pothatch_proxy, 26);
 POTHATCH_IS(pothatch_pledge, 21);
+POTHATCH_IS(pothatch_serial, 6);
+POTHATCH_IS(pothatch_replayed, 251);
 #undef POTHATCH_IS
 #ifdef __cplusplus
 }

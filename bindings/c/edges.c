@@ -1,35 +1,6 @@
-/* The library from C: published vectors, refusals, damaged images. Every slice ends at a page that may not be touched, so that a read
- * or write
- * past its end stops the program. Prints `N passed, M failed`. */
-#include "pothatch.h"
-#include <stdio.h>
-#include <stdlib.h>
-#include <string.h>
-#include <sys/mman.h>
-#include <unistd.h>
-
-static int passed, failed;
-
-static void check(const char *what, int holds) {
-    if (holds) { passed++; return; }
-    failed++;
-    printf("edges: %s\n", what);
-}
-
-/* n bytes, a copy of `from` or zeros, that end where an unmapped page begins. They stay for the program's life. */
-static uint8_t *lent(const void *from, size_t n) {
-    size_t page = (size_t)sysconf(_SC_PAGESIZE), pages = n / page + 1;
-    uint8_t *p = mmap(NULL, (pages + 1) * page, PROT_READ | PROT_WRITE, MAP_PRIVATE | MAP_ANONYMOUS, -1, 0);
-    if (p == MAP_FAILED || mprotect(p + pages * page, page, PROT_NONE)) { perror("edges"); exit(1); }
-    p += pages * page - n;
-    if (from && n) memcpy(p, from, n);
-    return p;
-}
-
-static int all_zero(const uint8_t *p, size_t n) {
-    while (n) if (p[--n]) return 0;
-    return 1;
-}
+/* The library from C: published vectors, marked examples, refusals, damaged images. Every slice ends at a page that may not be touched, so
+ * that a read or write past its end stops the program. Prints `N passed, M failed`. */
+#include "test.h"
 
 static void library(void) {
     static const char *names[] = {"CUT", "FORM", "DEEP", "EXTRA", "TYPE", "TWICE", "KEYS", "ROLE", "OWED", "CLASH", "CLOCK", "ROOM",
@@ -40,6 +11,13 @@ static void library(void) {
     check("size of a ledger", pothatch_size('L', &size) == 0 && size == sizeof(struct pothatch_ledger));
     check("size of a proxy", pothatch_size('P', &size) == 0 && size == sizeof(struct pothatch_proxy));
     check("size of a pledge", pothatch_size('G', &size) == 0 && size == sizeof(struct pothatch_pledge));
+    check("size of a request", pothatch_size('Q', &size) == 0 && size == sizeof(struct pothatch_request));
+    check("size of a configuration", pothatch_size('C', &size) == 0 && size == sizeof(struct pothatch_configuration));
+    check("size of reports", pothatch_size('R', &size) == 0 && size == sizeof(struct pothatch_reports));
+    check("size of a frame key", pothatch_size('K', &size) == 0 && size == sizeof(struct pothatch_frame_key));
+    check("size of a node", pothatch_size('N', &size) == 0 && size == sizeof(struct pothatch_node));
+    check("size of a serial image", pothatch_size('S', &size) == 0 && size == sizeof(struct pothatch_serial));
+    check("size of a replay's report", pothatch_size('T', &size) == 0 && size == sizeof(struct pothatch_replayed));
     check("no such kind", pothatch_size('X', &size) == POTHATCH_RANGE && size == 0);
     for (uint32_t n = 1; n <= 22; n++) {
         uint8_t *name = lent("........", 8), want[8] = {0};
@@ -174,11 +152,219 @@ static void proxy(void) {
     check("an emptied proxy", pothatch_proxy_judge(p, 26, dst, 31, w, 21) == POTHATCH_RANGE);
 }
 
+/* What a reading answers: the number, and the struct filled or all 0. */
+static uint32_t read_as(int request, uint8_t form, uint8_t reading, const char *digits, struct pothatch_configuration *c) {
+    uint64_t n, size = request ? sizeof(struct pothatch_request) : sizeof *c;
+    uint8_t *payload = hex(digits, &n), *out = lent(NULL, size);
+    memset(out, 0xEE, size);
+    uint32_t r = request ? pothatch_request_read(form, reading, payload, n, out, size)
+                         : pothatch_configuration_read(form, reading, payload, n, out, size);
+    check(digits, r ? all_zero(out, size) : out[0] == (request ? 'Q' : 'C') && out[1] == 1);
+    if (!request && c) memcpy(c, out, size);
+    return r;
+}
+
+static void marked_examples(void) {
+    static const struct { int request; uint8_t form, reading; const char *digits; uint32_t number; } marked[] = {
+        {1, 0, 0, "A1 05 42 CA FE", 0}, {1, 0, 0, "B8 01 05 42 CA FE", 0}, {1, 0, 1, "B8 01 05 42 CA FE", POTHATCH_LOOSE},
+        {1, 0, 0, "A0", POTHATCH_OWED}, {1, 0, 0, "A1 01 01", 0}, {1, 1, 0, "A1 01 01", POTHATCH_OWED},
+        {1, 0, 0, "A1 01 02", POTHATCH_ROLE},
+        {1, 0, 0, "", POTHATCH_CUT}, {1, 0, 0, "A1 05 42 CA FE 00", POTHATCH_EXTRA}, {1, 0, 0, "BF 05 42 CA FE FF", POTHATCH_FORM},
+        {1, 0, 0, "A2 05 42 CA FE 05 42 CA FE", POTHATCH_TWICE}, {0, 0, 0, "A0", 0}, {0, 0, 0, "A1 03 82 42 12 34 19 0E 10", 0},
+        {0, 0, 0, "A1 03 81 41 12", 0}, {0, 0, 0, "A1 02 80", POTHATCH_KEYS}, {0, 1, 0, "A1 02 80", 0},
+        {0, 0, 0, "A1 02 81 01", POTHATCH_TYPE},
+        {0, 0, 0, "A1 18 63 F6", 0}, {0, 0, 0, "A1 18 63 81 81 81 81 81 81 00", 0},
+        {0, 0, 0, "A1 18 63 81 81 81 81 81 81 81 00", POTHATCH_DEEP}, {0, 2, 0, "A0", POTHATCH_RANGE}, {0, 0, 2, "A0", POTHATCH_RANGE},
+    };
+    for (size_t i = 0; i < sizeof marked / sizeof *marked; i++)
+        check(marked[i].digits,
+              read_as(marked[i].request, marked[i].form, marked[i].reading, marked[i].digits, NULL) == marked[i].number);
+    struct pothatch_configuration c;
+    uint8_t *out = lent(NULL, sizeof c), longest[300] = {0xA0};
+    memset(out, 0xEE, sizeof c);
+    check("LONG", pothatch_configuration_read(0, 0, longest, 257, out, sizeof c) == POTHATCH_LONG && all_zero(out, sizeof c));
+    memset(out, 0xEE, sizeof c);
+    check("another struct's size", pothatch_configuration_read(0, 0, longest, 1, out, sizeof c - 1) == POTHATCH_RANGE);
+    check("not touched", all(out, sizeof c, 0xEE));
+}
+
+/* Configurations are written and merged. */
+static void configurations(void) {
+    struct pothatch_configuration c, d;
+    uint8_t *out = lent(NULL, sizeof c), *dst = lent(NULL, 9), was[sizeof c];
+    uint64_t length = 7;
+    read_as(0, 0, 0, "A1 03 82 42 12 34 19 0E 10", &c);
+    check("address", c.address.report == POTHATCH_TAKEN && c.address.bytes[0] == 0x12 && pothatch_u64(c.address.lease) == 3600);
+    memcpy(was, &c, sizeof was);
+    memset(dst, 0xEE, 9);
+    check("written", pothatch_configuration_write(0, POTHATCH_LEND_IN(&c), dst, 9, &length) == 0 && length == 9);
+    check("as it was read", !memcmp(dst, "\xA1\x03\x82\x42\x12\x34\x19\x0E\x10", 9) && !memcmp(was, &c, sizeof was));
+    memset(dst, 0xEE, 9);
+    length = 7;
+    check("no room", pothatch_configuration_write(0, POTHATCH_LEND_IN(&c), dst, 8, &length) == POTHATCH_ROOM);
+    check("destination as it was", length == 0 && all(dst, 9, 0xEE));
+    c.address.report = 3;
+    length = 7;
+    check("no report", pothatch_configuration_write(0, POTHATCH_LEND_IN(&c), dst, 9, &length) == POTHATCH_RANGE && length == 0);
+    c.address.report = POTHATCH_TAKEN;
+    c.address.bytes[0] = c.address.bytes[1] = 0xFF;
+    length = 7;
+    check("no address", pothatch_configuration_write(0, POTHATCH_LEND_IN(&c), dst, 9, &length) == POTHATCH_RANGE && all(dst, 9, 0xEE));
+    memset(&c, 0, sizeof c);
+    check("an emptied object", pothatch_configuration_write(0, POTHATCH_LEND_IN(&c), dst, 9, &length) == POTHATCH_RANGE);
+    read_as(0, 0, 0, "A2 03 81 42 12 34 05 42 CA FE", &c);
+    read_as(0, 0, 0, "A1 03 82 42 56 78 0A", &d);
+    check("merged", pothatch_configuration_merge(POTHATCH_LEND_IN(&c), POTHATCH_LEND_IN(&d), out, sizeof c) == 0);
+    memcpy(&c, out, sizeof c);
+    check("the later address", c.address.bytes[0] == 0x56 && pothatch_u64(c.address.lease) == 10 && c.network.bytes[1] == 0xFE);
+    d.layout = 2;
+    check("another layout", pothatch_configuration_merge(POTHATCH_LEND_IN(&c), POTHATCH_LEND_IN(&d), out, sizeof c) == POTHATCH_RANGE);
+    check("nothing is left", all_zero(out, sizeof c));
+}
+
+/* Whether the call on the node that was refused left it and its results as it must. */
+static void kept(const char *what, uint32_t number, uint32_t want, const uint8_t *node, const uint8_t *was) {
+    check(what, number == want && !memcmp(node, was, sizeof(struct pothatch_node)));
+}
+
+#define NODE sizeof(struct pothatch_node)
+#define ANSWER "A2 02 82 01 50 000102030405060708090A0B0C0D0E0F 03 82 42 12 34 01"
+#define UPDATE "A1 02 83 02 03 50 101112131415161718191A1B1C1D1E1F"
+
+/* From the making to the join answer. */
+static void joining(uint8_t *n) {
+    uint8_t was[NODE], *dst = lent(NULL, 5), *r = lent(NULL, 17), *network = lent("\xCA\xFE", 2), *answer;
+    uint32_t told = 7;
+    uint64_t length = 7, len;
+    answer = hex(ANSWER, &len);
+    check("make", pothatch_node_make(0, 0, 1, network, 2, n, NODE) == 0 && n[0] == 'N' && n[1] == 1);
+    memcpy(was, n, NODE);
+    kept("poll of an idle node", pothatch_node_poll(n, NODE, 5, &told), POTHATCH_PHASE, n, was);
+    check("no answer", told == 0);
+    kept("a short timeout", pothatch_node_start(n, NODE, 5, 9999, dst, 5, &length), POTHATCH_RANGE, n, was);
+    memset(dst, 0xEE, 5);
+    kept("no room", pothatch_node_start(n, NODE, 5, 10000, dst, 4, &length), POTHATCH_ROOM, n, was);
+    check("destination as it was", length == 0 && all(dst, 5, 0xEE));
+    check("start", pothatch_node_start(n, NODE, 5, 10000, dst, 5, &length) == 0 && length == 5);
+    check("the request", !memcmp(dst, "\xA1\x05\x42\xCA\xFE", 5));
+    memcpy(was, n, NODE);
+    memset(r, 0xEE, 17);
+    kept("time goes back", pothatch_node_answer(n, NODE, 4, answer, len, r, 17), POTHATCH_CLOCK, n, was);
+    check("no reports", all_zero(r, 17));
+    memset(r, 0xEE, 17);
+    kept("cut", pothatch_node_answer(n, NODE, 6, answer, len - 1, r, 17), POTHATCH_CUT, n, was);
+    check("no reports", all_zero(r, 17));
+    memset(r, 0xEE, 17);
+    kept("another struct's size", pothatch_node_answer(n, NODE, 6, answer, len, r, 16), POTHATCH_RANGE, n, was);
+    check("not touched", all(r, 17, 0xEE));
+    kept("an update", pothatch_node_update(n, NODE, 6, answer, len, r, 17), POTHATCH_PHASE, n, was);
+    check("answer", pothatch_node_answer(n, NODE, 6, answer, len, r, 17) == 0 && r[0] == 'R' && r[2] == POTHATCH_TAKEN);
+    check("holds", pothatch_node_holds(n, NODE, 1005, &told) == 0 && told == POTHATCH_HOLDS);
+    check("lapsed", pothatch_node_holds(n, NODE, 1006, &told) == 0 && told == POTHATCH_LAPSED);
+}
+
+/* The keys of the answer, and those of an update. */
+static void frames(uint8_t *n) {
+    uint8_t was[NODE], *k = lent(NULL, 33), *r = lent(NULL, 17), *update;
+    uint32_t told = 7;
+    uint64_t len;
+    update = hex(UPDATE, &len);
+    memcpy(was, n, NODE);
+    memset(k, 0xEE, 33);
+    kept("pending", pothatch_node_send(n, NODE, POTHATCH_DATA, k, 33), POTHATCH_SILENT, n, was);
+    check("no key", all_zero(k, 33));
+    memset(k, 0xEE, 33);
+    kept("type 2", pothatch_node_receive(n, NODE, 2, 1, k, 33), POTHATCH_RANGE, n, was);
+    check("no key", all_zero(k, 33));
+    kept("identifier 0", pothatch_node_verified(n, NODE, POTHATCH_DATA, 0, &told), POTHATCH_RANGE, n, was);
+    check("receive", pothatch_node_receive(n, NODE, POTHATCH_DATA, 1, k, 33) == 0 && k[0] == 'K' && k[2] == 1 && all_zero(k + 29, 4));
+    check("switched", pothatch_node_verified(n, NODE, POTHATCH_DATA, 1, &told) == 0 && told == POTHATCH_SWITCHED);
+    check("kept", pothatch_node_verified(n, NODE, POTHATCH_DATA, 1, &told) == 0 && told == POTHATCH_KEPT);
+    check("send", pothatch_node_send(n, NODE, POTHATCH_DATA, k, 33) == 0 && pothatch_u32(k + 29) == 0);
+    check("send again", pothatch_node_send(n, NODE, POTHATCH_BEACON, k, 33) == 0 && pothatch_u32(k + 29) == 1);
+    check("update", pothatch_node_update(n, NODE, 2000, update, len, r, 17) == 0);
+    memcpy(was, n, NODE);
+    update[3] = 1;
+    kept("shares an identifier", pothatch_node_update(n, NODE, 2000, update, len, r, 17), POTHATCH_CLASH, n, was);
+}
+
+/* Images that are none, nodes that no call may be handed, and a making that is refused. */
+static void misfits(uint8_t *n) {
+    struct pothatch_node *p = (struct pothatch_node *)(void *)n;
+    uint8_t *network = lent("\xCA\xFE", 2);
+    uint32_t told = 7;
+    for (size_t i = 0; i < 2; i++) {
+        n[i] ^= 3;
+        check("other kind or layout", pothatch_node_poll(n, NODE, 3000, &told) == POTHATCH_RANGE);
+        n[i] ^= 3;
+    }
+    check("a byte short", pothatch_node_poll(n, NODE - 1, 3000, &told) == POTHATCH_RANGE);
+    p->attempt.phase = 4;
+    check("no phase", pothatch_node_holds(n, NODE, 3000, &told) == POTHATCH_RANGE && told == 0);
+    p->attempt.phase = POTHATCH_JOINED;
+    p->attempt.count = 5;
+    check("a node that no call may be handed", pothatch_node_holds(n, NODE, 3000, &told) == POTHATCH_RANGE);
+    memset(n, 0xEE, NODE);
+    check("role 2", pothatch_node_make(0, 2, 1, network, 2, n, NODE) == POTHATCH_RANGE && all_zero(n, NODE));
+    check("an emptied node", pothatch_node_poll(n, NODE, 0, &told) == POTHATCH_RANGE);
+    check("no network, from NULL", pothatch_node_make(1, 1, 0, NULL, 0, n, NODE) == 0);
+    check("none is read", pothatch_node_make(1, 1, 0, network, 2, n, NODE) == 0 && all_zero((const uint8_t *)&p->network, 18));
+}
+
+static void serial(void) {
+    uint8_t *s = lent(NULL, 6), *store = lent(NULL, 256), *part = lent("\xA1\x05\x42\xCA\xFE", 5), *out = lent(NULL, 296), was[256];
+    memset(s, 0xEE, 6);
+    check("a byte short", pothatch_serial_reset(s, 5) == POTHATCH_RANGE && all(s, 6, 0xEE));
+    check("reset", pothatch_serial_reset(s, 6) == 0 && s[0] == 'S' && s[1] == 1 && all_zero(s + 2, 4));
+    check("a short store", pothatch_serial_part(s, 6, store + 1, 255, part, 2) == POTHATCH_RANGE && all_zero(s + 2, 4));
+    check("a part", pothatch_serial_part(s, 6, store, 256, part, 2) == 0 && pothatch_u16(s + 2) == 2);
+    check("nothing, from NULL", pothatch_serial_part(s, 6, store, 256, NULL, 0) == 0 && pothatch_u16(s + 2) == 2);
+    check("the rest", pothatch_serial_part(s, 6, store, 256, part + 2, 3) == 0 && !memcmp(store, part, 5) && all_zero(store + 5, 251));
+    check("end", pothatch_serial_end_request(s, 6, store, 256, 0, 0, out, 296) == 0 && out[0] == 'Q' && s[5] == 1);
+    check("PHASE", pothatch_serial_end_request(s, 6, store, 256, 0, 0, out, 296) == POTHATCH_PHASE && all_zero(out, 296));
+    check("reset again", pothatch_serial_reset(s, 6) == 0 && all_zero(s + 2, 4));
+    memset(out, 0xEE, 296);
+    check("nothing came", pothatch_serial_end_request(s, 6, store, 256, 0, 0, out, 296) == POTHATCH_CUT && all_zero(out, 296));
+    check("the end's mark stays", s[5] == 1);
+    pothatch_serial_reset(s, 6);
+    for (int i = 0; i < 51; i++) pothatch_serial_part(s, 6, store, 256, part, 5);
+    memcpy(was, store, 256);
+    check("LONG", pothatch_serial_part(s, 6, store, 256, part, 2) == POTHATCH_LONG && !memcmp(store, was, 256));
+    check("marked, not counted", s[4] == 1 && pothatch_u16(s + 2) == 255);
+    check("LONG until a reset", pothatch_serial_part(s, 6, store, 256, NULL, 0) == POTHATCH_LONG);
+    s[4] = 2;
+    check("no mark", pothatch_serial_part(s, 6, store, 256, part, 5) == POTHATCH_RANGE);
+}
+
+static void night(void) {
+    uint64_t n;
+    uint8_t *trace = hex("01 00 02 CAFE 0000000000000000000000000000 02 0000000000000000 00002710 06 0000000000002710 05 01 01 05 01", &n);
+    uint8_t *node = lent(NULL, 878), *out = lent(NULL, 251);
+    memset(node, 0xEE, 878);
+    memset(out, 0xEE, 251);
+    check("replay", pothatch_replay(trace, n, node, 878, out, 251) == 0 && node[0] == 'N' && out[0] == 'T');
+    struct pothatch_replayed *r = (struct pothatch_replayed *)(void *)out;
+    check("stopped at 44", r->stopped == 1 && pothatch_u64(r->place) == 44);
+    check("records", pothatch_u64(r->kinds[0]) == 1 && pothatch_u64(r->kinds[4]) == 1);
+    check("refusals", pothatch_u64(r->refusals[POTHATCH_SILENT - 1]) == 1);
+    memset(node, 0xEE, 878);
+    check("no node", pothatch_replay(NULL, 0, node, 878, out, 251) == 0 && all_zero(node, 878) && r->stopped == 0);
+    memset(out, 0xEE, 251);
+    check("another struct's size", pothatch_replay(trace, n, node, 878, out, 250) == POTHATCH_RANGE && all(out, 251, 0xEE));
+}
+
 int main(void) {
     library();
     cipher();
     ledger();
     proxy();
-    printf("%d passed, %d failed\n", passed, failed);
-    return failed != 0;
+    marked_examples();
+    configurations();
+    uint8_t *node = lent(NULL, NODE);
+    joining(node);
+    frames(node);
+    misfits(node);
+    serial();
+    night();
+    return summary();
 }

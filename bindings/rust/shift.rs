@@ -1,5 +1,5 @@
 //! Random shifts: the library's ledger against a small one that is written here and shares nothing with it. Prints `N passed, M failed`.
-#[path = "pothatch.rs"]
+#[allow(dead_code)]
 mod pothatch;
 use pothatch::{Ledger, Refusal};
 
