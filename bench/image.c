@@ -90,7 +90,7 @@ static uint64_t updates(uint64_t n)
 static uint64_t reads(uint64_t n)
 {
     for (uint64_t i = 0; i < n; i++)
-        sink += pothatch_configuration_read(POTHATCH_DRAFT, POTHATCH_ORDINARY, big, big_len, POTHATCH_LEND(&configuration));
+        sink += pothatch_configuration_read(POTHATCH_DRAFT, POTHATCH_READ_ANY, big, big_len, POTHATCH_LEND(&configuration));
     return configuration.keys.count;
 }
 

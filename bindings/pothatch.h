@@ -2,8 +2,8 @@
  *
  * Every function below is the proved function of the same name in crates/pothatch/src; bindings/header.py compares the two texts.
  *
- * ANSWERS. A call returns 0, or the refusal's number (POTHATCH_CUT .. POTHATCH_STALE). It never traps, blocks or allocates, and keeps
- *   no pointer.
+ * ANSWERS. A call returns 0, or the refusal's number (POTHATCH_CUT .. POTHATCH_STALE); pothatch_layout alone returns what it is asked for.
+ *   A call never traps, blocks or allocates, and keeps no pointer.
  *
  * WHAT A CALL LEAVES IN WHAT IT IS LENT. Each parameter is one of four kinds, named in brackets at each function:
  *   [in]     read, never written.
@@ -17,17 +17,27 @@
  *
  * LENDING. A pointer and its length in bytes; the bytes need no alignment. With length 0 the pointer may be NULL. A pointer to a number is
  *   aligned for it and not NULL. No byte that a call may write ([state], [dst], [result]) may be lent to it twice: what was proved says
- *   nothing of such a call. Bytes that are only read may overlap. Nothing else may write or read the bytes while the call runs; calls on
- *   different bytes may run at the same time, since the library has no variables of its own.
+ *   nothing of such a call. Bytes that are only read may overlap. While a call runs nothing else may write the bytes that it reads, nor
+ *   read or write those that it writes. All other calls may run at the same time, since the library has no variables of its own.
  *
  * IMAGES AND OBJECTS are structs of bytes alone (alignment 1, no padding, any byte order); numbers of several bytes are big-endian, and
  *   pothatch_u16, _u32 and _u64 below read them, pothatch_put16, _put32 and _put64 write them. An object (request, configuration) may be
- *   made by hand: clear the struct first. An image of a state is made by its _make, _open or _reset call, a node's by pothatch_replay too,
- *   and changed by calls alone; read its members freely. Bytes that are none (a wrong length, kind or layout; a member with a code that
- *   there is not) answer RANGE before all else. There is no checksum: damage that makes another permitted image is not noticed. Images of
- *   nodes and proxies, and configurations, hold keys: keep and erase them as you do keys. What a call stores is one image for each value,
- *   so states that memcmp finds equal are equal. An image may be stored, and used later by a library of the same layout number. A call
- *   that is cut off by a reset may leave an image half stored: keep two, and switch after the call. */
+ *   made by hand: clear the struct, then set kind, layout and members. An image of a state is made by its _make, _open or _reset call, a
+ *   node's by pothatch_replay too, and changed by calls alone; read its members freely. Bytes that are none (a wrong length, kind or
+ *   layout; a member with a code that there is not) answer RANGE before all else. There is no checksum: damage that makes another
+ *   permitted image is not noticed. A value has one image, so equal states, places that do not count among them, are equal bytes.
+ *
+ * KEEPING IMAGES. An image may be stored, a ledger's together with its memory, and used later by a library of the same layout number. A
+ *   call that is cut off by a reset may leave it half stored: keep two, and switch after the call. A node's clock goes on from its last
+ *   time: after a restart hand in times that do too. Keys stand in images of nodes and proxies, in configurations and frame keys, in
+ *   payloads, so in a serial store until it is written over, in traces, and in what calls leave behind on the stack: keep and erase them
+ *   as you do keys. What a call takes of the stack stands in docs/PERFORMANCE.md: some 10 KiB at most, a replay 15.
+ *
+ * COUNTERS AND NONCES. No counter or number is used twice under a key as long as each call finds what the one before left. So store the
+ *   new image of a node or a proxy BEFORE the frame or the option body leaves the board, and never go back to an older one; never make a
+ *   proxy with a key, or set one, that a proxy had before (not at each start: keep the image); never let a node that was made anew have
+ *   keys that it had before, nor send with a replayed one, whose counters are 0. pothatch_seal seals what it is told to: each nonce once
+ *   under one key. */
 #ifndef POTHATCH_H
 #define POTHATCH_H
 #include <stdint.h>
@@ -35,7 +45,12 @@
 extern "C" {
 #endif
 
-/* ---- refusals: the documents' numbers */
+/* ---- refusals: the documents' numbers. A payload: CUT ends inside an item, FORM has a head that is not read, DEEP nests over eight
+ * levels, EXTRA goes on after its item, TYPE no map, no integer label or a value of another kind, TWICE a parameter again, KEYS a key set
+ * outside its limits, ROLE no such role, OWED no network identifier where one is due, LONG over 256 bytes, LOOSE a head that is not the
+ * shortest. A node: CLASH a new set shares identifiers with the active one, CLOCK a time before the last, SILENT no key for the frame,
+ * PHASE not the call's phase. ROOM a destination or memory too short, RANGE outside its limits. A ledger: FULL, UNKNOWN a board that holds
+ * none. SEAL not the right tag. A proxy: SPENT all numbers used, STALE a body too old or never issued. */
 enum {
     POTHATCH_OK = 0,
     POTHATCH_CUT = 1, POTHATCH_FORM = 2, POTHATCH_DEEP = 3, POTHATCH_EXTRA = 4, POTHATCH_TYPE = 5, POTHATCH_TWICE = 6, POTHATCH_KEYS = 7,
@@ -46,7 +61,7 @@ enum {
 
 /* ---- numbers that parameters and members take */
 enum { POTHATCH_DRAFT = 0, POTHATCH_PUBLISHED = 1 };   /* form: draft-ietf-6tisch-minimal-security-06, RFC 9031 */
-enum { POTHATCH_ORDINARY = 0, POTHATCH_STRICT = 1 };   /* reading: any heads; the shortest heads alone, else LOOSE */
+enum { POTHATCH_READ_ANY = 0, POTHATCH_READ_STRICT = 1 };   /* reading: any heads; the shortest heads alone, else LOOSE */
 enum { POTHATCH_NODE = 0, POTHATCH_BORDER = 1 };       /* role: ordinary node, border router (6LBR) */
 enum { POTHATCH_ABSENT = 0, POTHATCH_TAKEN = 1, POTHATCH_DISCARDED = 2 };   /* report; in the published form 2 is bad and reported */
 enum { POTHATCH_IDLE = 0, POTHATCH_WAITING = 1, POTHATCH_JOINED = 2, POTHATCH_GAVE_UP = 3 };   /* phase */
@@ -62,7 +77,7 @@ enum { POTHATCH_KEPT = 1, POTHATCH_SWITCHED = 2 };
 #define POTHATCH_TAG 8u              /* what sealing adds to a text */
 #define POTHATCH_PLACE 9u            /* bytes of a ledger's memory for each address */
 
-/* Lends a struct: pothatch_node_poll(POTHATCH_LEND(&node), time, &due). */
+/* Lends a struct, or all of an array: pothatch_node_poll(POTHATCH_LEND(&node), time, &due), POTHATCH_LEND(&store). */
 #define POTHATCH_LEND(p) ((uint8_t *)(void *)(p)), sizeof *(p)
 #define POTHATCH_LEND_IN(p) ((const uint8_t *)(const void *)(p)), sizeof *(p)
 
@@ -82,13 +97,13 @@ struct pothatch_key_set {            /* 217 bytes */
 
 struct pothatch_octets {             /* 18 bytes: a JRC address, network identifier or prefix */
     uint8_t report;
-    uint8_t len;                     /* 0 to 16; an empty one is not an absent one */
+    uint8_t len;                     /* 0 to 16, a JRC address 16; an empty one is not an absent one */
     uint8_t bytes[16];
 };
 
 struct pothatch_address {            /* 12 bytes */
     uint8_t report;
-    uint8_t bytes[2];
+    uint8_t bytes[2];                /* FFFE and FFFF are none */
     uint8_t leased;                  /* 0: no end, 1: for `lease` */
     uint8_t lease[8];                /* seconds; in the published form hours */
 };
@@ -174,7 +189,7 @@ struct pothatch_ledger {             /* 16 bytes; the addresses themselves stand
     uint8_t kind, layout;            /* 'L', 1 */
     uint8_t first[2], size[2];       /* the range */
     uint8_t left[2];                 /* free addresses */
-    uint8_t marks[8];                /* one bit for each 64 addresses: whether any is free */
+    uint8_t marks[8];                /* one bit for each 64 addresses, the lowest in the last byte's lowest bit: whether any is free */
 };
 
 struct pothatch_proxy {              /* 26 bytes */
@@ -231,18 +246,21 @@ uint32_t pothatch_configuration_merge(const uint8_t *first, uint64_t first_len, 
     uint64_t out_len);
 
 /* ---- the node. RANGE comes first where the image is none, or is one of a node that no call may be handed. Times are milliseconds and
- * never go back (CLOCK).
- * Makes a node, idle. has_network 0: it has no network identifier, and network is not read. RANGE: form, role or has_network over 1,
- * with has_network 1 a network over 16 bytes. [in] network [result] node */
+ * never go back (CLOCK). A payload is believed: that it comes from the JRC is to be known (OSCORE) before it is handed in.
+ * Makes a node, idle. has_network 0: it has no network identifier, and network is not read; then only a border router of the draft form
+ * can start. RANGE: form, role or has_network over 1, with has_network 1 a network over 16 bytes. [in] network [result] node */
 uint32_t pothatch_node_make(uint8_t form, uint8_t role, uint8_t has_network, const uint8_t *network, uint64_t network_len, uint8_t *node,
     uint64_t node_len);
-/* Starts a join attempt: the join request, at most 38 bytes, goes to dst. CLOCK, PHASE; RANGE: first timeout not 10,000 to 15,000; OWED,
- * ROOM. [state] node [dst] dst [result] length */
+/* Starts a join attempt: the join request, at most 38 bytes, goes to dst. CLOCK; PHASE: while waiting; RANGE: first timeout not 10,000 to
+ * 15,000; OWED, ROOM. [state] node [dst] dst [result] length */
 uint32_t pothatch_node_start(uint8_t *node, uint64_t node_len, uint64_t time, uint64_t timeout, uint8_t *dst, uint64_t dst_len,
     uint64_t *length);
-/* What is due in the join attempt, at most one step a call. CLOCK, PHASE. [state] node [result] due: POTHATCH_DUE_.. */
+/* What is due in the join attempt, at most one step a call: nothing yet, the bytes that the start wrote sent again, or the attempt given
+ * up. CLOCK; PHASE: not waiting. [state] node [result] due: POTHATCH_DUE_.. */
 uint32_t pothatch_node_poll(uint8_t *node, uint64_t node_len, uint64_t time, uint32_t *due);
-/* A join answer, an update. LONG, CLOCK, PHASE; then as the reading; OWED, CLASH. [state] node [in] payload [result] reports */
+/* A join answer, while waiting; an update, once joined. LONG, CLOCK, PHASE; then as the reading with any heads, in the node's form; OWED: a
+ * border router's join answer that leaves it without a network identifier; CLASH: draft form (in the published form the set's report is
+ * 2). [state] node [in] payload [result] reports */
 uint32_t pothatch_node_answer(uint8_t *node, uint64_t node_len, uint64_t time, const uint8_t *payload, uint64_t payload_len,
     uint8_t *reports, uint64_t reports_len);
 uint32_t pothatch_node_update(uint8_t *node, uint64_t node_len, uint64_t time, const uint8_t *payload, uint64_t payload_len,
@@ -259,9 +277,10 @@ uint32_t pothatch_node_receive(const uint8_t *node, uint64_t node_len, uint8_t f
  * [result] change: POTHATCH_KEPT, POTHATCH_SWITCHED */
 uint32_t pothatch_node_verified(uint8_t *node, uint64_t node_len, uint8_t frame_type, uint8_t identifier, uint32_t *change);
 
-/* ---- the ledger of short addresses
- * Opens one over memory that may hold earlier grants; for a fresh one fill it with 0 first. RANGE: a size that is not 1 to 4,096, the
- * last address over FFFF; ROOM: memory under nine bytes an address. [in] memory [result] ledger */
+/* ---- the ledger of short addresses. Its memory is written by these calls alone. FFFE and FFFF are no addresses: they are never granted
+ * and never counted.
+ * Opens one over memory that may hold earlier grants of the same range; for a fresh one fill it with 0 first. RANGE: a size that is not 1
+ * to 4,096, the last address over FFFF; ROOM: memory under nine bytes an address. [in] memory [result] ledger */
 uint32_t pothatch_ledger_open(uint16_t first, uint16_t size, const uint8_t *memory, uint64_t memory_len, uint8_t *ledger,
     uint64_t ledger_len);
 /* Grants the board (8 bytes, else RANGE) the lowest free address, or the one it holds. RANGE, ROOM; FULL. [state] ledger, memory [in] board
@@ -274,7 +293,7 @@ uint32_t pothatch_ledger_give_back(uint8_t *ledger, uint64_t ledger_len, uint8_t
 /* How many addresses are free. RANGE. [in] ledger [result] count */
 uint32_t pothatch_ledger_free(const uint8_t *ledger, uint64_t ledger_len, uint64_t *count);
 
-/* ---- AES-CCM-16-64-128: key 16, nonce 13, associated data to 64, text to 256 bytes. src and dst may NOT overlap.
+/* ---- AES-CCM-16-64-128: key 16, nonce 13, associated data to 64, text to 256 bytes. Input and dst may NOT overlap.
  * RANGE: lengths; ROOM; opening: SEAL. [in] key, nonce, associated, text or sealed [dst] dst [result] length */
 uint32_t pothatch_seal(const uint8_t *key, uint64_t key_len, const uint8_t *nonce, uint64_t nonce_len, const uint8_t *associated,
     uint64_t associated_len, const uint8_t *text, uint64_t text_len, uint8_t *dst, uint64_t dst_len, uint64_t *length);
@@ -286,16 +305,16 @@ uint32_t pothatch_unseal(const uint8_t *key, uint64_t key_len, const uint8_t *no
 uint32_t pothatch_proxy_make(const uint8_t *key, uint64_t key_len, uint8_t *proxy, uint64_t proxy_len);
 /* Sets a key, and numbers begin at 0 again. RANGE: key not 16 bytes, or the one in use. [state] proxy [in] key */
 uint32_t pothatch_proxy_set_key(uint8_t *proxy, uint64_t proxy_len, const uint8_t *key, uint64_t key_len);
-/* Issues an option body of 31 bytes. RANGE: interface not 8 bytes, token over 8; SPENT, ROOM. [state] proxy [in] interface, token
- * [dst] dst */
-uint32_t pothatch_proxy_issue(uint8_t *proxy, uint64_t proxy_len, const uint8_t *interface, uint64_t interface_len, uint16_t port,
-    const uint8_t *token, uint64_t token_len, uint8_t *dst, uint64_t dst_len);
+/* Issues an option body of 31 bytes. RANGE: interface_id not 8 bytes, token over 8; SPENT, ROOM. [state] proxy
+ * [in] interface_id, token [dst] dst */
+uint32_t pothatch_proxy_issue(uint8_t *proxy, uint64_t proxy_len, const uint8_t *interface_id, uint64_t interface_id_len,
+    uint16_t port, const uint8_t *token, uint64_t token_len, uint8_t *dst, uint64_t dst_len);
 /* Whom a response with this body goes to. TYPE, SEAL, RANGE, STALE. [in] proxy, body [result] pledge */
 uint32_t pothatch_proxy_judge(const uint8_t *proxy, uint64_t proxy_len, const uint8_t *body, uint64_t body_len, uint8_t *pledge,
     uint64_t pledge_len);
 
 /* ---- payloads that come in parts, into a store that is lent. RANGE comes first: a store under 256 bytes, an image that is none.
- * Begins anew, whatever stood in the image; the store need not be cleared. [result] serial */
+ * Begins anew, whatever stood in the image; the store need not be cleared, its former bytes are never read. [result] serial */
 uint32_t pothatch_serial_reset(uint8_t *serial, uint64_t serial_len);
 /* One part more. LONG: it would pass 256 bytes, or one did; none of it is stored, and the overrun is marked in the image. PHASE: after the
  * end. [state] serial, store [in] part */

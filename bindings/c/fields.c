@@ -26,7 +26,7 @@ static struct pothatch_request request(uint8_t form, const char *digits) {
     struct pothatch_request q;
     uint8_t payload[256];
     size_t n = unhex(digits, payload);
-    check(digits, pothatch_request_read(form, POTHATCH_ORDINARY, payload, n, POTHATCH_LEND(&q)) == 0);
+    check(digits, pothatch_request_read(form, POTHATCH_READ_ANY, payload, n, POTHATCH_LEND(&q)) == 0);
     return q;
 }
 
@@ -34,7 +34,7 @@ static struct pothatch_configuration configuration(uint8_t form, const char *dig
     struct pothatch_configuration c;
     uint8_t payload[256];
     size_t n = unhex(digits, payload);
-    check(digits, pothatch_configuration_read(form, POTHATCH_ORDINARY, payload, n, POTHATCH_LEND(&c)) == 0);
+    check(digits, pothatch_configuration_read(form, POTHATCH_READ_ANY, payload, n, POTHATCH_LEND(&c)) == 0);
     return c;
 }
 

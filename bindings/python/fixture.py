@@ -33,7 +33,7 @@ def main():
     n = lib.node_start(node, 0, 10000, request)
     print("the board asks:", request[:n].hex())
 
-    asked = lib.request_read(p.DRAFT, p.STRICT, request[:n])
+    asked = lib.request_read(p.DRAFT, p.READ_STRICT, request[:n])
     print("it wants to join network", bytes(asked.network.bytes[: asked.network.len]).hex())
     memory = bytearray(100 * 9)
     ledger = lib.ledger_open(0x1000, 100, memory)

@@ -8,7 +8,7 @@ import os
 U8, U16, U32, U64 = ctypes.c_uint8, ctypes.c_uint16, ctypes.c_uint32, ctypes.c_uint64
 LEDGER, PROXY, PLEDGE, BODY, STORE = 16, 26, 21, 31, 256
 DRAFT, PUBLISHED = 0, 1
-ORDINARY, STRICT = 0, 1
+READ_ANY, READ_STRICT = 0, 1
 NODE, BORDER = 0, 1
 ABSENT, TAKEN, DISCARDED = 0, 1, 2
 IDLE, WAITING, JOINED, GAVE_UP = 0, 1, 2, 3

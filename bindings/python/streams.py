@@ -292,7 +292,7 @@ class DecodePlayer:
         form, rest = (p.PUBLISHED, rest[4:]) if rest.startswith("new-") else (p.DRAFT, rest)
         if rest not in ("request", "configuration"):
             raise Skip
-        return rest, form, p.STRICT if word.startswith("strict-") else p.ORDINARY
+        return rest, form, p.READ_STRICT if word.startswith("strict-") else p.READ_ANY
 
     def shown(self, what, form, read):
         return shown_request(read, form) if what == "request" else shown_configuration(read, form)
@@ -314,7 +314,7 @@ class DecodePlayer:
         found = []
         for place, word in zip(("first", "second"), text.split("+")):
             try:
-                found.append(self.lib.configuration_read(p.DRAFT, p.ORDINARY, octets(word.replace(" ", "") or "-")))
+                found.append(self.lib.configuration_read(p.DRAFT, p.READ_ANY, octets(word.replace(" ", "") or "-")))
             except Refused as e:
                 return "%s refused %s" % (place, e)
         return "merged " + self.rewrite("configuration", p.DRAFT, self.lib.configuration_merge(*found))

@@ -19,3 +19,6 @@ pub use octets::put_two;
 pub use octets::sixteen_at;
 pub use octets::thirteen_at;
 pub use octets::two_at;
+
+// The number of RANGE, which every call answers first: to a struct of another length, and to bytes that are no image.
+pub const RANGE: u32 = 13;

@@ -1,6 +1,6 @@
 // The join attempt.
-use crate::told::RANGE;
 use crate::told::keep_attempt;
+use image::RANGE;
 use node_attempt::Due;
 use node_image::is_node;
 use node_image::node_in;

@@ -1,7 +1,7 @@
 // Configurations handed to a node.
-use crate::told::RANGE;
 use crate::told::hand_reports;
 use crate::told::keep_node;
+use image::RANGE;
 use image::clear;
 use node::Delivered;
 use node_image::is_node;

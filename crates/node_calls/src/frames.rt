@@ -1,8 +1,8 @@
 // Keys for frames.
-use crate::told::RANGE;
 use crate::told::hand_key;
 use crate::told::keep_counters;
 use crate::told::keep_node;
+use image::RANGE;
 use image::clear;
 use node_image::is_node;
 use node_image::node_in;

@@ -1,5 +1,5 @@
 // Whether the short address holds.
-use crate::told::RANGE;
+use image::RANGE;
 use node::Holding;
 use node_image::is_node;
 use node_image::node_in;

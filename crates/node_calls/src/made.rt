@@ -1,8 +1,8 @@
 // A node is made.
-use crate::told::RANGE;
 use crate::told::hand_node;
 use cojp::Octets;
 use cojp::copied;
+use image::RANGE;
 use image::clear;
 use node::Made;
 use node::Node;

@@ -19,9 +19,6 @@ ghost use Rattle.node_image.specs.Answers.{reportsImage, frameKeyImage};
 ghost use Rattle.node_image.specs.Change.{Attempted, Recounted};
 ghost use Rattle.node_image.specs.Node.{nodeImage};
 
-// The number of RANGE.
-pub(crate) const RANGE: u32 = 13;
-
 // A node as a result.
 pub(crate) fn hand_node(verdict: Verdict, node: Node, out: &mut [u8]) -> u32
     requires { ⌜ length (now out) ≡ 878 ⌝ }

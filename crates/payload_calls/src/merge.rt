@@ -1,7 +1,7 @@
 // Two configurations are joined.
-use crate::told::RANGE;
 use crate::told::hand_configuration;
 use cojp_merge::merge;
+use image::RANGE;
 use image::clear;
 use object_image::configuration_in;
 use object_image::is_configuration;

@@ -2,9 +2,9 @@
 use crate::asked::configuration_asked;
 use crate::asked::is_reading;
 use crate::asked::request_asked;
-use crate::told::RANGE;
 use crate::told::hand_configuration;
 use crate::told::hand_request;
+use image::RANGE;
 use image::clear;
 ghost use Rattle.payload_calls.specs.Read.{ReadsRequest, ReadsConfiguration};
 

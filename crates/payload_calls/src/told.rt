@@ -14,9 +14,6 @@ ghost use Rattle.image.specs.Left.{left};
 ghost use Rattle.object_image.specs.Configuration.{configurationImage};
 ghost use Rattle.object_image.specs.Request.{requestImage};
 
-// The number of RANGE.
-pub(crate) const RANGE: u32 = 13;
-
 // A join request as a result.
 pub fn hand_request(verdict: Verdict, request: JoinRequest, out: &mut [u8]) -> u32
     requires { ⌜ size (now out) ≡ 296 ⌝ }

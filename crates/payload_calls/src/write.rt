@@ -1,10 +1,10 @@
 // Objects are written.
 use crate::asked::form_of;
 use crate::asked::is_form;
-use crate::told::RANGE;
 use crate::told::tell_length;
 use cojp_configuration_write::write_configuration_as;
 use cojp_request_write::write_request_as;
+use image::RANGE;
 use object_image::configuration_in;
 use object_image::is_configuration;
 use object_image::is_request;

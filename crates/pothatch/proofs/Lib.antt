@@ -1,6 +1,3 @@
-mod Lent
-mod Ledgers
-mod Ciphers
-mod Proxies
-mod Keeps
+mod Sizes
 mod Names
+mod Empties

@@ -1,5 +1,2 @@
 pub mod Library
-pub mod Ledger
-pub mod Cipher
-pub mod Proxy
 pub mod Laws

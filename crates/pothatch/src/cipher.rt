@@ -1,10 +1,6 @@
 // AES-CCM-16-64-128.
-use crate::told::RANGE;
-use crate::told::tell_length;
-use image::sixteen_at;
-use image::thirteen_at;
 ghost use lib.ListN.{length as size};
-ghost use Rattle.pothatch.specs.Cipher.{Wrote, sealing, unsealing};
+ghost use Rattle.cipher_calls.specs.Cipher.{Wrote, sealing, unsealing};
 
 // Seals `text` with the associated data into `dst`.
 #[no_mangle]
@@ -18,22 +14,7 @@ pub extern "C" fn pothatch_seal(
 ) -> u32
     ensures { λ r. ⌜ Wrote (sealing (now (key .entry)) (now (nonce .entry)) (now (associated .entry)) (now (text .entry)) (size (now (dst .entry)))) (now (dst .entry)) r (now (dst .exit)) (now (length .exit)) ⌝ }
 {
-    if key.len() != 16 {
-        *length = 0;
-        return RANGE;
-    }
-    if nonce.len() != 13 {
-        *length = 0;
-        return RANGE;
-    }
-    let written = aes_ccm::seal(
-        sixteen_at(key, 0),
-        thirteen_at(nonce, 0),
-        associated,
-        text,
-        dst,
-    );
-    tell_length(written, length)
+    cipher_calls::seal(key, nonce, associated, text, dst, length)
 }
 
 // Opens `sealed` with the associated data into `dst`.
@@ -48,20 +29,5 @@ pub extern "C" fn pothatch_unseal(
 ) -> u32
     ensures { λ r. ⌜ Wrote (unsealing (now (key .entry)) (now (nonce .entry)) (now (associated .entry)) (now (sealed .entry)) (size (now (dst .entry)))) (now (dst .entry)) r (now (dst .exit)) (now (length .exit)) ⌝ }
 {
-    if key.len() != 16 {
-        *length = 0;
-        return RANGE;
-    }
-    if nonce.len() != 13 {
-        *length = 0;
-        return RANGE;
-    }
-    let written = aes_ccm::unseal(
-        sixteen_at(key, 0),
-        thirteen_at(nonce, 0),
-        associated,
-        sealed,
-        dst,
-    );
-    tell_length(written, length)
+    cipher_calls::unseal(key, nonce, associated, sealed, dst, length)
 }

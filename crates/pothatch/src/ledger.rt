@@ -1,14 +1,6 @@
 // The address ledger.
-use crate::told::RANGE;
-use crate::told::hand_ledger;
-use crate::told::tell_address;
-use address_ledger::FreeAnswer;
-use address_ledger::Ledger;
-use image::eight_at;
-use state_image::is_ledger;
-use state_image::ledger_in;
 ghost use Rattle.address_ledger_laws.specs.Demand1.{asking, returning};
-ghost use Rattle.pothatch.specs.Ledger.{Opens, LedgerDid, Counts};
+ghost use Rattle.ledger_calls.specs.Ledger.{Opens, LedgerDid, Counts};
 
 // Opens a ledger over memory that may hold earlier grants.
 #[no_mangle]
@@ -20,13 +12,7 @@ pub extern "C" fn pothatch_ledger_open(
 ) -> u32
     ensures { λ r. ⌜ Opens first size (now (memory .entry)) (now (ledger .entry)) r (now (ledger .exit)) ⌝ }
 {
-    if ledger.len() != 16 {
-        return RANGE;
-    }
-    let opened = Ledger::open(first as usize, size as usize, memory);
-    let verdict = opened.verdict;
-    let made = opened.ledger;
-    hand_ledger(verdict, made, ledger)
+    ledger_calls::ledger_open(first, size, memory, ledger)
 }
 
 // Grants the board the lowest free address, or the one that it holds.
@@ -39,19 +25,7 @@ pub extern "C" fn pothatch_ledger_grant(
 ) -> u32
     ensures { λ r. ⌜ LedgerDid (asking (now (board .entry))) (now (ledger .entry)) (now (memory .entry)) r (now (ledger .exit)) (now (memory .exit)) (now (address .exit)) ⌝ }
 {
-    address_ledger_laws::demand1();
-    if board.len() != 8 {
-        *address = 0;
-        return RANGE;
-    }
-    if !is_ledger(ledger) {
-        *address = 0;
-        return RANGE;
-    }
-    let done = ledger_in(ledger).grant(memory, eight_at(board, 0));
-    let answer = done.answer;
-    let after = done.ledger;
-    tell_address(answer, after, ledger, address)
+    ledger_calls::ledger_grant(ledger, memory, board, address)
 }
 
 // Takes the board's address back.
@@ -64,19 +38,7 @@ pub extern "C" fn pothatch_ledger_give_back(
 ) -> u32
     ensures { λ r. ⌜ LedgerDid (returning (now (board .entry))) (now (ledger .entry)) (now (memory .entry)) r (now (ledger .exit)) (now (memory .exit)) (now (address .exit)) ⌝ }
 {
-    address_ledger_laws::demand1();
-    if board.len() != 8 {
-        *address = 0;
-        return RANGE;
-    }
-    if !is_ledger(ledger) {
-        *address = 0;
-        return RANGE;
-    }
-    let done = ledger_in(ledger).give_back(memory, eight_at(board, 0));
-    let answer = done.answer;
-    let after = done.ledger;
-    tell_address(answer, after, ledger, address)
+    ledger_calls::ledger_give_back(ledger, memory, board, address)
 }
 
 // How many addresses are free.
@@ -84,19 +46,5 @@ pub extern "C" fn pothatch_ledger_give_back(
 pub extern "C" fn pothatch_ledger_free(ledger: &[u8], count: &mut u64) -> u32
     ensures { λ r. ⌜ Counts (now (ledger .entry)) r (now (count .exit)) ⌝ }
 {
-    if !is_ledger(ledger) {
-        *count = 0;
-        return RANGE;
-    }
-    let answer = ledger_in(ledger).free();
-    match answer {
-        FreeAnswer::Count(n) => {
-            *count = n as u64;
-            0
-        }
-        FreeAnswer::Refused(why) => {
-            *count = 0;
-            why.number() as u32
-        }
-    }
+    ledger_calls::ledger_free(ledger, count)
 }

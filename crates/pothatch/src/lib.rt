@@ -1,4 +1,5 @@
-// The library that C links: each function loads what stands in the lent bytes, calls the proved function behind it, and stores what that left.
+// The library that C links: each function is that of its name in a crate of calls, which loads what stands in the lent bytes, calls the proved
+// function behind it, and stores what that left.
 // Numbers and byte slices alone cross; state and results are structs of bytes, images. A call answers 0, or the refusal's number.
 mod cipher;
 mod ledger;
@@ -9,11 +10,10 @@ mod payload;
 mod proxy;
 mod replay;
 mod serial;
-mod told;
 
-ghost use Rattle.pothatch.specs.Laws.{RefusalsKeep, EmptiedIsNone};
+ghost use Rattle.pothatch.specs.Laws.{RefusalsKeep, EmptiedIsNone, EmptiedIsEmpty};
 
-// A refused call leaves state and destination byte for byte, and its results all zero.
+// A refused call leaves state and destination byte for byte, but for the two marks of a payload in parts, and its results all zero.
 pub fn refusals_keep()
     ensures { λ _. ⌜ RefusalsKeep ⌝ }
 {
@@ -21,9 +21,17 @@ pub fn refusals_keep()
     node_calls::refusals_keep();
     serial_calls::refusals_keep();
     replay_calls::refusals_keep();
+    ledger_calls::refusals_keep();
+    cipher_calls::refusals_keep();
+    proxy_calls::refusals_keep();
 }
 
 // An emptied result is no image, so every call refuses it.
 pub fn emptied_is_none()
     ensures { λ _. ⌜ EmptiedIsNone ⌝ }
+{}
+
+// An emptied result reads as the empty object.
+pub fn emptied_is_empty()
+    ensures { λ _. ⌜ EmptiedIsEmpty ⌝ }
 {}

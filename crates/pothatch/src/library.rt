@@ -1,5 +1,5 @@
 // The library itself.
-use crate::told::RANGE;
+use image::RANGE;
 ghost use mathlib.Core.Path.{_≡_};
 ghost use Rattle.image.specs.Part.{layout};
 ghost use Rattle.pothatch.specs.Library.{sizeOf, sizeNumber};
@@ -12,56 +12,35 @@ pub extern "C" fn pothatch_layout() -> u32
     1
 }
 
+// The size of the struct of a kind, 0 where there is none.
+fn size_of(kind: u8) -> u32
+    ensures { λ r. ⌜ r ≡ sizeOf kind ⌝ }
+{
+    match kind {
+        b'Q' => 296,
+        b'C' => 570,
+        b'N' => 878,
+        b'R' => 17,
+        b'K' => 33,
+        b'L' => 16,
+        b'P' => 26,
+        b'G' => 21,
+        b'S' => 6,
+        b'T' => 251,
+        _ => 0,
+    }
+}
+
 // The size of a struct, by its kind.
 #[no_mangle]
 pub extern "C" fn pothatch_size(kind: u8, size: &mut u32) -> u32
     ensures number { λ r. ⌜ r ≡ sizeNumber kind ⌝ }
     ensures size { λ _. ⌜ now (size .exit) ≡ sizeOf kind ⌝ }
 {
-    match kind {
-        b'Q' => {
-            *size = 296;
-            0
-        }
-        b'C' => {
-            *size = 570;
-            0
-        }
-        b'N' => {
-            *size = 878;
-            0
-        }
-        b'R' => {
-            *size = 17;
-            0
-        }
-        b'K' => {
-            *size = 33;
-            0
-        }
-        b'L' => {
-            *size = 16;
-            0
-        }
-        b'P' => {
-            *size = 26;
-            0
-        }
-        b'G' => {
-            *size = 21;
-            0
-        }
-        b'S' => {
-            *size = 6;
-            0
-        }
-        b'T' => {
-            *size = 251;
-            0
-        }
-        _ => {
-            *size = 0;
-            RANGE
-        }
+    let found = size_of(kind);
+    *size = found;
+    if found == 0 {
+        return RANGE;
     }
+    0
 }

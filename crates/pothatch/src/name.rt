@@ -1,5 +1,5 @@
 // The names of the refusals.
-use crate::told::RANGE;
+use image::RANGE;
 use image::clear;
 use image::put_eight;
 use refusal::Refusal;

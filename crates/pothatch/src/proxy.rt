@@ -1,31 +1,12 @@
 // The join proxy.
-use crate::told::RANGE;
-use crate::told::hand_pledge;
-use crate::told::keep_proxy;
-use aes_ccm::Written;
-use image::clear;
-use image::eight_at;
-use image::sixteen_at;
-use join_proxy::Proxy;
-use state_image::is_proxy;
-use state_image::proxy_in;
-use state_image::put_proxy;
-ghost use Rattle.pothatch.specs.Proxy.{Makes, SetsKey, IssuesIn, JudgesIn};
+ghost use Rattle.proxy_calls.specs.Proxy.{Makes, SetsKey, IssuesIn, JudgesIn};
 
 // Makes a proxy with this key, nothing issued.
 #[no_mangle]
 pub extern "C" fn pothatch_proxy_make(key: &[u8], proxy: &mut [u8]) -> u32
     ensures { λ r. ⌜ Makes (now (key .entry)) (now (proxy .entry)) r (now (proxy .exit)) ⌝ }
 {
-    if proxy.len() != 26 {
-        return RANGE;
-    }
-    if key.len() != 16 {
-        clear(proxy);
-        return RANGE;
-    }
-    put_proxy(proxy, Proxy::new(sixteen_at(key, 0)));
-    0
+    proxy_calls::proxy_make(key, proxy)
 }
 
 // Sets a key, and numbers begin at 0 again.
@@ -33,45 +14,21 @@ pub extern "C" fn pothatch_proxy_make(key: &[u8], proxy: &mut [u8]) -> u32
 pub extern "C" fn pothatch_proxy_set_key(proxy: &mut [u8], key: &[u8]) -> u32
     ensures { λ r. ⌜ SetsKey (now (proxy .entry)) (now (key .entry)) r (now (proxy .exit)) ⌝ }
 {
-    if key.len() != 16 {
-        return RANGE;
-    }
-    if !is_proxy(proxy) {
-        return RANGE;
-    }
-    let done = proxy_in(proxy).set_key(sixteen_at(key, 0));
-    let verdict = done.verdict;
-    let after = done.proxy;
-    keep_proxy(verdict, after, proxy)
+    proxy_calls::proxy_set_key(proxy, key)
 }
 
 // Issues the option body for a pledge's interface identifier, port and token.
 #[no_mangle]
 pub extern "C" fn pothatch_proxy_issue(
     proxy: &mut [u8],
-    interface: &[u8],
+    interface_id: &[u8],
     port: u16,
     token: &[u8],
     dst: &mut [u8],
 ) -> u32
-    ensures { λ r. ⌜ IssuesIn (now (proxy .entry)) (now (interface .entry)) port (now (token .entry)) (now (dst .entry)) r (now (proxy .exit)) (now (dst .exit)) ⌝ }
+    ensures { λ r. ⌜ IssuesIn (now (proxy .entry)) (now («interface_id» .entry)) port (now (token .entry)) (now (dst .entry)) r (now (proxy .exit)) (now (dst .exit)) ⌝ }
 {
-    if interface.len() != 8 {
-        return RANGE;
-    }
-    if !is_proxy(proxy) {
-        return RANGE;
-    }
-    let done = proxy_in(proxy).issue(eight_at(interface, 0), port, token, dst);
-    let written = done.written;
-    let after = done.proxy;
-    match written {
-        Written::Length(_) => {
-            put_proxy(proxy, after);
-            0
-        }
-        Written::Refused(why) => why.number() as u32,
-    }
+    proxy_calls::proxy_issue(proxy, interface_id, port, token, dst)
 }
 
 // Whom a response with this body goes to.
@@ -79,15 +36,5 @@ pub extern "C" fn pothatch_proxy_issue(
 pub extern "C" fn pothatch_proxy_judge(proxy: &[u8], body: &[u8], pledge: &mut [u8]) -> u32
     ensures { λ r. ⌜ JudgesIn (now (proxy .entry)) (now (body .entry)) (now (pledge .entry)) r (now (pledge .exit)) ⌝ }
 {
-    if pledge.len() != 21 {
-        return RANGE;
-    }
-    if !is_proxy(proxy) {
-        clear(pledge);
-        return RANGE;
-    }
-    let judged = proxy_in(proxy).judge(body);
-    let verdict = judged.verdict;
-    let named = judged.pledge;
-    hand_pledge(verdict, named, pledge)
+    proxy_calls::proxy_judge(proxy, body, pledge)
 }

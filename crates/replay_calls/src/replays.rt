@@ -1,5 +1,6 @@
 // The replay.
 use crate::replayed::put_replayed;
+use image::RANGE;
 use image::clear;
 use node::Node;
 use node_image::put_node;
@@ -8,9 +9,6 @@ ghost use mathlib.Core.Bool.{cond};
 ghost use lib.ListN.{length, replicate};
 ghost use Rattle.node_image.specs.Node.{nodeImage};
 ghost use Rattle.replay_calls.specs.Replays.{Replays};
-
-// The number of RANGE.
-const RANGE: u32 = 13;
 
 // A node where the trace made one; else zeros.
 fn hand_node(made: bool, node: Node, out: &mut [u8])

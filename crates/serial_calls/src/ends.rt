@@ -1,5 +1,4 @@
 // The end of a payload.
-use crate::parts::RANGE;
 use crate::serial::is_serial;
 use crate::serial::put_serial;
 use crate::serial::serial_in;
@@ -10,6 +9,7 @@ use cojp_serial::end_configuration_as;
 use cojp_serial::end_request_as;
 use cojp_serial::end_strict_configuration_as;
 use cojp_serial::end_strict_request_as;
+use image::RANGE;
 use image::clear;
 use payload_calls::form_of;
 use payload_calls::hand_configuration;

@@ -4,13 +4,11 @@ use crate::serial::put_serial;
 use crate::serial::serial_in;
 use cojp_serial::part;
 use cojp_serial::reset;
+use image::RANGE;
 use refusal::Verdict;
 ghost use mathlib.Core.Path.{_≡_};
 ghost use Rattle.refusal.specs.Verdict.{verdictNumber};
 ghost use Rattle.serial_calls.specs.Parts.{Resets, Parts};
-
-// The number of RANGE.
-pub(crate) const RANGE: u32 = 13;
 
 // The number that C is answered.
 pub(crate) fn number_of(verdict: Verdict) -> u32

@@ -1,0 +1,2 @@
+mod Proxies
+mod Keeps

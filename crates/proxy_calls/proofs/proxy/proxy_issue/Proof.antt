@@ -1,0 +1,129 @@
+-- The interface identifier's length and the image come first; then issuing is the proxy's own.
+use native.Mathlib.Omega.{arith}
+use Rattle.logic_facts.specs.Tests.{denied, granted}
+use Rattle.image.specs.Part.{isImage}
+use Rattle.state_image.specs.Proxy.{proxyImage}
+use Rattle.proxy_calls.proofs.Proxies.{issue-unfit, issue-as, issue-done, issue-refused}
+use Rattle.image.specs.Lent.{whole, long, other-length, then-not, then-so}
+use borrow.Author.Needs.{needs}
+use Rattle.proxy_calls.proofs.proxy.proxy_issue.Statement.{statement}
+use Rattle.proxy_calls.proofs.proxy.proxy_issue.Tie as tie
+
+returns : tie.Need-returns
+returns c =
+    let start = c .before .before .before .before .before in
+    let a = start .args in
+    issue-unfit (a .proxy .now) (a .interface .now) (a .port) (a .token .now) (a .dst .now)
+    (other-length (a .interface .now) 8 (isImage proxyImage (a .proxy .now)) (c .if1 .taken))
+
+is-proxy-requires : tie.Need-is-proxy-requires
+is-proxy-requires c κs = search needs
+
+same-length : tie.Need-same-length
+same-length c = search needs
+
+returns-2 : tie.Need-returns-2
+returns-2 c =
+    let at-is-proxy = c .before in
+    let start = at-is-proxy .before .before .before .before .before .before .before in
+    let a = start .args in
+    issue-unfit (a .proxy .now) (a .interface .now) (a .port) (a .token .now) (a .dst .now)
+    (then-not (a .interface .now) 8 (isImage proxyImage (a .proxy .now)) (omega arith) (denied (at-is-proxy .is-proxy .ensures) (c .if2 .taken)))
+
+proxy-in-requires : tie.Need-proxy-in-requires
+proxy-in-requires c κs =
+    let at-if2 = c .before in
+    let at-is-proxy = at-if2 .before in
+    let start = at-is-proxy .before .before .before .before .before .before .before in
+    long proxyImage (start .args .proxy .now) (granted (at-is-proxy .is-proxy .ensures) (at-if2 .if2 .left))
+
+eight-at-requires : tie.Need-eight-at-requires
+eight-at-requires c κs = search needs
+
+issue-requires : tie.Need-issue-requires
+issue-requires c κs = search needs
+
+enum-told : tie.Need-enum-told
+enum-told c = search needs
+
+put-proxy-requires : tie.Need-put-proxy-requires
+put-proxy-requires c κs =
+    let at-if2 = c .before .before .before .before .before .before .before .before .before .before .before in
+    let at-is-proxy = at-if2 .before in
+    let start = at-is-proxy .before .before .before .before .before .before .before in
+    long proxyImage (start .args .proxy .now) (granted (at-is-proxy .is-proxy .ensures) (at-if2 .if2 .left))
+
+enum-known-written : tie.Need-enum-known-written
+enum-known-written c = search needs
+
+number-requires : tie.Need-number-requires
+number-requires c κs = search needs
+
+cast-result : tie.Need-cast-result
+cast-result c = search needs
+
+same-length-2 : tie.Need-same-length-2
+same-length-2 c = search needs
+
+same-length-3 : tie.Need-same-length-3
+same-length-3 c = search needs
+
+returns-3 : tie.Need-returns-3
+returns-3 c =
+    let at-put-proxy = c .before .before in
+    let at-enum-told = at-put-proxy .before .before in
+    let at-issue = at-enum-told .before .before .before .before .before in
+    let at-eight-at = at-issue .before .before in
+    let at-proxy-in = at-eight-at .before in
+    let at-if2 = at-proxy-in .before .before in
+    let at-is-proxy = at-if2 .before in
+    let start = at-is-proxy .before .before .before .before .before .before .before in
+    let a = start .args in
+    let interface = whole 8 (a .interface .now) (omega arith) (at-eight-at .eight-at .ensures) in
+    let right = then-so (a .interface .now) 8 (isImage proxyImage (a .proxy .now)) (omega arith) (granted (at-is-proxy .is-proxy .ensures) (at-if2 .if2 .left)) in
+    let did = issue-as (at-proxy-in .proxy-in .ensures) interface (at-issue .issue .ensures) in
+    issue-done (a .proxy .now) (a .interface .now) (a .port) (a .token .now) (a .dst .now) (at-issue .issue .result) _ right did _ (at-enum-told .enum-told .given .1) (at-put-proxy .put-proxy .ensures)
+
+same-length-4 : tie.Need-same-length-4
+same-length-4 c = search needs
+
+same-length-5 : tie.Need-same-length-5
+same-length-5 c = search needs
+
+returns-4 : tie.Need-returns-4
+returns-4 c =
+    let at-written = c .before .before in
+    let at-issue = at-written .before .before .before .before .before in
+    let at-eight-at = at-issue .before .before in
+    let at-proxy-in = at-eight-at .before in
+    let at-if2 = at-proxy-in .before .before in
+    let at-is-proxy = at-if2 .before in
+    let start = at-is-proxy .before .before .before .before .before .before .before in
+    let a = start .args in
+    let interface = whole 8 (a .interface .now) (omega arith) (at-eight-at .eight-at .ensures) in
+    let right = then-so (a .interface .now) 8 (isImage proxyImage (a .proxy .now)) (omega arith) (granted (at-is-proxy .is-proxy .ensures) (at-if2 .if2 .left)) in
+    let did = issue-as (at-proxy-in .proxy-in .ensures) interface (at-issue .issue .ensures) in
+    issue-refused (a .proxy .now) (a .interface .now) (a .port) (a .token .now) (a .dst .now) (at-issue .issue .result) _ right did _ (at-written .written .given .1) (c .number .ensures)
+
+pub proxy-issue-spec : {M : Type 1} → statement M
+proxy-issue-spec =
+    tie.close
+    (tie.spec
+    returns
+    is-proxy-requires
+    same-length
+    returns-2
+    proxy-in-requires
+    eight-at-requires
+    issue-requires
+    enum-told
+    put-proxy-requires
+    enum-known-written
+    number-requires
+    cast-result
+    same-length-2
+    same-length-3
+    returns-3
+    same-length-4
+    same-length-5
+    returns-4)

@@ -1,0 +1,2 @@
+pub mod Proxy
+pub mod Laws
