@@ -14,7 +14,8 @@ use Rattle.cbor.specs.View.{Plain, number, minus, string, other, plain, list, p
 use Rattle.cbor.specs.declared.value.Value.{Value}
 use Rattle.cbor.specs.declared.value.Value.the-variants as vv
 use Rattle.cbor.proofs.value.Value as value
-use Rattle.cojp.specs.Bytes.{valueView, membersAt, afterValue, afterMembers, memberOf, Neither, MemberAt, MemberRest, MemberSays}
+use Rattle.cojp.specs.Bytes.{valueView, membersAt, afterValue, afterMembers, GoesOn}
+use Rattle.cojp.specs.Bytes.{memberOf, Neither, MemberAt, MemberRest, MemberSays}
 use Rattle.cojp.specs.declared.members.Member.{Member}
 use Rattle.cojp.specs.declared.members.Member.the-variants as mv
 
@@ -60,7 +61,7 @@ after-step n l i t h e =
 
 module _ (s : List ℕ) (at n : ℕ) where
   value-rest : 0 < n → (v : Value) → ValueAt 5 s at v → MemberRest s at n (memberOf v)
-  value-rest h (vv.Number x p) w = after-step n (drop at s) _ (drop p s) h (w .rest .1)
+  value-rest h (vv.Number x p) w = (w .rest .0, after-step n (drop at s) _ (drop p s) h (w .rest .1))
   value-rest h (vv.Bytes p a) w = after-step n (drop at s) _ (drop (p + a) s) h (w .rest .1)
   value-rest h (vv.Array p m) w = tt
   value-rest h vv.Other w = tt
@@ -104,7 +105,10 @@ module _ (s : List ℕ) (at n : ℕ) (v : Member) (e : MemberSays s at n v) wher
 
 module _ (s : List ℕ) (at n : ℕ) (v : Member) (e : MemberSays s at n v) where
   pub number-after : (x p : ℕ) → v ≡ mv.Number x p → afterMembers n (drop at s) ≡ afterMembers (n - 1) (drop p s)
-  number-after x p g = let w : MemberRest s at n (mv.Number x p) = rw g at (e .rest) in w
+  number-after x p g = let w : MemberRest s at n (mv.Number x p) = rw g at (e .rest) in w .1
+
+  pub number-inside : (x p : ℕ) → v ≡ mv.Number x p → p ≤ length s
+  number-inside x p g = let w : MemberRest s at n (mv.Number x p) = rw g at (e .rest) in w .0
 
   pub bytes-after : (p a : ℕ) → v ≡ mv.Bytes p a → afterMembers n (drop at s) ≡ afterMembers (n - 1) (drop (p + a) s)
   bytes-after p a g = let w : MemberRest s at n (mv.Bytes p a) = rw g at (e .rest) in w
@@ -119,10 +123,10 @@ module _ (s : List ℕ) (at : ℕ) (v : Value) (e : ValueSays s at v) where
       let w : ValueAt 6 s at (vv.Array p n) = rw g at (e .says 6) in
       w .rest .1
 
-  pub string-after : (p a : ℕ) → v ≡ vv.Bytes p a → drop (p + a) s ≡ afterValue (drop at s)
+  pub string-after : (p a : ℕ) → v ≡ vv.Bytes p a → GoesOn s (p + a) (afterValue (drop at s))
   string-after p a g =
       let w : ValueAt 6 s at (vv.Bytes p a) = rw g at (e .says 6) in
-      sym (ap restOf (w .rest .1))
+      record { rest = sym (ap restOf (w .rest .1)); inside = omega (arith, w .rest .0) }
 
   pub no-array : OneOf (0 ∷ 1 ∷ 3 ∷ 4 ∷ []) (tagOf value.the-type v) → (p : Plain) × (valueView (drop at s) ≡ plain p)
   no-array o = go v (e .says 5) o

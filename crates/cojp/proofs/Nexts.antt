@@ -2,10 +2,12 @@
 use Prim.Native.Nat.{ℕ}
 use mathlib.Core.Path.{_≡_, ap, sym, _∙_}
 use mathlib.Core.List.{List}
-use lib.ListN.{drop}
+use native.Mathlib.Omega.{arith}
+use lib.ListN.{length, length-drop}
 use Rattle.refusal.specs.declared.Verdict.{Verdict}
 use Rattle.refusal.specs.declared.Verdict.the-variants as verdict
 use Rattle.cojp.specs.Address.{addressAnswer}
+use Rattle.cojp.specs.Bytes.{GoesOn, OnePlace}
 use Rattle.cojp.specs.KeySet.{keysAnswer}
 use Rattle.cojp.specs.Octets.{octetsAnswer}
 use Rattle.cojp.specs.Reading.{Reading, refused, read, Accepting}
@@ -20,6 +22,15 @@ pub accepting-on : (v : Verdict) {P Q : Type 0} → (P → Q) → Accepting v P 
 accepting-on verdict.Accepted f p = f p
 accepting-on (verdict.Refused k) f p = tt
 
+-- a place in s is told by how many bytes are left there
+pub one-place : OnePlace
+one-place s left m n a b =
+    omega (arith, a .inside, b .inside, length-drop m s, length-drop n s, ap length (a .rest ∙ sym (b .rest)))
+
+-- the same place, what is left there being said otherwise
+pub on-with : {s t u : List ℕ} {n : ℕ} → t ≡ u → GoesOn s n t → GoesOn s n u
+on-with e g = record { rest = g .rest ∙ e; inside = g .inside }
+
 module _ (r : OctetsRead) (x : Reading OctetsParameter) (n : ℕ) (e : r ≡ octetsAnswer x n) where
   pub octets-settled : (y : Reading OctetsParameter) → x ≡ y → r ≡ octetsAnswer y (r .next)
   octets-settled y f = go x e ∙ ap (λ (z : Reading OctetsParameter). octetsAnswer z (r .next)) f
@@ -28,15 +39,15 @@ module _ (r : OctetsRead) (x : Reading OctetsParameter) (n : ℕ) (e : r ≡ oct
       go (refused k) e = e
       go (read p) e = e ∙ ap (octetsAnswer (read p)) (sym (ap (λ (q : OctetsRead). q .next) e))
 
-  octets-rest : (s t : List ℕ) → drop n s ≡ t → Accepting (r .verdict) (drop (r .next) s ≡ t)
+  octets-rest : (s t : List ℕ) → GoesOn s n t → Accepting (r .verdict) (GoesOn s (r .next) t)
   octets-rest s t f = rw e (go x)
     where
-      go : (x : Reading OctetsParameter) → Accepting (octetsAnswer x n .verdict) (drop (octetsAnswer x n .next) s ≡ t)
+      go : (x : Reading OctetsParameter) → Accepting (octetsAnswer x n .verdict) (GoesOn s (octetsAnswer x n .next) t)
       go (refused k) = tt
       go (read p) = f
 
-  pub octets-told : (y : Reading OctetsParameter) → x ≡ y → (s t : List ℕ) → drop n s ≡ t
-      → (r ≡ octetsAnswer y (r .next)) × Accepting (r .verdict) (drop (r .next) s ≡ t)
+  pub octets-told : (y : Reading OctetsParameter) → x ≡ y → (s t : List ℕ) → GoesOn s n t
+      → (r ≡ octetsAnswer y (r .next)) × Accepting (r .verdict) (GoesOn s (r .next) t)
   octets-told y f s t g = (octets-settled y f, octets-rest s t g)
 
 module _ (r : AddressRead) (x : Reading AddressParameter) (n : ℕ) (e : r ≡ addressAnswer x n) where
@@ -47,15 +58,15 @@ module _ (r : AddressRead) (x : Reading AddressParameter) (n : ℕ) (e : r ≡ a
       go (refused k) e = e
       go (read p) e = e ∙ ap (addressAnswer (read p)) (sym (ap (λ (q : AddressRead). q .next) e))
 
-  address-rest : (s t : List ℕ) → drop n s ≡ t → Accepting (r .verdict) (drop (r .next) s ≡ t)
+  address-rest : (s t : List ℕ) → GoesOn s n t → Accepting (r .verdict) (GoesOn s (r .next) t)
   address-rest s t f = rw e (go x)
     where
-      go : (x : Reading AddressParameter) → Accepting (addressAnswer x n .verdict) (drop (addressAnswer x n .next) s ≡ t)
+      go : (x : Reading AddressParameter) → Accepting (addressAnswer x n .verdict) (GoesOn s (addressAnswer x n .next) t)
       go (refused k) = tt
       go (read p) = f
 
-  pub address-told : (y : Reading AddressParameter) → x ≡ y → (s t : List ℕ) → drop n s ≡ t
-      → (r ≡ addressAnswer y (r .next)) × Accepting (r .verdict) (drop (r .next) s ≡ t)
+  pub address-told : (y : Reading AddressParameter) → x ≡ y → (s t : List ℕ) → GoesOn s n t
+      → (r ≡ addressAnswer y (r .next)) × Accepting (r .verdict) (GoesOn s (r .next) t)
   address-told y f s t g = (address-settled y f, address-rest s t g)
 
 module _ (r : KeysRead) (x : Reading KeysParameter) (n : ℕ) (e : r ≡ keysAnswer x n) where

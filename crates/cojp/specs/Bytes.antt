@@ -28,6 +28,15 @@ afterValue l = afterItem 7 l
 abbrev pub afterMembers : ℕ → List ℕ → List ℕ
 afterMembers n l = afterItems 6 n l
 
+-- at which place s goes on with what is left: in s, or its end
+pub record GoesOn (s : List ℕ) (next : ℕ) (left : List ℕ) : Type 0 where
+  pub rest : drop next s ≡ left
+  pub inside : next ≤ length s
+
+-- there is no other such place, also where nothing is left
+abbrev pub OnePlace : Type 0
+OnePlace = (s left : List ℕ) (m n : ℕ) → GoesOn s m left → GoesOn s n left → m ≡ n
+
 -- the bytes of a string, and the n members that follow it
 abbrev pub stringAnd : List ℕ → ℕ → ℕ → ℕ → List Plain
 stringAnd s start len n = string (take len (drop start s)) ∷ membersAt n (drop (start + len) s)
@@ -60,7 +69,7 @@ MemberAt s at n (mv.Bytes p a) =
 MemberAt s at n mv.Neither = Neither (membersAt n (drop at s))
 
 abbrev pub MemberRest : List ℕ → ℕ → ℕ → Member → Type 0
-MemberRest s at n (mv.Number x p) = afterMembers n (drop at s) ≡ afterMembers (n - 1) (drop p s)
+MemberRest s at n (mv.Number x p) = (p ≤ length s) × (afterMembers n (drop at s) ≡ afterMembers (n - 1) (drop p s))
 MemberRest s at n (mv.Bytes p a) = afterMembers n (drop at s) ≡ afterMembers (n - 1) (drop (p + a) s)
 MemberRest s at n mv.Neither = Unit {0}
 

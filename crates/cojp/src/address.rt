@@ -11,7 +11,7 @@ ghost use mathlib.Core.Path.{_≡_};
 ghost use Prim.Native.Nat.{_+_, _≤_};
 ghost use lib.ListN.{length, take, drop};
 ghost use Rattle.cojp.specs.Address.{noAddressParameter, addressBy, addressIn, addressConcluded, addressRead, addressAnswer};
-ghost use Rattle.cojp.specs.Bytes.{valueView, membersAt, stringAnd, afterValue, afterMembers};
+ghost use Rattle.cojp.specs.Bytes.{valueView, membersAt, stringAnd, afterValue, afterMembers, GoesOn};
 ghost use Rattle.cojp.specs.Reading.{broken, unfit, Accepting};
 
 // An address that is not leased has no end; its lease is 0 in a value that we make.
@@ -113,7 +113,8 @@ fn address_from(
 fn lease_after(s: &[u8], start: usize, len: usize, left: u64) -> AddressRead
     requires { ⌜ start + len ≤ length (now s) ⌝ }
     ensures { λ r. ⌜ r ≡ addressAnswer (addressConcluded (addressIn (stringAnd (now (s .entry)) start len left))) (r .next) ⌝ }
-    ensures rest { λ r. ⌜ Accepting (r .verdict) (drop (r .next) (now (s .entry)) ≡ afterMembers left (drop (start + len) (now (s .entry)))) ⌝ }
+    ensures rest { λ r. ⌜ Accepting (r .verdict)
+        (GoesOn (now (s .entry)) (r .next) (afterMembers left (drop (start + len) (now (s .entry))))) ⌝ }
 {
     let end = start + len;
     if left == 0 {
@@ -135,7 +136,7 @@ fn lease_after(s: &[u8], start: usize, len: usize, left: u64) -> AddressRead
 // The short address whose `count` members begin at a place.
 fn address_members(s: &[u8], at: usize, count: u64) -> AddressRead
     ensures { λ r. ⌜ r ≡ addressAnswer (addressConcluded (addressIn (membersAt count (drop at (now (s .entry)))))) (r .next) ⌝ }
-    ensures rest { λ r. ⌜ Accepting (r .verdict) (drop (r .next) (now (s .entry)) ≡ afterMembers count (drop at (now (s .entry)))) ⌝ }
+    ensures rest { λ r. ⌜ Accepting (r .verdict) (GoesOn (now (s .entry)) (r .next) (afterMembers count (drop at (now (s .entry))))) ⌝ }
 {
     let first = member_at(s, at, count);
     match first {
@@ -147,7 +148,7 @@ fn address_members(s: &[u8], at: usize, count: u64) -> AddressRead
 // The short address at a place of a payload that passed the item scan; of other bytes it says what `valueView` makes of them.
 pub fn read_address(s: &[u8], at: usize) -> AddressRead
     ensures { λ r. ⌜ r ≡ addressAnswer (addressRead (valueView (drop at (now (s .entry))))) (r .next) ⌝ }
-    ensures rest { λ r. ⌜ Accepting (r .verdict) (drop (r .next) (now (s .entry)) ≡ afterValue (drop at (now (s .entry)))) ⌝ }
+    ensures rest { λ r. ⌜ Accepting (r .verdict) (GoesOn (now (s .entry)) (r .next) (afterValue (drop at (now (s .entry))))) ⌝ }
 {
     let v = value_at(s, at);
     match v {

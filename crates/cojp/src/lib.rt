@@ -57,6 +57,7 @@ pub use request::empty_request;
 pub use request::is_owing;
 pub use version::Version;
 pub use walk::Standing;
+ghost use Rattle.cojp.specs.Bytes.{OnePlace};
 ghost use Rattle.cojp.specs.Examples.{MarkedExamples};
 ghost use Rattle.cojp.specs.InRange.{ReadsInRange, ReportsFit};
 ghost use Rattle.cojp.specs.PublishedExamples.{PublishedExamples};
@@ -83,6 +84,11 @@ pub fn reads_in_range()
 // The reports of a configuration that was read may be made.
 pub fn reports_fit()
     ensures { λ r. ⌜ ReportsFit ⌝ }
+{}
+
+// What a reader says of the place after a value is so of one place only.
+pub fn one_place()
+    ensures { λ r. ⌜ OnePlace ⌝ }
 {}
 
 // Demand 1 for the readers: a refusal comes with the empty object.

@@ -7,7 +7,7 @@ use refusal::Refusal;
 use refusal::Verdict;
 ghost use mathlib.Core.Path.{_≡_};
 ghost use lib.ListN.{drop};
-ghost use Rattle.cojp.specs.Bytes.{valueView, afterValue};
+ghost use Rattle.cojp.specs.Bytes.{valueView, afterValue, GoesOn};
 ghost use Rattle.cojp.specs.Octets.{noOctetsParameter, octetsRead, octetsAnswer};
 ghost use Rattle.cojp.specs.Reading.{read, Accepting};
 
@@ -49,7 +49,7 @@ pub fn no_octets(report: Report) -> OctetsParameter
 // of them.
 pub fn read_octets(s: &[u8], at: usize, least: usize) -> OctetsRead
     ensures { λ r. ⌜ r ≡ octetsAnswer (octetsRead least (valueView (drop at (now (s .entry))))) (r .next) ⌝ }
-    ensures rest { λ r. ⌜ Accepting (r .verdict) (drop (r .next) (now (s .entry)) ≡ afterValue (drop at (now (s .entry)))) ⌝ }
+    ensures rest { λ r. ⌜ Accepting (r .verdict) (GoesOn (now (s .entry)) (r .next) (afterValue (drop at (now (s .entry))))) ⌝ }
 {
     let v = value_at(s, at);
     match v {

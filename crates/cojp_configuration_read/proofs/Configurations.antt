@@ -8,7 +8,7 @@ use lib.ListN.{drop}
 use Rattle.refusal.specs.declared.Verdict.{Verdict}
 use Rattle.cbor.specs.View.{View}
 use Rattle.cojp.specs.Address.{noAddressParameter, addressRead}
-use Rattle.cojp.specs.Bytes.{valueView, afterValue}
+use Rattle.cojp.specs.Bytes.{valueView, afterValue, GoesOn}
 use Rattle.cojp.specs.Configuration.{configurationForm, configurationPassing, standingFor, takingFor, configurationTaking, noted}
 use Rattle.cojp.specs.Configuration.{withKeys, withAddress, withJrc, withNetwork, withPrefix, withBlacklist, withRate, withCame}
 use Rattle.cojp.specs.KeySet.{noKeysParameter, keysReadAs}
@@ -52,7 +52,8 @@ module _ (v : Version) (c : Configuration) (s l : List ℕ) (p : Labelled) (t : 
   -- a turn by what a parameter's reader gave: `held` is what became of the parameter before, `r` what its definition reads
   abbrev Given : {P : Type 0} → (P → Configuration) → Report → Reading P → Type 0
   Given {P} g held r =
-      (w₀ : Verdict) (p₀ : P) (next₀ : ℕ) → said w₀ p₀ ≡ once (seen held) r → Accepting w₀ (drop next₀ s ≡ afterValue (drop (p .value) s)) →
+      (w₀ : Verdict) (p₀ : P) (next₀ : ℕ) → said w₀ p₀ ≡ once (seen held) r →
+      Accepting w₀ (GoesOn s next₀ (afterValue (drop (p .value) s))) →
       next ≡ next₀ → c′ ≡ withCame (g p₀) f → w ≡ w₀ → Turn
 
   turn-known : {P : Type 0} (g : P → Configuration) (held : Report) (r : Reading P) → isNamed names ≡ true → standingFor c names ≡ standingOf held
@@ -101,7 +102,7 @@ module _ (v : Version) (c : Configuration) (s l : List ℕ) (p : Labelled) (t : 
   pub rate-turn : names ≡ name.Rate → Given (withRate c) (c .rate .report) (read (rateTaken value))
   rate-turn h = turn-known (withRate c) (c .rate .report) (read (rateTaken value)) (rw h) (rw h) (rw h) (λ p. refl) (λ p. refl)
 
-  pub passed-turn : names ≡ name.Unknown → (end : ℕ) → drop end s ≡ afterValue (drop (p .value) s)
+  pub passed-turn : names ≡ name.Unknown → (end : ℕ) → GoesOn s end (afterValue (drop (p .value) s))
       → next ≡ end → c′ ≡ configurationPassing (withCame c f) → w ≡ p .verdict → Turn
   passed-turn h end e n-is c-is w-is =
       let c-passing : c′ ≡ configurationPassing c = c-is ∙ rw (f-is, came-same v (p .label) (c .came) h) in

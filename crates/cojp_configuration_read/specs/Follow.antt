@@ -4,7 +4,7 @@ use mathlib.Core.List.{List}
 use mathlib.Core.Path.{_≡_}
 use lib.ListN.{drop}
 use Rattle.link_key_set.specs.declared.key_set.KeySet.{KeySet}
-use Rattle.cojp.specs.Bytes.{afterValue}
+use Rattle.cojp.specs.Bytes.{afterValue, GoesOn}
 use Rattle.cojp.specs.KeySet.{keysParameter, keysAnswer}
 use Rattle.cojp.specs.Reading.{Reading, said, Accepting}
 use Rattle.cojp.specs.declared.key_set.KeysParameter.{KeysParameter}
@@ -23,4 +23,5 @@ KeysFollow told r follows =
 -- the bytes go on after the value at a place, if they did before
 abbrev pub RestFollows : List ℕ → ℕ → KeysStep → KeysStep → Type 0
 RestFollows s at told r =
-    Accepting (told .verdict) (drop (told .next) s ≡ afterValue (drop at s)) → Accepting (r .verdict) (drop (r .next) s ≡ afterValue (drop at s))
+    Accepting (told .verdict) (GoesOn s (told .next) (afterValue (drop at s))) →
+    Accepting (r .verdict) (GoesOn s (r .next) (afterValue (drop at s)))

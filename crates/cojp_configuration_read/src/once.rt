@@ -12,7 +12,7 @@ use refusal::Verdict;
 ghost use mathlib.Core.Path.{_≡_};
 ghost use lib.ListN.{drop};
 ghost use Rattle.cojp.specs.Address.{noAddressParameter, addressRead};
-ghost use Rattle.cojp.specs.Bytes.{valueView, afterValue};
+ghost use Rattle.cojp.specs.Bytes.{valueView, afterValue, GoesOn};
 ghost use Rattle.cojp.specs.KeySet.{noKeysParameter};
 ghost use Rattle.cojp.specs.Reading.{read, said, forgiven, following, Accepting};
 ghost use Rattle.cojp.specs.Version.{informed};
@@ -84,7 +84,7 @@ pub(crate) fn keys_once(
 // The short address at a place, in the published form: nothing of a bad one is taken, and the bytes go on after it.
 fn forgiven_address(s: &[u8], at: usize) -> AddressRead
     ensures { λ r. ⌜ said (r .verdict) (r .parameter) ≡ read (forgiven (noAddressParameter Report.Discarded) (addressRead (valueView (drop at (now (s .entry)))))) ⌝ }
-    ensures rest { λ r. ⌜ Accepting (r .verdict) (drop (r .next) (now (s .entry)) ≡ afterValue (drop at (now (s .entry)))) ⌝ }
+    ensures rest { λ r. ⌜ Accepting (r .verdict) (GoesOn (now (s .entry)) (r .next) (afterValue (drop at (now (s .entry))))) ⌝ }
 {
     let r = read_address(s, at);
     let verdict = r.verdict;
@@ -110,7 +110,7 @@ pub(crate) fn address_once(
     version: Version,
 ) -> AddressRead
     ensures { λ r. ⌜ said (r .verdict) (r .parameter) ≡ once (seen (held .report)) (following version (noAddressParameter Report.Discarded) (addressRead (valueView (drop at (now (s .entry)))))) ⌝ }
-    ensures rest { λ r. ⌜ Accepting (r .verdict) (drop (r .next) (now (s .entry)) ≡ afterValue (drop at (now (s .entry)))) ⌝ }
+    ensures rest { λ r. ⌜ Accepting (r .verdict) (GoesOn (now (s .entry)) (r .next) (afterValue (drop at (now (s .entry))))) ⌝ }
 {
     let report = held.report;
     if is_seen(report) {

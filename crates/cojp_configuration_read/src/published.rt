@@ -17,7 +17,7 @@ use refusal::Refusal;
 use refusal::Verdict;
 ghost use mathlib.Core.Path.{_≡_};
 ghost use lib.ListN.{drop};
-ghost use Rattle.cojp.specs.Bytes.{valueView, afterValue};
+ghost use Rattle.cojp.specs.Bytes.{valueView, afterValue, GoesOn};
 ghost use Rattle.cojp.specs.Lists.{blacklistTaken};
 ghost use Rattle.cojp.specs.Rate.{rateTaken};
 ghost use Rattle.cojp.specs.Reading.{read, said, Accepting};
@@ -41,7 +41,7 @@ pub(crate) struct RateRead {
 // The blacklist at a place: TWICE where its label came before, with what is held.
 pub(crate) fn blacklist_once(s: &[u8], at: usize, held: ListParameter) -> BlacklistRead
     ensures { λ r. ⌜ said (r .verdict) (r .parameter) ≡ once (seen (held .report)) (read (blacklistTaken (valueView (drop at (now (s .entry)))))) ⌝ }
-    ensures rest { λ r. ⌜ Accepting (r .verdict) (drop (r .next) (now (s .entry)) ≡ afterValue (drop at (now (s .entry)))) ⌝ }
+    ensures rest { λ r. ⌜ Accepting (r .verdict) (GoesOn (now (s .entry)) (r .next) (afterValue (drop at (now (s .entry))))) ⌝ }
 {
     let report = held.report;
     if is_seen(report) {
@@ -65,7 +65,7 @@ pub(crate) fn blacklist_once(s: &[u8], at: usize, held: ListParameter) -> Blackl
 // The join rate at a place: TWICE where its label came before, with what is held.
 pub(crate) fn rate_once(s: &[u8], at: usize, held: RateParameter) -> RateRead
     ensures { λ r. ⌜ said (r .verdict) (r .parameter) ≡ once (seen (held .report)) (read (rateTaken (valueView (drop at (now (s .entry)))))) ⌝ }
-    ensures rest { λ r. ⌜ Accepting (r .verdict) (drop (r .next) (now (s .entry)) ≡ afterValue (drop at (now (s .entry)))) ⌝ }
+    ensures rest { λ r. ⌜ Accepting (r .verdict) (GoesOn (now (s .entry)) (r .next) (afterValue (drop at (now (s .entry))))) ⌝ }
 {
     let report = held.report;
     if is_seen(report) {

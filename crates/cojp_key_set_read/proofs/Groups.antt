@@ -11,7 +11,7 @@ use denote.Enum.Declared.{tagOf}
 use Rattle.cbor.specs.View.{Plain, number, minus, string, other}
 use Rattle.link_key.specs.Info.{infoIn}
 use Rattle.link_key.specs.declared.info.Info.the-variants as info
-use Rattle.cojp_key_set_read.specs.Groups.{GroupAt, GroupRest, infoSaid}
+use Rattle.cojp_key_set_read.specs.Groups.{GroupAt, GroupRest, infoAnswer}
 use Rattle.cojp.specs.Bytes.{membersAt, afterMembers, Neither, MemberAt, MemberSays}
 use Rattle.cojp.specs.KeySet.{Groups, notGroups, group, groups, identified, used, valued}
 use Rattle.cojp_key_set_read.specs.declared.group.Group.{Group}
@@ -21,6 +21,7 @@ use Rattle.cojp.specs.declared.members.Member.{Member}
 use Rattle.cojp.specs.declared.members.Member.the-variants as mv
 use Rattle.cojp.proofs.Arrays.{members-some}
 use Rattle.cojp.proofs.members.Member as member
+use Rattle.cojp_key_set_read.proofs.Infos.{info-said}
 
 pub rest-on : (s : List ℕ) (at n q m : ℕ) (r : Group) → afterMembers n (drop at s) ≡ afterMembers m (drop q s) → GroupRest s q m r → GroupRest s at n r
 rest-on s at n q m gv.Broken e w = tt
@@ -159,15 +160,15 @@ module _ (l : List ℕ) (i u p a n : ℕ) (h : p + a ≤ length l) where
         go mv.Neither w o = none left-over w
 
     -- where one comes, of k bytes from q on, it is additional information or breaks the pattern
-    module _ (q k : ℕ) (g : v ≡ mv.Bytes q k) (r : InfoRead) (f : infoSaid r ≡ infoIn (take k (drop q l))) where
+    module _ (q k : ℕ) (g : v ≡ mv.Bytes q k) (r : InfoRead) (f : r ≡ infoAnswer (infoIn (take k (drop q l)))) where
       info-here : MemberAt l (p + a) n (mv.Bytes q k)
       info-here = rw g at (e .here)
 
       pub value-broken : r .good ≡ false → valued true i u value-here left-over ≡ notGroups
       unfolding groups
-      value-broken z = rw (info-here .2, ← f, z)
+      value-broken z = rw (info-here .2, info-said r (infoIn (take k (drop q l))) f, z)
 
       pub value-informed :
           r .good ≡ true → GroupAt true l (n + 1) (valued true i u value-here left-over) (gv.Closed i u p a (r .info) (q + k) (n - 1))
       unfolding groups
-      value-informed z = (h, info-here .1, omega arith, rw (info-here .2, ← f, z))
+      value-informed z = (h, info-here .1, omega arith, rw (info-here .2, info-said r (infoIn (take k (drop q l))) f, z))

@@ -1,12 +1,16 @@
 -- Four or eight bytes from a place on are read one by one; a byte string of another length is no additional information.
 use Prim.Native.Nat.{ℕ, suc, _+_, _≤_, _<_}
 use mathlib.Core.Path.{_≡_, refl}
+use mathlib.Core.Bool.{cond}
 use mathlib.Core.List.{List, [], _∷_}
-use mathlib.Core.Option.{none}
+use mathlib.Core.Option.{Option, none, some}
 use native.Mathlib.Omega.{arith}
 use lib.ListN.{length, take, drop, getD}
 use lib.Seq.{drop-cons}
 use Rattle.link_key.specs.Info.{infoIn}
+use Rattle.link_key.specs.declared.info.Info.{Info}
+use Rattle.cojp_key_set_read.specs.Groups.{infoAnswer}
+use Rattle.cojp_key_set_read.specs.declared.info.InfoRead.{InfoRead}
 
 module _ (s : List ℕ) where
   step : (i j n : ℕ) → j ≡ suc i → i < length s → take (suc n) (drop i s) ≡ getD s i 0 ∷ take n (drop j s)
@@ -36,6 +40,11 @@ module _ (s : List ℕ) where
       let b6 = step (at + 6) (at + 7) 1 (omega arith) (omega arith) in
       let b7 = step (at + 7) (at + 8) 0 (omega arith) (omega arith) in
       rw (b0, b1, b2, b3, b4, b5, b6, b7)
+
+-- what an answer says
+pub info-said : (r : InfoRead) (o : Option Info) → r ≡ infoAnswer o → o ≡ cond (r .good) (some (r .info)) none
+info-said r none e = rw e
+info-said r (some i) e = rw e
 
 pub info-none : (w : List ℕ) → ¬ (length w ≡ 4) → ¬ (length w ≡ 8) → none ≡ infoIn w
 info-none [] f e = refl

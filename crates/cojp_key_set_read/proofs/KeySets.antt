@@ -22,7 +22,7 @@ use Rattle.link_key.specs.declared.Key.{Key}
 use Rattle.link_key.specs.declared.info.Info.{Info}
 use Rattle.link_key_set.specs.declared.key_set.KeySet.{KeySet}
 use Rattle.cojp_key_set_read.specs.Groups.{GroupAt, GroupRest, storable, someFew}
-use Rattle.cojp.specs.Bytes.{valueView, membersAt, afterMembers}
+use Rattle.cojp.specs.Bytes.{valueView, membersAt, afterMembers, GoesOn}
 use Rattle.cojp.specs.KeySet.{keySetOf, Groups, notGroups, groupsOf, group, groups, keysIn, keysConcluded, keysReadAs}
 use Rattle.cojp.specs.Octets.{padded, copiedFrom}
 use Rattle.cojp.specs.Reading.{Reading, refused, unfit, good}
@@ -187,8 +187,8 @@ module _ (informed : Bool) (s : List ℕ) (from count at n : ℕ) (k : KeySet) (
       w .so-far ∙ rw (members-none n (drop at s) z, append-nil) in
       e ∙ ap keysConcluded (holds-all (w .keys) seen k (w .holds) ∙ ap keysIn (sym f))
 
-  pub gathering-end : n ≤ 0 → drop at s ≡ afterMembers count (drop from s)
-  gathering-end h = sym (w .rest ∙ nothing-left n (drop at s) (omega arith))
+  pub gathering-end : n ≤ 0 → GoesOn s at (afterMembers count (drop from s))
+  gathering-end h = record { rest = sym (w .rest ∙ nothing-left n (drop at s) (omega arith)); inside = w .inside }
 
   module _ (r : Group) (g : GroupAt informed (take (length s - at) (drop at s)) n (groups informed (membersAt n (take (length s - at) (drop at s)))) r) where
     part : take (length s - at) (drop at s) ≡ drop at s

@@ -1,12 +1,13 @@
 -- For the contracts of the functions that read a key set: its groups as they stand in the bytes, and what a place and a set can hold.
 use Prim.Native.Nat.{ℕ, _+_, _≤_, _<_}
 use mathlib.Core.Path.{_≡_}
-use mathlib.Core.Bool.{Bool, cond, _&&_}
+use mathlib.Core.Bool.{Bool, true, false, _&&_}
 use mathlib.Core.List.{List}
 use mathlib.Core.Option.{Option, none, some}
 use lib.Dec.{leb, eqb}
 use lib.ListN.{length, take, drop}
 use Rattle.link_key.specs.declared.info.Info.{Info}
+use Rattle.link_key.specs.declared.info.Info.the-variants as info
 use Rattle.link_key_set.specs.declared.key_set.KeySet.{KeySet}
 use Rattle.cojp.specs.Bytes.{membersAt, afterMembers}
 use Rattle.cojp.specs.KeySet.{Groups, notGroups, group, groups}
@@ -25,9 +26,10 @@ abbrev pub GroupRest : List ℕ → ℕ → ℕ → Group → Type 0
 GroupRest s at n gv.Broken = Unit {0}
 GroupRest s at n (gv.Closed i u p a w q m) = afterMembers n (drop at s) ≡ afterMembers m (drop q s)
 
--- what was read as additional information
-abbrev pub infoSaid : InfoRead → Option Info
-infoSaid r = cond (r .good) (some (r .info)) none
+-- the answer about a byte string that is additional information, and about one that is not
+abbrev pub infoAnswer : Option Info → InfoRead
+infoAnswer none = record { good = false; info = info.Absent }
+infoAnswer (some i) = record { good = true; info = i }
 
 -- a place of a set can hold the key
 abbrev pub storable : ℕ → ℕ → ℕ → Bool

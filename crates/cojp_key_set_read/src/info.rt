@@ -5,7 +5,7 @@ ghost use Prim.Native.Nat.{_+_, _≤_};
 ghost use mathlib.Core.Option.{none};
 ghost use lib.ListN.{length, take, drop};
 ghost use Rattle.link_key.specs.Info.{infoIn};
-ghost use Rattle.cojp_key_set_read.specs.Groups.{infoSaid};
+ghost use Rattle.cojp_key_set_read.specs.Groups.{infoAnswer};
 
 // What a byte string is: additional information, or not, and then it is absent.
 pub struct InfoRead {
@@ -15,7 +15,7 @@ pub struct InfoRead {
 
 // A byte string that is none.
 fn no_info() -> InfoRead
-    ensures { λ r. ⌜ infoSaid r ≡ none ⌝ }
+    ensures { λ r. ⌜ r ≡ infoAnswer none ⌝ }
 {
     InfoRead {
         good: false,
@@ -26,7 +26,7 @@ fn no_info() -> InfoRead
 // The additional information that `len` bytes from a place on are, if they are 4 or 8.
 pub fn info_at(s: &[u8], at: usize, len: usize) -> InfoRead
     requires { ⌜ at + len ≤ length (now s) ⌝ }
-    ensures { λ r. ⌜ infoSaid r ≡ infoIn (take len (drop at (now (s .entry)))) ⌝ }
+    ensures { λ r. ⌜ r ≡ infoAnswer (infoIn (take len (drop at (now (s .entry))))) ⌝ }
 {
     if len == 4 {
         let info = Info::Four(s[at], s[at + 1], s[at + 2], s[at + 3]);

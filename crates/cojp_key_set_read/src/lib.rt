@@ -28,7 +28,7 @@ ghost use Prim.Native.Nat.{_+_, _≤_, _<_};
 ghost use lib.ListN.{length, take, drop};
 ghost use Rattle.link_key.specs.Key.{informedKey};
 ghost use Rattle.link_key_set.specs.Seen.{joins, WithOneMore};
-ghost use Rattle.cojp.specs.Bytes.{valueView, membersAt, afterValue, afterMembers};
+ghost use Rattle.cojp.specs.Bytes.{valueView, membersAt, afterValue, afterMembers, GoesOn};
 ghost use Rattle.cojp.specs.KeySet.{groups, keysIn, keysConcluded, keysReadAs, keysAnswer};
 ghost use Rattle.cojp.specs.Reading.{refused, unfit, good, Accepting};
 ghost use Rattle.cojp_key_set_read.specs.Groups.{storable, someFew};
@@ -105,7 +105,7 @@ fn close_set(set: KeySet, next: usize) -> KeysRead
 fn gather_keys(s: &[u8], from: usize, count: u64, informed: bool) -> KeysRead
     requires { ⌜ from ≤ length (now s) ⌝ }
     ensures { λ r. ⌜ r ≡ keysAnswer (keysConcluded (keysIn (groups informed (membersAt count (drop from (now (s .entry))))))) (r .next) ⌝ }
-    ensures rest { λ r. ⌜ Accepting (r .verdict) (drop (r .next) (now (s .entry)) ≡ afterMembers count (drop from (now (s .entry)))) ⌝ }
+    ensures rest { λ r. ⌜ Accepting (r .verdict) (GoesOn (now (s .entry)) (r .next) (afterMembers count (drop from (now (s .entry))))) ⌝ }
 {
     let mut at = from;
     let mut remaining = count;
@@ -146,7 +146,7 @@ fn gather_keys(s: &[u8], from: usize, count: u64, informed: bool) -> KeysRead
 // The key set at a place. `informed` tells whether its keys may have additional information: in draft 004 they may not.
 pub fn read_keys(s: &[u8], at: usize, informed: bool) -> KeysRead
     ensures { λ r. ⌜ r ≡ keysAnswer (keysReadAs informed (valueView (drop at (now (s .entry))))) (r .next) ⌝ }
-    ensures rest { λ r. ⌜ Accepting (r .verdict) (drop (r .next) (now (s .entry)) ≡ afterValue (drop at (now (s .entry)))) ⌝ }
+    ensures rest { λ r. ⌜ Accepting (r .verdict) (GoesOn (now (s .entry)) (r .next) (afterValue (drop at (now (s .entry))))) ⌝ }
 {
     let v = value_at(s, at);
     match v {

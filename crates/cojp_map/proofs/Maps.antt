@@ -12,7 +12,8 @@ use Rattle.refusal.specs.declared.Refusal.{Refusal}
 use Rattle.refusal.specs.declared.Refusal.the-variants as refusal
 use Rattle.refusal.specs.declared.Verdict.{Verdict}
 use Rattle.refusal.specs.declared.Verdict.the-variants as verdict
-use Rattle.cbor.specs.Decode.{Outcome, decode, payloadBy}
+use Rattle.cbor.specs.Answer.{headAnswer, skipAnswer}
+use Rattle.cbor.specs.Decode.{Outcome, Heading, heading, decode, payloadBy}
 use Rattle.cbor.specs.Decode as decode
 use Rattle.cbor.specs.Item.{Item, Pairs, unsigned, negative, bytes, text, array, map, tag, simple, float, empty, pair}
 use Rattle.cbor.specs.Says.{LabelSays, saysLabel, HeadSays, saysEnd, SkipSays, PairsAt, saysOpened, OpenSays}
@@ -27,13 +28,14 @@ use Rattle.cbor.specs.declared.value.Label.the-variants as label
 use Rattle.cbor.specs.declared.head.Head.{Head}
 use Rattle.cbor.specs.declared.head.HeadRead.{HeadRead}
 use Rattle.cbor.specs.declared.head.HeadRead.the-variants as hv
-use Rattle.cojp.specs.Bytes.{valueView, afterValue}
+use Rattle.cojp.specs.Bytes.{valueView, afterValue, GoesOn}
 use Rattle.cojp.specs.Reading.{Reading, refused, read, onward, put, said, Accepting}
 use Rattle.cojp.specs.Walk.{Form, standingOf, knownRead, pairRead, pairsRead, mapRead, scannedRead, payloadReadBy}
 use Rattle.cojp.specs.declared.report.Report.{Report}
 use Rattle.cojp.specs.declared.report.Report.the-variants.{Absent, Taken, Discarded}
 use Rattle.cojp.specs.declared.walk.Standing.{Standing}
 use Rattle.cojp.specs.declared.walk.Standing.the-variants.{Unknown, Fresh, Again}
+use Rattle.cojp.proofs.Nexts.{on-with}
 use Rattle.cojp_map.specs.Pairs.{startOf, startAnswer, mapIn, pairsIn, saysStart, StartSays, labelledAnswer, Told, seen, once, walkAt}
 use Rattle.cojp_map.specs.declared.open.Start.{Start}
 use Rattle.cojp_map.specs.declared.open.Start.the-variants as start
@@ -67,13 +69,33 @@ module _ (b : Bool) (s : List ℕ) (h : length s ≤ 256) where
   start-opened o e p g =
       record { is = rw (le-ltb 256 (length s) h, ← e .is, g); says = start-says p (subst (saysOpened b s) g (e .says)) }
 
+-- ---- a place that is told after an item, or after a head, is in the payload or at its end
+abbrev skipPlace : Skip → ℕ
+skipPlace (sv.Refused k) = 0
+skipPlace (sv.Next p) = p
+
+skip-inside : {A : Type 0} (n : ℕ) (o : Outcome A) → skipPlace (skipAnswer n o) ≤ n
+skip-inside n (decode.refused k) = omega arith
+skip-inside n (decode.got a t) = omega arith
+
+abbrev headPlace : HeadRead → ℕ
+headPlace (hv.Refused k) = 0
+headPlace (hv.Got h) = h .next
+
+head-inside : (n : ℕ) (o : Outcome Heading) → headPlace (headAnswer n o) ≤ n
+head-inside n (decode.refused k) = omega arith
+head-inside n (decode.got h t) = omega arith
+
 -- ---- the returns of `item_end`
 module _ (s : List ℕ) (at : ℕ) (k : Skip) (e : SkipSays s (decode 7 (drop at s)) k) where
-  pub end-refused : (j : Refusal) → k ≡ sv.Refused j → drop (length s) s ≡ afterValue (drop at s)
-  end-refused j g = drop-length s ∙ sym (subst (saysEnd s (decode 7 (drop at s))) g (e .end))
+  pub end-refused : (j : Refusal) → k ≡ sv.Refused j → GoesOn s (length s) (afterValue (drop at s))
+  end-refused j g = record { rest = drop-length s ∙ sym (subst (saysEnd s (decode 7 (drop at s))) g (e .end)); inside = omega arith }
 
-  pub end-next : (p : ℕ) → k ≡ sv.Next p → drop p s ≡ afterValue (drop at s)
-  end-next p g = sym (subst (saysEnd s (decode 7 (drop at s))) g (e .end))
+  pub end-next : (p : ℕ) → k ≡ sv.Next p → GoesOn s p (afterValue (drop at s))
+  end-next p g = record {
+    rest = sym (subst (saysEnd s (decode 7 (drop at s))) g (e .end));
+    inside = omega (arith, ap skipPlace (sym g ∙ e .is), skip-inside (length s) (decode 7 (drop at s)));
+  }
 
 -- ---- the returns of `labelled_at`
 told-none : (s l : List ℕ) (r : Labelled) → r ≡ record { verdict = verdict.Refused refusal.«Type»; label = 0; value = length s }
@@ -89,11 +111,17 @@ module _ (s : List ℕ) (at : ℕ) (r : HeadRead) (e : HeadSays s at r) where
     here : LabelSays s at h
     here = subst (saysLabel s at) g (e .label)
 
+    value-after : h .major ≤ 1 → GoesOn s (h .next) (afterValue (drop at s))
+    value-after m = record {
+      rest = sym (here .ends m 6);
+      inside = omega (arith, ap headPlace (sym g ∙ e .is), head-inside (length s) (heading (drop at s)));
+    }
+
     pub told-number : h .major ≡ 0 → Told s (drop at s) (record { verdict = verdict.Accepted; label = h .argument; value = h .next })
-    told-number m = record { is = rw (here .number m); rest = sym (here .ends (omega arith) 6) }
+    told-number m = record { is = rw (here .number m); rest = value-after (omega arith) }
 
     pub told-negative : h .major ≡ 1 → Told s (drop at s) (record { verdict = verdict.Accepted; label = 0; value = h .next })
-    told-negative m = record { is = rw (here .negative m); rest = sym (here .ends (omega arith) 6) }
+    told-negative m = record { is = rw (here .negative m); rest = value-after (omega arith) }
 
     pub told-other : 2 ≤ h .major → (x : Labelled)
         → x ≡ record { verdict = verdict.Refused refusal.«Type»; label = 0; value = length s } → Told s (drop at s) x
@@ -130,7 +158,7 @@ module _ {S : Type 0} (F : Form S) where
   -- one turn: what a pair says of what was gathered, and where the next pair begins
   pub record Turned (c : S) (s l : List ℕ) (w : Verdict) (d : S) (next : ℕ) : Type 0 where
     pub says : said w d ≡ pairRead F c (labelAt l) (valueView (afterValue l))
-    pub ends : Accepting w (drop next s ≡ afterValue (afterValue l))
+    pub ends : Accepting w (GoesOn s next (afterValue (afterValue l)))
 
   module _ (c : S) (s l : List ℕ) (p : Labelled) (t : Told s l p) where
     fine-is : p .verdict ≡ labelledAnswer (length s) (labelAt l) (p .value) .verdict
@@ -141,7 +169,7 @@ module _ {S : Type 0} (F : Form S) where
 
     pub turned-known : 0 < p .label → (w : Verdict) (d : S) (next : ℕ)
         → said w d ≡ knownRead F (F .standing c (p .label)) c (p .label) (valueView (drop (p .value) s))
-        → Accepting w (drop next s ≡ afterValue (drop (p .value) s)) → Turned c s l w d next
+        → Accepting w (GoesOn s next (afterValue (drop (p .value) s))) → Turned c s l w d next
     turned-known h w d next e f = go (labelAt l) refl
       where
         go : (x : Label) → labelAt l ≡ x → Turned c s l w d next
@@ -150,10 +178,11 @@ module _ {S : Type 0} (F : Form S) where
         go (label.Number n) g =
             let n-is : p .label ≡ n = label-is ∙ rw g in
             let fine : p .verdict ≡ verdict.Accepted = fine-is ∙ rw g in
-            let value : drop (p .value) s ≡ afterValue l = rw fine at (t .rest) in
+            let place : GoesOn s (p .value) (afterValue l) = rw fine at (t .rest) in
+            let value = place .rest in
             record { says = e ∙ rw (g, n-is, value); ends = rw (← value) f }
 
-    pub turned-passed : F .standing c (p .label) ≡ Unknown → (next : ℕ) → drop next s ≡ afterValue (drop (p .value) s)
+    pub turned-passed : F .standing c (p .label) ≡ Unknown → (next : ℕ) → GoesOn s next (afterValue (drop (p .value) s))
         → Turned c s l (p .verdict) (F .passing c) next
     turned-passed h next f = go (labelAt l) refl
       where
@@ -163,14 +192,16 @@ module _ {S : Type 0} (F : Form S) where
             rw bad (record { says = rw g; ends = tt })
         go label.Negative g =
             let fine : p .verdict ≡ verdict.Accepted = fine-is ∙ rw g in
-            let value : drop (p .value) s ≡ afterValue l = rw fine at (t .rest) in
-            rw fine (record { says = rw g; ends = f ∙ ap afterValue value })
+            let place : GoesOn s (p .value) (afterValue l) = rw fine at (t .rest) in
+            let value = place .rest in
+            rw fine (record { says = rw g; ends = on-with (ap afterValue value) f })
         go (label.Number n) g =
             let n-is : p .label ≡ n = label-is ∙ rw g in
             let fine : p .verdict ≡ verdict.Accepted = fine-is ∙ rw g in
-            let value : drop (p .value) s ≡ afterValue l = rw fine at (t .rest) in
+            let place : GoesOn s (p .value) (afterValue l) = rw fine at (t .rest) in
+            let value = place .rest in
             let unknown : F .standing c n ≡ Unknown = rw n-is at h in
-            rw fine (record { says = rw (g, unknown); ends = f ∙ ap afterValue value })
+            rw fine (record { says = rw (g, unknown); ends = on-with (ap afterValue value) f })
 
 -- a walk under way: labels passed over, pairs left, what was gathered so far, and the bytes of the pairs that are left
 pub record Walking {S : Type 0} (F : Form S) (total : Reading S) (count passed left : ℕ) (c : S) (l : List ℕ) : Type 0 where
@@ -202,11 +233,11 @@ module _ {S : Type 0} (F : Form S) where
       pub turn-goes : (w : Verdict) (d : S) (next : ℕ) → Turned F c s l w d next → w ≡ verdict.Accepted → (q : ℕ) → q ≤ p + 1
           → Walking F total count q (n - 1) d (drop next s)
       turn-goes w d next t g q f =
-          let on : drop next s ≡ afterValue (afterValue l) = rw g at (t .ends) in
+          let place : GoesOn s next (afterValue (afterValue l)) = rw g at (t .ends) in
           record {
             few = omega (arith, i .few);
             rest =
-                ap (walkAt F (n - 1) d) on
+                ap (walkAt F (n - 1) d) (place .rest)
                 ∙ ap (λ (w : Verdict). onward (said w d) (λ d. walkAt F (n - 1) d (afterValue (afterValue l)))) (sym g)
                 ∙ turn-on w d next t;
           }

@@ -19,7 +19,7 @@ use Rattle.cbor.specs.declared.item.Opened.{Opened}
 use Rattle.cbor.specs.declared.item.Opened.the-variants as ov
 use Rattle.cbor.specs.declared.value.Label.{Label}
 use Rattle.cbor.specs.declared.value.Label.the-variants as label
-use Rattle.cojp.specs.Bytes.{valueView, afterValue}
+use Rattle.cojp.specs.Bytes.{valueView, afterValue, GoesOn}
 use Rattle.cojp.specs.Reading.{Reading, refused, read, onward, Accepting}
 use Rattle.cojp.specs.Walk.{Form, pairRead}
 use Rattle.cojp.specs.declared.report.Report.{Report}
@@ -64,7 +64,7 @@ labelledAnswer end (label.Number n) p = record { verdict = verdict.Accepted; lab
 -- what an answer about a label says, s being the payload and l what is left of it from the label on
 pub record Told (s l : List ℕ) (r : Labelled) : Type 0 where
   pub is : r ≡ labelledAnswer (length s) (labelAt l) (r .value)
-  pub rest : Accepting (r .verdict) (drop (r .value) s ≡ afterValue l)
+  pub rest : Accepting (r .verdict) (GoesOn s (r .value) (afterValue l))
 
 -- ---- a known label comes again if its parameter was taken or discarded
 abbrev pub seen : Report → Bool

@@ -9,7 +9,7 @@ use refusal::Refusal;
 use refusal::Verdict;
 ghost use mathlib.Core.Path.{_≡_};
 ghost use lib.ListN.{drop};
-ghost use Rattle.cojp.specs.Bytes.{valueView, afterValue};
+ghost use Rattle.cojp.specs.Bytes.{valueView, afterValue, GoesOn};
 ghost use Rattle.cojp.specs.Octets.{noOctetsParameter, octetsRead, octetsAnswer};
 ghost use Rattle.cojp.specs.Reading.{read, forgiven, following, Accepting};
 ghost use Rattle.cojp_map.specs.Pairs.{seen, once};
@@ -28,7 +28,7 @@ pub fn is_seen(report: Report) -> bool
 // The byte string of `least` to 16 bytes at a place, in the published form: one that is bad is discarded, and the bytes go on after it.
 fn forgiven_octets(s: &[u8], at: usize, least: usize) -> OctetsRead
     ensures { λ r. ⌜ r ≡ octetsAnswer (read (forgiven (noOctetsParameter Report.Discarded) (octetsRead least (valueView (drop at (now (s .entry))))))) (r .next) ⌝ }
-    ensures rest { λ r. ⌜ Accepting (r .verdict) (drop (r .next) (now (s .entry)) ≡ afterValue (drop at (now (s .entry)))) ⌝ }
+    ensures rest { λ r. ⌜ Accepting (r .verdict) (GoesOn (now (s .entry)) (r .next) (afterValue (drop at (now (s .entry))))) ⌝ }
 {
     let r = read_octets(s, at, least);
     let verdict = r.verdict;
@@ -50,7 +50,7 @@ fn forgiven_octets(s: &[u8], at: usize, least: usize) -> OctetsRead
 // held; what follows from a bad one is the form's.
 pub fn octets_once(s: &[u8], at: usize, held: Report, least: usize, version: Version) -> OctetsRead
     ensures { λ r. ⌜ r ≡ octetsAnswer (once (seen held) (following version (noOctetsParameter Report.Discarded) (octetsRead least (valueView (drop at (now (s .entry))))))) (r .next) ⌝ }
-    ensures rest { λ r. ⌜ Accepting (r .verdict) (drop (r .next) (now (s .entry)) ≡ afterValue (drop at (now (s .entry)))) ⌝ }
+    ensures rest { λ r. ⌜ Accepting (r .verdict) (GoesOn (now (s .entry)) (r .next) (afterValue (drop at (now (s .entry))))) ⌝ }
 {
     if is_seen(held) {
         let none = no_octets(Report::Absent);

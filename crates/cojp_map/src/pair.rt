@@ -7,7 +7,7 @@ use refusal::Refusal;
 use refusal::Verdict;
 ghost use mathlib.Core.Path.{_≡_};
 ghost use lib.ListN.{drop};
-ghost use Rattle.cojp.specs.Bytes.{afterValue};
+ghost use Rattle.cojp.specs.Bytes.{afterValue, GoesOn};
 ghost use Rattle.cojp_map.specs.Pairs.{Told};
 
 // The levels that are left for the members of a payload's map.
@@ -23,7 +23,7 @@ pub struct Labelled {
 
 // Where the bytes go on after the value at a place: the end where no item can be read there, which a payload that passed the scan does not have.
 pub fn item_end(s: &[u8], at: usize) -> usize
-    ensures { λ r. ⌜ drop r (now (s .entry)) ≡ afterValue (drop at (now (s .entry))) ⌝ }
+    ensures { λ r. ⌜ GoesOn (now (s .entry)) r (afterValue (drop at (now (s .entry)))) ⌝ }
 {
     let passed = skip_item(s, at, MEMBER_LEVELS, false);
     match passed {

@@ -1,4 +1,4 @@
--- What is asked of the writer of one parameter: its limits are judged before the room, as for a whole object.
+-- What is asked of the writer of one parameter: its limits are judged before the room, as for a whole object (but see the lists).
 use Prim.Native.Nat.{ℕ}
 use mathlib.Core.Bool.{Bool, true, cond}
 use mathlib.Core.List.{List, [], _++_}
@@ -21,7 +21,8 @@ stringInRange label p = cond (eqb label 4) (jrcInRange p) (octetsInRange p)
 unfoldable pub octetsPlan : ℕ → OctetsParameter → Plan
 octetsPlan label p = cond (stringInRange label p) (emit (encodePairs (octetsPairs label p))) (refuse Range)
 
--- ---- a list that is kept as it is written
+-- ---- a list that is kept as it is written: its length alone is judged here; that it is such a list as its label has (`kept`) is among the
+-- limits of the whole object
 -- a label, and the array that the list is
 abbrev pub arrayBytes : ℕ → ItemList → List ℕ
 arrayBytes label l = shortest 0 label ++ (shortest 4 (l .count) ++ bytesIn l)

@@ -9,7 +9,7 @@ use lib.ListN.{drop}
 use Rattle.refusal.specs.declared.Verdict.{Verdict}
 use Rattle.refusal.specs.declared.Verdict.the-variants as verdict
 use Rattle.cbor.specs.View.{View}
-use Rattle.cojp.specs.Bytes.{valueView, afterValue}
+use Rattle.cojp.specs.Bytes.{valueView, afterValue, GoesOn}
 use Rattle.cojp.specs.Faults.{added}
 use Rattle.cojp.specs.Lists.{listTaken, unsupportedTaken}
 use Rattle.cojp.specs.Octets.{noOctetsParameter, octetsRead, octetsAnswer}
@@ -147,7 +147,7 @@ module _ (v : Version) (named : Bool) (q : JoinRequest) (s l : List ℕ) (p : La
 
   -- a known label: w₀, g₀ and next₀ are what its reader gave
   turn-known : (x : RequestParameter) → requestParameterOf v (p .label) ≡ x → isKnown x ≡ 1 → (w₀ : Verdict) (g₀ : Gathered) (next₀ : ℕ)
-      → said w₀ g₀ ≡ known v old here (p .label) → Accepting w₀ (drop next₀ s ≡ after) → g₀ .request .passed ≡ q .passed
+      → said w₀ g₀ ≡ known v old here (p .label) → Accepting w₀ (GoesOn s next₀ after) → g₀ .request .passed ≡ q .passed
       → next ≡ next₀ → named′ ≡ g₀ .named → q′ ≡ g₀ .request → w ≡ w₀ → Turn
   turn-known x e k w₀ g₀ next₀ says ends same n-is b-is q-is w-is = record {
     turned = rw (n-is, b-is, q-is, w-is) (turned-known (requestForm v) old s l p t (positive v (p .label) x e k) w₀ g₀ next₀ says ends);
@@ -155,14 +155,14 @@ module _ (v : Version) (named : Bool) (q : JoinRequest) (s l : List ℕ) (p : La
   }
 
   pub turn-role : requestParameterOf v (p .label) ≡ parameter.Role → (r : RoleRead)
-      → RoleSays v named (q .faults) (roleJudged here) r × Accepting (r .verdict) (drop (r .next) s ≡ after)
+      → RoleSays v named (q .faults) (roleJudged here) r × Accepting (r .verdict) (GoesOn s (r .next) after)
       → next ≡ r .next → named′ ≡ true → q′ ≡ roleIn old r .request → w ≡ r .verdict → Turn
   turn-role e r (says, ends) =
       turn-known parameter.Role e refl (r .verdict) (roleIn old r) (r .next) (says old refl ∙ known-once v old here (p .label) parameter.Role e named refl) ends refl
 
   pub turn-network : requestParameterOf v (p .label) ≡ parameter.Network → (r : OctetsRead)
       → (r ≡ octetsAnswer (once (seen (q .network .report)) (following v (noOctetsParameter report.Discarded) (octetsRead 0 here))) (r .next))
-      × Accepting (r .verdict) (drop (r .next) s ≡ after)
+      × Accepting (r .verdict) (GoesOn s (r .next) after)
       → next ≡ r .next → named′ ≡ named → q′ ≡ withNetwork old (r .parameter) .request → w ≡ r .verdict → Turn
   turn-network e r (says, ends) =
       let again = seen (q .network .report) in
@@ -172,14 +172,14 @@ module _ (v : Version) (named : Bool) (q : JoinRequest) (s l : List ℕ) (p : La
       (put-in ∙ put-once (withNetwork old) again value ∙ known-once v old here (p .label) parameter.Network e again (standing-seen (q .network .report))) ends refl
 
   pub turn-unsupported : requestParameterOf v (p .label) ≡ parameter.Unsupported → (r : UnsupportedRead)
-      → UnsupportedSays (q .unsupported .report) (q .faults) (unsupportedTaken here) r × Accepting (r .verdict) (drop (r .next) s ≡ after)
+      → UnsupportedSays (q .unsupported .report) (q .faults) (unsupportedTaken here) r × Accepting (r .verdict) (GoesOn s (r .next) after)
       → next ≡ r .next → named′ ≡ named → q′ ≡ unsupportedIn old r .request → w ≡ r .verdict → Turn
   turn-unsupported e r (says, ends) =
       let held = q .unsupported .report in
       turn-known parameter.Unsupported e refl (r .verdict) (unsupportedIn old r) (r .next)
       (says old refl ∙ known-once v old here (p .label) parameter.Unsupported e (seen held) (standing-seen held)) ends refl
 
-  pub turn-passed : requestParameterOf v (p .label) ≡ parameter.Unknown → (end : ℕ) → drop end s ≡ after
+  pub turn-passed : requestParameterOf v (p .label) ≡ parameter.Unknown → (end : ℕ) → GoesOn s end after
       → next ≡ end → named′ ≡ named → q′ ≡ requestPassing old .request → w ≡ p .verdict → Turn
   turn-passed e end ends n-is b-is q-is w-is = record {
     turned =

@@ -15,7 +15,7 @@ use Rattle.cbor.specs.View.{ValueAt, ValueSays, restOf}
 use Rattle.cbor.specs.declared.value.Value.{Value}
 use Rattle.cbor.specs.declared.value.Value.the-variants as vv
 use Rattle.cbor.proofs.value.Value as value
-use Rattle.cojp.specs.Bytes.{valueView, afterValue}
+use Rattle.cojp.specs.Bytes.{valueView, afterValue, GoesOn}
 use Rattle.cojp.specs.Faults.{added}
 use Rattle.cojp.specs.Reading.{Judgement, broken, unfit, good, refused, read}
 use Rattle.cojp.specs.Request.{roleJudged, roleGathered, withRole, withFaults}
@@ -41,8 +41,10 @@ module _ (s : List ℕ) (at : ℕ) (v : Value) (e : ValueSays s at v) where
     unfolding roleJudged
     role-fits h = rw (role-here .view, le-leb n 1 h)
 
-    pub role-ends : drop p s ≡ afterValue (drop at s)
-    role-ends = let w : ValueAt 6 s at (vv.Number n p) = rw g at (e .says 6) in sym (ap restOf (w .rest .1))
+    pub role-ends : GoesOn s p (afterValue (drop at s))
+    role-ends =
+        let w : ValueAt 6 s at (vv.Number n p) = rw g at (e .says 6) in
+        record { rest = sym (ap restOf (w .rest .1)); inside = w .rest .0 }
 
   pub role-broken : OneOf (1 ∷ 2 ∷ 3 ∷ 4 ∷ []) (tagOf value.the-type v) → roleJudged (valueView (drop at s)) ≡ broken
   unfolding roleJudged

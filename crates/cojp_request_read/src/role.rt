@@ -9,7 +9,7 @@ use refusal::Refusal;
 use refusal::Verdict;
 ghost use mathlib.Core.Path.{_≡_};
 ghost use lib.ListN.{drop};
-ghost use Rattle.cojp.specs.Bytes.{valueView, afterValue};
+ghost use Rattle.cojp.specs.Bytes.{valueView, afterValue, GoesOn};
 ghost use Rattle.cojp.specs.Reading.{Accepting};
 ghost use Rattle.cojp.specs.Request.{roleJudged};
 ghost use Rattle.cojp_request_read.specs.Requests.{BadRole, RoleSays};
@@ -44,7 +44,7 @@ fn bad_role(
     code: u8,
 ) -> RoleRead
     ensures { λ r. ⌜ BadRole version why faults code r ⌝ }
-    ensures rest { λ r. ⌜ Accepting (r .verdict) (drop (r .next) (now (s .entry)) ≡ afterValue (drop at (now (s .entry)))) ⌝ }
+    ensures rest { λ r. ⌜ Accepting (r .verdict) (GoesOn (now (s .entry)) (r .next) (afterValue (drop at (now (s .entry))))) ⌝ }
 {
     match version {
         Version::Draft => refused_role(why),
@@ -70,7 +70,7 @@ pub(crate) fn role_once(
     faults: Faults,
 ) -> RoleRead
     ensures { λ r. ⌜ RoleSays version named faults (roleJudged (valueView (drop at (now (s .entry))))) r ⌝ }
-    ensures rest { λ r. ⌜ Accepting (r .verdict) (drop (r .next) (now (s .entry)) ≡ afterValue (drop at (now (s .entry)))) ⌝ }
+    ensures rest { λ r. ⌜ Accepting (r .verdict) (GoesOn (now (s .entry)) (r .next) (afterValue (drop at (now (s .entry))))) ⌝ }
 {
     if named {
         return refused_role(Refusal::Twice);

@@ -11,7 +11,7 @@ use refusal::Refusal;
 use refusal::Verdict;
 ghost use mathlib.Core.Path.{_≡_};
 ghost use lib.ListN.{drop};
-ghost use Rattle.cojp.specs.Bytes.{valueView, afterValue};
+ghost use Rattle.cojp.specs.Bytes.{valueView, afterValue, GoesOn};
 ghost use Rattle.cojp.specs.Lists.{unsupportedTaken};
 ghost use Rattle.cojp.specs.Reading.{Accepting};
 ghost use Rattle.cojp_request_read.specs.Requests.{UnsupportedSays};
@@ -32,7 +32,7 @@ pub(crate) fn unsupported_once(
     faults: Faults,
 ) -> UnsupportedRead
     ensures { λ r. ⌜ UnsupportedSays (held .report) faults (unsupportedTaken (valueView (drop at (now (s .entry))))) r ⌝ }
-    ensures rest { λ r. ⌜ Accepting (r .verdict) (drop (r .next) (now (s .entry)) ≡ afterValue (drop at (now (s .entry)))) ⌝ }
+    ensures rest { λ r. ⌜ Accepting (r .verdict) (GoesOn (now (s .entry)) (r .next) (afterValue (drop at (now (s .entry))))) ⌝ }
 {
     let report = held.report;
     if is_seen(report) {

@@ -1,6 +1,6 @@
 -- A key set is an array.
-use mathlib.Core.Path.{refl, sym, _∙_}
-use Rattle.cojp.proofs.Nexts.{keys-settled, accepting-on}
+use mathlib.Core.Path.{refl, sym}
+use Rattle.cojp.proofs.Nexts.{keys-settled, accepting-on, on-with}
 use Rattle.cojp.proofs.Arrays.{array-here, array-after}
 use Rattle.cojp_key_set_read.proofs.KeySets.{keys-array, keys-broken}
 use borrow.Author.Needs.{needs}
@@ -30,11 +30,12 @@ returns c =
     let begun = value-at .before .before in
     let a = begun .args in
     let v = value-at .value-at in
-    let g = v-2 .v .given in (
+    let g = v-2 .v .given in
+    let after = array-after (a .s .now) (a .at) (v .result) (v .ensures) (g .0 .0) (g .0 .1 .0) (g .1) in (
       keys-settled (c .gather-keys .result) _ (c .gather-keys .result .next) (c .gather-keys .ensures .0) _
           (keys-array (a .s .now) (a .at) (v .result) (v .ensures) _ (a .informed) (g .0 .0) (g .0 .1 .0) (g .1) refl),
       accepting-on (c .gather-keys .result .verdict)
-          (λ e. e ∙ sym (array-after (a .s .now) (a .at) (v .result) (v .ensures) (g .0 .0) (g .0 .1 .0) (g .1))) (c .gather-keys .ensures .1),
+          (on-with (sym after)) (c .gather-keys .ensures .1),
     )
 
 returns-2 : tie.Need-returns-2

@@ -1,6 +1,6 @@
 -- The first member is the byte string.
-use mathlib.Core.Path.{refl, sym, _∙_}
-use Rattle.cojp.proofs.Nexts.{address-settled, accepting-on}
+use mathlib.Core.Path.{refl, sym}
+use Rattle.cojp.proofs.Nexts.{address-settled, accepting-on, on-with}
 use Rattle.cojp.proofs.Addresses.{address-begun, address-headless}
 use Rattle.cojp.proofs.Arrays.{bytes-left, bytes-inside, bytes-after}
 use borrow.Author.Needs.{needs}
@@ -39,7 +39,7 @@ returns c =
     let r = c .lease-after in
     let begun = address-begun s (a .at) (a .count) (m .result) (m .ensures) _ (g .0 .0) (g .0 .1 .0) (g .1) refl in
     let after = bytes-after s (a .at) (a .count) (m .result) (m .ensures) (g .0 .0) (g .0 .1 .0) (g .1) in
-    (address-settled (r .result) _ _ (r .ensures .0) _ begun, accepting-on (r .result .verdict) (λ e. e ∙ sym after) (r .ensures .1))
+    (address-settled (r .result) _ _ (r .ensures .0) _ begun, accepting-on (r .result .verdict) (on-with (sym after)) (r .ensures .1))
 
 returns-2 : tie.Need-returns-2
 returns-2 c =

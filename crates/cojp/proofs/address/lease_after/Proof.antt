@@ -3,7 +3,7 @@ use mathlib.Core.Path.{refl, sym, _∙_}
 use Prim.Native.Nat.{_+_, _-_}
 use native.Mathlib.Omega.{arith}
 use lib.ListN.{take, drop}
-use Rattle.cojp.proofs.Arrays.{nothing-left, number-after}
+use Rattle.cojp.proofs.Arrays.{nothing-left, number-after, number-inside}
 use Rattle.cojp.proofs.Nexts.{address-settled, address-told}
 use Rattle.cojp.proofs.Addresses.{lease-none, lease-one, lease-many, lease-other}
 use borrow.Author.Needs.{needs}
@@ -24,7 +24,9 @@ returns c =
     let end = a .start + a .len in
     let none = lease-none s b end (a .left) _ (c .before .if1 .taken) refl in
     let after = nothing-left (a .left) (drop end s) (c .before .if1 .taken) in
-    address-told (c .address-from .result) _ _ (c .address-from .ensures) _ none s _ (sym after)
+    let inside = c .before .before .before .pre in
+    address-told (c .address-from .result) _ _ (c .address-from .ensures) _ none s _
+    (record { rest = sym after; inside = omega (arith, inside) })
 
 member-at-requires : tie.Need-member-at-requires
 member-at-requires c κs = search needs
@@ -53,7 +55,9 @@ returns-2 c =
     let lease = lease-one s b end (a .left) _ (m .result) (m .ensures) (g .0 .0) (g .0 .1 .0) (g .1) one refl in
     let number = number-after s end (a .left) (m .result) (m .ensures) (g .0 .0) (g .0 .1 .0) (g .1) in
     let after = nothing-left (a .left - 1) (drop (g .0 .1 .0) s) (omega (arith, one)) in
-    address-told (c .address-from2 .result) _ _ (c .address-from2 .ensures) _ lease s _ (sym (number ∙ after))
+    let inside = number-inside s end (a .left) (m .result) (m .ensures) (g .0 .0) (g .0 .1 .0) (g .1) in
+    address-told (c .address-from2 .result) _ _ (c .address-from2 .ensures) _ lease s _
+    (record { rest = sym (number ∙ after); inside = omega (arith, inside) })
 
 returns-3 : tie.Need-returns-3
 returns-3 c =

@@ -1,7 +1,7 @@
 -- A short address is an array.
-use mathlib.Core.Path.{refl, sym, _∙_}
+use mathlib.Core.Path.{refl, sym}
 use Rattle.cojp.proofs.Arrays.{array-after}
-use Rattle.cojp.proofs.Nexts.{address-settled, accepting-on}
+use Rattle.cojp.proofs.Nexts.{address-settled, accepting-on, on-with}
 use Rattle.cojp.proofs.Addresses.{address-array, address-broken}
 use borrow.Author.Needs.{needs}
 use Rattle.cojp.proofs.address.read_address.Statement.{statement}
@@ -28,7 +28,7 @@ returns c =
     let r = c .address-members in
     let array = address-array s (a .at) (v .result) (v .ensures) _ (g .0 .0) (g .0 .1 .0) (g .1) refl in
     let after = array-after s (a .at) (v .result) (v .ensures) (g .0 .0) (g .0 .1 .0) (g .1) in
-    (address-settled (r .result) _ _ (r .ensures .0) _ array, accepting-on (r .result .verdict) (λ e. e ∙ sym after) (r .ensures .1))
+    (address-settled (r .result) _ _ (r .ensures .0) _ array, accepting-on (r .result .verdict) (on-with (sym after)) (r .ensures .1))
 
 returns-2 : tie.Need-returns-2
 returns-2 c =

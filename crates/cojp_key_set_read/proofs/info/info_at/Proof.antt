@@ -1,8 +1,9 @@
 -- Each byte is read where it stands; other lengths are no additional information.
-use mathlib.Core.Path.{_≡_, sym, _∙_}
+use mathlib.Core.Path.{_≡_, ap, sym, _∙_}
 use native.Mathlib.Omega.{arith}
 use lib.ListN.{length, take, drop, length-drop}
 use lib.Seq.{length-take-le}
+use Rattle.cojp_key_set_read.specs.Groups.{infoAnswer}
 use Rattle.cojp_key_set_read.proofs.Infos.{info-four, info-eight, info-none}
 use borrow.Author.Needs.{needs}
 use Rattle.cojp_key_set_read.proofs.info.info_at.Statement.{statement}
@@ -94,7 +95,8 @@ returns-3 c =
     let a = c .before .before .before .before .args in
     let w = take (a .len) (drop (a .at) (a .s .now)) in
     let n : length w ≡ a .len = length-take-le (a .len) (drop (a .at) (a .s .now)) (omega (arith, length-drop (a .at) (a .s .now))) in
-    c .no-info .ensures ∙ info-none w (λ e. c .before .before .if1 .left (sym n ∙ e)) (λ e. c .before .if2 .left (sym n ∙ e))
+    let absent = info-none w (λ e. c .before .before .if1 .left (sym n ∙ e)) (λ e. c .before .if2 .left (sym n ∙ e)) in
+    c .no-info .ensures ∙ ap infoAnswer absent
 
 pub info-at-spec : {M : Type 1} → statement M
 info-at-spec =
