@@ -1,22 +1,31 @@
--- The witness of 232 bytes and the written examples are computed.
+-- The witness of 232 bytes, the longest payload read and the written examples are computed.
 use mathlib.Core.Path.{refl}
 use Rattle.byte_lists.specs.Same.{same}
-use Rattle.cbor.specs.Decode.{decodeBy, heading, argument, next, digits, majorOf}
+use Rattle.cbor.specs.Decode.{payloadBy, decodeBy, heading, argument, next, digits, members, pairs, majorOf}
 use Rattle.cbor.specs.View.{plainAt}
 use Rattle.cbor.specs.Encode.{bytesOf, infoOf, extraOf, shortest}
 use Rattle.link_key.specs.Key.{validKey, plainKey}
 use Rattle.link_key_set.specs.KeySet.{validKeys, validSet}
 use Rattle.short_address.specs.Address.{isAddress}
+use Rattle.cojp.specs.Configuration.{configurationTaking}
+use Rattle.cojp.specs.Faults.{added}
 use Rattle.cojp.specs.Lists.{stringsIn, faultsIn, sameAs, kept}
 use Rattle.cojp.specs.Octets.{padded}
+use Rattle.cojp.specs.Parameter.{laterParameter, parameterOf}
 use Rattle.cojp.specs.Request.{owing}
+use Rattle.cojp.specs.Walk.{payloadReadBy}
 use Rattle.cojp.specs.Writing.{requestInRange, requestPlan, ofForm, configurationInRange, configurationPlan}
-use Rattle.cojp_laws.specs.Largest.{LargestAttained}
-use Rattle.cojp_laws.specs.Written.{AllShown, writtenExamples, publishedExamples, WrittenExamples}
+use Rattle.cojp_laws.specs.Largest.{LargestAttained, LongestRead}
+use Rattle.cojp_laws.specs.Written.{AllShown, writtenExamples, publishedExamples, longestExamples, WrittenExamples}
 
 pub largest-attained : LargestAttained
 unfolding configurationPlan configurationInRange ofForm validSet validKeys validKey plainKey isAddress padded bytesOf infoOf extraOf shortest
 largest-attained = record { written = refl; no-less = refl }
+
+pub longest-read : LongestRead
+unfolding payloadReadBy payloadBy decodeBy heading argument next digits members pairs majorOf bytesOf infoOf extraOf shortest
+    laterParameter parameterOf configurationTaking added stringsIn padded
+longest-read = record { size = refl; accepted = refl; taken = refl; long = refl }
 
 marked : AllShown writtenExamples
 unfolding requestPlan requestInRange owing configurationPlan configurationInRange ofForm isAddress bytesOf infoOf extraOf shortest
@@ -55,5 +64,9 @@ published = (
   ),
 )
 
+longest : AllShown longestExamples
+unfolding configurationPlan configurationInRange ofForm validSet validKeys validKey padded bytesOf infoOf extraOf shortest
+longest = ((refl, refl), ((refl, refl), ((refl, refl), tt)))
+
 pub written-examples : WrittenExamples
-written-examples = (marked, published)
+written-examples = (marked, published, longest)

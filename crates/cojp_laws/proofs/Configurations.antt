@@ -50,6 +50,7 @@ use Rattle.cojp_laws.proofs.ReadBack.{octetsGood, octetsBack, octets-ba
 use Rattle.cojp_laws.proofs.ReadBack.{keysGood, keysBack, keys-back, keys-same, listGood, listBack, list-back, list-same, rateGood, rateBack, rate-same}
 use Rattle.cojp_laws.proofs.Sizes.{emits, in-range, fitted, fine-configuration}
 use Rattle.cojp_laws.proofs.Typed.{TypedConfiguration}
+use Rattle.cojp_laws.proofs.Unreported.{unreported}
 
 -- ---- one pair, its parameter being good and not seen before
 module _ (v : Version) (s : Configuration) (x : View) where
@@ -197,6 +198,13 @@ same-back : (lists : ListLaws) (v : Version) (c : Configuration) → OfForm v c 
 same-back lists v c o came r e =
     let none = noOctetsParameter Absent in
     let report : OctetsParameter → Report = λ o. o .report in
+    let keys = kept-if (λ (k : KeysParameter). k .report) (keysGood (c .keys)) (noKeysParameter Absent) (c .keys .report) refl refl in
+    let address =
+    kept-if (λ (a : AddressParameter). a .report) (addressGood (c .address)) (noAddressParameter Absent) (c .address .report) refl refl in
+    let jrc = kept-if report (octetsGood (c .jrc)) none (c .jrc .report) refl refl in
+    let list =
+    kept-if (λ (l : ListParameter). l .report) (listGood stringsIn (c .blacklist)) (noListParameter Absent) (c .blacklist .report) refl refl in
+    let rate = kept-if (λ (r : RateParameter). r .report) (rateGood (c .rate)) (noRateParameter Absent) (c .rate .report) refl refl in
     rw e (record {
       accepted = refl;
       same = record {
@@ -208,13 +216,14 @@ same-back lists v c o came r e =
         blacklist = list-same stringsIn (lists .blacklist-back) (c .blacklist) (λ t. list-kept v stringsIn (c .blacklist) (o .blacklist) t .1);
         rate = rate-same (c .rate);
       };
-      keys-kept = kept-if (λ (k : KeysParameter). k .report) (keysGood (c .keys)) (noKeysParameter Absent) (c .keys .report) refl refl;
-      address-kept = kept-if (λ (a : AddressParameter). a .report) (addressGood (c .address)) (noAddressParameter Absent) (c .address .report) refl refl;
-      jrc-kept = kept-if report (octetsGood (c .jrc)) none (c .jrc .report) refl refl;
+      keys-kept = keys;
+      address-kept = address;
+      jrc-kept = jrc;
       network-kept = kept-if report (octetsGood (c .network)) none (c .network .report) refl refl;
       prefix-kept = kept-if report (octetsGood (c .prefix)) none (c .prefix .report) refl refl;
-      blacklist-kept = kept-if (λ (l : ListParameter). l .report) (listGood stringsIn (c .blacklist)) (noListParameter Absent) (c .blacklist .report) refl refl;
-      rate-kept = kept-if (λ (r : RateParameter). r .report) (rateGood (c .rate)) (noRateParameter Absent) (c .rate .report) refl refl;
+      blacklist-kept = list;
+      rate-kept = rate;
+      unreported = unreported (read-back c came) keys address jrc list rate;
       passed = refl;
     })
 

@@ -7,6 +7,7 @@ mod Typed
 mod Sizes
 mod ReadBack
 mod Requests
+mod Unreported
 mod Configurations
 mod Reserved
 mod InPlace

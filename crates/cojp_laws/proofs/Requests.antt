@@ -1,12 +1,10 @@
 -- What is written of a join request reads back as the same request: its parameters one after the other.
 use Prim.Native.Nat.{ℕ, zero, suc, _≤_}
 use mathlib.Core.Path.{_≡_, refl, _∙_}
-use mathlib.Core.Bool.{Bool, false, not}
-use mathlib.Core.List.{List}
+use mathlib.Core.Bool.{Bool, not}
 use native.Mathlib.Omega.{arith}
 use lib.Dec.{eqb}
-use Rattle.refusal.specs.declared.Refusal.the-variants.{Range, Owed}
-use Rattle.cbor.specs.Answer.{Plan, refuse, emit}
+use Rattle.refusal.specs.declared.Refusal.the-variants.{Range}
 use Rattle.cbor.specs.Encode.{encode}
 use Rattle.cbor.specs.HeadLaws.{HeadLaws}
 use Rattle.cbor.specs.Item.{bytes, array, map}
@@ -36,7 +34,7 @@ use Rattle.cojp_laws.specs.RoundTrip.{RequestRoundTrip}
 use Rattle.cojp_laws.proofs.Forms.{ReportsOf, reports-of, list-kept}
 use Rattle.cojp_laws.proofs.ReadBack.{then, parameter-read, payload-read, following-good, kept-if}
 use Rattle.cojp_laws.proofs.ReadBack.{octetsGood, octetsBack, octets-back, octets-same, listGood, listBack, list-back, list-same}
-use Rattle.cojp_laws.proofs.Sizes.{emits, in-range, fitted, fine-request}
+use Rattle.cojp_laws.proofs.Sizes.{emits, in-range, fitted, owed-none, fine-request}
 
 abbrev requested : ℕ → OctetsParameter → ListParameter → JoinRequest
 requested role network unsupported = record { role = role; network = network; unsupported = unsupported; faults = noFaults; passed = 0 }
@@ -98,14 +96,6 @@ unfolding owing
 owing-back v role Absent p e = refl
 owing-back v role Taken p e = rw e
 owing-back v role Discarded p e = refl
-
--- a plan that is no refusal is the payload, and nothing is owed
-owed-none : (o : Bool) (s p : List ℕ) → owingPlan o (fits s) ≡ emit p → (o ≡ false) × (fits s ≡ emit p)
-owed-none o s p e = go (fits s) e
-  where
-    go : (plan : Plan) → owingPlan o plan ≡ emit p → (o ≡ false) × (plan ≡ emit p)
-    go (refuse k) e = absurd (let z : _≡_ {A = ℕ} 0 1 = cc in omega arith)
-    go (emit s) e = emits o Owed (emit s) p e
 
 pub request-round-trip : ItemLaws → HeadLaws → ListLaws → (q : JoinRequest) → Bytes (q .unsupported .value .bytes) → RequestRoundTrip q
 unfolding requestPlan

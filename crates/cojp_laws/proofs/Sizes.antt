@@ -8,7 +8,7 @@ use borrow.Author.Tests.{leb-true, le-leb}
 use lib.Dec.{leb}
 use lib.ListN.{length}
 use Rattle.refusal.specs.declared.Refusal.{Refusal}
-use Rattle.refusal.specs.declared.Refusal.the-variants.{Range}
+use Rattle.refusal.specs.declared.Refusal.the-variants.{Range, Owed}
 use Rattle.cbor.specs.Answer.{Plan, refuse, emit}
 use Rattle.cbor.specs.Encode.{encode}
 use Rattle.cbor.specs.HeadLaws.{HeadLaws}
@@ -16,8 +16,10 @@ use Rattle.cbor.specs.Item.{map}
 use Rattle.cbor.specs.Laws.{ItemLaws, Bytes}
 use Rattle.link_key_set.specs.KeyLaws.{KeyLaws}
 use Rattle.cojp.specs.Lists.{stringsIn, faultsIn, some}
+use Rattle.cojp.specs.Request.{owing}
 use Rattle.cojp.specs.Version.{byVersion, informed}
-use Rattle.cojp.specs.Writing.{requestPairs, configurationPairs, fits, configurationInRange, configurationPlan}
+use Rattle.cojp.specs.Writing.{fits, requestPairs, requestInRange, owingPlan, requestPlan}
+use Rattle.cojp.specs.Writing.{configurationPairs, configurationInRange, configurationPlan}
 use Rattle.cojp.specs.declared.configuration.Configuration.{Configuration}
 use Rattle.cojp.specs.declared.request.JoinRequest.{JoinRequest}
 use Rattle.cojp.specs.declared.version.Version.{Version}
@@ -26,7 +28,7 @@ use Rattle.cojp_list_read.specs.Laws.{ListLaws}
 use Rattle.cojp_octets_write.specs.Fits.{RequestFits}
 use Rattle.cojp_octets_write.proofs.Limits.{Judged, configuration-fits}
 use Rattle.cojp_octets_write.proofs.Maps.{map-length}
-use Rattle.cojp_laws.specs.Largest.{LargestConfiguration, DraftWritten}
+use Rattle.cojp_laws.specs.Largest.{LargestConfiguration, DraftWritten, PayloadsFit}
 use Rattle.cojp_laws.proofs.Fine.{Fine, fine-join, fine-role, fine-octets, fine-address, fine-keys, fine-rate, jrc-in-range, groupsRoom}
 use Rattle.cojp_laws.proofs.FineLists.{strings-fit, some-fit, fine-list}
 use Rattle.cojp_laws.proofs.Forms.{ReportsOf, of-form, keys-fitting}
@@ -48,6 +50,33 @@ fitted s p e = go (leb (length s) 256) refl e
     go : (b : Bool) → leb (length s) 256 ≡ b → cond b (emit s) (refuse Range) ≡ emit p → (length s ≤ 256) × (s ≡ p)
     go true h e = (leb-true (length s) 256 h, cc)
     go false h e = absurd (let z : _≡_ {A = ℕ} 0 1 = cc in omega arith)
+
+-- nothing is owed
+pub owed-none : (o : Bool) (s p : List ℕ) → owingPlan o (fits s) ≡ emit p → (o ≡ false) × (fits s ≡ emit p)
+owed-none o s p e = go (fits s) e
+  where
+    go : (plan : Plan) → owingPlan o plan ≡ emit p → (o ≡ false) × (plan ≡ emit p)
+    go (refuse k) e = absurd (let z : _≡_ {A = ℕ} 0 1 = cc in omega arith)
+    go (emit s) e = emits o Owed (emit s) p e
+
+-- ---- what is written fits
+pub payloads-fit : PayloadsFit
+unfolding requestPlan configurationPlan
+payloads-fit = record { request = request; configuration = configuration }
+  where
+    request : (v : Version) (q : JoinRequest) (p : List ℕ) → requestPlan v q ≡ emit p → length p ≤ 256
+    request v q p e =
+        let s = encode (map (requestPairs q)) in
+        let owes = owing v (q .role) (q .network .report) in
+        let (a, f) = emits (not (requestInRange v q)) Range (owingPlan owes (fits s)) p e in
+        let (n, y) = fitted s p (owed-none owes s p f .1) in
+        rw (← y) n
+
+    configuration : (v : Version) (c : Configuration) (p : List ℕ) → configurationPlan v c ≡ emit p → length p ≤ 256
+    configuration v c p e =
+        let s = encode (map (configurationPairs c)) in
+        let (n, y) = fitted s p (emits (not (configurationInRange v c)) Range (fits s) p e .1) in
+        rw (← y) n
 
 module _ (heads : HeadLaws) (items : ItemLaws) (lists : ListLaws) where
   -- ---- the join request

@@ -12,6 +12,7 @@ use Rattle.cbor.specs.declared.write.Written.the-variants.{Length}
 use Rattle.cojp.specs.Faults.{noFaults}
 use Rattle.cojp.specs.Request.{readRequestBy}
 use Rattle.cojp.specs.Configuration.{readConfigurationBy}
+use Rattle.cojp.specs.Reported.{faultsOf}
 use Rattle.cojp.specs.Writing.{requestPlan, configurationPlan}
 use Rattle.cojp.specs.Same.{SameRequest, SameConfiguration}
 use Rattle.cojp.specs.declared.configuration.Configuration.{Configuration}
@@ -44,6 +45,7 @@ pub record ConfigurationBack (c : Configuration) (r : ConfigurationRead) : Type 
   pub prefix-kept : Kept (r .configuration .prefix .report)
   pub blacklist-kept : Kept (r .configuration .blacklist .report)
   pub rate-kept : Kept (r .configuration .rate .report)
+  pub unreported : faultsOf (r .configuration) ≡ noFaults
   pub passed : r .configuration .passed ≡ 0
 
 -- ---- the bytes of the plan

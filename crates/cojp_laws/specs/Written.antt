@@ -1,5 +1,5 @@
 -- Document 01's marked examples, written: the objects that its payloads are read as, the numbers and the bytes that the writers answer.
--- Beside them objects of the published form (docs/RFC9031.md), in both forms where that tells them apart.
+-- Beside them objects of the published form (docs/RFC9031.md), in both forms where that tells them apart, and the longest payload of it.
 use Prim.Native.Nat.{ℕ}
 use mathlib.Core.Path.{_≡_}
 use mathlib.Core.Bool.{true}
@@ -8,14 +8,15 @@ use lib.ListN.{length, drop, replicate}
 use Rattle.cbor.specs.Answer.{Plan, answer, after}
 use Rattle.cbor.specs.Written.{writtenSays}
 use Rattle.link_key.specs.Key.{informedKey}
+use Rattle.link_key.specs.declared.Key.{Key}
 use Rattle.link_key.specs.declared.info.Info.the-variants as info
 use Rattle.cojp.specs.Address.{addressOf, addressParameter, noAddressParameter}
-use Rattle.cojp.specs.Configuration.{emptyConfiguration, withKeys, withAddress, withPrefix, withBlacklist, withRate, withPassed}
+use Rattle.cojp.specs.Configuration.{emptyConfiguration, withKeys, withAddress, withJrc, withPrefix, withBlacklist, withRate, withPassed}
 use Rattle.cojp.specs.Examples.{cafe}
 use Rattle.cojp.specs.Faults.{noFaults}
 use Rattle.cojp.specs.KeySet.{keySetOf, keysParameter}
 use Rattle.cojp.specs.Lists.{listParameter, noListParameter}
-use Rattle.cojp.specs.Octets.{noOctetsParameter, padded}
+use Rattle.cojp.specs.Octets.{octetsOf, octetsParameter, noOctetsParameter, padded}
 use Rattle.cojp.specs.Rate.{rateParameter}
 use Rattle.cojp.specs.Writing.{requestPlan, configurationPlan}
 use Rattle.cojp.specs.declared.configuration.Configuration.{Configuration}
@@ -78,7 +79,7 @@ writtenExamples =
 abbrev listed : ℕ → List ℕ → ListParameter
 listed n s = listParameter Taken (record { count = n; len = length s; bytes = padded 253 s })
 
--- join rate 5; a blacklist; a key with additional information; two reports
+-- join rate 5; a blacklist; a key with additional information; one report
 abbrev rated : Configuration
 rated = withRate emptyConfiguration (rateParameter Taken 5)
 
@@ -108,5 +109,40 @@ publishedExamples =
     ∷ refuses (reporting Draft 0 cafe reports) 16 13
     ∷ []
 
+-- ---- the longest payload, 256 bytes: eight keys of 29, each with an identifier of two bytes, a usage and a key source of eight bytes, a
+-- JRC address of 18, and join rate 23, which takes two; rate 24 takes one more
+abbrev farKey : ℕ → Key
+farKey identifier = informedKey identifier 14 (replicate 16 0x50) (info.Eight 0xD0 0xD1 0xD2 0xD3 0xD4 0xD5 0xD6 0xD7)
+
+abbrev farKeys : List Key
+farKeys = farKey 248 ∷ farKey 249 ∷ farKey 250 ∷ farKey 251 ∷ farKey 252 ∷ farKey 253 ∷ farKey 254 ∷ farKey 255 ∷ []
+
+abbrev fullAt : ℕ → Configuration
+fullAt rate =
+    withRate
+    (withJrc (withKeys emptyConfiguration (keysParameter Taken (keySetOf farKeys))) (octetsParameter Taken (octetsOf (replicate 16 0x20))))
+    (rateParameter Taken rate)
+
+-- the bytes of such a key
+abbrev farGroup : ℕ → List ℕ
+farGroup identifier =
+    0x18 ∷ identifier ∷ 0x0E ∷ 0x50 ∷ (replicate 16 0x50 ++ (0x48 ∷ 0xD0 ∷ 0xD1 ∷ 0xD2 ∷ 0xD3 ∷ 0xD4 ∷ 0xD5 ∷ 0xD6 ∷ 0xD7 ∷ []))
+
+abbrev farGroups : List ℕ
+farGroups =
+    farGroup 248 ++ (farGroup 249 ++ (farGroup 250 ++ (farGroup 251 ++ (farGroup 252 ++ (farGroup 253 ++ (farGroup 254 ++ farGroup 255))))))
+
+abbrev pub longestExamples : List Example
+longestExamples =
+    record {
+      plan = configurationPlan Published (fullAt 23);
+      room = 256;
+      number = 0;
+      payload = 0xA3 ∷ 0x02 ∷ 0x98 ∷ 0x20 ∷ (farGroups ++ (0x04 ∷ 0x50 ∷ (replicate 16 0x20 ++ (0x07 ∷ 0x17 ∷ []))));
+    }
+    ∷ refuses (configurationPlan Published (fullAt 23)) 255 12
+    ∷ refuses (configurationPlan Published (fullAt 24)) 257 13
+    ∷ []
+
 abbrev pub WrittenExamples : Type 0
-WrittenExamples = AllShown writtenExamples × AllShown publishedExamples
+WrittenExamples = AllShown writtenExamples × AllShown publishedExamples × AllShown longestExamples

@@ -1,6 +1,6 @@
-// How many bytes a configuration takes.
+// How many bytes a payload takes.
 use cojp::Configuration;
-ghost use Rattle.cojp_laws.specs.Largest.{LargestConfiguration, DraftWritten, LargestAttained};
+ghost use Rattle.cojp_laws.specs.Largest.{LargestConfiguration, DraftWritten, PayloadsFit, LargestAttained, LongestRead};
 
 // No configuration of the draft takes more than 232 bytes.
 pub fn largest_configuration(c: Configuration)
@@ -25,4 +25,14 @@ pub fn draft_written(c: Configuration)
 // And one takes as many.
 pub fn largest_attained()
     ensures { λ r. ⌜ LargestAttained ⌝ }
+{}
+
+// In either form what is written has at most 256 bytes.
+pub fn payloads_fit()
+    ensures { λ r. ⌜ PayloadsFit ⌝ }
+{}
+
+// 256 bytes are read, and 257 are LONG.
+pub fn longest_read()
+    ensures { λ r. ⌜ LongestRead ⌝ }
 {}

@@ -8,6 +8,8 @@ pub use addresses::addresses_alone;
 pub use largest::draft_written;
 pub use largest::largest_attained;
 pub use largest::largest_configuration;
+pub use largest::longest_read;
+pub use largest::payloads_fit;
 pub use round_trip::configuration_in_place;
 pub use round_trip::configuration_round_trip;
 pub use round_trip::request_in_place;

@@ -1,24 +1,19 @@
 -- The rekey of a building with sleepers is computed, and the claim is applied to it.
 use Prim.Native.Nat.{ℕ, zero, suc, _<_}
 use native.Mathlib.Omega.{arith}
-use mathlib.Core.Path.{_≡_, refl, ap, subst, _∙_}
-use mathlib.Core.Bool.{Bool, true, false, not, _&&_}
-use borrow.Author.Tests.{ltb-true, eqb-false, not-true}
-use mathlib.Core.List.{List, [], _∷_, List·Memᴰ, List·Memᴰ·head as at, List·Memᴰ·tail as past, List·Memᴰ·eq-of-singleton}
-use mathlib.Core.List.{List·Memᴰ·append-cases}
+use mathlib.Core.Path.{_≡_, refl, ap, subst}
+use mathlib.Core.Bool.{true, false}
+use mathlib.Core.List.{List·Memᴰ, List·Memᴰ·head as at, List·Memᴰ·tail as past, List·Memᴰ·append-cases}
 use mathlib.Core.Logic.{_⊎_, inl, inr, ⊎-elim}
-use lib.Dec.{lit<, ltb, eqb}
-use lib.ListN.{length}
-use Rattle.logic_facts.specs.Tests.{never, both-left, both-right}
-use Rattle.link_key_set.specs.Lists.{allOf}
+use lib.Dec.{lit<}
+use Rattle.logic_facts.specs.Tests.{never}
 use Rattle.link_key_set.specs.KeySet.{Apart}
-use Rattle.link_key.specs.declared.Key.{Key}
 use Rattle.node.specs.Node.{activeOf, pendingOf}
 use Rattle.node.specs.Range.{Valid}
 use Rattle.node_laws.specs.Laws.{Takes}
 use Rattle.node_delivery.specs.declared.Delivery.the-variants.{Update}
-use Rattle.network.specs.Network.{Network, nodeAt}
-use Rattle.network.specs.Events.{Event, turning, calling, step, run, Come, Comes, Throughout}
+use Rattle.network.specs.Network.{nodeAt}
+use Rattle.network.specs.Events.{turning, run, Come, Throughout}
 use Rattle.network.specs.Rounds.{Neighbours, Towards, Hops, here, hop, AllLinked, Round, Rounds, none, more}
 use Rattle.network.specs.Demand3.{NoneUsedUp}
 use Rattle.network.specs.Sleepers.{Lacks, SupposedSome, PassesWhile, SomeLack}
@@ -27,9 +22,9 @@ use Rattle.network.specs.Witness.{newKeys}
 use Rattle.network.specs.Building.{thirdKeys, awake, building, buildingLinks, beforehand, takenIn, around, aroundTwice}
 use Rattle.network.specs.Building.{BuildingWitness}
 use Rattle.network.proofs.Receiving.{none-apart}
-use Rattle.network.proofs.Places.{size-step}
 use Rattle.network.proofs.Rekey.{where-all-had}
-use Rattle.network.proofs.Line.{computing, apart, differ, of-link, unspentAt, unspentThrough, unspent-through}
+use Rattle.network.proofs.Line.{computing, ones-apart, ones-differ, apart, differ, of-link, turns-come}
+use Rattle.network.proofs.Line.{unspentAt, unspentThrough, unspent-through}
 
 seven : (P : ℕ → Type 0) → P 0 → P 1 → P 2 → P 3 → P 4 → P 5 → P 6 → (i : ℕ) → i < 7 → P i
 seven P a b c d e f g zero l = a
@@ -42,17 +37,10 @@ seven P a b c d e f g (suc (suc (suc (suc (suc (suc zero)))))) l = g
 seven P a b c d e f g (suc (suc (suc (suc (suc (suc (suc i))))))) l = absurd (omega arith)
 
 third-apart : Apart thirdKeys newKeys
-third-apart k l m m′ e =
-    let a = ap (λ (x : Key). x .identifier) (List·Memᴰ·eq-of-singleton m) in
-    let b = ap (λ (x : Key). x .identifier) (List·Memᴰ·eq-of-singleton m′) in
-    omega (arith, a, b, e)
+third-apart = ones-apart _ _ (λ e. omega arith)
 
 third-differs : thirdKeys ≡ newKeys → ⊥
-third-differs e = let z : _≡_ {A = ℕ} 9 5 = ap first-id e in omega arith
-  where
-    first-id : List Key → ℕ
-    first-id [] = 0
-    first-id (k ∷ ks) = k .identifier
+third-differs = ones-differ _ _ (λ e. omega arith)
 
 -- ---- the nodes
 supposed : SupposedSome awake building 0 newKeys 1
@@ -148,31 +136,6 @@ only-behind e (hop {i = i} {j = j} n rest) =
 
 behind : (h : ℕ) → Hops (Towards buildingLinks awake) h 0 3 → ⊥
 behind h w = ⊎-elim (λ p. absurd (omega (arith, p))) (λ p. absurd (omega (arith, p))) (only-behind refl w)
-
--- ---- turns of two different nodes come in any network that has both: one test of a whole list
-abbrev between : ℕ → Event → Bool
-between size (turning i j type) = ltb i size && (ltb j size && not (eqb i j))
-between size (calling i c) = false
-
-comes : (net : Network) (e : Event) → between (length net) e ≡ true → Comes net e
-unfolding Comes
-comes net (turning i j type) t =
-    let size = length net in
-    let others = both-right (ltb i size) (ltb j size && not (eqb i j)) t in
-    let differ = not-true (eqb i j) (both-right (ltb j size) (not (eqb i j)) others) in (
-      ltb-true i size (both-left (ltb i size) (ltb j size && not (eqb i j)) t),
-      ltb-true j size (both-left (ltb j size) (not (eqb i j)) others),
-      eqb-false i j differ,
-    )
-comes net (calling i c) t = never false t refl
-
-turns-come : (size : ℕ) (net : Network) (es : List Event) → length net ≡ size → allOf (between size) es ≡ true → Come net es
-unfolding Come
-turns-come size net [] l t = tt
-turns-come size net (e ∷ es) l t = (
-  comes net e (rw l (both-left (between size e) (allOf (between size) es) t)),
-  turns-come size (step net e) es (size-step net e ∙ l) (both-right (between size e) (allOf (between size) es) t),
-)
 
 -- ---- what happens, computed
 before : Come building beforehand

@@ -4,6 +4,7 @@ mod Places
 mod Flood
 mod Rekey
 mod Line
+mod PublishedLine
 mod Building
 mod Answers
 mod Untouched

@@ -3,14 +3,15 @@ use Prim.Native.Nat.{ℕ, zero, suc, _<_}
 use native.Mathlib.Omega.{arith}
 use mathlib.Core.Path.{_≡_, refl, ap, _∙_}
 use mathlib.Core.Bool.{Bool, true, false, not, _&&_}
-use borrow.Author.Tests.{not-true, eqb-false}
+use borrow.Author.Tests.{ltb-true, not-true, eqb-false}
 use mathlib.Core.List.{List, [], _∷_, List·Memᴰ, List·Memᴰ·head as at, List·Memᴰ·tail as past, List·Memᴰ·eq-of-singleton}
 use mathlib.Core.List.{_++_, List·Memᴰ·not-nil, List·Memᴰ·append-cases}
 use mathlib.Core.Logic.{inl, inr, ⊎-elim}
-use lib.Dec.{lit<}
+use lib.Dec.{lit<, ltb, eqb}
+use lib.ListN.{length}
 use Rattle.refusal.specs.declared.Refusal.the-variants as refusal
 use Rattle.link_key.specs.Key.{validKey, plainKey, sameKey, sameSecret, covers}
-use Rattle.logic_facts.specs.Tests.{both-left, both-right, neither-left, neither-right}
+use Rattle.logic_facts.specs.Tests.{never, both-left, both-right, neither-left, neither-right}
 use Rattle.link_key_set.specs.Lists.{anyOf, allOf}
 use Rattle.link_key_set.specs.KeySet.{validKeys, validSet, Apart}
 use Rattle.link_key_counters.specs.Counters.{Slot, lastCounter, isUsedUp, spend, succeeded}
@@ -24,7 +25,7 @@ use Rattle.cojp.specs.Request.{owing}
 use Rattle.cojp.specs.Walk.{payloadReadBy}
 use Rattle.cojp.specs.Parameter.{laterParameter, parameterOf}
 use Rattle.cojp.specs.Configuration.{configurationTaking}
-use Rattle.cojp.specs.Faults.{validFaults, faultsFit}
+use Rattle.cojp.specs.Faults.{validFaults, faultsFit, added}
 use Rattle.cojp.specs.Reported.{faultsOf}
 use Rattle.cojp.specs.Writing.{requestInRange, requestPlan}
 use Rattle.cojp_list_read.specs.Listed.{listedIn}
@@ -49,42 +50,46 @@ use Rattle.node_delivery.specs.Delivery.{mayCome}
 use Rattle.node_delivery.specs.declared.Delivery.the-variants.{Update}
 use Rattle.network.specs.Network.{Network, nodeAt, withNode}
 use Rattle.network.specs.Turn.{judged, turn}
-use Rattle.network.specs.Events.{Event, turning, step, run, Come, Comes, Throughout}
+use Rattle.network.specs.Events.{Event, turning, calling, step, run, Come, Comes, Throughout}
 use Rattle.network.specs.Rounds.{Neighbours, Hops, here, hop, Linked, AllLinked, Round, Rounds, none, more}
 use Rattle.network.specs.Demand3.{Supposed, NoneUsedUp, Demand3}
 use Rattle.network.specs.Witness
 use Rattle.network.specs.Witness.{oldKeys, newKeys, line, lineLinks, first, taken, worst, twice, Witness}
+use Rattle.network.proofs.Places.{size-step}
 
 -- what computing unfolds: items, keys, objects, the node's calls, and the network's events
 unfoldable pub computing : Unit {0}
 unfolding payloadBy decodeBy heading argument next digits members pairs majorOf bytesOf infoOf extraOf shortest
     validKey plainKey sameKey covers validKeys validSet
     padded octetsJudged addressIn groups identified used valued owing payloadReadBy
-    laterParameter parameterOf configurationTaking validFaults faultsFit faultsOf listedIn requestInRange requestPlan
+    laterParameter parameterOf configurationTaking validFaults faultsFit added faultsOf listedIn requestInRange requestPlan
     spend sameSecret succeeded sets.valid sets.validAs install frames.sending receivingKey verifiedIn attempt.valid mayStart stepped polling.poll
     formFits valid requestOf startVerdict startPlan start poll reportsOf fitted configured apply mayCome deliverVerdict deliver
     sending send sendCounter afterSend receive verified perform
     nodeAt withNode judged turn step run Come Comes
 computing = tt
 
-three : (P : ℕ → Type 0) → P 0 → P 1 → P 2 → (i : ℕ) → i < 3 → P i
+pub three : (P : ℕ → Type 0) → P 0 → P 1 → P 2 → (i : ℕ) → i < 3 → P i
 three P a b c zero l = a
 three P a b c (suc zero) l = b
 three P a b c (suc (suc zero)) l = c
 three P a b c (suc (suc (suc i))) l = absurd (omega arith)
 
+-- two sets of one key each, with two identifiers
+pub ones-apart : (k l : Key) → (k .identifier ≡ l .identifier → ⊥) → Apart (k ∷ []) (l ∷ [])
+ones-apart k l d x y m m′ e =
+    let a = ap (λ (z : Key). z .identifier) (List·Memᴰ·eq-of-singleton m) in
+    let b = ap (λ (z : Key). z .identifier) (List·Memᴰ·eq-of-singleton m′) in
+    d (cc)
+
+pub ones-differ : (k l : Key) → (k .identifier ≡ l .identifier → ⊥) → k ∷ [] ≡ l ∷ [] → ⊥
+ones-differ k l d e = d (cc)
+
 pub apart : Apart oldKeys newKeys
-apart k l m m′ e =
-    let a = ap (λ (x : Key). x .identifier) (List·Memᴰ·eq-of-singleton m) in
-    let b = ap (λ (x : Key). x .identifier) (List·Memᴰ·eq-of-singleton m′) in
-    omega (arith, a, b, e)
+apart = ones-apart _ _ (λ e. omega arith)
 
 pub differ : oldKeys ≡ newKeys → ⊥
-differ e = let z : _≡_ {A = ℕ} 1 5 = ap first-id e in omega arith
-  where
-    first-id : List Key → ℕ
-    first-id [] = 0
-    first-id (k ∷ ks) = k .identifier
+differ = ones-differ _ _ (λ e. omega arith)
 
 -- ---- the nodes
 supposed : Supposed line 0 newKeys 1
@@ -128,14 +133,42 @@ round-worst i j (inl (past (at q))) = of-link There i j 1 2 q (past (at refl))
 round-worst i j (inr (at q)) = of-link Back j i 0 1 q (past (past (at refl)))
 round-worst i j (inr (past (at q))) = of-link Back j i 1 2 q (at refl)
 
-hops : Hops (Neighbours lineLinks) 2 0 2
+pub hops : Hops (Neighbours lineLinks) 2 0 2
 hops = hop (inl (at refl)) (hop (inl (past (at refl))) here)
 
-linked-twice : AllLinked lineLinks 1 twice
+pub linked-twice : AllLinked lineLinks 1 twice
 linked-twice e m = ⊎-elim (linked-worst e) again (List·Memᴰ·append-cases worst m)
   where
     again : List·Memᴰ e (worst ++ []) → Linked lineLinks 1 e
     again n = ⊎-elim (linked-worst e) (λ o. absurd (List·Memᴰ·not-nil o)) (List·Memᴰ·append-cases worst n)
+
+pub rounds : Rounds lineLinks 1 2 twice
+rounds = more worst round-worst (more worst round-worst none)
+
+-- ---- turns of two different nodes come in any network that has both: one test of a whole list
+abbrev between : ℕ → Event → Bool
+between size (turning i j type) = ltb i size && (ltb j size && not (eqb i j))
+between size (calling i c) = false
+
+comes : (net : Network) (e : Event) → between (length net) e ≡ true → Comes net e
+unfolding Comes
+comes net (turning i j type) t =
+    let size = length net in
+    let others = both-right (ltb i size) (ltb j size && not (eqb i j)) t in
+    let differ = not-true (eqb i j) (both-right (ltb j size) (not (eqb i j)) others) in (
+      ltb-true i size (both-left (ltb i size) (ltb j size && not (eqb i j)) t),
+      ltb-true j size (both-left (ltb j size) (not (eqb i j)) others),
+      eqb-false i j differ,
+    )
+comes net (calling i c) t = never false t refl
+
+pub turns-come : (size : ℕ) (net : Network) (es : List Event) → length net ≡ size → allOf (between size) es ≡ true → Come net es
+unfolding Come
+turns-come size net [] l t = tt
+turns-come size net (e ∷ es) l t = (
+  comes net e (rw l (both-left (between size e) (allOf (between size) es) t)),
+  turns-come size (step net e) es (size-step net e ∙ l) (both-right (between size e) (allOf (between size) es) t),
+)
 
 -- ---- what happens, computed
 before : Come line first
@@ -166,25 +199,7 @@ takes = record { accepted = refl; taken = refl; set = refl }
 
 after : Come taken twice
 unfolding computing
-after = (
-  (lit< tt, lit< tt, λ e. omega arith),
-  (
-    (lit< tt, lit< tt, λ e. omega arith),
-    (
-      (lit< tt, lit< tt, λ e. omega arith),
-      (
-        (lit< tt, lit< tt, λ e. omega arith),
-        (
-          (lit< tt, lit< tt, λ e. omega arith),
-          (
-            (lit< tt, lit< tt, λ e. omega arith),
-            ((lit< tt, lit< tt, λ e. omega arith), ((lit< tt, lit< tt, λ e. omega arith), tt)),
-          ),
-        ),
-      ),
-    ),
-  ),
-)
+after = turns-come 3 taken twice refl refl
 
 -- ---- no counter has come to its end: one test of every node at every moment
 unfoldable pub unspentAt : Node → Bool
@@ -249,6 +264,3 @@ witness claim =
       rekeyed =
           said .1 unspent-before Update 20000 Witness.payload takes lineLinks 2 twice after linked-twice rounds unspent-after 2 (lit< tt) hops;
     }
-  where
-    rounds : Rounds lineLinks 1 2 twice
-    rounds = more worst round-worst (more worst round-worst none)

@@ -8,3 +8,4 @@ pub mod Answers
 pub mod Demand1
 pub mod Sleepers
 pub mod Building
+pub mod PublishedLine

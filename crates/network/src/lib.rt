@@ -8,6 +8,7 @@ ghost use Rattle.network.specs.Demand1.{TurnDemand1};
 ghost use Rattle.network.specs.Demand3.{Demand3};
 ghost use Rattle.network.specs.Sleepers.{OneLeft, PassesWhile, SomeLack};
 ghost use Rattle.network.specs.Building.{BuildingWitness};
+ghost use Rattle.network.specs.PublishedLine.{PublishedWitness};
 ghost use Rattle.network.specs.Witness.{Witness};
 
 // Demand 1 for a turn: refused by the sender it leaves both nodes, refused by the receiver or failed it leaves the receiver.
@@ -44,6 +45,14 @@ pub fn rekey_reaches_all()
 // Demand 3 is not empty: a line of three nodes is rekeyed, and its far node follows after two rounds and not after one.
 pub fn rekey_of_a_line()
     ensures { λ r. ⌜ Witness ⌝ }
+{
+    rekey_reaches_all();
+}
+
+// Nor is it in the published form: the border router takes a key with additional information from a payload whose JRC address is bad, which
+// it reports, and the far node follows.
+pub fn rekey_of_a_published_line()
+    ensures { λ r. ⌜ PublishedWitness ⌝ }
 {
     rekey_reaches_all();
 }

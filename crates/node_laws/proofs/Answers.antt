@@ -2,7 +2,7 @@
 -- read is within its limits.
 use Prim.Native.Nat.{ℕ, _+_, _*_, _≤_}
 use native.Mathlib.Omega.{arith}
-use mathlib.Core.Path.{_≡_, refl, sym, _∙_, ap, subst}
+use mathlib.Core.Path.{_≡_, refl, sym, _∙_, ap}
 use mathlib.Core.Bool.{Bool, true, false, cond, not, _&&_}
 use mathlib.Core.List.{List, [], _∷_}
 use mathlib.Core.Option.{Option, none, some}
@@ -18,22 +18,19 @@ use Rattle.logic_facts.specs.Tests.{never}
 use Rattle.link_key_usage.specs.Usage.{knownType}
 use Rattle.link_key.specs.Key.{covers}
 use Rattle.link_key.specs.declared.Key.{Key}
-use Rattle.link_key_set.specs.KeySet.{keysOf, validSet, sameKeys, shares, has}
-use Rattle.link_key_set.specs.declared.key_set.KeySet.{KeySet}
+use Rattle.link_key_set.specs.KeySet.{has}
 use Rattle.cbor.specs.Answer.{Plan, answer}
 use Rattle.cbor.specs.declared.write.Written.{Written}
 use Rattle.cbor.specs.declared.write.Written.the-variants as written
 use Rattle.cojp.specs.InRange.{ReadsInRange}
-use Rattle.cojp.specs.Reading.{ifTaken}
 use Rattle.cojp.specs.Version.{byVersion}
 use Rattle.cojp.specs.Writing.{keysInRange, requestPlan}
 use Rattle.cojp.specs.declared.configuration.Configuration.{Configuration}
 use Rattle.cojp.specs.declared.configuration.ConfigurationRead.{ConfigurationRead}
-use Rattle.cojp.specs.declared.report.Report.{Report}
-use Rattle.cojp.specs.declared.report.Report.the-variants.{Absent, Taken, Discarded}
+use Rattle.cojp.specs.declared.key_set.KeysParameter.{KeysParameter}
+use Rattle.cojp.specs.declared.report.Report.the-variants.{Discarded}
 use Rattle.cojp.specs.declared.version.Version.{Version}
 use Rattle.cojp.specs.declared.version.Version.the-variants.{Draft, Published}
-use Rattle.node_key_sets.specs.Sets.{placed, install}
 use Rattle.link_key_counters.specs.CounterLaws.{CounterLaws}
 use Rattle.link_key_counters.specs.Counters.{Slot, firstServing, spentOn}
 use Rattle.link_key_counters.specs.declared.Spent.{Spent}
@@ -43,7 +40,6 @@ use Rattle.node_key_sets.specs.Frames.{changeNumber, hasSwitched, hasKept}
 use Rattle.node_key_sets.specs.declared.frames.Change.the-variants as change
 use Rattle.node_key_sets.specs.declared.frames.KeyAnswer.{KeyAnswer}
 use Rattle.node_key_sets.specs.declared.sets.KeySets.{KeySets}
-use Rattle.node_key_sets.proofs.Valid.{placeBy}
 use Rattle.node_attempt.specs.Attempt.{firstTimeout, attempt, mayStart}
 use Rattle.node_attempt.specs.Attempt as joinable
 use Rattle.node_attempt.specs.Poll.{dueNumber, notYet, sendsAgain, givesUp, step, stepped}
@@ -64,7 +60,7 @@ use Rattle.node.specs.Delivery.{placementOf, fittedBy, fitted, placedBy, owesId
 use Rattle.node.specs.Frames as frames
 use Rattle.node.specs.Frames.{unsent, sentBy, send, receive, reported, reportedBy, verified}
 use Rattle.node.specs.Lease.{holds, holdingNumber, holdsNow}
-use Rattle.node.specs.Node.{activeOf, isBorder, clockOf, validRole, unmade, made}
+use Rattle.node.specs.Node.{activeOf, clockOf, validRole, unmade, made}
 use Rattle.node.specs.Range.{valid}
 use Rattle.node.specs.Timing.{requestOf, startVerdict, planBy, startPlan, startedFrom, startedBy, start, polled, polledBy, poll}
 use Rattle.node.specs.declared.frames.Reported.{Reported}
@@ -78,6 +74,7 @@ use Rattle.node_laws.specs.Phases.{waits}
 use Rattle.node_laws.specs.Calls.{NodeCall, starting, polling, delivering, asking, sending, receiving, reporting, perform}
 use Rattle.node_laws.proofs.OwnRequest.{request-number, short}
 use Rattle.node_laws.proofs.Deliveries.{accepted-reports, accepted-reading}
+use Rattle.node_laws.proofs.Fitted.{placedAs, placed-verdict, fitted-as, clashing}
 use Rattle.node_laws.proofs.Forms.{fitted-network, fitted-keys}
 use Rattle.node_laws.proofs.FrameKeys.{send-counts}
 use Rattle.node_laws.proofs.Valid.{attempt-valid}
@@ -293,30 +290,7 @@ module _ (n : Node) (time : ℕ) where
       (λ v. at-four (n .attempt .count) (count-valid (n .attempt) (attempt-valid n v)))
 
 -- ---- deliveries
-place-by :
-    (s : KeySets) (set : KeySet) (border same shared : Bool) →
-    verdictNumber (placeBy s set true border same shared .verdict) ≡ refusedIf (not border && not same && shared) 10
-place-by s set true same shared = refl
-place-by s set false true shared = refl
-place-by s set false false true = refl
-place-by s set false false false = refl
-
-placed-number :
-    (n : Node) (r : Report) (set : KeySet) → ifTaken r (validSet set) true ≡ true →
-    verdictNumber (ifTaken r (install (isBorder n) (n .sets) set) (placed (n .sets)) .verdict)
-    ≡ refusedIf
-    (ifTaken r (not (isBorder n) && not (sameKeys (keysOf set) (activeOf n)) && shares (keysOf set) (activeOf n)) false) 10
-unfolding install
-placed-number n Absent set e = refl
-placed-number n Discarded set e = refl
-placed-number n Taken set e =
-    rw e (place-by (n .sets) set (isBorder n) (sameKeys (keysOf set) (activeOf n)) (shares (keysOf set) (activeOf n)))
-
-not-refused : (b : Bool) → refusedIf b 10 ≡ 0 → b ≡ false
-not-refused true e = absurd (omega (arith, e))
-not-refused false e = refl
-
-one-left : (b : Bool) → refusedIf b 10 ≡ inOrder (refusedIf b 10 ∷ [])
+one-left : (b : Bool) → verdictNumber (placedAs b) ≡ inOrder (refusedIf b 10 ∷ [])
 one-left true = refl
 one-left false = refl
 
@@ -345,7 +319,7 @@ module _ (delivery : Delivery) (n : Node) (time : ℕ) where
           ≡ inOrder (refusedIf (clashes n (c .keys)) 10 ∷ [])
       place =
           placed-by (placementOf n (c .keys) .verdict) delivery n time c (placementOf n (c .keys) .sets)
-          ∙ placed-number n (c .keys .report) (c .keys .value) h
+          ∙ ap verdictNumber (placed-verdict n c h)
           ∙ one-left (clashes n (c .keys))
 
       go :
@@ -356,36 +330,17 @@ module _ (delivery : Delivery) (n : Node) (time : ℕ) where
       go true = refl
       go false = place
 
-  -- a set that is placed does not clash
-  placed-apart :
-      (c : Configuration) → keysInRange (c .keys) ≡ true → placementOf n (c .keys) .verdict ≡ verdict.Accepted → clashes n (c .keys) ≡ false
-  placed-apart c h e =
-      not-refused (clashes n (c .keys)) (sym (placed-number n (c .keys .report) (c .keys .value) h) ∙ ap verdictNumber e)
-
-  -- in the published form one that does is left out
+  -- in the published form a set that clashes is left out
   fitted-clashes :
       (c : Configuration) → keysInRange (c .keys) ≡ true → clashes n (fitted n c .keys) ≡ byVersion (n .version) (clashes n (c .keys)) false
-  unfolding fitted
-  fitted-clashes c h = go (n .version) (placementOf n (c .keys) .verdict) refl
+  fitted-clashes c h = ap (λ (d : Configuration). clashes n (d .keys)) (fitted-as n c h) ∙ go (n .version) (clashes n (c .keys)) refl
     where
       go :
-          (v : Version) (w : Verdict) → placementOf n (c .keys) .verdict ≡ w →
-          clashes n (byVersion v c (fittedBy w c) .keys) ≡ byVersion v (clashes n (c .keys)) false
-      go Draft w e = refl
-      go Published verdict.Accepted e = placed-apart c h e
-      go Published (verdict.Refused k) e = refl
-
-  clash-left :
-      (c : Configuration) → keysInRange (c .keys) ≡ true → n .version ≡ Published → clashes n (c .keys) ≡ true →
-      fitted n c .keys .report ≡ Discarded
-  unfolding fitted
-  clash-left c h p e =
-      subst (λ (v : Version). byVersion v c (fittedBy (placementOf n (c .keys) .verdict) c) .keys .report ≡ Discarded) (sym p)
-      (go (placementOf n (c .keys) .verdict) refl)
-    where
-      go : (w : Verdict) → placementOf n (c .keys) .verdict ≡ w → fittedBy w c .keys .report ≡ Discarded
-      go verdict.Accepted q = never (clashes n (c .keys)) e (placed-apart c h q)
-      go (verdict.Refused k) q = refl
+          (v : Version) (clash : Bool) → clashes n (c .keys) ≡ clash →
+          clashes n (byVersion v c (fittedBy (placedAs clash) c) .keys) ≡ byVersion v clash false
+      go Draft clash e = e
+      go Published true e = refl
+      go Published false e = e
 
   fitted-number : (c : Configuration) → keysInRange (c .keys) ≡ true → verdictNumber (apply delivery n time (fitted n c) .verdict) ≡ inOrder (last c)
   fitted-number c h = apply-number (fitted n c) (fitted-keys n c h) ∙ rw (fitted-network n c, fitted-clashes c h)
@@ -447,7 +402,8 @@ module _ (delivery : Delivery) (n : Node) (time : ℕ) where
   unfolding reportsOf
   clash-discarded R payload a p e =
       ap (λ (r : Reports). r .keys) (accepted-reports delivery n time payload a)
-      ∙ clash-left (readFor n payload .configuration) (R (n .version) payload (accepted-reading delivery n time payload a) .keys) p e
+      ∙ ap (λ (k : KeysParameter). k .report)
+      (clashing n (readFor n payload .configuration) (R (n .version) payload (accepted-reading delivery n time payload a) .keys) p e .keys)
 
 -- ---- the question whether the address holds
 held-number :

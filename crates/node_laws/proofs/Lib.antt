@@ -2,7 +2,9 @@ mod Valid
 mod KeysStay
 mod Timings
 mod Parts
+mod Made
 mod Forms
+mod Fitted
 mod Deliveries
 mod Alike
 mod FrameKeys

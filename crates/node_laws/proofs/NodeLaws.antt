@@ -4,29 +4,24 @@ use mathlib.Core.Path.{_≡_, refl}
 use mathlib.Core.Logic.{⊎-elim}
 use mathlib.Core.List.{[]}
 use borrow.Author.Tests.{eq-eqb}
-use Rattle.refusal.specs.Verdict.{refused-not}
 use Rattle.refusal.specs.declared.Refusal.{Refusal}
-use Rattle.refusal.specs.declared.Refusal.the-variants.{Range}
-use Rattle.refusal.specs.declared.Verdict.the-variants as verdict
 use Rattle.refusal.specs.declared.Verdict.the-variants.{Refused}
 use Rattle.link_key_set.specs.KeySet.{Apart}
 use Rattle.node_key_sets.specs.Frames.{changeVerdict}
 use Rattle.link_key_set.specs.KeyLaws.{KeyLaws}
 use Rattle.link_key_counters.specs.CounterLaws.{CounterLaws}
 use Rattle.cojp.specs.InRange.{ReadsInRange, ReportsFit}
-use Rattle.cojp.specs.declared.version.Version.{Version}
-use Rattle.node_parameters.specs.declared.octets.HeldOctets.{HeldOctets}
 use Rattle.node_key_sets.proofs.Valid.{sets-apart, border-empty}
-use Rattle.node.specs.Node.{activeOf, pendingOf, isBorder, made}
+use Rattle.node.specs.Node.{activeOf, pendingOf, isBorder}
 use Rattle.node.specs.Range.{Valid}
 use Rattle.node.specs.Frames.{send, afterSend, verified}
 use Rattle.node_laws.specs.Calls.{NodeCall, starting, polling, delivering, asking, sending, receiving, reporting, perform}
 use Rattle.node_laws.specs.Laws.{NodeLaws}
-use Rattle.node.specs.declared.node.Made.{Made}
 use Rattle.node.specs.declared.node.Node.{Node}
 use Rattle.node_laws.proofs.Valid.{keys-valid}
 use Rattle.node_laws.proofs.Timings.{start-stays, poll-stays}
-use Rattle.node_laws.proofs.Parts.{made-cases, call-part}
+use Rattle.node_laws.proofs.Parts.{call-part}
+use Rattle.node_laws.proofs.Made.{made-valid, made-version, made-role, made-network}
 use Rattle.node_laws.proofs.Deliveries.{deliver-leaves, deliver-valid, deliver-role, deliver-version, untaken-stays, border-takes}
 use Rattle.node_laws.proofs.FrameKeys.{covers-can, can-send, send-from, send-stays, receive-pending, receive-from, verified-either, verified-switches, verified-stays, verified-says}
 use Rattle.node_laws.proofs.Untouched.{node-demand1}
@@ -49,13 +44,6 @@ role-stays c n =
 version-stays : (c : NodeCall) (n : Node) → perform c n .node .version ≡ n .version
 version-stays c n =
     call-part (λ (m : Node). m .version) n (λ a. refl) (λ s. refl) (λ delivery time payload. deliver-version delivery n time payload) c
-
-made-version :
-    (version : Version) (role : ℕ) (network : HeldOctets) → made version role network .verdict ≡ verdict.Accepted →
-    made version role network .node .version ≡ version
-made-version version role network =
-    made-cases (λ (m : Made). m .verdict ≡ verdict.Accepted → m .node .version ≡ version) version role network (λ e. refl)
-    (λ e. refused-not Range e)
 
 -- ---- by the laws of keys, of counted sets, of what is read and of its reports
 module _ (K : KeyLaws) (C : CounterLaws) (R : ReadsInRange) (F : ReportsFit) where
@@ -84,7 +72,10 @@ module _ (K : KeyLaws) (C : CounterLaws) (R : ReadsInRange) (F : ReportsFit) whe
         stays-valid = stays-valid;
         role-stays = role-stays;
         version-stays = version-stays;
+        made-valid = made-valid;
         made-version = made-version;
+        made-role = made-role;
+        made-network = made-network;
         refused-stays = λ c n k e. node-demand1 .calls c n k e .node;
         covers-can = covers-can C;
         can-send = λ n type. can-send C n type K;

@@ -1,7 +1,7 @@
 -- A valid node has a role, a network identifier and reports within their limits, and together they have at most 38 bytes.
-use Prim.Native.Nat.{ℕ, zero, suc, _+_, _*_, _≤_}
-use mathlib.Core.Path.{_≡_, refl, ap, sym, _∙_}
-use mathlib.Core.Bool.{Bool, true, false, cond, not, _&&_}
+use Prim.Native.Nat.{ℕ, _+_, _≤_}
+use mathlib.Core.Path.{_≡_, refl, ap}
+use mathlib.Core.Bool.{Bool, true, false, cond, not}
 use mathlib.Core.List.{List, [], _∷_, _++_}
 use native.Mathlib.Omega.{arith}
 use lib.Dec.{leb, eqb}
@@ -11,8 +11,8 @@ use Rattle.refusal.specs.Order.{refusedIf, inOrder}
 use Rattle.logic_facts.specs.Tests.{both-left, both, first, third, fourth}
 use Rattle.link_key_set.specs.Lists.{allOf}
 use Rattle.refusal.specs.declared.Refusal.the-variants.{Owed, Room}
-use Rattle.cbor.specs.Answer.{Plan, refuse, emit, answer}
-use Rattle.cbor.specs.Encode.{encode, encodePairs, shortest, extraOf}
+use Rattle.cbor.specs.Answer.{refuse, emit, answer}
+use Rattle.cbor.specs.Encode.{encode, encodePairs, shortest}
 use Rattle.cbor.specs.HeadLaws.{HeadLaws}
 use Rattle.cbor.specs.declared.write.Written.the-variants as written
 use Rattle.cbor.specs.Item.{Item, Pairs, unsigned, bytes, array, map, empty, pair, countPairs}
@@ -22,7 +22,8 @@ use Rattle.cojp.specs.Octets as octets
 use Rattle.cojp.specs.Reading.{ifTaken}
 use Rattle.cojp.specs.Request.{owing}
 use Rattle.cojp.specs.Version.{byVersion}
-use Rattle.cojp.specs.Writing.{join, labelled, rolePairs, octetsPairs, listPairs, requestPairs, octetsInRange, listInRange, missing, requestInRange, requestPlan, fits, owingPlan}
+use Rattle.cojp.specs.Writing.{join, labelled, rolePairs, octetsPairs, listPairs, requestPairs}
+use Rattle.cojp.specs.Writing.{octetsInRange, listInRange, missing, requestInRange, requestPlan}
 use Rattle.cojp.specs.declared.fault.Faults.{Faults}
 use Rattle.cojp.specs.declared.list.ListParameter.{ListParameter}
 use Rattle.cojp.specs.declared.octets.OctetsParameter.{OctetsParameter}

@@ -34,16 +34,18 @@ use Rattle.node_laws.specs.Calls.{NodeCall, starting, polling, deliverin
 -- ---- making: a fresh node, or the refusal with the empty one
 pub made-cases :
     (P : Made → Type 0) (version : Version) (role : ℕ) (network : HeldOctets) →
-    P (record { verdict = verdict.Accepted; node = freshNode version role (knownOctets network) }) → P unmade → P (made version role network)
+    (validRole role ≡ true → validOctets network ≡ true →
+    P (record { verdict = verdict.Accepted; node = freshNode version role (knownOctets network) })) →
+    P unmade → P (made version role network)
 unfolding made
-made-cases P version role network fresh none = go (validRole role) (validOctets network)
+made-cases P version role network fresh none = go (validRole role) (validOctets network) refl refl
   where
     go :
-        (r o : Bool) →
+        (r o : Bool) → validRole role ≡ r → validOctets network ≡ o →
         P (cond r (cond o (record { verdict = verdict.Accepted; node = freshNode version role (knownOctets network) }) unmade) unmade)
-    go true true = fresh
-    go true false = none
-    go false o = none
+    go true true e f = fresh e f
+    go true false e f = none
+    go false o e f = none
 
 module _ {X : Type 0} (part : Node → X) (n : Node) where
   -- ---- a part that is not of the join attempt

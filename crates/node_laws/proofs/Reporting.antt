@@ -26,7 +26,7 @@ use Rattle.node_laws.proofs.Deliveries.{deliver-leaves, accepted-is}
 
 -- ---- one call
 made-none : (version : Version) (role : ℕ) (network : HeldOctets) → made version role network .node .faults ≡ noFaults
-made-none version role network = made-cases (λ (m : Made). m .node .faults ≡ noFaults) version role network refl refl
+made-none version role network = made-cases (λ (m : Made). m .node .faults ≡ noFaults) version role network (λ _ _. refl) refl
 
 brings :
     (delivery : Delivery) (n : Node) (time : ℕ) (payload : List ℕ) → deliver delivery n time payload .verdict ≡ verdict.Accepted →

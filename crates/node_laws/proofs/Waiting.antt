@@ -41,7 +41,7 @@ use Rattle.node_laws.proofs.Deliveries.{deliver-leaves}
 
 -- ---- making, starting, polling, verified frames
 made-idle : (version : Version) (role : ℕ) (network : HeldOctets) → waits (made version role network .node) ≡ false
-made-idle version role network = made-cases (λ (m : Made). waits (m .node) ≡ false) version role network refl refl
+made-idle version role network = made-cases (λ (m : Made). waits (m .node) ≡ false) version role network (λ _ _. refl) refl
 
 start-refused :
     (n : Node) (time timeout : ℕ) (d : List ℕ) (k : Refusal) → start n time timeout d .verdict ≡ verdict.Refused k →

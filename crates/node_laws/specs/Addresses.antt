@@ -30,7 +30,7 @@ pub record HoldsReserved (n : Node) : Type 0 where
 
 pub record NodeAddresses : Type 0 where
   pub none-held : (cs : List NodeCall) (n : Node) → Valid n → HoldsReserved (afterCalls cs n) → ⊥
-  -- a node that is made, or the empty one beside a refusal, is valid
+  -- a node that is made, or the empty one beside a refusal, is valid (made-valid of `NodeLaws`)
   pub none-made :
       (cs : List NodeCall) (version : Version) (role : ℕ) (network : HeldOctets) →
       HoldsReserved (afterCalls cs (made version role network .node)) → ⊥

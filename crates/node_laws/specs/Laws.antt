@@ -29,6 +29,7 @@ use Rattle.node.specs.Timing.{start, poll}
 use Rattle.node.specs.Delivery.{fitted, readFor, deliver}
 use Rattle.node.specs.Frames.{send, sendCounter, afterSend, receive, verified}
 use Rattle.node_laws.specs.Calls.{NodeCall, perform}
+use Rattle.node_laws.specs.Same.{octetsHeld}
 use Rattle.node_delivery.specs.declared.Delivery.{Delivery}
 use Rattle.node.specs.declared.node.Node.{Node}
 
@@ -122,10 +123,18 @@ pub record NodeLaws : Type 0 where
   pub role-stays : (c : NodeCall) (n : Node) → perform c n .node .role ≡ n .role
   pub version-stays : (c : NodeCall) (n : Node) → perform c n .node .version ≡ n .version
   pub refused-stays : (c : NodeCall) (n : Node) (k : Refusal) → perform c n .verdict ≡ Refused k → perform c n .node ≡ n
-  -- a node that is made has the form that was asked for
+  -- a node that is made is valid, and so is the empty one beside a refusal; it has the form, the role and the network identifier that were
+  -- asked for
+  pub made-valid : (version : Version) (role : ℕ) (network : HeldOctets) → Valid (made version role network .node)
   pub made-version :
       (version : Version) (role : ℕ) (network : HeldOctets) → made version role network .verdict ≡ Accepted →
       made version role network .node .version ≡ version
+  pub made-role :
+      (version : Version) (role : ℕ) (network : HeldOctets) → made version role network .verdict ≡ Accepted →
+      made version role network .node .role ≡ role
+  pub made-network :
+      (version : Version) (role : ℕ) (network : HeldOctets) → made version role network .verdict ≡ Accepted →
+      octetsHeld (made version role network .node .network) ≡ octetsHeld network
   -- a node whose active set covers a type, with no covering key used up, can send it; a node that can sends it; a key that is sent is an
   -- active one and covers the type; sending leaves the keys
   pub covers-can : (n : Node) (type : ℕ) → Covers (activeOf n) type → Unspent (activeOf n) type n → CanSend n type

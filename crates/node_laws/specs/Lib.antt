@@ -2,6 +2,7 @@ pub mod Calls
 pub mod Laws
 pub mod Same
 pub mod Answers
+pub mod Fitted
 pub mod Phases
 pub mod Addresses
 pub mod Reports

@@ -6,6 +6,7 @@ pub mod reports;
 
 pub use addresses::addresses_alone;
 pub use addresses::addresses_seen;
+pub use published::clash_leaves_rest;
 pub use published::published_seen;
 pub use reports::reports_follow;
 pub use reports::reports_seen;
