@@ -10,6 +10,7 @@ use Rattle.byte_lists.specs.Table.{length-table}
 use Rattle.aes.specs.Field.{_•_, xtime, times, powers, inverse}
 use Rattle.aes.specs.Cipher.{cipher, addRoundKey}
 use Rattle.aes.specs.Laws.{AesLaws}
+use Rattle.aes.proofs.Bounds.{block-bytes}
 use Rattle.aes.proofs.Test.{same-below}
 
 inverse-is : (b : ℕ) → b < 256 → 0 < b → b • inverse b ≡ 1
@@ -21,4 +22,4 @@ unfolding cipher addRoundKey
 block-long keys block = length-table 16 _
 
 pub aes-laws : AesLaws
-aes-laws = record { inverse-is = inverse-is; block-long = block-long }
+aes-laws = record { inverse-is = inverse-is; block-long = block-long; block-bytes = block-bytes }

@@ -1,4 +1,5 @@
--- FIPS 197: the field and the cipher. Words and Laws are what is claimed beside it.
+-- FIPS 197: the field and the cipher. Words and Laws are what is claimed beside it, over the lists of bytes in Bounds.
+pub mod Bounds
 pub mod Field
 pub mod Cipher
 pub mod Words

@@ -12,7 +12,8 @@ pub use tables::round_table;
 pub use tables::substitution;
 ghost use Rattle.aes.specs.Laws.{AesLaws};
 
-// What the definitions are, for the layers above: each inverse is one, and the cipher's block has sixteen bytes.
+// What the definitions are, for the layers above: each inverse is one, and the cipher's block has sixteen elements, bytes where the
+// key is of bytes.
 pub fn laws()
     ensures { λ _. ⌜ AesLaws ⌝ }
 {}

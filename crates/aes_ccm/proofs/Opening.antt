@@ -1,6 +1,6 @@
 -- What was sealed opens, since the key stream cancels itself and the tag is made of the same text; and what opens was sealed, for the same reason backwards.
 -- Assumes nothing.
-use mathlib.Core.Path.{_≡_, refl, sym, _∙_, ap, ap₂}
+use mathlib.Core.Path.{_≡_, refl, sym, _∙_, ap, ap₂, subst}
 use mathlib.Core.Bool.{Bool, true, false, cond}
 use mathlib.Core.List.{List, _++_}
 use Prim.Native.Nat.{ℕ, _+_, _-_, _≤_}
@@ -13,13 +13,14 @@ use Rattle.refusal.specs.declared.Refusal.{Refusal}
 use Rattle.refusal.specs.declared.Refusal.the-variants.{Seal}
 use Rattle.refusal.specs.Refusal.{numberOf}
 use Rattle.byte_lists.specs.Same.{same-equal, same-refl}
+use Rattle.aes.specs.Bounds.{Bytes, cut as cut-bytes}
 use Rattle.aes.specs.Cipher.{roundKeys}
 use Rattle.aes.specs.Laws.{AesLaws}
 use Rattle.aes_ccm.specs.declared.Written.{Written}
 use Rattle.aes_ccm.specs.Ccm.{crypt, tag, sealed, textOf, genuine}
 use Rattle.aes_ccm.specs.Plan.{Plan, refuse, emit, Did, numberIn, lengthIn, releasePlan, unsealPlan}
 use Rattle.aes_ccm.specs.Laws.{CcmLaws, Judged, RightTag}
-use Rattle.aes_ccm.proofs.Streams.{length-crypt, crypt-crypt}
+use Rattle.aes_ccm.proofs.Streams.{length-crypt, crypt-crypt, crypted}
 use Rattle.aes_ccm.proofs.Done.{length-sealed, seal-plan}
 
 -- a plan that goes on past a refusal
@@ -86,6 +87,11 @@ module _ (laws : AesLaws) (key nonce a : List ℕ) where
       = same-equal (drop n c) (tag ks nonce a (textOf key nonce c)) (was .right) ∙ ap (tag ks nonce a) (was .text) in
       sym (take-append-drop n c) ∙ ap₂ (λ (x y : List ℕ). x ++ y) front back
 
+  opened-bytes : (c m : List ℕ) (room : ℕ) → Bytes key → Bytes c → unsealPlan key nonce a c room ≡ emit m → Bytes m
+  unfolding textOf
+  opened-bytes c m room f g e =
+      subst Bytes (accepted key nonce a c m room e .text) (crypted laws key nonce (take (length c - 8) c) f (cut-bytes (length c - 8) c g))
+
   module _ (m : List ℕ) where
     cut : length (crypt (roundKeys 10 key) nonce m) ≡ length (sealed key nonce a m) - 8
     cut = omega (arith, length-crypt (roundKeys 10 key) nonce m, length-sealed key nonce a m)
@@ -121,6 +127,7 @@ ccm-laws laws =
       opened-was-sealed = opened-was-sealed laws;
       right-tag = right-tag;
       wrong-tag = wrong-tag;
+      opened-bytes = opened-bytes laws;
       length-sealed = length-sealed;
       refused = refused;
     }

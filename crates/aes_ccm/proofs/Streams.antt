@@ -10,6 +10,8 @@ use lib.ListN.{length, getD, length-append, List·getD-append}
 use lib.Seq.{getD-append-add, getD-take}
 use Rattle.byte_lists.specs.Xor.{_⊕_, cancel}
 use Rattle.byte_lists.specs.Table.{table, table-ext, table-self, getD-table, length-table}
+use Rattle.aes.specs.Bounds.{Bytes, xor-byte, tabled}
+use Rattle.aes.specs.Cipher.{roundKeys}
 use Rattle.aes.specs.Laws.{AesLaws}
 use Rattle.aes_ccm.specs.Ccm.{counter, stream, streams, crypt, lastOf, mac, tag}
 
@@ -78,3 +80,12 @@ module _ (laws : AesLaws) (ks : List (List ℕ)) (nonce : List ℕ) where
       ∙ table-self m 0 (length (crypt ks nonce m)) (cryptByte ks nonce (crypt ks nonce m)) (sym (length-crypt ks nonce m))
       (λ i h. ap (λ (x : ℕ). x ⊕ streamByte ks nonce i) (byte m i (rw (length-crypt ks nonce m) at h))
       ∙ cancel (getD m i 0) (streamByte ks nonce i))
+
+-- bytes meet bytes of the key stream
+pub crypted : AesLaws → (key nonce m : List ℕ) → Bytes key → Bytes m → Bytes (crypt (roundKeys 10 key) nonce m)
+unfolding stream
+crypted laws key nonce m f g =
+    let ks = roundKeys 10 key in
+    rw (crypt-bytes laws ks nonce m)
+    (tabled (length m) (cryptByte ks nonce m)
+    (λ j. xor-byte (getD m j 0) (streamByte ks nonce j) (g j) (laws .block-bytes key (counter nonce (j / 16 + 1)) f (j % 16))))

@@ -6,6 +6,7 @@ use lib.ListN.{length, drop}
 use Rattle.refusal.specs.Refusal.{numberOf}
 use Rattle.refusal.specs.declared.Refusal.{Refusal}
 use Rattle.refusal.specs.declared.Refusal.the-variants.{Seal}
+use Rattle.aes.specs.Bounds.{Bytes}
 use Rattle.aes.specs.Cipher.{roundKeys}
 use Rattle.aes_ccm.specs.declared.Written.{Written}
 use Rattle.aes_ccm.specs.Ccm.{sealed, textOf, tag}
@@ -36,6 +37,8 @@ pub record CcmLaws : Type 0 where
       → unsealPlan key nonce a c room ≡ emit (textOf key nonce c)
   pub wrong-tag : (key nonce a c : List ℕ) (room : ℕ) → Judged a c room → (RightTag key nonce a c → ⊥)
       → unsealPlan key nonce a c room ≡ refuse Seal
+  -- what opens under a key of bytes is of bytes
+  pub opened-bytes : (key nonce a c m : List ℕ) (room : ℕ) → Bytes key → Bytes c → unsealPlan key nonce a c room ≡ emit m → Bytes m
   pub length-sealed : (key nonce a m : List ℕ) → length (sealed key nonce a m) ≡ length m + 8
   -- a refused call answers the refusal's number and no length, and leaves the destination
   pub refused : (k : Refusal) (d d′ : List ℕ) (r : Written) → Did (refuse k) d r d′

@@ -102,7 +102,7 @@ fn release(right: bool, text: &[u8], dst: &mut [u8]) -> Written
     Written::Refused(Refusal::Seal)
 }
 
-// What the definitions say of each other: what was sealed opens to its text, and nothing else opens.
+// What the definitions say of each other: what was sealed opens to its text, nothing else opens, and a text that opens is of bytes.
 pub fn laws()
     ensures { λ _. ⌜ CcmLaws ⌝ }
 {

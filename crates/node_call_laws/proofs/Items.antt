@@ -1,6 +1,7 @@
 -- What is read of bytes fits: numbers have eight bytes, strings are bytes, and a map has as many pairs as its head says.
 use Prim.Native.Nat.{ℕ, zero, suc, _-_, _^_, _%_, _<_, _≤_}
 use mathlib.Core.Path.{_≡_, refl}
+use mathlib.Core.Bool.{Bool, true, false}
 use mathlib.Core.List.{List, [], _∷_}
 use native.Mathlib.Omega.{arith}
 use native.Mathlib.Nat.{pow-le-pow-right}
@@ -10,6 +11,7 @@ use lib.ListN.{length, take, drop}
 use Rattle.image.specs.Numbers.{below}
 use Rattle.image.specs.Part.{AllBytes}
 use Rattle.cbor.specs.Decode.{Outcome, refused, got, andThen, next, bigEndian, argument, Heading, heading, Major, unsigneds, negatives, byteStrings, textStrings, arrays, maps, tags, others, majorOf, members, pairs, content, decodeBy, ended, payloadBy}
+use Rattle.cbor.specs.Strict.{short, strictHeading, headBy}
 use Rattle.cbor.specs.Item.{Item, Items, Pairs, unsigned, negative, bytes, text, array, map, tag, simple, float, empty, pair}
 use Rattle.cbor.specs.View.{Plain, number, minus, string, other, View, plain, list, plainOf, plainsOf, viewOf}
 use Rattle.node_call_laws.proofs.Lists.{by-cond}
@@ -103,11 +105,21 @@ argument-ok info s b =
     let few : 2 ^ (info - 24) ≤ 2 ^ 3 = pow-le-pow-right {n = 2} (omega arith) {i = info - 24} {j = 3} (omega arith) in
     number-ok (2 ^ (info - 24)) s (omega arith) b))
 
-heading-ok : (s : List ℕ) → AllBytes s → OutOk (λ (h : Heading). Word (h .argument)) (heading s)
+abbrev HeadingOk : Heading → Type 0
+HeadingOk h = Word (h .argument)
+
+heading-ok : (s : List ℕ) → AllBytes s → OutOk HeadingOk (heading s)
 unfolding heading
 heading-ok [] b = refl
 heading-ok (x ∷ s) b =
-    then-ok Word (λ (h : Heading). Word (h .argument)) (argument (x % 32) s) _ (argument-ok (x % 32) s (λ j. b (suc j))) (λ n t f g. (f, g))
+    then-ok Word HeadingOk (argument (x % 32) s) _ (argument-ok (x % 32) s (λ j. b (suc j))) (λ n t f g. (f, g))
+
+-- a head of the ordinary reading, or of the strict one, which refuses more
+head-ok : (strict : Bool) (s : List ℕ) → AllBytes s → OutOk HeadingOk (headBy strict s)
+unfolding strictHeading
+head-ok true s b =
+    then-ok HeadingOk HeadingOk (heading s) _ (heading-ok s b) (λ h t f g. by-cond (OutOk HeadingOk) (short h) (λ _. (f, g)) (λ _. refl))
+head-ok false s b = heading-ok s b
 
 module _ (read : List ℕ → Outcome Item) (ok : (s : List ℕ) → AllBytes s → OutOk Ok (read s)) where
   members-ok : (n : ℕ) (s : List ℕ) → AllBytes s → OutOk (λ (is : Items). PlainsOk (plainsOf is)) (members read n s)
@@ -141,17 +153,18 @@ module _ (read : List ℕ → Outcome Item) (ok : (s : List ℕ) → AllBytes s 
     b,
   )
 
-decode-ok : (d : ℕ) (s : List ℕ) → AllBytes s → OutOk Ok (decodeBy heading d s)
-unfolding decodeBy
-decode-ok zero s b = refl
-decode-ok (suc d) s b =
-    then-ok (λ (h : Heading). Word (h .argument)) Ok (heading s) _ (heading-ok s b)
-    (λ h t f g. content-ok (λ u. decodeBy heading d u) (λ u c. decode-ok d u c) (majorOf (h .major)) (h .info) (h .argument) t f g)
-
 ended-ok : (i : Item) (t : List ℕ) → Ok i → AllBytes t → OutOk Ok (ended i t)
 ended-ok i [] f g = (f, g)
 ended-ok i (x ∷ t) f g = refl
 
-pub payload-ok : (s : List ℕ) → AllBytes s → OutOk Ok (payloadBy heading s)
-unfolding payloadBy
-payload-ok s b = then-ok Ok Ok (decodeBy heading 8 s) ended (decode-ok 8 s b) ended-ok
+module _ (strict : Bool) where
+  decode-ok : (d : ℕ) (s : List ℕ) → AllBytes s → OutOk Ok (decodeBy (headBy strict) d s)
+  unfolding decodeBy
+  decode-ok zero s b = refl
+  decode-ok (suc d) s b =
+      then-ok HeadingOk Ok (headBy strict s) _ (head-ok strict s b)
+      (λ h t f g. content-ok (λ u. decodeBy (headBy strict) d u) (λ u c. decode-ok d u c) (majorOf (h .major)) (h .info) (h .argument) t f g)
+
+  pub payload-ok : (s : List ℕ) → AllBytes s → OutOk Ok (payloadBy (headBy strict) s)
+  unfolding payloadBy
+  payload-ok s b = then-ok Ok Ok (decodeBy (headBy strict) 8 s) ended (decode-ok 8 s b) ended-ok

@@ -1,9 +1,12 @@
--- Every call leaves a node that fits its image with one that does: what it changes of it fits, and all else stays.
-use Prim.Native.Nat.{ℕ}
+-- Every call leaves a node that fits its image with one that does: what it changes of it fits, and all else stays. What it answers with
+-- stood in the node or was read.
+use Prim.Native.Nat.{ℕ, _^_, _<_}
 use mathlib.Core.Bool.{Bool, true, false}
 use mathlib.Core.List.{List}
 use native.Mathlib.Omega.{arith}
 use lib.ListN.{length}
+use Rattle.refusal.specs.declared.Refusal.{Refusal}
+use Rattle.refusal.specs.declared.Refusal.the-variants as refusal
 use Rattle.refusal.specs.declared.Verdict.{Verdict}
 use Rattle.refusal.specs.declared.Verdict.the-variants.{Accepted, Refused}
 use Rattle.cbor.specs.Answer.{answer}
@@ -19,43 +22,54 @@ use Rattle.cojp.specs.declared.configuration.ConfigurationRead.{ConfigurationRe
 use Rattle.cojp.specs.declared.report.Report.the-variants.{Discarded}
 use Rattle.cojp.specs.declared.version.Version.{Version}
 use Rattle.cojp.specs.declared.version.Version.the-variants.{Draft, Published}
+use Rattle.link_key.specs.Key.{noKey}
 use Rattle.link_key_usage.specs.Usage.{knownType}
 use Rattle.link_key_counters.specs.Counters.{spend}
 use Rattle.link_key_set.specs.KeyLaws.{KeyLaws}
 use Rattle.link_key_set.specs.KeySet.{has}
-use Rattle.node.specs.Delivery.{placementOf, fittedBy, fitted, configured, owesIdentifier, placedBy, apply, deliverVerdict, applyRead, deliverBy, readFor, deliver}
+use Rattle.node.specs.Delivery.{placementOf, fittedBy, fitted, configured, undelivered, owesIdentifier, placedBy, apply, deliverVerdict, applyRead, deliverBy, readFor, deliver}
 use Rattle.node.specs.Frames as frames
+use Rattle.node.specs.Lease.{holds}
 use Rattle.node.specs.Node.{isBorder, attempting, keyed}
 use Rattle.node.specs.Range.{valid}
 use Rattle.node.specs.Timing.{startPlan, startedFrom, startedBy, start, poll}
 use Rattle.node.specs.declared.delivery.Delivered.{Delivered}
 use Rattle.node.specs.declared.frames.Reported.{Reported}
 use Rattle.node.specs.declared.frames.Sent.{Sent}
+use Rattle.node.specs.declared.lease.Holding.{Holding}
+use Rattle.node.specs.declared.lease.Holding.the-variants as holding
 use Rattle.node.specs.declared.node.Node.{Node}
 use Rattle.node.specs.declared.timing.Polled.{Polled}
 use Rattle.node_attempt.specs.Attempt.{waitingFrom}
 use Rattle.node_attempt.specs.Poll as attempt
 use Rattle.node_attempt.specs.declared.attempt.Attempt.{Attempt}
 use Rattle.node_attempt.specs.declared.attempt.Phase.the-variants as phase
+use Rattle.node_attempt.specs.declared.poll.Due.{Due}
+use Rattle.node_attempt.specs.declared.poll.Due.the-variants as due
 use Rattle.node_delivery.specs.Delivery.{phaseAfter}
 use Rattle.node_delivery.specs.declared.Delivery.{Delivery}
+use Rattle.node_image.specs.Answers.{reportsImage, frameKeyImage}
 use Rattle.node_image.specs.Attempt.{attemptPart}
 use Rattle.node_image.specs.Held.{heldOctetsPart, heldAddressPart, heldListPart, heldRatePart}
 use Rattle.node_image.specs.Node.{setsPart, nodeImage}
 use Rattle.node_key_sets.specs.Frames as sets
 use Rattle.node_key_sets.specs.Frames.{effectBy, receivingKey, verifiedIn}
 use Rattle.node_key_sets.specs.Sets.{activeIn}
+use Rattle.node_key_sets.specs.declared.frames.Change.{Change}
+use Rattle.node_key_sets.specs.declared.frames.Change.the-variants as change
+use Rattle.node_key_sets.specs.declared.frames.KeyAnswer.{KeyAnswer}
 use Rattle.node_key_sets.specs.declared.frames.Sending.{Sending}
 use Rattle.node_key_sets.specs.declared.sets.KeySets.{KeySets}
 use Rattle.node_key_sets.specs.declared.sets.Placement.{Placement}
-use Rattle.node_laws.specs.Calls.{NodeCall, starting, polling, delivering, asking, sending, receiving, reporting, perform}
-use Rattle.node_parameters.specs.Reports.{reportsOf}
+use Rattle.node_laws.specs.Calls.{NodeCall, starting, polling, delivering, asking, sending, receiving, reporting, dueObject, holdingObject, changeObject, Performed, perform}
+use Rattle.node_parameters.specs.Reports.{noReports, reportsOf}
 use Rattle.node_parameters.specs.declared.reports.Reports.{Reports}
 use Rattle.object_image.specs.Configuration.{configurationImage}
-use Rattle.node_call_laws.specs.Follow.{Time, ReadsFit, Callable}
-use Rattle.node_call_laws.proofs.Lists.{by-cond}
-use Rattle.node_call_laws.proofs.Payloads.{reads-fit}
-use Rattle.node_call_laws.proofs.Values.{by-report, bool-fits, report-fits, no-keys-fit, none-counted-fits, spend-fits, install-fits, attempt-fits, poll-fits, no-faults-fit, each-taken, reports-fit}
+use Rattle.object_image.specs.Faults.{faultPart}
+use Rattle.node_call_laws.specs.Fits.{Time, Callable, AnswerFits}
+use Rattle.node_call_laws.proofs.Lists.{by-cond, each-taken}
+use Rattle.node_call_laws.proofs.Configurations.{configuration-fits}
+use Rattle.node_call_laws.proofs.Values.{by-report, bool-fits, report-fits, no-key-fits, no-keys-fit, none-counted-fits, spend-fits, spend-key, receiving-key, install-fits, attempt-fits, poll-fits, no-faults-fit, reports-fit}
 
 abbrev NodeFits : Node → Type 0
 NodeFits n = nodeImage .Fit n
@@ -85,21 +99,37 @@ node-poll-fits n time t f =
     (λ _. attempting-fits n (attempt.poll (n .attempt) time .attempt) f (poll-fits (n .attempt) time t (f .1 .0)))
     (λ _. f)
 
--- ---- frames
-sending-fits : (s : KeySets) (type : ℕ) → setsPart .Fit s → setsPart .Fit (sets.sending s type .sets)
+-- ---- frames: the key sets and the node, and the key and counter that are answered
+abbrev SendingFits : Sending → Type 0
+SendingFits x = setsPart .Fit (x .sets) × frameKeyImage .Fit (x .answer .key, x .counter)
+
+no-frame-key : frameKeyImage .Fit (noKey, 0)
+no-frame-key = (no-key-fits, omega arith)
+
+sending-fits : (s : KeySets) (type : ℕ) → setsPart .Fit s → SendingFits (sets.sending s type)
 unfolding sets.sending
 sending-fits s type f =
-    let P : Sending → Type 0 = λ x. setsPart .Fit (x .sets) in
-    by-cond P (knownType type)
-    (λ _. by-cond P (spend type (s .active) .found) (λ _. (spend-fits type (s .active) (f .0), f .1)) (λ _. f))
-    (λ _. f)
+    by-cond SendingFits (knownType type)
+    (λ _. by-cond SendingFits (spend type (s .active) .found)
+    (λ _. ((spend-fits type (s .active) (f .0), f .1), spend-key type (s .active) (f .0)))
+    (λ _. (f, no-frame-key)))
+    (λ _. (f, no-frame-key))
 
-send-fits : (n : Node) (type : ℕ) → NodeFits n → NodeFits (frames.afterSend n type)
-unfolding frames.afterSend frames.sending
+abbrev SentFits : Sent → Type 0
+SentFits x = NodeFits (x .node) × frameKeyImage .Fit (x .answer .key, x .counter)
+
+send-fits : (n : Node) (type : ℕ) → NodeFits n → SentFits (frames.sending n type)
+unfolding frames.sending
 send-fits n type f =
-    by-cond (λ (x : Sent). NodeFits (x .node)) (valid n)
-    (λ _. keyed-fits n (sets.sending (n .sets) type .sets) f (sending-fits (n .sets) type (f .1 .1 .0)))
-    (λ _. f)
+    let sent = sending-fits (n .sets) type (f .1 .1 .0) in
+    by-cond SentFits (valid n) (λ _. (keyed-fits n (sets.sending (n .sets) type .sets) f (sent .0), sent .1)) (λ _. (f, no-frame-key))
+
+receive-fits : (n : Node) (type identifier : ℕ) → NodeFits n → frameKeyImage .Fit (frames.receive n type identifier .key, 0)
+unfolding frames.receive
+receive-fits n type identifier f =
+    by-cond (λ (a : KeyAnswer). frameKeyImage .Fit (a .key, 0)) (valid n)
+    (λ _. (receiving-key (n .sets) type identifier (f .1 .1 .0), omega arith))
+    (λ _. no-frame-key)
 
 effect-fits : (v : Verdict) (active : Bool) (s : KeySets) → setsPart .Fit s → setsPart .Fit (effectBy v active s .sets)
 effect-fits (Refused k) active s f = f
@@ -115,6 +145,22 @@ report-node-fits n type identifier f =
     (λ _. f)
 
 -- ---- a configuration
+-- its reports have one code each
+reports-so : (r : Reports) → r .passed < 256 ^ 8 → reportsImage .Fit r
+reports-so r h = (
+  report-fits (r .keys),
+  (
+    report-fits (r .address),
+    (
+      report-fits (r .jrc),
+      (
+        report-fits (r .network),
+        (report-fits (r .prefix), (report-fits (r .blacklist), (report-fits (r .rate), h))),
+      ),
+    ),
+  ),
+)
+
 abbrev ConfigurationFits : Configuration → Type 0
 ConfigurationFits c = configurationImage .Fit c
 
@@ -162,7 +208,7 @@ configured-fits d n time c s r t f g h =
                       by-report (heldListPart .Fit) (c .blacklist .report) (bool-fits true, late .0 .1) (held .1 .1 .1 .1 .1 .0),
                       (
                         by-report (heldRatePart .Fit) (c .rate .report) (bool-fits true, late .1 .0 .1) (held .1 .1 .1 .1 .1 .1 .0),
-                        reports-fit c noFaults (faultList (c .came)) (each-taken (c .came .count) 5 (c .came .faults) (late .1 .1 .0 .1)) no-faults-fit,
+                        reports-fit c noFaults (faultList (c .came)) (each-taken faultPart (c .came .count) 5 (c .came .faults) (late .1 .1 .0 .1)) no-faults-fit,
                       ),
                     ),
                   ),
@@ -174,44 +220,75 @@ configured-fits d n time c s r t f g h =
       ),
     )
 
-placed-fits : (v : Verdict) (d : Delivery) (n : Node) (time : ℕ) (c : Configuration) (s : KeySets) → Time time → NodeFits n → ConfigurationFits c
-    → setsPart .Fit s → NodeFits (placedBy v d n time c s .node)
-placed-fits (Refused k) d n time c s t f g h = f
-placed-fits Accepted d n time c s t f g h = configured-fits d n time c s (reportsOf (isBorder n) c) t f g h
+-- and the reports on it
+abbrev DeliveredFits : Delivered → Type 0
+DeliveredFits x = NodeFits (x .node) × reportsImage .Fit (x .reports)
 
-apply-fits : (d : Delivery) (n : Node) (time : ℕ) (c : Configuration) → Time time → NodeFits n → ConfigurationFits c → NodeFits (apply d n time c .node)
+undelivered-fits : (k : Refusal) (n : Node) → NodeFits n → DeliveredFits (undelivered k n)
+undelivered-fits k n f = (f, reports-so noReports (omega arith))
+
+placed-fits : (v : Verdict) (d : Delivery) (n : Node) (time : ℕ) (c : Configuration) (s : KeySets) → Time time → NodeFits n → ConfigurationFits c
+    → setsPart .Fit s → DeliveredFits (placedBy v d n time c s)
+unfolding reportsOf
+placed-fits (Refused k) d n time c s t f g h = undelivered-fits k n f
+placed-fits Accepted d n time c s t f g h =
+    let r = reportsOf (isBorder n) c in (configured-fits d n time c s r t f g h, reports-so r (g .1 .1 .1 .1))
+
+apply-fits : (d : Delivery) (n : Node) (time : ℕ) (c : Configuration) → Time time → NodeFits n → ConfigurationFits c → DeliveredFits (apply d n time c)
 unfolding apply
 apply-fits d n time c t f g =
-    by-cond (λ (x : Delivered). NodeFits (x .node)) (owesIdentifier d n (c .network .report))
-    (λ _. f)
+    by-cond DeliveredFits (owesIdentifier d n (c .network .report))
+    (λ _. undelivered-fits refusal.Owed n f)
     (λ _. placed-fits (placementOf n (c .keys) .verdict) d n time c (placementOf n (c .keys) .sets) t f g (placement-fits n c f g))
 
 read-fits : (v : Verdict) (d : Delivery) (n : Node) (time : ℕ) (c : Configuration) → Time time → NodeFits n → ConfigurationFits c
-    → NodeFits (applyRead v d n time c .node)
+    → DeliveredFits (applyRead v d n time c)
 unfolding fitted
-read-fits (Refused k) d n time c t f g = f
+read-fits (Refused k) d n time c t f g = undelivered-fits k n f
 read-fits Accepted d n time c t f g =
     apply-fits d n time (fitted n c) t f
     (fitted-fits (n .version) c (fittedBy (placementOf n (c .keys) .verdict) c) g (fitted-by (placementOf n (c .keys) .verdict) c g))
 
 deliver-by : (v : Verdict) (d : Delivery) (n : Node) (time : ℕ) (r : ConfigurationRead) → Time time → NodeFits n
-    → ConfigurationFits (r .configuration) → NodeFits (deliverBy v d n time r .node)
-deliver-by (Refused k) d n time r t f g = f
+    → ConfigurationFits (r .configuration) → DeliveredFits (deliverBy v d n time r)
+deliver-by (Refused k) d n time r t f g = undelivered-fits k n f
 deliver-by Accepted d n time r t f g = read-fits (r .verdict) d n time (r .configuration) t f g
 
-deliver-fits : (d : Delivery) (n : Node) (time : ℕ) (payload : List ℕ) → Time time → ReadsFit payload → NodeFits n
-    → NodeFits (deliver d n time payload .node)
+deliver-fits : (d : Delivery) (n : Node) (time : ℕ) (payload : List ℕ) → Time time → ConfigurationFits (readFor n payload .configuration) → NodeFits n
+    → DeliveredFits (deliver d n time payload)
 unfolding deliver
-deliver-fits d n time payload t r f = deliver-by (deliverVerdict d n time (length payload)) d n time (readFor n payload) t f (r (n .version))
+deliver-fits d n time payload t r f = deliver-by (deliverVerdict d n time (length payload)) d n time (readFor n payload) t f r
 
--- ---- every call
+-- ---- answers that are no struct
+due-fits : (d : Due) → AnswerFits (dueObject d)
+due-fits (due.Refused k) = tt
+due-fits due.NotYet = tt
+due-fits due.SendAgain = tt
+due-fits due.GaveUp = tt
+
+holding-fits : (h : Holding) → AnswerFits (holdingObject h)
+holding-fits (holding.Refused k) = tt
+holding-fits holding.Yes = tt
+holding-fits holding.No = tt
+
+change-fits : (c : Change) → AnswerFits (changeObject c)
+change-fits (change.Refused k) = tt
+change-fits change.Switched = tt
+change-fits change.Kept = tt
+
+-- ---- every call: the node after it, and what it answers
+abbrev PerformedFits : Performed → Type 0
+PerformedFits p = NodeFits (p .node) × AnswerFits (p .object)
+
 module _ (laws : KeyLaws) where
-  pub keeps-fit : (c : NodeCall) (n : Node) → Callable c → nodeImage .Fit n → nodeImage .Fit (perform c n .node)
-  unfolding perform
-  keeps-fit (starting time timeout d) n h f = start-fits n time timeout d (h .0) (h .1) f
-  keeps-fit (polling time) n h f = node-poll-fits n time h f
-  keeps-fit (delivering d time payload) n h f = deliver-fits d n time payload (h .0) (reads-fit laws payload (h .1)) f
-  keeps-fit (asking time) n h f = f
-  keeps-fit (sending type) n h f = send-fits n type f
-  keeps-fit (receiving type identifier) n h f = f
-  keeps-fit (reporting type identifier) n h f = report-node-fits n type identifier f
+  pub performed-fits : (c : NodeCall) (n : Node) → Callable c → NodeFits n → PerformedFits (perform c n)
+  unfolding perform frames.send frames.sendCounter frames.afterSend
+  performed-fits (starting time timeout d) n h f = (start-fits n time timeout d (h .0) (h .1) f, tt)
+  performed-fits (polling time) n h f = (node-poll-fits n time h f, due-fits (poll n time .due))
+  performed-fits (delivering d time payload) n h f =
+      deliver-fits d n time payload (h .0) (configuration-fits laws (n .version) false payload (h .1)) f
+  performed-fits (asking time) n h f = (f, holding-fits (holds n time))
+  performed-fits (sending type) n h f = send-fits n type f
+  performed-fits (receiving type identifier) n h f = (f, receive-fits n type identifier f)
+  performed-fits (reporting type identifier) n h f =
+      (report-node-fits n type identifier f, change-fits (frames.verified n type identifier .change))

@@ -2,6 +2,8 @@ mod Lists
 mod Items
 mod Values
 mod Parameters
-mod Payloads
+mod Walks
+mod Configurations
+mod Requests
 mod Kept
-mod Follow
+mod Fits

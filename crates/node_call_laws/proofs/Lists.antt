@@ -11,6 +11,7 @@ use lib.ListN.{length, take, set, getD, replicate, length-append, length-map, le
 use Rattle.logic_facts.specs.Tests.{both-right}
 use Rattle.image.specs.Part as part
 use Rattle.image.specs.Part.{Part, number, Fits}
+use Rattle.key_image.specs.Key.{keyPart}
 use Rattle.link_key.specs.Key.{covers}
 use Rattle.link_key.specs.declared.Key.{Key}
 use Rattle.link_key_counters.specs.Counters.{Slot, slot, slotsFrom, serves, counterIn}
@@ -45,6 +46,26 @@ module _ {A : Type 0} (p : Part A) where
   pub fits-replicate : (n : ℕ) (x : A) → p .Fit x → Fits p n (replicate n x)
   fits-replicate zero x h = part.none
   fits-replicate (suc n) x h = part.more h (fits-replicate n x h)
+
+-- ---- each element, however many there are
+module _ {A : Type 0} where
+  pub data Each (p : Part A) : List A → Type 0 where
+    nobody : Each p []
+    one-more : {x : A} {xs : List A} → p .Fit x → Each p xs → Each p (x ∷ xs)
+
+  pub each-taken : (p : Part A) (count n : ℕ) (xs : List A) → Fits p n xs → Each p (take count xs)
+  each-taken p zero n xs f = nobody
+  each-taken p (suc count) n xs part.none = nobody
+  each-taken p (suc count) n xs (part.more {n = k} {a = a} {xs = ys} f g) = one-more f (each-taken p count k ys g)
+
+  -- one that is looked for
+  abbrev pub Found : (A → Type 0) → Option A → Type 0
+  Found P none = _≡_ {A = ℕ} 0 0
+  Found P (some x) = P x
+
+  pub first-fits : (p : Part A) (test : A → Bool) (xs : List A) → Each p xs → Found (p .Fit) (firstOf test xs)
+  first-fits p test xs nobody = refl
+  first-fits p test xs (one-more {x = x} {xs = ys} f e) = by-cond (Found (p .Fit)) (test x) (λ _. f) (λ _. first-fits p test ys e)
 
 -- ---- numbers under a limit
 abbrev pub Under : ℕ → List ℕ → Type 0
@@ -88,10 +109,19 @@ kept-under cs u test place [] = omega arith
 kept-under cs u test place (k ∷ ks) =
     by-cond (λ (o : Option Slot). counterIn o < 256 ^ 4) (test (slot place k (getD cs place 0))) (λ e. u place) (λ e. kept-under cs u test (place + 1) ks)
 
+-- and the key itself, with it
+abbrev pub SlotFits : Slot → Type 0
+SlotFits x = keyPart .Fit (x .key) × (x .counter < 256 ^ 4)
+
+pub slot-fits : (cs : List ℕ) → Counters cs → (test : Slot → Bool) (place : ℕ) (ks : List Key) → Each keyPart ks
+    → Found SlotFits (firstOf test (slotsFrom place cs ks))
+slot-fits cs u test place ks nobody = refl
+slot-fits cs u test place ks (one-more {x = k} {xs = ls} f e) =
+    by-cond (Found SlotFits) (test (slot place k (getD cs place 0))) (λ _. (f, u place)) (λ _. slot-fits cs u test (place + 1) ls e)
+
 -- a key that serves is not used up: its counter can rise
 abbrev pub CanRise : Option Slot → Type 0
-CanRise none = _≡_ {A = ℕ} 0 0
-CanRise (some x) = x .counter + 1 < 256 ^ 4
+CanRise o = Found (λ (x : Slot). x .counter + 1 < 256 ^ 4) o
 
 rises : (k : Key) (type n : ℕ) → n < 256 ^ 4 → (covers k type && not (eqb n 4294967295)) ≡ true → n + 1 < 256 ^ 4
 rises k type n h e =

@@ -3,7 +3,8 @@ use Prim.Native.Nat.{ℕ, zero, suc, _+_, _*_, _-_, _/_, _%_, _<_, _≤_}
 use mathlib.Core.Path.{_≡_, refl}
 use mathlib.Core.Bool.{Bool, true, false, not, _&&_}
 use mathlib.Core.List.{List, [], _∷_, _++_}
-use mathlib.Core.Option.{Option, none, some}
+use mathlib.Core.Option as option
+use mathlib.Core.Option.{Option, none}
 use native.Mathlib.Omega.{arith}
 use borrow.Author.Tests.{eqb-true, leb-true, ltb-true}
 use lib.Dec.{leb, ltb, eqb}
@@ -24,7 +25,7 @@ use Rattle.cbor.specs.Encode.{bytesOf, infoOf, extraOf, shortest, encode}
 use Rattle.cbor.specs.View.{Plain, number, minus, string, other, View, plain, list}
 use Rattle.cojp.specs.Address.{addressBy, addressIn, addressJudged, addressParameter, noAddressParameter, addressRead}
 use Rattle.cojp.specs.KeySet.{keySetOf, Groups, notGroups, groupsOf, group, further, groups, identified, used, valued, keysIn, keysJudgedAs, keysParameter, keysReadAs}
-use Rattle.cojp.specs.Lists.{plainItem, written, Picked, nothing, picked, before, stringsIn, inArray, fitting, listAnswer, noListParameter, listTaken, blacklistTaken}
+use Rattle.cojp.specs.Lists.{plainItem, written, Picked, nothing, picked, before, stringsIn, isInteger, faultsIn, some, inArray, fitting, listAnswer, noListParameter, listTaken, blacklistTaken, unsupportedTaken}
 use Rattle.cojp.specs.Octets.{padded, octetsParameter, noOctetsParameter, octetsJudged, octetsRead}
 use Rattle.cojp.specs.Rate.{rateTaken}
 use Rattle.cojp.specs.Reading.{Reading, refused, read, Judgement, broken, unfit, good, concluded}
@@ -49,7 +50,7 @@ JudgedOk P broken = Always
 JudgedOk P unfit = Always
 JudgedOk P (good a) = P a
 
-concluded-ok : {A B : Type 0} (P : B → Type 0) (Q : A → Type 0) (outside : Reading B) (take : A → B) (j : Judgement A) → ReadOk P outside
+pub concluded-ok : {A B : Type 0} (P : B → Type 0) (Q : A → Type 0) (outside : Reading B) (take : A → B) (j : Judgement A) → ReadOk P outside
     → ((a : A) → Q a → P (take a)) → JudgedOk Q j → ReadOk P (concluded outside take j)
 concluded-ok P Q outside take broken o f h = refl
 concluded-ok P Q outside take unfit o f h = o
@@ -123,7 +124,7 @@ rate-taken (plain (string s)) h = (report-fits Discarded, omega arith)
 rate-taken (plain other) h = (report-fits Discarded, omega arith)
 rate-taken (list ps) h = (report-fits Discarded, omega arith)
 
--- ---- blacklists
+-- ---- blacklists and reports of what could not be acted on
 pub no-list-fits : (r : Report) → listParameterPart .Fit (noListParameter r)
 no-list-fits r = (report-fits r, (omega arith, (omega arith, (refl, under-zeros 256 253 (omega arith)))))
 
@@ -147,9 +148,23 @@ strings-ok (minus n ∷ r) h = refl
 strings-ok (string s ∷ r) h = before-ok (string s ∷ []) (stringsIn r) (h .0, refl) (strings-ok r (h .1))
 strings-ok (other ∷ r) h = refl
 
-array-ok : (v : View) → ViewOk v → PickedOk (inArray stringsIn v)
-array-ok (plain p) h = refl
-array-ok (list ps) h = strings-ok ps h
+faults-ok : (ps : List Plain) → PlainsOk ps → PickedOk (faultsIn ps)
+unfolding faultsIn
+faults-ok [] h = refl
+faults-ok (p ∷ []) h = refl
+faults-ok (p ∷ q ∷ []) h = refl
+faults-ok (p ∷ q ∷ x ∷ r) h =
+    by-cond PickedOk (isInteger p && isInteger q)
+    (λ _. before-ok (p ∷ q ∷ other ∷ []) (faultsIn r) (h .0, (h .1 .0, (refl, refl))) (faults-ok r (h .1 .1 .1)))
+    (λ _. refl)
+
+some-ok : (ps : List Plain) → PlainsOk ps → PickedOk (some faultsIn ps)
+some-ok [] h = refl
+some-ok (p ∷ ps) h = faults-ok (p ∷ ps) h
+
+array-ok : (f : List Plain → Picked) → ((ps : List Plain) → PlainsOk ps → PickedOk (f ps)) → (v : View) → ViewOk v → PickedOk (inArray f v)
+array-ok f g (plain p) h = refl
+array-ok f g (list ps) h = g ps h
 
 -- what is written are bytes, one at least of each member
 number-bytes : (k n : ℕ) → AllBytes (bytesOf k n)
@@ -208,7 +223,10 @@ fitted-list (picked ps) h =
     (λ _. no-list-fits Discarded)
 
 pub blacklist-taken : (v : View) → ViewOk v → listParameterPart .Fit (blacklistTaken v)
-blacklist-taken v h = fitted-list (inArray stringsIn v) (array-ok v h)
+blacklist-taken v h = fitted-list (inArray stringsIn v) (array-ok stringsIn strings-ok v h)
+
+pub unsupported-taken : (v : View) → ViewOk v → listParameterPart .Fit (unsupportedTaken v)
+unsupported-taken v h = fitted-list (inArray (some faultsIn) v) (array-ok (some faultsIn) some-ok v h)
 
 -- ---- key sets
 abbrev KeyOk : Key → Type 0
@@ -224,7 +242,7 @@ GroupsOk (groupsOf ks) = KeysOk ks
 
 abbrev OptionOk : Option Info → Type 0
 OptionOk none = Always
-OptionOk (some w) = infoPart .Fit w
+OptionOk (option.some w) = infoPart .Fit w
 
 absent-info : infoPart .Fit info.Absent
 absent-info = ((omega arith, (refl, under-zeros 256 8 (omega arith))), refl)
@@ -250,7 +268,7 @@ further-ok : (informed : Bool) (i u : ℕ) (v : List ℕ) (o : Option Info) (gs 
     → GroupsOk (further informed i u v o gs)
 further-ok false i u v o gs b f g = refl
 further-ok true i u v none gs b f g = refl
-further-ok true i u v (some w) gs b f g = group-ok i u v w gs b f g
+further-ok true i u v (option.some w) gs b f g = group-ok i u v w gs b f g
 
 mutual
   unfolding groups identified used valued

@@ -2,23 +2,23 @@
 use Prim.Native.Nat.{ℕ, zero, suc, _+_, _*_, _-_, _/_, _%_, _^_, _<_, _≤_}
 use mathlib.Core.Path.{_≡_, refl}
 use mathlib.Core.Bool.{Bool, true, false, cond, not, _&&_, _||_}
-use mathlib.Core.List.{List, [], _∷_}
+use mathlib.Core.List.{List}
 use mathlib.Core.Option.{Option, none, some}
 use native.Mathlib.Omega.{arith}
 use native.Mathlib.Nat.{pow-suc, pow-le-pow-right}
 use borrow.Author.Tests.{eqb-true, leb-true, ltb-true}
 use lib.Dec.{leb, ltb, eqb}
-use lib.ListN.{take, set}
+use lib.ListN.{set}
 use Rattle.logic_facts.specs.Tests.{both-left, both-right, then-so}
-use Rattle.image.specs.Part as part
-use Rattle.image.specs.Part.{number, Fits}
+use Rattle.image.specs.Part.{number}
 use Rattle.key_image.specs.Key.{keyPart, keySetPart, countedSetPart}
-use Rattle.link_key.specs.Key.{noKey, sameSecret}
+use Rattle.link_key.specs.Key.{noKey, sameSecret, covers}
 use Rattle.link_key.specs.declared.Key.{Key}
 use Rattle.link_key.specs.declared.info.Info.the-variants.{Absent}
-use Rattle.link_key_set.specs.KeySet.{noKeys, keysOf, validSet, sameKeys, shares}
+use Rattle.link_key_set.specs.KeySet.{noKeys, keysOf, named, findKey, validSet, sameKeys, shares}
 use Rattle.link_key_set.specs.declared.key_set.KeySet.{KeySet}
-use Rattle.link_key_counters.specs.Counters.{Slot, arrived, noCounted, keptCounter, succeeded, spentOn, firstServing, spend}
+use Rattle.link_key_usage.specs.Usage.{knownType}
+use Rattle.link_key_counters.specs.Counters.{Slot, arrived, noCounted, keptCounter, succeeded, spentOn, firstServing, serves, spend}
 use Rattle.link_key_counters.specs.declared.CountedSet.{CountedSet}
 use Rattle.cojp.specs.Faults.{noFaults, faultOf, added}
 use Rattle.cojp.specs.Reading.{ifTaken}
@@ -34,15 +34,18 @@ use Rattle.node_attempt.specs.declared.attempt.Attempt.{Attempt}
 use Rattle.node_attempt.specs.declared.attempt.Phase.{Phase}
 use Rattle.node_attempt.specs.declared.attempt.Phase.the-variants as phase
 use Rattle.node_attempt.specs.declared.poll.Step.{Step}
+use Rattle.node_image.specs.Answers.{frameKeyImage}
 use Rattle.node_image.specs.Attempt.{phasePart, attemptPart}
 use Rattle.node_image.specs.Node.{setsPart}
-use Rattle.node_key_sets.specs.Sets.{activeIn, install, place}
+use Rattle.node_key_sets.specs.Frames.{orElse, heldKey, ifCovers, receivingKey}
+use Rattle.node_key_sets.specs.Sets.{activeIn, pendingIn, install}
+use Rattle.node_key_sets.specs.declared.frames.KeyAnswer.{KeyAnswer}
 use Rattle.node_key_sets.specs.declared.sets.KeySets.{KeySets}
 use Rattle.node_key_sets.specs.declared.sets.Placement.{Placement}
 use Rattle.object_image.specs.Codes.{boolPart, reportPart}
 use Rattle.object_image.specs.Faults.{faultPart, faultsPart}
-use Rattle.node_call_laws.specs.Follow.{Time}
-use Rattle.node_call_laws.proofs.Lists.{by-cond, fits-length, fits-set, fits-replicate, under-zeros, fits-under, kept-fit, kept-under, CanRise, first-rises}
+use Rattle.node_call_laws.specs.Fits.{Time}
+use Rattle.node_call_laws.proofs.Lists.{by-cond, Each, nobody, one-more, each-taken, Found, first-fits, SlotFits, slot-fits, fits-length, fits-set, fits-replicate, under-zeros, fits-under, kept-fit, kept-under, CanRise, first-rises}
 
 pub by-report : {A : Type 0} (P : A → Type 0) (r : Report) {x y : A} → P x → P y → P (ifTaken r x y)
 by-report P report.Absent f g = g
@@ -94,6 +97,38 @@ pub spend-fits : (type : ℕ) (s : CountedSet) → countedSetPart .Fit s → cou
 unfolding spend
 spend-fits type s f =
     spent-fits s (firstServing type s) f (first-rises (s .counters) (fits-under (s .counters) (f .1)) type 0 (keysOf (s .set)))
+
+-- the key that a frame is sent with, and its counter
+spent-key : (s : CountedSet) (o : Option Slot) → Found SlotFits o → frameKeyImage .Fit (spentOn s o .key, spentOn s o .counter)
+spent-key s none h = (no-key-fits, omega arith)
+spent-key s (some x) h = h
+
+set-keys : (s : CountedSet) → countedSetPart .Fit s → Each keyPart (keysOf (s .set))
+set-keys s f = each-taken keyPart (s .set .count) 8 (s .set .keys) (f .0 .1)
+
+pub spend-key : (type : ℕ) (s : CountedSet) → countedSetPart .Fit s → frameKeyImage .Fit (spend type s .key, spend type s .counter)
+unfolding spend
+spend-key type s f =
+    spent-key s (firstServing type s) (slot-fits (s .counters) (fits-under (s .counters) (f .1)) (serves type) 0 (keysOf (s .set)) (set-keys s f))
+
+-- the key that one is received with
+answer-key : (type : ℕ) (o : Option Key) → Found (keyPart .Fit) o → keyPart .Fit (ifCovers type o .key)
+answer-key type none h = no-key-fits
+answer-key type (some k) h = by-cond (λ (a : KeyAnswer). keyPart .Fit (a .key)) (covers k type) (λ _. h) (λ _. no-key-fits)
+
+or-else : (o p : Option Key) → Found (keyPart .Fit) o → Found (keyPart .Fit) p → Found (keyPart .Fit) (orElse o p)
+or-else none p f g = g
+or-else (some k) p f g = f
+
+pub receiving-key : (s : KeySets) (type identifier : ℕ) → setsPart .Fit s → keyPart .Fit (receivingKey s type identifier .key)
+unfolding receivingKey
+receiving-key s type identifier f =
+    by-cond (λ (a : KeyAnswer). keyPart .Fit (a .key)) (knownType type && not (eqb identifier 0))
+    (λ _. answer-key type (heldKey s identifier)
+    (or-else (findKey identifier (activeIn s)) (findKey identifier (pendingIn s))
+    (first-fits keyPart (named identifier) (activeIn s) (set-keys (s .active) (f .0)))
+    (first-fits keyPart (named identifier) (pendingIn s) (set-keys (s .pending) (f .1)))))
+    (λ _. no-key-fits)
 
 pub install-fits : (border : Bool) (s : KeySets) (set : KeySet) → setsPart .Fit s → keySetPart .Fit set → setsPart .Fit (install border s set .sets)
 unfolding install
@@ -157,16 +192,7 @@ added-fits f code label a b h =
     (λ e. let less = ltb-true (f .count) 5 e in (omega arith, fits-set faultPart 5 (f .faults) (f .count) (faultOf code label) (a, b) (h .1)))
     (λ _. h)
 
-pub data Each : List Fault → Type 0 where
-  nobody : Each []
-  one-more : {x : Fault} {xs : List Fault} → faultPart .Fit x → Each xs → Each (x ∷ xs)
-
-pub each-taken : (count n : ℕ) (xs : List Fault) → Fits faultPart n xs → Each (take count xs)
-each-taken zero n xs f = nobody
-each-taken (suc count) n xs part.none = nobody
-each-taken (suc count) n xs (part.more {n = k} {a = a} {xs = ys} f g) = one-more f (each-taken count k ys g)
-
-pub reports-fit : (c : Configuration) (f : Faults) (xs : List Fault) → Each xs → faultsPart .Fit f → faultsPart .Fit (reportsOn (badIn c) f xs)
+pub reports-fit : (c : Configuration) (f : Faults) (xs : List Fault) → Each faultPart xs → faultsPart .Fit f → faultsPart .Fit (reportsOn (badIn c) f xs)
 reports-fit c f xs nobody h = h
 reports-fit c f xs (one-more {x = x} {xs = ys} g e) h =
     reports-fit c (cond (badAt (badIn c) (x .label)) (added f (x .code) (x .label)) f) ys e

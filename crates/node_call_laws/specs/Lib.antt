@@ -1,2 +1,1 @@
-pub mod Follow
-pub mod Seen
+pub mod Fits

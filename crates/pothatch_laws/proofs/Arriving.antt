@@ -1,10 +1,11 @@
--- One call from C does to the image what the call on the arrival does to the arrival. No more than 256 bytes arrive, so an image can hold it.
-use Prim.Native.Nat.{ℕ, _+_, _≤_}
-use mathlib.Core.Path.{_≡_, refl, ap, ap₂, sym, _∙_}
+-- One call from C does to the image what the call on the arrival does to the arrival: a call leaves the count, or takes a part where no more
+-- than 256 bytes come together, so an image can hold it again.
+use Prim.Native.Nat.{ℕ, zero, suc, _+_, _≤_}
+use mathlib.Core.Path.{_≡_, refl, ap, ap₂, sym, _∙_, subst}
 use mathlib.Core.Bool.{Bool, true, false, cond, not, _||_}
 use mathlib.Core.List.{List}
 use native.Mathlib.Omega.{arith}
-use borrow.Author.Tests.{eq-eqb, ltb-false}
+use borrow.Author.Tests.{eq-eqb, ltb-false, lt-leb}
 use lib.Dec.{leb, ltb}
 use lib.ListN.{length, replicate}
 use Rattle.refusal.specs.Verdict.{verdictNumber}
@@ -18,9 +19,8 @@ use Rattle.cojp.specs.declared.configuration.ConfigurationRead.{ConfigurationRe
 use Rattle.cojp.specs.declared.request.RequestRead.{RequestRead}
 use Rattle.cojp.specs.declared.version.Version.{Version}
 use Rattle.cojp.specs.declared.version.Version.the-variants.{Draft, Published}
-use Rattle.cojp_serial.specs.Arrival.{valid, courseOf, partAnswer, partStore, endArrival, requestEnd, configurationEnd}
-use Rattle.cojp_serial.specs.Calls as calls
-use Rattle.cojp_serial.specs.Calls.{Reader, request, configuration, SerialCall, resetting, sending, ending, Held, courseOn}
+use Rattle.cojp_serial.specs.Arrival.{nothingArrived, valid, courseOf, partAnswer, partStore, endArrival, requestEnd, configurationEnd}
+use Rattle.cojp_serial.specs.Calls.{Reader, request, configuration, ending, Held, courseOn}
 use Rattle.cojp_serial.specs.declared.arrival.Arrival.{Arrival}
 use Rattle.cojp_serial.specs.declared.arrival.Course.{Course}
 use Rattle.cojp_serial.specs.declared.arrival.Course.the-variants.{Outside, Overrun, Ended, Open}
@@ -34,13 +34,14 @@ use Rattle.payload_calls.specs.Read.{requestAsked, configurationAsked}
 use Rattle.serial_calls.specs.Ends.{mayEnd, Ends, requestEnded, configurationEnded}
 use Rattle.serial_calls.specs.Serial.{serialImage}
 use Rattle.pothatch_laws.specs.Runs.{Lent, lent}
-use Rattle.pothatch_laws.specs.Serial.{formNumber, readingNumber, Told, told, Begun, Sent, EndedRequest, EndedConfiguration, Did, tells, shown, SerialRuns}
-use Rattle.pothatch_laws.proofs.Following.{Step, runs-from}
-use Rattle.pothatch_laws.proofs.Images.{put-long, put-is, put-got}
+use Rattle.pothatch_laws.specs.Serial.{Call, resetting, sending, ending-request, ending-configuration, Told, told, Begun, Sent, EndedRequest, EndedConfiguration, Did, Own, none, own, ends, toldBy, leftBy, tells, after, holding, shown, SerialRuns}
+use Rattle.pothatch_laws.proofs.Following.{Step, runs, runs-from}
+use Rattle.pothatch_laws.proofs.Handing.{right-number, right-result, wrong-number, wrong-result}
+use Rattle.pothatch_laws.proofs.Images.{put-long, put-is, put-got, got-fits, got-put}
 
 -- ---- the lent bytes stand for an arrival and its store
 record StandsFor (h : Held) (x : Lent) : Type 0 where
-  few : h .arrival .arrived ≤ 256
+  fits : serialImage .Fit (h .arrival)
   the-image : x .image ≡ serialImage .put (h .arrival)
   the-store : x .memory ≡ h .store
 
@@ -53,9 +54,6 @@ told-as t e f = ap₂ told e f
 bool-fits : (b : Bool) → boolPart .Fit b
 bool-fits true = (omega arith, refl)
 bool-fits false = (omega arith, refl)
-
-fit : (a : Arrival) → a .arrived ≤ 256 → serialImage .Fit a
-fit a h = (omega arith, (bool-fits (a .overrun), bool-fits (a .ended)))
 
 -- ---- no more than 256
 abbrev courseNumber : Course → ℕ
@@ -80,50 +78,48 @@ room-left : (a : Arrival) (lent n : ℕ) → courseOf a lent n ≡ Open → a .a
 unfolding courseOf
 room-left a lent n e = ltb-false 256 (a .arrived + n) (not-passed (valid a lent) (a .overrun) (ltb 256 (a .arrived + n)) (a .ended) e)
 
-part-few : (c : Course) (a : Arrival) (lent n : ℕ) → courseOf a lent n ≡ c → a .arrived ≤ 256 → partAnswer c a n .arrival .arrived ≤ 256
-part-few Outside a lent n e h = h
-part-few Overrun a lent n e h = h
-part-few Ended a lent n e h = h
-part-few Open a lent n e h = room-left a lent n e
+pub part-fits : (c : Course) (a : Arrival) (lent n : ℕ) → courseOf a lent n ≡ c → serialImage .Fit a
+    → serialImage .Fit (partAnswer c a n .arrival)
+part-fits Outside a lent n e f = f
+part-fits Overrun a lent n e f = (f .0, (bool-fits true, f .1 .1))
+part-fits Ended a lent n e f = f
+part-fits Open a lent n e f = (omega (arith, room-left a lent n e), f .1)
 
-end-few : (c : Course) (a : Arrival) → a .arrived ≤ 256 → endArrival c a .arrived ≤ 256
-end-few Outside a h = h
-end-few Overrun a h = h
-end-few Ended a h = h
-end-few Open a h = h
+pub end-fits : (c : Course) (a : Arrival) → serialImage .Fit a → serialImage .Fit (endArrival c a)
+end-fits Outside a f = f
+end-fits Overrun a f = f
+end-fits Ended a f = f
+end-fits Open a f = (f .0, (f .1 .0, bool-fits true))
+
+pub none-fits : serialImage .Fit nothingArrived
+none-fits = (omega arith, (bool-fits false, bool-fits false))
 
 -- ---- the reading that the numbers ask for
-known : (v : Version) (strict : Bool) → isReading (formNumber v) (readingNumber strict) ≡ true
-known Draft true = refl
-known Draft false = refl
-known Published true = refl
-known Published false = refl
+data Asks (form reading : ℕ) : Type 0 where
+  for-one : (v : Version) (strict : Bool) → isReading form reading ≡ true → requestAsked form reading ≡ readRequestBy v (headBy strict)
+      → configurationAsked form reading ≡ readConfigurationBy v (headBy strict)
+      → ((r : Version → Bool → Reader) → ends r form reading ≡ own (ending (r v strict)))
+      → Asks form reading
+  for-none : isReading form reading ≡ false → ((r : Version → Bool → Reader) → ends r form reading ≡ none) → Asks form reading
 
-request-asked : (v : Version) (strict : Bool) → requestAsked (formNumber v) (readingNumber strict) ≡ readRequestBy v (headBy strict)
-request-asked Draft true = refl
-request-asked Draft false = refl
-request-asked Published true = refl
-request-asked Published false = refl
+asks : (form reading : ℕ) → Asks form reading
+asks zero zero = for-one Draft false refl refl refl (λ r. refl)
+asks zero (suc zero) = for-one Draft true refl refl refl (λ r. refl)
+asks zero (suc (suc n)) = for-none (lt-leb (suc (suc n)) 1 (omega arith)) (λ r. refl)
+asks (suc zero) zero = for-one Published false refl refl refl (λ r. refl)
+asks (suc zero) (suc zero) = for-one Published true refl refl refl (λ r. refl)
+asks (suc zero) (suc (suc n)) = for-none (lt-leb (suc (suc n)) 1 (omega arith)) (λ r. refl)
+asks (suc (suc f)) reading = for-none (rw (lt-leb (suc (suc f)) 1 (omega arith))) (λ r. refl)
 
-configuration-asked : (v : Version) (strict : Bool)
-    → configurationAsked (formNumber v) (readingNumber strict) ≡ readConfigurationBy v (headBy strict)
-configuration-asked Draft true = refl
-configuration-asked Draft false = refl
-configuration-asked Published true = refl
-configuration-asked Published false = refl
-
--- ---- an end that is lent what it needs
+-- ---- an end that is lent a struct of its size
 module _ {n : ℕ} {right : Bool} {v : Verdict} {object : List ℕ} {a : Arrival} {s out : List ℕ} {r : ℕ} {s′ out′ : List ℕ}
     (d : Ends n right v object a s out r s′ out′)
-    (l : length out ≡ n) (e : right ≡ true) where
-  end-number : r ≡ verdictNumber v
-  end-number = rw (eq-eqb (length out) n l, e) at (d .hands .number)
+    (l : length out ≡ n) where
+  end-image : right ≡ true → s′ ≡ serialImage .put a
+  end-image e = rw (eq-eqb (length out) n l, e) at (d .serial)
 
-  end-result : out′ ≡ left v (replicate n 0) object
-  end-result = rw (eq-eqb (length out) n l, e) at (d .hands .result)
-
-  end-image : s′ ≡ serialImage .put a
-  end-image = rw (eq-eqb (length out) n l, e) at (d .serial)
+  end-stays : right ≡ false → s′ ≡ s
+  end-stays e = rw (eq-eqb (length out) n l, e) at (d .serial)
 
 -- ---- what is handed back
 abbrev requestResult : RequestEnd → List ℕ
@@ -133,13 +129,17 @@ abbrev configurationResult : ConfigurationEnd → List ℕ
 configurationResult z = left (z .read .verdict) (replicate 570 0) (configurationImage .put (z .read .configuration))
 
 -- ---- each call
+record Came (o : Own) (n : ℕ) (h : Held) (t : Told) (y : Lent) : Type 0 where
+  same : t ≡ toldBy o n h
+  stands : StandsFor (leftBy o h) y
+
 reset-step : (h : Held) (x : Lent) (t : Told) (y : Lent) → length (x .image) ≡ 6 → x .memory ≡ h .store → Begun x t y
-    → Step tells calls.left StandsFor resetting h t y
+    → Step tells after StandsFor resetting h t y
 reset-step h x t y l e d =
     record {
       same = told-as t (rw (eq-eqb (length (x .image)) 6 l) at (d .resets .number)) (d .result);
       stands = record {
-        few = omega arith;
+        fits = none-fits;
         the-image = rw (eq-eqb (length (x .image)) 6 l) at (d .resets .serial);
         the-store = d .memory ∙ e;
       };
@@ -147,20 +147,20 @@ reset-step h x t y l e d =
 
 module _ (laws : Lawful serialImage) (h : Held) (x : Lent) (a : StandsFor h x) where
   is : isImage serialImage (x .image) ≡ true
-  is = ap (isImage serialImage) (a .the-image) ∙ put-is serialImage laws (h .arrival) (fit (h .arrival) (a .few))
+  is = ap (isImage serialImage) (a .the-image) ∙ put-is serialImage laws (h .arrival) (a .fits)
 
   got : serialImage .get (x .image) ≡ h .arrival
-  got = ap (serialImage .get) (a .the-image) ∙ put-got serialImage laws (h .arrival) (fit (h .arrival) (a .few))
+  got = ap (serialImage .get) (a .the-image) ∙ put-got serialImage laws (h .arrival) (a .fits)
 
-  may : (v : Version) (strict : Bool) → mayEnd (x .image) (formNumber v) (readingNumber strict) ≡ true
-  may v strict = rw (is, known v strict)
+  may : (form reading : ℕ) {b : Bool} → isReading form reading ≡ b → mayEnd (x .image) form reading ≡ b
+  may form reading e = rw is e
 
-  part-step : (p : List ℕ) (t : Told) (y : Lent) → Sent p x t y → Step tells calls.left StandsFor (sending p) h t y
+  part-step : (p : List ℕ) (t : Told) (y : Lent) → Sent p x t y → Step tells after StandsFor (sending p) h t y
   part-step p t y d =
       record {
         same = told-as t (rw (is, got, a .the-store) at (d .parts .number)) (d .result);
         stands = record {
-          few = part-few (courseOn h (length p)) (h .arrival) (length (h .store)) (length p) refl (a .few);
+          fits = part-fits (courseOn h (length p)) (h .arrival) (length (h .store)) (length p) refl (a .fits);
           the-image = rw (is, got, a .the-store) at (d .parts .serial);
           the-store =
               (rw (is, got, a .the-store) at (d .parts .store))
@@ -168,63 +168,95 @@ module _ (laws : Lawful serialImage) (h : Held) (x : Lent) (a : StandsFor h x) w
         };
       }
 
-  request-as : (v : Version) (strict : Bool)
-      → requestEnded (x .image) (x .memory) (formNumber v) (readingNumber strict)
-      ≡ requestEnd (readRequestBy v (headBy strict)) (h .arrival) (h .store)
-  request-as v strict =
-      ap (λ (f : List ℕ → RequestRead). requestEnd f (serialImage .get (x .image)) (x .memory)) (request-asked v strict)
-      ∙ ap₂ (λ (b : Arrival) (m : List ℕ). requestEnd (readRequestBy v (headBy strict)) b m) got (a .the-store)
+  unmoved : {y : Lent} → y .image ≡ x .image → y .memory ≡ x .memory → StandsFor h y
+  unmoved e f = record { fits = a .fits; the-image = e ∙ a .the-image; the-store = f ∙ a .the-store }
 
-  configuration-as : (v : Version) (strict : Bool)
-      → configurationEnded (x .image) (x .memory) (formNumber v) (readingNumber strict)
-      ≡ configurationEnd (readConfigurationBy v (headBy strict)) (h .arrival) (h .store)
-  configuration-as v strict =
-      ap (λ (f : List ℕ → ConfigurationRead). configurationEnd f (serialImage .get (x .image)) (x .memory)) (configuration-asked v strict)
-      ∙ ap₂ (λ (b : Arrival) (m : List ℕ). configurationEnd (readConfigurationBy v (headBy strict)) b m) got (a .the-store)
+  module _ (form reading : ℕ) (t : Told) (y : Lent) (d : EndedRequest form reading x t y) where
+    request-as : (f : List ℕ → RequestRead) → requestAsked form reading ≡ f
+        → requestEnded (x .image) (x .memory) form reading ≡ requestEnd f (h .arrival) (h .store)
+    request-as f e =
+        ap (λ (g : List ℕ → RequestRead). requestEnd g (serialImage .get (x .image)) (x .memory)) e
+        ∙ ap₂ (λ (b : Arrival) (m : List ℕ). requestEnd f b m) got (a .the-store)
 
-  request-step : (v : Version) (strict : Bool) (t : Told) (y : Lent) → EndedRequest v strict x t y
-      → Step tells calls.left StandsFor (ending (request v strict)) h t y
-  request-step v strict t y d =
-      let e = request-as v strict in
-      record {
-        same =
-            told-as t (end-number (d .ends) (d .fits) (may v strict)) (end-result (d .ends) (d .fits) (may v strict))
-            ∙ ap (λ (z : RequestEnd). told (verdictNumber (z .read .verdict)) (requestResult z)) e;
-        stands = record {
-          few = end-few (courseOn h 0) (h .arrival) (a .few);
-          the-image = end-image (d .ends) (d .fits) (may v strict) ∙ ap (λ (z : RequestEnd). serialImage .put (z .arrival)) e;
-          the-store = d .memory ∙ a .the-store;
-        };
-      }
+    request-came : Asks form reading → Came (ends request form reading) 296 h t y
+    request-came (for-one v strict i q w o) =
+        let e = request-as (readRequestBy v (headBy strict)) q in
+        let m = may form reading i in
+        subst (λ (c : Own). Came c 296 h t y) (sym (o request))
+        (record {
+          same =
+              told-as t (right-number (d .ends .hands) (d .fits) m) (right-result (d .ends .hands) (d .fits) m)
+              ∙ ap (λ (z : RequestEnd). told (verdictNumber (z .read .verdict)) (requestResult z)) e;
+          stands = record {
+            fits = end-fits (courseOn h 0) (h .arrival) (a .fits);
+            the-image = end-image (d .ends) (d .fits) m ∙ ap (λ (z : RequestEnd). serialImage .put (z .arrival)) e;
+            the-store = d .memory ∙ a .the-store;
+          };
+        })
+    request-came (for-none i o) =
+        let m = may form reading i in
+        subst (λ (c : Own). Came c 296 h t y) (sym (o request))
+        (record {
+          same = told-as t (wrong-number (d .ends .hands) (d .fits) m) (wrong-result (d .ends .hands) (d .fits) m);
+          stands = unmoved (end-stays (d .ends) (d .fits) m) (d .memory);
+        })
 
-  configuration-step : (v : Version) (strict : Bool) (t : Told) (y : Lent) → EndedConfiguration v strict x t y
-      → Step tells calls.left StandsFor (ending (configuration v strict)) h t y
-  configuration-step v strict t y d =
-      let e = configuration-as v strict in
-      record {
-        same =
-            told-as t (end-number (d .ends) (d .fits) (may v strict)) (end-result (d .ends) (d .fits) (may v strict))
-            ∙ ap (λ (z : ConfigurationEnd). told (verdictNumber (z .read .verdict)) (configurationResult z)) e;
-        stands = record {
-          few = end-few (courseOn h 0) (h .arrival) (a .few);
-          the-image = end-image (d .ends) (d .fits) (may v strict) ∙ ap (λ (z : ConfigurationEnd). serialImage .put (z .arrival)) e;
-          the-store = d .memory ∙ a .the-store;
-        };
-      }
+  module _ (form reading : ℕ) (t : Told) (y : Lent) (d : EndedConfiguration form reading x t y) where
+    configuration-as : (f : List ℕ → ConfigurationRead) → configurationAsked form reading ≡ f
+        → configurationEnded (x .image) (x .memory) form reading ≡ configurationEnd f (h .arrival) (h .store)
+    configuration-as f e =
+        ap (λ (g : List ℕ → ConfigurationRead). configurationEnd g (serialImage .get (x .image)) (x .memory)) e
+        ∙ ap₂ (λ (b : Arrival) (m : List ℕ). configurationEnd f b m) got (a .the-store)
 
-  reader-step : (r : Reader) (t : Told) (y : Lent) → Did (ending r) x t y → Step tells calls.left StandsFor (ending r) h t y
-  reader-step (request v strict) t y d = request-step v strict t y d
-  reader-step (configuration v strict) t y d = configuration-step v strict t y d
+    configuration-came : Asks form reading → Came (ends configuration form reading) 570 h t y
+    configuration-came (for-one v strict i q w o) =
+        let e = configuration-as (readConfigurationBy v (headBy strict)) w in
+        let m = may form reading i in
+        subst (λ (c : Own). Came c 570 h t y) (sym (o configuration))
+        (record {
+          same =
+              told-as t (right-number (d .ends .hands) (d .fits) m) (right-result (d .ends .hands) (d .fits) m)
+              ∙ ap (λ (z : ConfigurationEnd). told (verdictNumber (z .read .verdict)) (configurationResult z)) e;
+          stands = record {
+            fits = end-fits (courseOn h 0) (h .arrival) (a .fits);
+            the-image = end-image (d .ends) (d .fits) m ∙ ap (λ (z : ConfigurationEnd). serialImage .put (z .arrival)) e;
+            the-store = d .memory ∙ a .the-store;
+          };
+        })
+    configuration-came (for-none i o) =
+        let m = may form reading i in
+        subst (λ (c : Own). Came c 570 h t y) (sym (o configuration))
+        (record {
+          same = told-as t (wrong-number (d .ends .hands) (d .fits) m) (wrong-result (d .ends .hands) (d .fits) m);
+          stands = unmoved (end-stays (d .ends) (d .fits) m) (d .memory);
+        })
 
   long : length (x .image) ≡ 6
-  long = ap length (a .the-image) ∙ put-long serialImage laws (h .arrival) (fit (h .arrival) (a .few))
+  long = ap length (a .the-image) ∙ put-long serialImage laws (h .arrival) (a .fits)
 
-  step : (c : SerialCall) (t : Told) (y : Lent) → Did c x t y → Step tells calls.left StandsFor c h t y
+  step : (c : Call) (t : Told) (y : Lent) → Did c x t y → Step tells after StandsFor c h t y
   step resetting t y d = reset-step h x t y long (a .the-store) d
   step (sending p) t y d = part-step p t y d
-  step (ending r) t y d = reader-step r t y d
+  step (ending-request form reading) t y d =
+      let p = request-came form reading t y d (asks form reading) in
+      record { same = p .same; stands = p .stands }
+  step (ending-configuration form reading) t y d =
+      let p = configuration-came form reading t y d (asks form reading) in
+      record { same = p .same; stands = p .stands }
 
 pub serial-runs : Lawful serialImage → SerialRuns
-serial-runs laws cs h x ts z l e r =
-    runs-from Did tells calls.left StandsFor shown seen (λ c j w t y a d. step laws j w a c t y d) resetting cs h x ts z
-    (λ t y d. reset-step h x t y l e d) r
+serial-runs laws =
+    record {
+      from-reset = λ cs h x ts z l e r.
+          runs-from Did tells after StandsFor shown seen (λ c j w t y a d. step laws j w a c t y d) resetting cs h x ts z
+          (λ t y d. reset-step h x t y l e d)
+          r;
+      from-image = λ cs x ts z b i r.
+          runs Did tells after StandsFor shown seen (λ c j w t y a d. step laws j w a c t y d) cs (holding (x .image) (x .memory)) x ts z
+          (record {
+            fits = got-fits serialImage laws (x .image) b i;
+            the-image = sym (got-put serialImage laws (x .image) b i);
+            the-store = refl;
+          })
+          r;
+    }

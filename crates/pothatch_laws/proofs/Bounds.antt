@@ -1,14 +1,16 @@
--- Every call keeps a ledger that an image can hold: addresses have sixteen bits, no more are free than there are, and there is a mark for
+-- Every call keeps a ledger that an image can hold: what is opened ends at FFFF at most, no more are free than there are, and there is a mark for
 -- each of 64 groups.
 use Prim.Native.Nat.{ℕ, zero, suc, _+_, _-_, _*_, _/_, _^_, _≤_, _<_}
 use mathlib.Core.Path.{_≡_, refl, ap}
-use mathlib.Core.Bool.{Bool, true, false, cond}
+use mathlib.Core.Bool.{Bool, true, false, cond, _&&_}
 use mathlib.Core.List.{List, [], _∷_}
 use native.Mathlib.Omega.{arith}
 use native.Mathlib.Nat.{pow-suc}
 use borrow.Author.Tests.{ltb-true, leb-true}
 use lib.Dec.{leb, ltb}
 use lib.ListN.{length, take, drop}
+use Rattle.logic_facts.specs.Tests.{both-left, both-right}
+use Rattle.refusal.specs.Verdict.{verdictNumber}
 use Rattle.refusal.specs.declared.Verdict.{Verdict}
 use Rattle.refusal.specs.declared.Verdict.the-variants as verdict
 use Rattle.short_address.specs.Address.{isAddress, bytesOf}
@@ -16,20 +18,23 @@ use Rattle.address_places.specs.Marks.{bit, withMark, groupAt, groupOf, marksOf
 use Rattle.address_places.specs.Place.{Place, places, isFree, has, countFree, hold, freed, sought}
 use Rattle.address_places.specs.declared.place.Sought.{Sought}
 use Rattle.address_places.specs.declared.place.Sought.the-variants.{Held, Free, Nothing}
-use Rattle.address_range.specs.Range.{judged, counted}
+use Rattle.address_range.specs.Range.{inLimits, judged, counted}
 use Rattle.address_ledger.specs.Ledger.{countedOf, placesOf, judgedOf, cut, opened, openedBy, granted, grantedBy, granting, givenBack, givenBackBy, givingBack}
 use Rattle.address_ledger.specs.declared.ledger.Ledger.{Ledger}
+use Rattle.address_ledger_laws.specs.Demand1.{asking, returning, perform}
+use Rattle.state_image.specs.Ledger.{ledgerImage}
 
--- what C can hand in
-pub record Sixteen (first size : ℕ) : Type 0 where
-  pub first-fits : first < 65536
-  pub size-fits : size < 65536
+record Fits (l : Ledger) : Type 0 where
+  first : l .first < 65536
+  size : l .size < 65536
+  free : l .free < 65536
+  marks : l .marks < 2 ^ 64
 
-pub record Fits (l : Ledger) : Type 0 where
-  pub first : l .first < 65536
-  pub size : l .size < 65536
-  pub free : l .free < 65536
-  pub marks : l .marks < 2 ^ 64
+by-image : (l : Ledger) → ledgerImage .Fit l → Fits l
+by-image l f = record { first = f .0; size = f .1 .0; free = f .1 .1 .0; marks = f .1 .1 .1 }
+
+in-image : (l : Ledger) → Fits l → ledgerImage .Fit l
+in-image l f = (f .first, (f .size, (f .free, f .marks)))
 
 -- ---- marks
 bit-most : (b : Bool) → bit b ≤ 1
@@ -124,7 +129,7 @@ module _ (l : Ledger) (m b : List ℕ) (f : Fits l) where
   granted-by verdict.Accepted = granting-fits (countedOf l) (soughtBy (l .marks) b (placesOf l m)) few
   granted-by (verdict.Refused r) = f
 
-  pub granted-fits : Fits (granted l m b .ledger)
+  granted-fits : Fits (granted l m b .ledger)
   unfolding granted
   granted-fits = granted-by (judgedOf l m)
 
@@ -133,56 +138,52 @@ module _ (l : Ledger) (m b : List ℕ) (f : Fits l) where
   given-by verdict.Accepted = giving-fits (countedOf l) (sought b (placesOf l m)) few
   given-by (verdict.Refused r) = f
 
-  pub given-fits : Fits (givenBack l m b .ledger)
+  given-fits : Fits (givenBack l m b .ledger)
   unfolding givenBack
   given-fits = given-by (judgedOf l m)
 
-module _ (first size : ℕ) (m : List ℕ) (h : Sixteen first size) where
-  opened-by : (v : Verdict) → Fits (openedBy v first size m .ledger)
+-- ---- a range that is accepted is in its limits
+record Within (first size : ℕ) : Type 0 where
+  some : 1 ≤ size
+  few : size ≤ 4096
+  end : first + size ≤ 65536
+
+within : (first size len : ℕ) (b : Bool) → inLimits first size ≡ b → judged first size len ≡ verdict.Accepted → Within first size
+unfolding judged inLimits
+within first size len true e h =
+    let rest = both-right (leb 1 size) (leb size 4096 && leb (first + size) 65536) e in
+    record {
+      some = leb-true 1 size (both-left (leb 1 size) (leb size 4096 && leb (first + size) 65536) e);
+      few = leb-true size 4096 (both-left (leb size 4096) (leb (first + size) 65536) rest);
+      end = leb-true (first + size) 65536 (both-right (leb size 4096) (leb (first + size) 65536) rest);
+    }
+within first size len false e h =
+    let z : _≡_ {A = ℕ} 13 0 = ap verdictNumber (rw e at h) in
+    absurd (omega arith)
+
+module _ (first size : ℕ) (m : List ℕ) where
+  opened-by : (v : Verdict) → judged first size (length m) ≡ v → Fits (openedBy v first size m .ledger)
   unfolding openedBy
-  opened-by verdict.Accepted =
+  opened-by verdict.Accepted e =
+      let h = within first size (length m) (inLimits first size) refl e in
       record {
-        first = h .first-fits;
-        size = h .size-fits;
+        first = omega (arith, h .some, h .end);
+        size = omega (arith, h .few);
         free =
-            omega
-            (arith, h .size-fits, counted-most first size, places-many (counted first size) m, free-most (places (counted first size) m));
+            omega (arith, h .few, counted-most first size, places-many (counted first size) m, free-most (places (counted first size) m));
         marks = marks-below 64 (places (counted first size) m);
       }
-  opened-by (verdict.Refused r) = record { first = omega arith; size = omega arith; free = omega arith; marks = omega arith }
+  opened-by (verdict.Refused r) e = record { first = omega arith; size = omega arith; free = omega arith; marks = omega arith }
 
-  pub opened-fits : Fits (opened first size m .ledger)
+  pub opened-fits : ledgerImage .Fit (opened first size m .ledger)
   unfolding opened
-  opened-fits = opened-by (judged first size (length m))
+  opened-fits = in-image (opened first size m .ledger) (opened-by (judged first size (length m)) refl)
 
--- ---- the range stays
-module _ (l : Ledger) (m b : List ℕ) where
-  granting-size : (n : ℕ) (s : Sought) → granting n l m b s .ledger .size ≡ l .size
-  unfolding granting
-  granting-size n (Held k) = refl
-  granting-size n (Free k) = refl
-  granting-size n Nothing = refl
+module _ (b : List ℕ) (l : Ledger) (m : List ℕ) (f : ledgerImage .Fit l) where
+  pub asked-fits : ledgerImage .Fit (perform (asking b) l m .ledger)
+  unfolding perform
+  asked-fits = in-image (granted l m b .ledger) (granted-fits l m b (by-image l f))
 
-  giving-size : (n : ℕ) (s : Sought) → givingBack n l m s .ledger .size ≡ l .size
-  unfolding givingBack
-  giving-size n (Held k) = refl
-  giving-size n (Free k) = refl
-  giving-size n Nothing = refl
-
-  size-by : (v : Verdict) → grantedBy v l m b .ledger .size ≡ l .size
-  unfolding grantedBy
-  size-by verdict.Accepted = granting-size (countedOf l) (soughtBy (l .marks) b (placesOf l m))
-  size-by (verdict.Refused r) = refl
-
-  pub granted-size : granted l m b .ledger .size ≡ l .size
-  unfolding granted
-  granted-size = size-by (judgedOf l m)
-
-  given-size-by : (v : Verdict) → givenBackBy v l m b .ledger .size ≡ l .size
-  unfolding givenBackBy
-  given-size-by verdict.Accepted = giving-size (countedOf l) (sought b (placesOf l m))
-  given-size-by (verdict.Refused r) = refl
-
-  pub given-size : givenBack l m b .ledger .size ≡ l .size
-  unfolding givenBack
-  given-size = given-size-by (judgedOf l m)
+  pub returned-fits : ledgerImage .Fit (perform (returning b) l m .ledger)
+  unfolding perform
+  returned-fits = in-image (givenBack l m b .ledger) (given-fits l m b (by-image l f))

@@ -11,10 +11,10 @@ pub record Lent : Type 0 where
 abbrev pub lent : List ℕ → List ℕ → Lent
 lent s m = record { image = s; memory = m }
 
--- the calls were made one after the other, each as its contract says: what they answered, and what stands in the lent bytes afterwards
-pub data Runs {C T : Type 0} (Did : C → Lent → T → Lent → Type 0) : List C → Lent → List T → Lent → Type 0 where
-  none-made : {x : Lent} → Runs Did [] x [] x
-  next-made : {c : C} {cs : List C} {x y z : Lent} {t : T} {ts : List T} → Did c x t y → Runs Did cs y ts z → Runs Did (c ∷ cs) x (t ∷ ts) z
+-- the calls were made one after the other, each as its contract says: what they answered, and what stands in the lent bytes (L) afterwards
+pub data Runs {C L T : Type 0} (Did : C → L → T → L → Type 0) : List C → L → List T → L → Type 0 where
+  none-made : {x : L} → Runs Did [] x [] x
+  next-made : {c : C} {cs : List C} {x y z : L} {t : T} {ts : List T} → Did c x t y → Runs Did cs y ts z → Runs Did (c ∷ cs) x (t ∷ ts) z
 
 -- ---- the calls on a value
 abbrev pub afterAll : {C M : Type 0} → (C → M → M) → List C → M → M
@@ -27,6 +27,7 @@ module _ {C M T : Type 0} where
   answers tell after (c ∷ cs) m = tell c m ∷ answers tell after cs (after c m)
 
   -- the calls cs from C answered ts and left z: what they answer on the value m, and what stands for the value after them
-  pub record As (tell : C → M → T) (after : C → M → M) (shown : M → Lent) (cs : List C) (m : M) (ts : List T) (z : Lent) : Type 0 where
+  pub record As {L : Type 0} (tell : C → M → T) (after : C → M → M) (shown : M → L) (cs : List C) (m : M) (ts : List T) (z : L)
+      : Type 0 where
     pub answered : ts ≡ answers tell after cs m
     pub left : z ≡ shown (afterAll after cs m)

@@ -1,29 +1,24 @@
--- A configuration that is read of bytes fits its image: each pair of the map takes a parameter that fits, or is counted as passed over, and
--- there are fewer pairs than eight bytes count.
-use Prim.Native.Nat.{ℕ, suc, _+_, _^_, _<_}
+-- A configuration that is read of bytes fits its image: each known label takes a parameter that fits.
+use Prim.Native.Nat.{ℕ, suc, _<_}
 use mathlib.Core.Path.{refl}
+use mathlib.Core.Bool.{Bool}
 use mathlib.Core.List.{List}
 use native.Mathlib.Omega.{arith}
 use borrow.Author.Tests.{eqb-true}
-use lib.Dec.{eqb, ltb}
-use lib.ListN.{length}
+use lib.Dec.{eqb}
 use Rattle.image.specs.Part.{AllBytes}
 use Rattle.link_key_set.specs.KeyLaws.{KeyLaws}
-use Rattle.cbor.specs.Decode as decode
-use Rattle.cbor.specs.Decode.{Outcome, heading, payloadBy}
-use Rattle.cbor.specs.Item.{Item, Pairs, unsigned, negative, bytes, text, array, map, tag, simple, float}
-use Rattle.cbor.specs.View.{View, labelOf, viewOf}
-use Rattle.cbor.specs.declared.value.Label.{Label}
-use Rattle.cbor.specs.declared.value.Label.the-variants as label
-use Rattle.cojp.specs.Configuration.{emptyConfiguration, withKeys, withAddress, withJrc, withNetwork, withPrefix, standingFor, configurationPassing, takingFor, noted, configurationTaking, configurationForm, configurationAnswer}
+use Rattle.cbor.specs.Strict.{headBy}
+use Rattle.cbor.specs.View.{View}
+use Rattle.cojp.specs.Configuration.{emptyConfiguration, withKeys, withAddress, withJrc, withNetwork, withPrefix, standingFor, configurationPassing, takingFor, noted, configurationTaking, configurationForm, configurationAnswer, readConfigurationBy}
 use Rattle.cojp.specs.Faults.{added}
 use Rattle.cojp.specs.KeySet.{noKeysParameter, keysReadAs}
 use Rattle.cojp.specs.Address.{noAddressParameter, addressRead}
 use Rattle.cojp.specs.Octets.{noOctetsParameter, octetsRead}
 use Rattle.cojp.specs.Parameter.{laterParameter, parameterOf}
-use Rattle.cojp.specs.Reading.{Reading, refused, read, onward, put, following}
+use Rattle.cojp.specs.Reading.{Reading, refused, read, following}
 use Rattle.cojp.specs.Version.{byVersion, informed}
-use Rattle.cojp.specs.Walk.{knownRead, pairRead, pairsRead, mapRead, scannedRead, payloadReadBy}
+use Rattle.cojp.specs.Walk.{knownRead, payloadReadBy}
 use Rattle.cojp.specs.declared.configuration.Configuration.{Configuration}
 use Rattle.cojp.specs.declared.parameter.Parameter.{Parameter}
 use Rattle.cojp.specs.declared.parameter.Parameter.the-variants as name
@@ -36,32 +31,17 @@ use Rattle.object_image.specs.Address.{addressParameterPart}
 use Rattle.object_image.specs.Configuration.{keysParameterPart, configurationImage}
 use Rattle.object_image.specs.Faults.{faultsPart}
 use Rattle.object_image.specs.Octets.{octetsParameterPart}
-use Rattle.node_call_laws.specs.Follow.{ReadsFit}
-use Rattle.node_call_laws.proofs.Items.{Always, ViewOk, PairsOk, no-pairs, a-pair, Ok, OutOk, payload-ok}
+use Rattle.node_call_laws.proofs.Items.{Always, ViewOk}
 use Rattle.node_call_laws.proofs.Lists.{by-cond}
 use Rattle.node_call_laws.proofs.Parameters.{ReadOk, keys-read, address-read, octets-read, rate-taken, blacklist-taken, no-octets-fit, no-address-fits, no-list-fits}
 use Rattle.node_call_laws.proofs.Values.{report-fits, no-keys-fit, no-faults-fit, added-fits}
+use Rattle.node_call_laws.proofs.Walks.{put-ok, following-ok, Fitting, payload-read}
 
 abbrev ConfigurationFits : Configuration → Type 0
 ConfigurationFits c = configurationImage .Fit c
 
--- and so many more labels can be counted as passed over
-abbrev Fitting : ℕ → Configuration → Type 0
-Fitting n c = ConfigurationFits c × (c .passed + n < 256 ^ 8)
-
-put-ok : {A B : Type 0} (P : A → Type 0) (Q : B → Type 0) (f : A → B) (r : Reading A) → ReadOk P r → ((a : A) → P a → Q (f a)) → ReadOk Q (put f r)
-put-ok P Q f (refused k) h g = refl
-put-ok P Q f (read a) h g = g a h
-
-onward-ok : {A B : Type 0} (P : A → Type 0) (Q : B → Type 0) (r : Reading A) (f : A → Reading B) → ReadOk P r → ((a : A) → P a → ReadOk Q (f a))
-    → ReadOk Q (onward r f)
-onward-ok P Q (refused k) f h g = refl
-onward-ok P Q (read a) f h g = g a h
-
-following-ok : {A : Type 0} (P : A → Type 0) (v : Version) (bad : A) (r : Reading A) → P bad → ReadOk P r → ReadOk P (following v bad r)
-following-ok P Draft bad r b h = h
-following-ok P Published bad (refused k) b h = b
-following-ok P Published bad (read a) b h = h
+abbrev Reads : ℕ → Configuration → Type 0
+Reads m c = Fitting ConfigurationFits (λ (d : Configuration). d .passed) m c
 
 -- a label that names a parameter is a byte
 abbrev Known : Parameter → Type 0
@@ -92,57 +72,57 @@ small-label v n =
     (λ _. by-cond P (eqb n 4) (λ e _. omega (arith, eqb-true n 4 e)) (λ _. later-small v n)))
 
 module _ (laws : KeyLaws) (v : Version) where
-  module _ (c : Configuration) (m : ℕ) (f : Fitting m c) where
-    taking-for : (q : Parameter) (x : View) → ViewOk x → ReadOk (Fitting m) (takingFor v c q x)
+  module _ (c : Configuration) (m : ℕ) (f : Reads m c) where
+    taking-for : (q : Parameter) (x : View) → ViewOk x → ReadOk (Reads m) (takingFor v c q x)
     taking-for name.Keys x h =
-        put-ok (keysParameterPart .Fit) (Fitting m) (withKeys c) (following v (noKeysParameter Discarded) (keysReadAs (informed v) x))
+        put-ok (keysParameterPart .Fit) (Reads m) (withKeys c) (following v (noKeysParameter Discarded) (keysReadAs (informed v) x))
         (following-ok (keysParameterPart .Fit) v (noKeysParameter Discarded) (keysReadAs (informed v) x) (report-fits Discarded, no-keys-fit)
         (keys-read laws (informed v) x h))
         (λ p g. (((g, f .0 .0 .1), f .0 .1), f .1))
     taking-for name.Address x h =
-        put-ok (addressParameterPart .Fit) (Fitting m) (withAddress c) (following v (noAddressParameter Discarded) (addressRead x))
+        put-ok (addressParameterPart .Fit) (Reads m) (withAddress c) (following v (noAddressParameter Discarded) (addressRead x))
         (following-ok (addressParameterPart .Fit) v (noAddressParameter Discarded) (addressRead x) (no-address-fits Discarded) (address-read x h))
         (λ p g. (((f .0 .0 .0, (g, f .0 .0 .1 .1)), f .0 .1), f .1))
     taking-for name.Jrc x h =
-        put-ok (octetsParameterPart .Fit) (Fitting m) (withJrc c) (following v (noOctetsParameter Discarded) (octetsRead 16 x))
+        put-ok (octetsParameterPart .Fit) (Reads m) (withJrc c) (following v (noOctetsParameter Discarded) (octetsRead 16 x))
         (following-ok (octetsParameterPart .Fit) v (noOctetsParameter Discarded) (octetsRead 16 x) (no-octets-fit Discarded) (octets-read 16 x h))
         (λ p g. (((f .0 .0 .0, (f .0 .0 .1 .0, (g, f .0 .0 .1 .1 .1))), f .0 .1), f .1))
     taking-for name.Network x h =
-        put-ok (octetsParameterPart .Fit) (Fitting m) (withNetwork c) (octetsRead 0 x) (octets-read 0 x h)
+        put-ok (octetsParameterPart .Fit) (Reads m) (withNetwork c) (octetsRead 0 x) (octets-read 0 x h)
         (λ p g. (((f .0 .0 .0, (f .0 .0 .1 .0, (f .0 .0 .1 .1 .0, (g, f .0 .0 .1 .1 .1 .1)))), f .0 .1), f .1))
     taking-for name.Prefix x h =
-        put-ok (octetsParameterPart .Fit) (Fitting m) (withPrefix c) (octetsRead 0 x) (octets-read 0 x h)
+        put-ok (octetsParameterPart .Fit) (Reads m) (withPrefix c) (octetsRead 0 x) (octets-read 0 x h)
         (λ p g. (((f .0 .0 .0, (f .0 .0 .1 .0, (f .0 .0 .1 .1 .0, (f .0 .0 .1 .1 .1 .0, g)))), f .0 .1), f .1))
     taking-for name.Blacklist x h = ((f .0 .0, (blacklist-taken x h, f .0 .1 .1)), f .1)
     taking-for name.Rate x h = ((f .0 .0, (f .0 .1 .0, (rate-taken x h, f .0 .1 .1 .1))), f .1)
     taking-for name.Unknown x h = f
 
-  noted-fits : (n m : ℕ) → n < 256 → (c : Configuration) → Fitting m c → Fitting m (noted v n c)
+  noted-fits : (n m : ℕ) → n < 256 → (c : Configuration) → Reads m c → Reads m (noted v n c)
   noted-fits n m l c f = ((f .0 .0, (f .0 .1 .0, (f .0 .1 .1 .0, (came v, f .0 .1 .1 .1 .1)))), f .1)
     where
       came : (w : Version) → faultsPart .Fit (byVersion w (c .came) (added (c .came) 1 n))
       came Draft = f .0 .1 .1 .1 .0
       came Published = added-fits (c .came) 1 n (omega arith) l (f .0 .1 .1 .1 .0)
 
-  taken : (c : Configuration) (n m : ℕ) (x : View) → n < 256 → ViewOk x → Fitting m c → ReadOk (Fitting m) (configurationTaking v c n x)
+  taken : (c : Configuration) (n m : ℕ) (x : View) → n < 256 → ViewOk x → Reads m c → ReadOk (Reads m) (configurationTaking v c n x)
   unfolding configurationTaking
   taken c n m x l h f =
-      put-ok (Fitting m) (Fitting m) (noted v n) (takingFor v c (parameterOf v n) x) (taking-for c m f (parameterOf v n) x h)
+      put-ok (Reads m) (Reads m) (noted v n) (takingFor v c (parameterOf v n) x) (taking-for c m f (parameterOf v n) x h)
       (λ d g. noted-fits n m l d g)
 
-  passed-over : (c : Configuration) (m : ℕ) → Fitting (suc m) c → Fitting m (configurationPassing c)
+  passed-over : (c : Configuration) (m : ℕ) → Reads (suc m) c → Reads m (configurationPassing c)
   passed-over c m f = ((f .0 .0, (f .0 .1 .0, (f .0 .1 .1 .0, (f .0 .1 .1 .1 .0, omega (arith, f .1))))), omega (arith, f .1))
 
-  one-less : (c : Configuration) (m : ℕ) → Fitting (suc m) c → Fitting m c
+  one-less : (c : Configuration) (m : ℕ) → Reads (suc m) c → Reads m c
   one-less c m f = (f .0, omega (arith, f .1))
 
-  module _ (c : Configuration) (n m : ℕ) (x : View) (h : ViewOk x) (f : Fitting (suc m) c) where
-    by-standing : (s : Standing) → n < 256 → ReadOk (Fitting m) (knownRead (configurationForm v) s c n x)
+  module _ (c : Configuration) (n m : ℕ) (x : View) (h : ViewOk x) (f : Reads (suc m) c) where
+    by-standing : (s : Standing) → n < 256 → ReadOk (Reads m) (knownRead (configurationForm v) s c n x)
     by-standing Unknown l = passed-over c m f
     by-standing Fresh l = taken c n m x l h (one-less c m f)
     by-standing Again l = refl
 
-    by-name : (q : Parameter) → (Known q → n < 256) → ReadOk (Fitting m) (knownRead (configurationForm v) (standingFor c q) c n x)
+    by-name : (q : Parameter) → (Known q → n < 256) → ReadOk (Reads m) (knownRead (configurationForm v) (standingFor c q) c n x)
     by-name name.Keys l = by-standing (standingFor c name.Keys) (l refl)
     by-name name.Address l = by-standing (standingFor c name.Address) (l refl)
     by-name name.Jrc l = by-standing (standingFor c name.Jrc) (l refl)
@@ -152,16 +132,9 @@ module _ (laws : KeyLaws) (v : Version) where
     by-name name.Rate l = by-standing (standingFor c name.Rate) (l refl)
     by-name name.Unknown l = passed-over c m f
 
-  pair-ok : (c : Configuration) (m : ℕ) (k : Label) (x : View) → ViewOk x → Fitting (suc m) c → ReadOk (Fitting m) (pairRead (configurationForm v) c k x)
-  pair-ok c m label.NoInteger x h f = refl
-  pair-ok c m label.Negative x h f = passed-over c m f
-  pair-ok c m (label.Number n) x h f = by-name c n m x h f (parameterOf v n) (small-label v n)
-
-  pairs-read : (m : ℕ) (ps : Pairs) → PairsOk m ps → (c : Configuration) → Fitting m c → ReadOk ConfigurationFits (pairsRead (configurationForm v) c ps)
-  pairs-read m ps no-pairs c f = f .0
-  pairs-read m ps (a-pair {n = n} {k = k} {v = i} {ps = qs} h g) c f =
-      onward-ok (Fitting n) ConfigurationFits (pairRead (configurationForm v) c (labelOf k) (viewOf i)) _ (pair-ok c n (labelOf k) (viewOf i) h f)
-      (λ d e. pairs-read n qs g d e)
+  known : (c : Configuration) (n m : ℕ) (x : View) → ViewOk x → Reads (suc m) c
+      → ReadOk (Reads m) (knownRead (configurationForm v) (standingFor c (parameterOf v n)) c n x)
+  known c n m x h f = by-name c n m x h f (parameterOf v n) (small-label v n)
 
   empty-fits : ConfigurationFits emptyConfiguration
   empty-fits = (
@@ -169,31 +142,12 @@ module _ (laws : KeyLaws) (v : Version) where
     (no-list-fits Absent, ((report-fits Absent, omega arith), (no-faults-fit, omega arith))),
   )
 
-  map-ok : (i : Item) → Ok i → ReadOk ConfigurationFits (mapRead (configurationForm v) emptyConfiguration i)
-  map-ok (unsigned n) h = refl
-  map-ok (negative n) h = refl
-  map-ok (bytes s) h = refl
-  map-ok (text s) h = refl
-  map-ok (array is) h = refl
-  map-ok (map ps) h =
-      let fits = h .1 .1 in
-      pairs-read (fits .most) ps (fits .each) emptyConfiguration (empty-fits, omega (arith, fits .small))
-  map-ok (tag n i) h = refl
-  map-ok (simple n) h = refl
-  map-ok (float w n) h = refl
-
-  scanned-ok : (o : Outcome Item) → OutOk Ok o → ReadOk ConfigurationFits (scannedRead (configurationForm v) emptyConfiguration o)
-  scanned-ok (decode.refused k) h = refl
-  scanned-ok (decode.got i t) h = map-ok i (h .0)
-
-  payload-read : (p : List ℕ) → AllBytes p → ReadOk ConfigurationFits (payloadReadBy (configurationForm v) heading emptyConfiguration p)
-  unfolding payloadReadBy
-  payload-read p b =
-      by-cond (ReadOk ConfigurationFits) (ltb 256 (length p)) (λ _. refl) (λ _. scanned-ok (payloadBy heading p) (payload-ok p b))
-
   answer-ok : (r : Reading Configuration) → ReadOk ConfigurationFits r → ConfigurationFits (configurationAnswer r .configuration)
   answer-ok (refused k) h = empty-fits
   answer-ok (read c) h = h
 
-pub reads-fit : KeyLaws → (p : List ℕ) → AllBytes p → ReadsFit p
-reads-fit laws p b = λ v. answer-ok laws v (payloadReadBy (configurationForm v) heading emptyConfiguration p) (payload-read laws v p b)
+  pub configuration-fits : (strict : Bool) (p : List ℕ) → AllBytes p → ConfigurationFits (readConfigurationBy v (headBy strict) p .configuration)
+  configuration-fits strict p b =
+      answer-ok (payloadReadBy (configurationForm v) (headBy strict) emptyConfiguration p)
+      (payload-read (configurationForm v) ConfigurationFits (λ (c : Configuration). c .passed) passed-over known
+      emptyConfiguration (λ m w. (empty-fits, omega (arith, w))) strict p b)

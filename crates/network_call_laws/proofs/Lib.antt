@@ -1,0 +1,9 @@
+mod Running
+mod Boards
+mod Keys
+mod Turns
+mod Networks
+mod Rekeys
+mod Playing
+mod ByteLists
+mod Line

@@ -1,0 +1,5 @@
+pub mod Turn
+pub mod Network
+pub mod Rekey
+pub mod Playing
+pub mod Line
