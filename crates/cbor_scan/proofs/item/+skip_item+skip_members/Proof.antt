@@ -2,8 +2,10 @@
 -- Each return answers as the laws of Items say; the members' loop keeps what is left to pass over.
 use Prim.Native.Nat.{ℕ, _<_, _≤_, _+_, _-_, _*_}
 use mathlib.Core.Path.{_≡_, sym, ap, _∙_}
+use mathlib.Core.Logic.{⊎-elim}
 use native.Mathlib.Omega.{arith}
 use borrow.Author.Needs.{needs}
+use borrow.Author.Tests.{ltb-true}
 use borrow.Fn.Kinds.{In, Out}
 use borrow.Fn.PlainCycle.{Measures, is, falls, and}
 use mathlib.Core.Bool.{Bool}
@@ -29,6 +31,8 @@ use Rattle.cbor.proofs.head.read_head_by.Reads as read-head-by-reads
 use Rattle.cbor.proofs.head.read_head_by.Kinds as read-head-by-kinds
 use Rattle.cbor_scan.proofs.item.inside.Reads as inside-reads
 use Rattle.cbor_scan.proofs.item.inside.Kinds as inside-kinds
+use Rattle.cbor_scan.proofs.item.plain_end.Reads as plain-end-reads
+use Rattle.cbor_scan.proofs.item.plain_end.Kinds as plain-end-kinds
 use Rattle.cbor_scan.proofs.item.+skip_item+skip_members.{statement}
 use Rattle.cbor_scan.proofs.item.+skip_item+skip_members.Tie.{close}
 
@@ -62,10 +66,13 @@ item-calls t = (read-head-by-reads.Asked, read-head-by-reads.Learnt, skip-member
 
 abbrev Members-calls : Type 1
 Members-calls =
-    In 1 inside-kinds.ps × Out 1 inside-kinds.ps inside-kinds.r × In 1 skip-item-kinds.ps × Out 1 skip-item-kinds.ps skip-item-kinds.r
+    In 1 inside-kinds.ps × Out 1 inside-kinds.ps inside-kinds.r
+    × In 1 plain-end-kinds.ps × Out 1 plain-end-kinds.ps plain-end-kinds.r
+    × In 1 skip-item-kinds.ps × Out 1 skip-item-kinds.ps skip-item-kinds.r
 
 abbrev members-calls : ℕ → Members-calls
-members-calls t = (inside-reads.Asked, inside-reads.Learnt, skip-item-below t, skip-item.Post)
+members-calls t =
+    (inside-reads.Asked, inside-reads.Learnt, plain-end-reads.Asked, plain-end-reads.Learnt, skip-item-below t, skip-item.Post)
 
 -- a need of the item
 abbrev item-need : (Item-calls → In 1 skip-item-kinds.ps → Out 1 skip-item-kinds.ps skip-item-kinds.r → Type 0) → Type 0
@@ -265,16 +272,26 @@ abbrev members-need :
     Type 0
 members-need N = (t : ℕ) → N (members-calls t) (skip-members-at t) skip-members.Post skip-members-Inv-loop skip-members-μ-loop
 
--- one member was passed over
-one-of : (t : ℕ) (k : skip-members-lts.After-one2 (members-calls t) (skip-members-at t) skip-members.Post skip-members-Inv-loop skip-members-μ-loop)
-    → let turn = k .before .before .before .before in
+-- one member was passed over: its end was found without a call, or the call told it
+one-of : (t : ℕ)
+    (k : skip-members-lts.Joined1-2 (members-calls t) (skip-members-at t) skip-members.Post skip-members-Inv-loop skip-members-μ-loop)
+    → let turn = k .before .before .before in
     let a = turn .before .before .before .args in
-    Passed (a .s .now) (itemBy (a .strict) (a .levels) (drop (turn .loop .p) (a .s .now))) (sv.Next (k .one2 .given .0 .0))
+    Passed (a .s .now) (itemBy (a .strict) (a .levels) (drop (turn .loop .p) (a .s .now))) (sv.Next (k .if1 .p))
 one-of t k =
-    let turn = k .before .before .before .before in
+    let turn = k .before .before .before in
     let a = turn .before .before .before .args in
-    let one = k .before .before .skip-item in
-    rw (k .one2 .given .1) at (passed-item (a .strict) (a .s .now) (turn .loop .p) (a .levels) (one .result) (one .ensures .is))
+    let p = turn .loop .p in
+    let plain = k .before .plain-end in
+    ⊎-elim
+    (λ (level, further, same).
+    rw same
+    (passed-item (a .strict) (a .s .now) p (a .levels) (sv.Next (plain .result))
+    (plain .ensures (ltb-true p (plain .result) (further .taken)) (a .levels) (level .taken) .is)))
+    (λ (_, one, _, next, _, same).
+    rw same
+    (rw (next .given .1) at (passed-item (a .strict) (a .s .now) p (a .levels) (one .result) (one .ensures .is))))
+    (k .if1 .came)
 
 skip-members-inside-requires : members-need skip-members-lts.Need-inside-requires
 skip-members-inside-requires t c κs = tt
@@ -284,15 +301,18 @@ skip-members-loop-holds t c =
     let a = c .before .before .args in
     (c .inside .ensures .0, ap (λ l. forget (members (itemBy (a .strict) (a .levels)) (a .count) l)) (c .inside .ensures .1))
 
+skip-members-plain-end-requires : members-need skip-members-lts.Need-plain-end-requires
+skip-members-plain-end-requires t c κs = tt
+
 skip-members-skip-item-requires : members-need skip-members-lts.Need-skip-item-requires
-skip-members-skip-item-requires t c κs = (omega (arith, c .before .before .before .before .pre .0), tt)
+skip-members-skip-item-requires t c κs = (omega (arith, c .before .before .before .before .before .before .pre .0), tt)
 
 skip-members-enum-known-one : members-need skip-members-lts.Need-enum-known-one
 skip-members-enum-known-one t c = search needs
 
 skip-members-returns : members-need skip-members-lts.Need-returns
 skip-members-returns t c =
-    let turn = c .before .before .before .before .before in
+    let turn = c .before .before .before .before .before .before .before in
     let a = turn .before .before .before .args in
     let l = turn .loop in
     let one = c .before .before .before .skip-item in
@@ -316,11 +336,11 @@ skip-members-loop-less t c = omega arith
 
 skip-members-loop-again : members-need skip-members-lts.Need-loop-again
 skip-members-loop-again t c =
-    let turn = c .before .before .before .before .before in
+    let turn = c .before .before .before in
     let a = turn .before .before .before .args in
     let l = turn .loop in
-    let one = one-of t (c .before) in
-    (one .inside, members-before (a .strict) (a .s .now) (l .p) (a .levels) (l .left) (omega arith) (c .before .one2 .given .0 .0) one ∙ l .inv .1)
+    let one = one-of t c in
+    (one .inside, members-before (a .strict) (a .s .now) (l .p) (a .levels) (l .left) (omega arith) (c .if1 .p) one ∙ l .inv .1)
 
 skip-members-returns-2 : members-need skip-members-lts.Need-returns-2
 skip-members-returns-2 t c =
@@ -361,6 +381,7 @@ pub +skip-item+skip-members-spec : {M : Type 1} → statement M
     (λ t. skip-members-lts.spec (members-calls t) (skip-members-at t) skip-members.Post skip-members-Inv-loop skip-members-μ-loop
     (skip-members-inside-requires t)
     (skip-members-loop-holds t)
+    (skip-members-plain-end-requires t)
     (skip-members-skip-item-requires t)
     (skip-members-enum-known-one t)
     (skip-members-returns t)
