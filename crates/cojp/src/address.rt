@@ -50,6 +50,26 @@ pub fn no_address(report: Report) -> AddressParameter
     }
 }
 
+impl AddressParameter {
+    // The same parameter, made anew field by field, as crate::octets does it.
+    pub fn anew(self) -> AddressParameter
+        ensures { λ r. ⌜ r ≡ self ⌝ }
+    {
+        let report = self.report;
+        let held = self.value;
+        let bytes = held.bytes;
+        let value = ShortAddress {
+            bytes: bytes,
+            leased: held.leased,
+            lease: held.lease,
+        };
+        AddressParameter {
+            report: report,
+            value: value,
+        }
+    }
+}
+
 fn broken_address() -> AddressRead
     ensures { λ r. ⌜ r ≡ addressAnswer (addressConcluded broken) 0 ⌝ }
 {

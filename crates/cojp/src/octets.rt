@@ -45,6 +45,26 @@ pub fn no_octets(report: Report) -> OctetsParameter
     }
 }
 
+impl OctetsParameter {
+    // The same parameter, made anew field by field: so a reader that stores it copies none of the unused bytes between its fields, for
+    // which the next copy of the whole would wait.
+    pub fn anew(self) -> OctetsParameter
+        ensures { λ r. ⌜ r ≡ self ⌝ }
+    {
+        let report = self.report;
+        let held = self.value;
+        let bytes = held.bytes;
+        let value = Octets {
+            len: held.len,
+            bytes: bytes,
+        };
+        OctetsParameter {
+            report: report,
+            value: value,
+        }
+    }
+}
+
 // The byte string of `least` to 16 bytes at a place of a payload that passed the item scan; of other bytes it says what `valueView` makes
 // of them.
 pub fn read_octets(s: &[u8], at: usize, least: usize) -> OctetsRead

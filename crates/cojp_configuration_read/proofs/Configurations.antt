@@ -36,9 +36,9 @@ put-put : {A B C : Type 0} (g : B → C) (f : A → B) (x : Reading A) → put g
 put-put g f (refused k) = refl
 put-put g f (read a) = refl
 
--- ---- one turn of the walk: what is gathered after the pair, by its label; p is the answer about the label, f the labels that came
-module _ (v : Version) (c : Configuration) (s l : List ℕ) (p : Labelled) (t : Told s l p) (f : Faults) (f-is : f ≡ cameWith v (p .label) (c .came))
-    (c′ : Configuration) (w : Verdict) (next : ℕ) where
+-- ---- one turn of the walk: what is gathered after the pair, by its label; p is the answer about the label, c₁ has the labels that came
+module _ (v : Version) (c : Configuration) (s l : List ℕ) (p : Labelled) (t : Told s l p)
+    (c₁ : Configuration) (c₁-is : c₁ ≡ withCame c (cameWith v (p .label) (c .came))) (c′ : Configuration) (w : Verdict) (next : ℕ) where
   pub record Turn : Type 0 where
     pub turned : Turned (configurationForm v) c s l w c′ next
     pub few : c′ .passed ≤ c .passed + 1
@@ -49,64 +49,81 @@ module _ (v : Version) (c : Configuration) (s l : List ℕ) (p : Labelled) (t : 
   abbrev value : View
   value = valueView (drop (p .value) s)
 
-  -- a turn by what a parameter's reader gave: `held` is what became of the parameter before, `r` what its definition reads
-  abbrev Given : {P : Type 0} → (P → Configuration) → Report → Reading P → Type 0
-  Given {P} g held r =
-      (w₀ : Verdict) (p₀ : P) (next₀ : ℕ) → said w₀ p₀ ≡ once (seen held) r →
-      Accepting w₀ (GoesOn s next₀ (afterValue (drop (p .value) s))) →
-      next ≡ next₀ → c′ ≡ withCame (g p₀) f → w ≡ w₀ → Turn
+  abbrev came : Faults
+  came = cameWith v (p .label) (c .came)
 
-  turn-known : {P : Type 0} (g : P → Configuration) (held : Report) (r : Reading P) → isNamed names ≡ true → standingFor c names ≡ standingOf held
-      → takingFor v c names value ≡ put g r → ((p : P) → g p .came ≡ c .came) → ((p : P) → g p .passed ≡ c .passed) → Given g held r
+  -- a turn by what a parameter's reader gave, which is stored: `held` is what became of the parameter before, `r` what its definition reads
+  abbrev Given : {P : Type 0} → (Configuration → P → Configuration) → (Configuration → Report) → Reading P → Type 0
+  Given {P} stored held r =
+      (w₀ : Verdict) (p₀ : P) (next₀ : ℕ) → said w₀ p₀ ≡ once (seen (held c₁)) r →
+      Accepting w₀ (GoesOn s next₀ (afterValue (drop (p .value) s))) →
+      next ≡ next₀ → c′ ≡ stored c₁ p₀ → w ≡ w₀ → Turn
+
+  -- what is stored, and what is asked, lies apart from the labels that came and from how many were passed over
+  turn-known : {P : Type 0} (stored : Configuration → P → Configuration) (held : Configuration → Report) (r : Reading P)
+      → isNamed names ≡ true → standingFor c names ≡ standingOf (held c) → takingFor v c names value ≡ put (stored c) r
+      → ((f : Faults) (p : P) → stored (withCame c f) p ≡ withCame (stored c p) f) → ((f : Faults) → held (withCame c f) ≡ held c)
+      → ((p : P) → stored c p .came ≡ c .came) → ((p : P) → stored c p .passed ≡ c .passed) → Given stored held r
   unfolding configurationTaking
-  turn-known {P} g held r known standing taking came passed w₀ p₀ next₀ e ends n-is c-is w-is =
+  turn-known {P} stored held r known standing taking noted-after held-stays came-stays passed-stays w₀ p₀ next₀ e ends n-is c-is w-is =
       let form = configurationForm v in
       let n = p .label in
-      let keep : P → Configuration = λ p. noted v n (g p) in
-      let c-noted : c′ ≡ keep p₀ = c-is ∙ rw (f-is, came p₀, known) in
+      let keep : P → Configuration = λ p. noted v n (stored c p) in
+      let c-came : c′ ≡ withCame (stored c p₀) came = c-is ∙ ap (λ (x : Configuration). stored x p₀) c₁-is ∙ noted-after came p₀ in
+      let c-noted : c′ ≡ keep p₀ = c-came ∙ rw (came-stays p₀, known) in
+      let held-is : held c₁ ≡ held c = ap held c₁-is ∙ held-stays came in
       let says =
-      put-said keep w₀ p₀ (once (seen held) r) e
-      ∙ known-put form c n value (seen held) keep r (standing ∙ standing-seen held) (ap (put (noted v n)) taking ∙ put-put (noted v n) g r) in
+      put-said keep w₀ p₀ (once (seen (held c)) r) (e ∙ ap (λ (h : Report). once (seen h) r) held-is)
+      ∙ known-put form c n value (seen (held c)) keep r (standing ∙ standing-seen (held c)) (ap (put (noted v n)) taking ∙ put-put (noted v n) (stored c) r) in
       record {
         turned = rw (n-is, c-noted, w-is) (turned-known form c s l p t (named-some v n known) w₀ (keep p₀) next₀ says ends);
-        few = rw c-is (omega (arith, passed p₀));
+        few = rw c-came (omega (arith, passed-stays p₀));
       }
 
   pub keys-turn : names ≡ name.Keys
-      → Given (withKeys c) (c .keys .report) (following v (noKeysParameter Discarded) (keysReadAs (informed v) value))
+      → Given withKeys (λ x. x .keys .report) (following v (noKeysParameter Discarded) (keysReadAs (informed v) value))
   keys-turn h =
-      turn-known (withKeys c) (c .keys .report) (following v (noKeysParameter Discarded) (keysReadAs (informed v) value)) (rw h) (rw h) (rw h)
-      (λ p. refl) (λ p. refl)
+      turn-known withKeys (λ x. x .keys .report) (following v (noKeysParameter Discarded) (keysReadAs (informed v) value)) (rw h) (rw h) (rw h)
+      (λ f p. refl) (λ f. refl) (λ p. refl) (λ p. refl)
 
   pub address-turn : names ≡ name.Address
-      → Given (withAddress c) (c .address .report) (following v (noAddressParameter Discarded) (addressRead value))
+      → Given withAddress (λ x. x .address .report) (following v (noAddressParameter Discarded) (addressRead value))
   address-turn h =
-      turn-known (withAddress c) (c .address .report) (following v (noAddressParameter Discarded) (addressRead value)) (rw h) (rw h) (rw h)
-      (λ p. refl) (λ p. refl)
+      turn-known withAddress (λ x. x .address .report) (following v (noAddressParameter Discarded) (addressRead value)) (rw h) (rw h) (rw h)
+      (λ f p. refl) (λ f. refl) (λ p. refl) (λ p. refl)
 
-  pub jrc-turn : names ≡ name.Jrc → Given (withJrc c) (c .jrc .report) (following v (noOctetsParameter Discarded) (octetsRead 16 value))
+  pub jrc-turn : names ≡ name.Jrc
+      → Given withJrc (λ x. x .jrc .report) (following v (noOctetsParameter Discarded) (octetsRead 16 value))
   jrc-turn h =
-      turn-known (withJrc c) (c .jrc .report) (following v (noOctetsParameter Discarded) (octetsRead 16 value)) (rw h) (rw h) (rw h)
-      (λ p. refl) (λ p. refl)
+      turn-known withJrc (λ x. x .jrc .report) (following v (noOctetsParameter Discarded) (octetsRead 16 value)) (rw h) (rw h) (rw h)
+      (λ f p. refl) (λ f. refl) (λ p. refl) (λ p. refl)
 
-  pub network-turn : names ≡ name.Network → Given (withNetwork c) (c .network .report) (octetsRead 0 value)
-  network-turn h = turn-known (withNetwork c) (c .network .report) (octetsRead 0 value) (rw h) (rw h) (rw h) (λ p. refl) (λ p. refl)
+  pub network-turn : names ≡ name.Network → Given withNetwork (λ x. x .network .report) (octetsRead 0 value)
+  network-turn h =
+      turn-known withNetwork (λ x. x .network .report) (octetsRead 0 value) (rw h) (rw h) (rw h)
+      (λ f p. refl) (λ f. refl) (λ p. refl) (λ p. refl)
 
-  pub prefix-turn : names ≡ name.Prefix → Given (withPrefix c) (c .prefix .report) (octetsRead 0 value)
-  prefix-turn h = turn-known (withPrefix c) (c .prefix .report) (octetsRead 0 value) (rw h) (rw h) (rw h) (λ p. refl) (λ p. refl)
+  pub prefix-turn : names ≡ name.Prefix → Given withPrefix (λ x. x .prefix .report) (octetsRead 0 value)
+  prefix-turn h =
+      turn-known withPrefix (λ x. x .prefix .report) (octetsRead 0 value) (rw h) (rw h) (rw h)
+      (λ f p. refl) (λ f. refl) (λ p. refl) (λ p. refl)
 
-  pub blacklist-turn : names ≡ name.Blacklist → Given (withBlacklist c) (c .blacklist .report) (read (blacklistTaken value))
+  pub blacklist-turn : names ≡ name.Blacklist → Given withBlacklist (λ x. x .blacklist .report) (read (blacklistTaken value))
   blacklist-turn h =
-      turn-known (withBlacklist c) (c .blacklist .report) (read (blacklistTaken value)) (rw h) (rw h) (rw h) (λ p. refl) (λ p. refl)
+      turn-known withBlacklist (λ x. x .blacklist .report) (read (blacklistTaken value)) (rw h) (rw h) (rw h)
+      (λ f p. refl) (λ f. refl) (λ p. refl) (λ p. refl)
 
-  pub rate-turn : names ≡ name.Rate → Given (withRate c) (c .rate .report) (read (rateTaken value))
-  rate-turn h = turn-known (withRate c) (c .rate .report) (read (rateTaken value)) (rw h) (rw h) (rw h) (λ p. refl) (λ p. refl)
+  pub rate-turn : names ≡ name.Rate → Given withRate (λ x. x .rate .report) (read (rateTaken value))
+  rate-turn h =
+      turn-known withRate (λ x. x .rate .report) (read (rateTaken value)) (rw h) (rw h) (rw h)
+      (λ f p. refl) (λ f. refl) (λ p. refl) (λ p. refl)
 
   pub passed-turn : names ≡ name.Unknown → (end : ℕ) → GoesOn s end (afterValue (drop (p .value) s))
-      → next ≡ end → c′ ≡ configurationPassing (withCame c f) → w ≡ p .verdict → Turn
+      → next ≡ end → c′ ≡ configurationPassing c₁ → w ≡ p .verdict → Turn
   passed-turn h end e n-is c-is w-is =
-      let c-passing : c′ ≡ configurationPassing c = c-is ∙ rw (f-is, came-same v (p .label) (c .came) h) in
+      let c-came : c′ ≡ configurationPassing (withCame c came) = c-is ∙ ap configurationPassing c₁-is in
+      let c-passing : c′ ≡ configurationPassing c = c-came ∙ rw (came-same v (p .label) (c .came) h) in
       record {
         turned = rw (n-is, c-passing, w-is) (turned-passed (configurationForm v) c s l p t (rw h) end e);
-        few = rw c-is (omega arith);
+        few = rw c-came (omega arith);
       }

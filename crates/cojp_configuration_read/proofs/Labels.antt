@@ -11,6 +11,7 @@ use types.Run.{OneOf}
 use denote.Enum.Declared.{tagOf}
 use Rattle.cojp.proofs.parameter.Parameter as parameter
 use Rattle.cojp.specs.Parameter.{parameterOf, laterParameter}
+use Rattle.cojp.specs.Version.{informed}
 use Rattle.cojp.specs.declared.fault.Faults.{Faults}
 use Rattle.cojp.specs.declared.parameter.Parameter.{Parameter}
 use Rattle.cojp.specs.declared.parameter.Parameter.the-variants as name
@@ -64,6 +65,10 @@ unfolding parameterOf laterParameter
 named-some Draft zero h = absurd (let z : _≡_ {A = ℕ} 0 1 = cc in omega arith)
 named-some Published zero h = absurd (let z : _≡_ {A = ℕ} 0 1 = cc in omega arith)
 named-some v (suc n) h = omega arith
+
+pub came-draft : (v : Version) (n : ℕ) (f : Faults) → informed v ≡ false → cameWith v n f ≡ f
+came-draft Draft n f h = refl
+came-draft Published n f h = absurd (let z : _≡_ {A = ℕ} 0 1 = cc in omega arith)
 
 pub came-same : (v : Version) (n : ℕ) (f : Faults) → parameterOf v n ≡ name.Unknown → cameWith v n f ≡ f
 came-same Draft n f h = refl

@@ -38,10 +38,12 @@ fn refused_configuration(why: Refusal) -> ConfigurationRead
 
 // Reads a configuration of a form from a payload, strictly or not: the pairs in payload order, up to the first refusal. The parameters are
 // stored where they stand, and each answer is returned where it is made: to hand a Configuration on costs a fifth of a short read. The
-// pairs are read from a slice of their own, so that the payload's place and length need not be fetched from memory as one.
+// empty one is made before the scan, so that its stores are through when it is read again. The pairs are read from a slice of their own,
+// so that the payload's place and length need not be fetched from memory as one.
 fn read_by(payload: &[u8], version: Version, strict: bool) -> ConfigurationRead
     ensures { λ r. ⌜ r ≡ readConfigurationBy version (headBy strict) (now (payload .entry)) ⌝ }
 {
+    let mut c = empty_configuration();
     let opened = open_payload(payload, strict);
     match opened {
         Start::Refused(k) => return refused_configuration(k),
@@ -49,12 +51,12 @@ fn read_by(payload: &[u8], version: Version, strict: bool) -> ConfigurationRead
             let s = &payload[0..];
             let mut at = start;
             let mut left = count;
-            let mut c = empty_configuration();
             while 0 < left {
                 let pair = labelled_at(s, at);
                 let mut verdict = pair.verdict;
-                let came = noted_label(c.came, version, pair.label);
-                c.came = came;
+                if is_informed(version) {
+                    c.came = noted_label(c.came, version, pair.label);
+                }
                 let named = parameter_of(version, pair.label);
                 match named {
                     Parameter::Keys => {
@@ -86,8 +88,7 @@ fn read_by(payload: &[u8], version: Version, strict: bool) -> ConfigurationRead
                     Parameter::Address => {
                         let r = address_once(s, pair.value, c.address, version);
                         verdict = r.verdict;
-                        let parameter = r.parameter;
-                        c.address = parameter;
+                        c.address = r.parameter.anew();
                         at = r.next;
                     }
                     Parameter::Jrc => {
@@ -95,8 +96,7 @@ fn read_by(payload: &[u8], version: Version, strict: bool) -> ConfigurationRead
                         let report = held.report;
                         let r = octets_once(s, pair.value, report, 16, version);
                         verdict = r.verdict;
-                        let parameter = r.parameter;
-                        c.jrc = parameter;
+                        c.jrc = r.parameter.anew();
                         at = r.next;
                     }
                     Parameter::Network => {
@@ -104,8 +104,7 @@ fn read_by(payload: &[u8], version: Version, strict: bool) -> ConfigurationRead
                         let report = held.report;
                         let r = octets_once(s, pair.value, report, 0, Version::Draft);
                         verdict = r.verdict;
-                        let parameter = r.parameter;
-                        c.network = parameter;
+                        c.network = r.parameter.anew();
                         at = r.next;
                     }
                     Parameter::Prefix => {
@@ -113,8 +112,7 @@ fn read_by(payload: &[u8], version: Version, strict: bool) -> ConfigurationRead
                         let report = held.report;
                         let r = octets_once(s, pair.value, report, 0, Version::Draft);
                         verdict = r.verdict;
-                        let parameter = r.parameter;
-                        c.prefix = parameter;
+                        c.prefix = r.parameter.anew();
                         at = r.next;
                     }
                     Parameter::Blacklist => {

@@ -1,6 +1,6 @@
 -- A group is read member by member: what each member is decides what may come next, as in the definition.
 use Prim.Native.Nat.{ℕ, _+_, _-_, _≤_, _<_}
-use mathlib.Core.Path.{_≡_, refl, ap, _∙_}
+use mathlib.Core.Path.{_≡_, refl, ap, sym, _∙_}
 use mathlib.Core.Bool.{Bool, true, false}
 use mathlib.Core.List.{List, [], _∷_}
 use mathlib.Core.Logic.{⊎-elim}
@@ -11,7 +11,7 @@ use denote.Enum.Declared.{tagOf}
 use Rattle.cbor.specs.View.{Plain, number, minus, string, other}
 use Rattle.link_key.specs.Info.{infoIn}
 use Rattle.link_key.specs.declared.info.Info.the-variants as info
-use Rattle.cojp_key_set_read.specs.Groups.{GroupAt, GroupRest, infoAnswer}
+use Rattle.cojp_key_set_read.specs.Groups.{GroupAt, GroupRest, infoAnswer, infoBefore}
 use Rattle.cojp.specs.Bytes.{membersAt, afterMembers, Neither, MemberAt, MemberSays}
 use Rattle.cojp.specs.KeySet.{Groups, notGroups, group, groups, identified, used, valued}
 use Rattle.cojp_key_set_read.specs.declared.group.Group.{Group}
@@ -25,13 +25,13 @@ use Rattle.cojp_key_set_read.proofs.Infos.{info-said}
 
 pub rest-on : (s : List ℕ) (at n q m : ℕ) (r : Group) → afterMembers n (drop at s) ≡ afterMembers m (drop q s) → GroupRest s q m r → GroupRest s at n r
 rest-on s at n q m gv.Broken e w = tt
-rest-on s at n q m (gv.Closed i u p a o t j) e w = e ∙ w
+rest-on s at n q m (gv.Closed i u p a k t j) e w = e ∙ w
 
 module _ (b : Bool) where
   -- the same groups, with more members left
   regroup : (l : List ℕ) (m n : ℕ) (gs hs : Groups) (r : Group) → m ≤ n → gs ≡ hs → GroupAt b l m hs r → GroupAt b l n gs r
   regroup l m n gs hs gv.Broken k e w = e ∙ w
-  regroup l m n gs hs (gv.Closed i u p a o q j) k e w = (w .0, w .1, omega (arith, w .2), e ∙ w .3)
+  regroup l m n gs hs (gv.Closed i u p a x q j) k e w = (w .0, w .1, w .2, omega (arith, w .3), e ∙ w .4)
 
   module _ (l : List ℕ) (n : ℕ) (v : Member) where
     module _ (h : 0 < n) (e : MemberSays l 0 n v) where
@@ -123,11 +123,11 @@ module _ (l : List ℕ) (i u p a n : ℕ) (h : p + a ≤ length l) where
 
   -- without additional information the next group begins where the value ends
   value-ends : (b : Bool) → valued b i u value-here left-over ≡ group i u value-here info.Absent (groups b left-over)
-      → GroupAt b l (n + 1) (valued b i u value-here left-over) (gv.Closed i u p a info.Absent (p + a) n)
-  value-ends b e = (h, h, omega arith, e)
+      → GroupAt b l (n + 1) (valued b i u value-here left-over) (gv.Closed i u p a 0 (p + a) n)
+  value-ends b e = (h, omega arith, h, omega arith, e)
 
   -- in the draft, whatever comes
-  pub value-draft : GroupAt false l (n + 1) (valued false i u value-here left-over) (gv.Closed i u p a info.Absent (p + a) n)
+  pub value-draft : GroupAt false l (n + 1) (valued false i u value-here left-over) (gv.Closed i u p a 0 (p + a) n)
   unfolding groups
   value-draft = value-ends false (go left-over)
     where
@@ -142,7 +142,7 @@ module _ (l : List ℕ) (i u p a n : ℕ) (h : p + a ≤ length l) where
     -- where no byte string comes
     pub value-last :
         OneOf (0 ∷ 2 ∷ []) (tagOf member.the-type v) →
-        GroupAt true l (n + 1) (valued true i u value-here left-over) (gv.Closed i u p a info.Absent (p + a) n)
+        GroupAt true l (n + 1) (valued true i u value-here left-over) (gv.Closed i u p a 0 (p + a) n)
     unfolding groups
     value-last o = value-ends true (go v (e .here) o)
       where
@@ -168,7 +168,14 @@ module _ (l : List ℕ) (i u p a n : ℕ) (h : p + a ≤ length l) where
       unfolding groups
       value-broken z = rw (info-here .2, info-said r (infoIn (take k (drop q l))) f, z)
 
+      -- it stands right before the place where it ends
+      info-before : infoBefore l (q + k) k ≡ r .info
+      info-before =
+          let begin : q + k - k ≡ q = omega arith in
+          ap (λ (at : ℕ). infoAnswer (infoIn (take k (drop at l))) .info) begin ∙ ap (λ (x : InfoRead). x .info) (sym f)
+
       pub value-informed :
-          r .good ≡ true → GroupAt true l (n + 1) (valued true i u value-here left-over) (gv.Closed i u p a (r .info) (q + k) (n - 1))
+          r .good ≡ true → GroupAt true l (n + 1) (valued true i u value-here left-over) (gv.Closed i u p a k (q + k) (n - 1))
       unfolding groups
-      value-informed z = (h, info-here .1, omega arith, rw (info-here .2, info-said r (infoIn (take k (drop q l))) f, z))
+      value-informed z =
+          (h, omega arith, info-here .1, omega arith, rw (info-before, info-here .2, info-said r (infoIn (take k (drop q l))) f, z))

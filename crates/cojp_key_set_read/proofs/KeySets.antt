@@ -15,19 +15,21 @@ use Rattle.cbor.specs.View.{ValueSays}
 use Rattle.cbor.specs.declared.value.Value.{Value}
 use Rattle.cbor.specs.declared.value.Value.the-variants as vv
 use Rattle.cbor.proofs.value.Value as value
+use Rattle.link_key.specs.Info.{infoIn}
 use Rattle.link_key.specs.Key.{informedKey, noKey, validKey}
 use Rattle.link_key_set.specs.KeySet.{noKeys, allValid, noneTwice, eachOnce, validKeys}
 use Rattle.link_key_set.specs.Seen.{joins, Exactly, OneMore, WithOneMore}
 use Rattle.link_key.specs.declared.Key.{Key}
 use Rattle.link_key.specs.declared.info.Info.{Info}
 use Rattle.link_key_set.specs.declared.key_set.KeySet.{KeySet}
-use Rattle.cojp_key_set_read.specs.Groups.{GroupAt, GroupRest, storable, someFew}
+use Rattle.cojp_key_set_read.specs.Groups.{GroupAt, GroupRest, infoAnswer, infoBefore, storable, someFew}
 use Rattle.cojp.specs.Bytes.{valueView, membersAt, afterMembers, GoesOn}
 use Rattle.cojp.specs.KeySet.{keySetOf, Groups, notGroups, groupsOf, group, groups, keysIn, keysConcluded, keysReadAs}
 use Rattle.cojp.specs.Octets.{padded, copiedFrom}
 use Rattle.cojp.specs.Reading.{Reading, refused, unfit, good}
 use Rattle.cojp_key_set_read.specs.declared.group.Group.{Group}
 use Rattle.cojp_key_set_read.specs.declared.group.Group.the-variants as gv
+use Rattle.cojp_key_set_read.specs.declared.info.InfoRead.{InfoRead}
 use Rattle.cojp.specs.declared.key_set.KeysParameter.{KeysParameter}
 use Rattle.logic_facts.specs.Tests.{both-left, both-right}
 use Rattle.cojp.proofs.Arrays.{nothing-left, members-none, array-here, no-array}
@@ -203,7 +205,8 @@ module _ (informed : Bool) (s : List ℕ) (from count at n : ℕ) (k : KeySet) (
         let b : groups informed (membersAt n (drop at s)) ≡ notGroups = rw e at here-group in
         f ∙ rw (w .so-far, b)
 
-    module _ (i u p a : ℕ) (o : Info) (q m : ℕ) (e : r ≡ gv.Closed i u p a o q m) where
+    -- a closed group: a bytes of value from p on, o bytes of additional information right before its end q
+    module _ (i u p a o q m : ℕ) (e : r ≡ gv.Closed i u p a o q m) where
       closed : GroupAt informed (drop at s) n (groups informed (membersAt n (drop at s))) (gv.Closed i u p a o q m)
       closed = rw e at here-group
 
@@ -211,28 +214,40 @@ module _ (informed : Bool) (s : List ℕ) (from count at n : ℕ) (k : KeySet) (
       group-within = rw part (closed .0)
 
       pub group-inside : (at + q ≤ length s) × (m < n)
-      group-inside = (omega (arith, closed .1, length-drop at s, w .inside), closed .2)
+      group-inside = (omega (arith, closed .2, length-drop at s, w .inside), closed .3)
+
+      -- the additional information stands before the place where the group ends, and inside the part
+      pub info-within : (o ≤ q) × (q - o + o ≤ length (take (length s - at) (drop at s)))
+      info-within = (closed .1, rw part (omega (arith, closed .1, closed .2)))
 
       module _ (y : GroupRest (take (length s - at) (drop at s)) 0 n r) where
         abbrev read : Key
-        read = informedKey i u (take a (drop p (take (length s - at) (drop at s)))) o
+        read = informedKey i u (take a (drop p (take (length s - at) (drop at s)))) (infoBefore (take (length s - at) (drop at s)) q o)
 
-        gathering-more : (x : KeySet) (seen' : List ℕ) → Holds (w .keys ++ (read ∷ [])) seen' x → Gathering informed s from count (at + q) m x seen'
+        gathering-more : (x : KeySet) (seen' : List ℕ) → Holds (w .keys ++ (read ∷ [])) seen' x
+            → Gathering informed s from count (at + q) m x seen'
         gathering-more x seen' h =
             let v : List ℕ = take a (drop p (drop at s)) in
+            let f : Info = infoBefore (drop at s) q o in
             let z : GroupRest (drop at s) 0 n (gv.Closed i u p a o q m) = rw e at (rw part at y) in
             record {
-              keys = w .keys ++ (informedKey i u v o ∷ []);
+              keys = w .keys ++ (informedKey i u v f ∷ []);
               holds = rw part at h;
-              so-far = w .so-far ∙ rw (closed .3, drop-drop q at s) (after-more (w .keys) i u v o (groups informed (membersAt m (drop (at + q) s))));
+              so-far =
+                  w .so-far
+                  ∙ rw (closed .4, drop-drop q at s) (after-more (w .keys) i u v f (groups informed (membersAt m (drop (at + q) s))));
               inside = group-inside .0;
               rest = w .rest ∙ z ∙ ap (afterMembers m) (drop-drop q at s);
             }
 
-        pub gathering-stored : k .count < 8 → (j : Key) → j ≡ read → (seen' : List ℕ) → WithOneMore seen j (joins seen j) seen'
+        pub gathering-stored : k .count < 8
+            → (x : InfoRead) → x ≡ infoAnswer (infoIn (take o (drop (q - o) (take (length s - at) (drop at s)))))
+            → (j : Key) → j ≡ informedKey i u (take a (drop p (take (length s - at) (drop at s)))) (x .info)
+            → (seen' : List ℕ) → WithOneMore seen j (joins seen j) seen'
             → (c : ℕ) → c ≡ cond (joins seen j) (k .count + 1) 9
             → Gathering informed s from count (at + q) m (record { count = c; keys = set (k .keys) (k .count) j }) seen'
-        gathering-stored h j f seen' more c z =
+        gathering-stored h x told j made seen' more c z =
+            let f : j ≡ read = made ∙ rw told in
             rw z
             (gathering-more (record { count = cond (joins seen j) (k .count + 1) 9; keys = set (k .keys) (k .count) j }) seen'
             (rw (← f) (holds-stored (w .keys) j seen k (w .holds) h (joins seen j) seen' (more (w .keys)))))

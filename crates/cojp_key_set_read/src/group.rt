@@ -2,14 +2,15 @@
 use crate::info::info_at;
 use cojp::Member;
 use cojp::member_at;
-use link_key::Info;
 ghost use Prim.Native.Nat.{_+_, _≤_, _<_};
 ghost use lib.ListN.{length, take, drop};
 ghost use Rattle.cojp.specs.Bytes.{membersAt};
 ghost use Rattle.cojp.specs.KeySet.{groups, identified, used, valued};
 ghost use Rattle.cojp_key_set_read.specs.Groups.{GroupAt, GroupRest};
 
-// A group: where its value stands in the part, and where the part goes on after the group, with how many members.
+// A group: where its value stands in the part, and where the part goes on after the group, with how many members. Of additional
+// information `extra` tells how many bytes it has: 4 or 8, right before `next`, or 0 where there is none. It is read where the key is made:
+// carried here it would be copied with its unused bytes from answer to answer, which takes longer than reading it again.
 pub enum Group {
     Broken,
     Closed {
@@ -17,7 +18,7 @@ pub enum Group {
         usage: u64,
         start: usize,
         len: usize,
-        info: Info,
+        extra: usize,
         next: usize,
         left: u64,
     },
@@ -119,7 +120,6 @@ fn after_value(
                 if !read.good {
                     return Group::Broken;
                 }
-                let info = read.info;
                 let next = from + n;
                 let fewer = left - 1;
                 return Group::Closed {
@@ -127,7 +127,7 @@ fn after_value(
                     usage: usage,
                     start: start,
                     len: len,
-                    info: info,
+                    extra: n,
                     next: next,
                     left: fewer,
                 };
@@ -140,7 +140,7 @@ fn after_value(
         usage: usage,
         start: start,
         len: len,
-        info: Info::Absent,
+        extra: 0,
         next: end,
         left: left,
     }

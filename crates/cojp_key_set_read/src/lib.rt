@@ -5,6 +5,7 @@ pub mod info;
 
 use crate::group::Group;
 use crate::group::read_group;
+use crate::info::info_at;
 use cbor::Value;
 use cbor::value_at;
 use cojp::KeysParameter;
@@ -123,11 +124,14 @@ fn gather_keys(s: &[u8], from: usize, count: u64, informed: bool) -> KeysRead
                 usage,
                 start,
                 len,
-                info,
+                extra,
                 next,
                 left,
             } => {
                 if is_storable(n, identifier, usage, len) {
+                    // the reader of the group has found it good; of no bytes it is absent
+                    let read = info_at(part, next - extra, extra);
+                    let info = read.info;
                     let key = group_key(part, identifier, usage, start, len, info);
                     keys[n] = key;
                     n = count_with(&mut seen, n, key);

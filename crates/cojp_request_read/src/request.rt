@@ -73,8 +73,7 @@ fn take_pairs(s: &[u8], mut at: usize, mut left: u64, version: Version) -> Reque
                 let report = held.report;
                 let r = octets_once(s, pair.value, report, 0, version);
                 verdict = r.verdict;
-                let network = r.parameter;
-                q.network = network;
+                q.network = r.parameter.anew();
                 at = r.next;
             }
             RequestParameter::Unsupported => {

@@ -10,7 +10,7 @@ use Rattle.link_key_set.specs.declared.key_set.KeySet.{KeySet}
 use Rattle.cojp_key_set_read.specs.Groups.{storable}
 use Rattle.cojp.proofs.Nexts.{keys-settled, accepting-on}
 use Rattle.cojp_key_set_read.proofs.KeySets.{Gathering, gathering-none, gathering-done, gathering-end, gathering-broken}
-use Rattle.cojp_key_set_read.proofs.KeySets.{group-within, group-inside, gathering-stored, gathering-nine}
+use Rattle.cojp_key_set_read.proofs.KeySets.{group-within, group-inside, info-within, gathering-stored, gathering-nine}
 use borrow.Author.Needs.{needs}
 use Rattle.cojp_key_set_read.proofs.gather_keys.Statement.{statement}
 use Rattle.cojp_key_set_read.proofs.gather_keys.Tie as tie
@@ -72,18 +72,49 @@ enum-known-g c = search needs
 is-storable-requires : tie.Need-is-storable-requires Inv-loop μ-loop
 is-storable-requires c κs = search needs
 
-group-key-requires : tie.Need-group-key-requires Inv-loop μ-loop
-group-key-requires c κs =
+sub-info-at : tie.Need-sub-info-at Inv-loop μ-loop
+sub-info-at c =
     let g-2 = c .before .before .before in
     let read-group = g-2 .before .before in
-    let turn = c .before .before .before .before .before .before .before .before in
+    let turn = read-group .before .before .before in
     let start = turn .before .before .before .before in
     let a = start .args in
     let l = turn .loop in
     let k : KeySet = record { count = l .n; keys = l .keys } in
     let r = read-group .read-group in
     let g = g-2 .g .given in
-    let fit = is-true (c .before .is-storable .ensures) (c .if1 .taken) in (
+    info-within (a .informed) (a .s .now) (a .from) (a .count) (l .at) (l .remaining) k (l .seen) (l .inv) (r .result) (r .ensures .0)
+    (g .0 .0) (g .0 .1 .0) (g .0 .1 .1 .0) (g .0 .1 .1 .1 .0) (g .0 .1 .1 .1 .1 .0) (g .0 .1 .1 .1 .1 .1 .0) (g .0 .1 .1 .1 .1 .1 .1 .0)
+    (g .1) .0
+
+info-at-requires : tie.Need-info-at-requires Inv-loop μ-loop
+info-at-requires c κs =
+    let g-2 = c .before .before .before in
+    let read-group = g-2 .before .before in
+    let turn = read-group .before .before .before in
+    let start = turn .before .before .before .before in
+    let a = start .args in
+    let l = turn .loop in
+    let k : KeySet = record { count = l .n; keys = l .keys } in
+    let r = read-group .read-group in
+    let g = g-2 .g .given in
+    info-within (a .informed) (a .s .now) (a .from) (a .count) (l .at) (l .remaining) k (l .seen) (l .inv) (r .result) (r .ensures .0)
+    (g .0 .0) (g .0 .1 .0) (g .0 .1 .1 .0) (g .0 .1 .1 .1 .0) (g .0 .1 .1 .1 .1 .0) (g .0 .1 .1 .1 .1 .1 .0) (g .0 .1 .1 .1 .1 .1 .1 .0)
+    (g .1) .1
+
+group-key-requires : tie.Need-group-key-requires Inv-loop μ-loop
+group-key-requires c κs =
+    let fitting = c .before in
+    let g-2 = fitting .before .before .before in
+    let read-group = g-2 .before .before in
+    let turn = read-group .before .before .before in
+    let start = turn .before .before .before .before in
+    let a = start .args in
+    let l = turn .loop in
+    let k : KeySet = record { count = l .n; keys = l .keys } in
+    let r = read-group .read-group in
+    let g = g-2 .g .given in
+    let fit = is-true (fitting .before .is-storable .ensures) (fitting .if1 .taken) in (
       both-right (ltb (l .n) 8) (storable (g .0 .0) (g .0 .1 .0) (g .0 .1 .1 .1 .0)) fit,
       group-within (a .informed) (a .s .now) (a .from) (a .count) (l .at) (l .remaining) k (l .seen) (l .inv) (r .result) (r .ensures .0) (g .0 .0)
           (g .0 .1 .0) (g .0 .1 .1 .0) (g .0 .1 .1 .1 .0) (g .0 .1 .1 .1 .1 .0) (g .0 .1 .1 .1 .1 .1 .0) (g .0 .1 .1 .1 .1 .1 .1 .0) (g .1),
@@ -91,28 +122,34 @@ group-key-requires c κs =
 
 mul-keys : tie.Need-mul-keys Inv-loop μ-loop
 mul-keys c =
-    let turn = c .before .before .before .before .before .before .before .before .before in
+    let fitting = c .before .before in
+    let g-2 = fitting .before .before .before in
+    let turn = g-2 .before .before .before .before .before in
     let l = turn .loop in
-    let g = c .before .before .before .before .g .given in
-    let fit = is-true (c .before .before .is-storable .ensures) (c .before .if1 .taken) in
+    let g = g-2 .g .given in
+    let fit = is-true (fitting .before .is-storable .ensures) (fitting .if1 .taken) in
     let few = ltb-true (l .n) 8 (both-left (ltb (l .n) 8) (storable (g .0 .0) (g .0 .1 .0) (g .0 .1 .1 .1 .0)) fit) in
     omega (arith, few)
 
 array-set-from-keys : tie.Need-array-set-from-keys Inv-loop μ-loop
 array-set-from-keys c =
-    let turn = c .before .before .before .before .before .before .before .before .before in
+    let fitting = c .before .before in
+    let g-2 = fitting .before .before .before in
+    let turn = g-2 .before .before .before .before .before in
     let l = turn .loop in
-    let g = c .before .before .before .before .g .given in
-    let fit = is-true (c .before .before .is-storable .ensures) (c .before .if1 .taken) in
+    let g = g-2 .g .given in
+    let fit = is-true (fitting .before .is-storable .ensures) (fitting .if1 .taken) in
     let few = ltb-true (l .n) 8 (both-left (ltb (l .n) 8) (storable (g .0 .0) (g .0 .1 .0) (g .0 .1 .1 .1 .0)) fit) in
     omega (arith, few)
 
 count-with-requires : tie.Need-count-with-requires Inv-loop μ-loop
 count-with-requires c κs =
-    let turn = c .before .before .before .before .before .before .before .before .before .before in
+    let fitting = c .before .before .before in
+    let g-2 = fitting .before .before .before in
+    let turn = g-2 .before .before .before .before .before in
     let l = turn .loop in
-    let g = c .before .before .before .before .before .g .given in
-    let fit = is-true (c .before .before .before .is-storable .ensures) (c .before .before .if1 .taken) in
+    let g = g-2 .g .given in
+    let fit = is-true (fitting .before .is-storable .ensures) (fitting .if1 .taken) in
     let few = ltb-true (l .n) 8 (both-left (ltb (l .n) 8) (storable (g .0 .0) (g .0 .1 .0) (g .0 .1 .1 .1 .0)) fit) in
     few
 
@@ -163,11 +200,15 @@ loop-again c =
     let storing = storable (g .0 .0) (g .0 .1 .0) (g .0 .1 .1 .1 .0) in
     ⊎-elim
     (λ w.
-    rw (w .4, w .5, w .6)
+    let asked = w .1 in
+    let made = w .2 in
+    let counted = w .4 in
+    rw (w .5, w .6, w .7)
     (gathering-stored (a .informed) (a .s .now) (a .from) (a .count) (l .at) (l .remaining) k (l .seen) (l .inv) (r .result) (r .ensures .0) (g .0 .0)
     (g .0 .1 .0) (g .0 .1 .1 .0) (g .0 .1 .1 .1 .0) (g .0 .1 .1 .1 .1 .0) (g .0 .1 .1 .1 .1 .1 .0) (g .0 .1 .1 .1 .1 .1 .1 .0) (g .1) (r .ensures .1)
     (ltb-true (l .n) 8 (both-left (ltb (l .n) 8) storing (is-true told (w .0 .taken))))
-    (w .1 .result) (w .1 .ensures) (w .3 .last .0) (w .3 .ensures .1) (w .3 .result) (w .3 .ensures .0)))
+    (asked .result) (asked .ensures) (made .result) (made .ensures)
+    (counted .last .0) (counted .ensures .1) (counted .result) (counted .ensures .0)))
     (λ w. rw (w .1, w .2, w .3) (gathering-nine (a .informed) (a .s .now) (a .from) (a .count) (l .at) (l .remaining) k (l .seen) (l .inv) (r .result) (r .ensures .0) (g .0 .0) (g .0 .1 .0) (g .0 .1 .1 .0) (g .0 .1 .1 .1 .0) (g .0 .1 .1 .1 .1 .0) (g .0 .1 .1 .1 .1 .1 .0) (g .0 .1 .1 .1 .1 .1 .1 .0) (g .1) (r .ensures .1) (is-false told (w .0 .left))))
     (c .if1 .came)
 
@@ -207,6 +248,8 @@ gather-keys-spec =
     returns
     enum-known-g
     is-storable-requires
+    sub-info-at
+    info-at-requires
     group-key-requires
     mul-keys
     array-set-from-keys

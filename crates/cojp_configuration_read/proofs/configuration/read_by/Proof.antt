@@ -10,9 +10,10 @@ use lib.ListN.{length, take, drop}
 use lib.Seq.{take-all}
 use borrow.Author.Needs.{needs}
 use Rattle.cbor.specs.Strict.{headBy}
-use Rattle.cojp.specs.Configuration.{configurationForm, configurationAnswer, emptyConfiguration, readConfigurationBy}
+use Rattle.cojp.specs.Configuration.{configurationForm, configurationAnswer, emptyConfiguration, readConfigurationBy, withCame}
 use Rattle.cojp.specs.KeySet.{keysParameter}
 use Rattle.cojp.specs.Parameter.{parameterOf}
+use Rattle.cojp.specs.declared.configuration.Configuration.{Configuration}
 use Rattle.cojp.specs.declared.version.Version.{Version}
 use Rattle.cojp.specs.declared.parameter.Parameter.{Parameter}
 use Rattle.cojp.specs.declared.parameter.Parameter.the-variants as name
@@ -22,6 +23,8 @@ use Rattle.cojp_map.specs.declared.open.Start.the-variants as start
 use Rattle.cojp_map.proofs.Parameters.{octets-said}
 use Rattle.cojp_map.proofs.Maps.{Walking, walk-start, walk-done, turn-stops, turn-goes, read-refused, read-pairs}
 use Rattle.cojp_configuration_read.proofs.Configurations.{Turn, keys-turn, address-turn, jrc-turn, network-turn, prefix-turn, blacklist-turn, rate-turn, passed-turn}
+use Rattle.cojp_configuration_read.specs.Noted.{cameWith}
+use Rattle.cojp_configuration_read.proofs.Labels.{came-draft}
 use Rattle.cojp_configuration_read.proofs.configuration.read_by.Statement.{statement}
 use Rattle.cojp_configuration_read.proofs.configuration.read_by.Tie as tie
 use Rattle.cojp_configuration_read.proofs.configuration.read_by.Reads as reads
@@ -36,6 +39,8 @@ use Rattle.cojp_key_set_read.proofs.read_keys.Reads as read-keys-reads
 use Rattle.cojp_configuration_read.proofs.published.blacklist_once.Reads as blacklist-once-reads
 use Rattle.cojp_configuration_read.proofs.published.noted_label.Reads as noted-label-reads
 use Rattle.cojp_configuration_read.proofs.published.rate_once.Reads as rate-once-reads
+use Rattle.cojp.proofs.address.AddressParameter.anew.Reads as address-anew-reads
+use Rattle.cojp.proofs.octets.OctetsParameter.anew.Reads as octets-anew-reads
 use Rattle.cojp_map.proofs.octets_once.Reads as octets-once-reads
 use Rattle.cojp_map.proofs.open_payload.Reads as open-payload-reads
 use Rattle.cojp_map.proofs.item_end.Reads as item-end-reads
@@ -53,85 +58,112 @@ pairs-read v b s r said n p pairs =
     ∙ ap configurationAnswer (sym (read-pairs (configurationForm v) b emptyConfiguration s r said n p pairs))
 
 abbrev Inv-loop : tie.InvT-loop
-Inv-loop payload version strict count start s at₀ left₀ c₀ at left c =
+Inv-loop payload version strict c₀ count start s at₀ left₀ c at left =
     let form = configurationForm version in
     Walking form (walkAt form count emptyConfiguration (drop start s)) count (c .passed) left c (drop at s)
 
 abbrev μ-loop : tie.MeasureT-loop
-μ-loop payload version strict count start s at₀ left₀ c₀ at left c = left
+μ-loop payload version strict c₀ count start s at₀ left₀ c at left = left
+
+-- what the calls are asked and teach
+abbrev calls : lts.Claims
+calls = (
+  empty-configuration-reads.Asked,
+  empty-configuration-reads.Learnt,
+  open-payload-reads.Asked,
+  open-payload-reads.Learnt,
+  refused-configuration-reads.Asked,
+  refused-configuration-reads.Learnt,
+  labelled-at-reads.Asked,
+  labelled-at-reads.Learnt,
+  is-informed-reads.Asked,
+  is-informed-reads.Learnt,
+  noted-label-reads.Asked,
+  noted-label-reads.Learnt,
+  parameter-of-reads.Asked,
+  parameter-of-reads.Learnt,
+  read-keys-reads.Asked,
+  read-keys-reads.Learnt,
+  keys-once-reads.Asked,
+  keys-once-reads.Learnt,
+  address-once-reads.Asked,
+  address-once-reads.Learnt,
+  address-anew-reads.Asked,
+  address-anew-reads.Learnt,
+  octets-once-reads.Asked,
+  octets-once-reads.Learnt,
+  octets-anew-reads.Asked,
+  octets-anew-reads.Learnt,
+  blacklist-once-reads.Asked,
+  blacklist-once-reads.Learnt,
+  rate-once-reads.Asked,
+  rate-once-reads.Learnt,
+  item-end-reads.Asked,
+  item-end-reads.Learnt,
+)
+
+-- after the label was noted
+abbrev Noting : Type 0
+Noting = lts.Joined1 calls reads.Pre reads.Post Inv-loop μ-loop
 
 -- after the match on what a pair's label names
 abbrev Met : Type 0
-Met =
-    lts.At-match2-came (
-      open-payload-reads.Asked,
-      open-payload-reads.Learnt,
-      refused-configuration-reads.Asked,
-      refused-configuration-reads.Learnt,
-      empty-configuration-reads.Asked,
-      empty-configuration-reads.Learnt,
-      labelled-at-reads.Asked,
-      labelled-at-reads.Learnt,
-      noted-label-reads.Asked,
-      noted-label-reads.Learnt,
-      parameter-of-reads.Asked,
-      parameter-of-reads.Learnt,
-      is-informed-reads.Asked,
-      is-informed-reads.Learnt,
-      read-keys-reads.Asked,
-      read-keys-reads.Learnt,
-      keys-once-reads.Asked,
-      keys-once-reads.Learnt,
-      address-once-reads.Asked,
-      address-once-reads.Learnt,
-      octets-once-reads.Asked,
-      octets-once-reads.Learnt,
-      blacklist-once-reads.Asked,
-      blacklist-once-reads.Learnt,
-      rate-once-reads.Asked,
-      rate-once-reads.Learnt,
-      item-end-reads.Asked,
-      item-end-reads.Learnt,
-    )
-    reads.Pre reads.Post Inv-loop μ-loop
+Met = lts.At-match2-came calls reads.Pre reads.Post Inv-loop μ-loop
+
+-- the labels that came are noted in the published form, where keys may have additional information; in the draft none is
+came-noted : (noting : Noting)
+    → let walked = noting .before .before .before .before .loop in
+    let opened = noting .before .before .before .before .before .before .before in
+    let a = opened .before .before .before .before .before .args in
+    noting .if1 .c ≡ withCame (walked .c) (cameWith (a .version) (noting .before .before .labelled-at .result .label) (walked .c .came))
+came-noted noting =
+    let asked = noting .before .is-informed in
+    let walked = noting .before .before .before .before .loop in
+    let opened = noting .before .before .before .before .before .before .before in
+    let version = opened .before .before .before .before .before .args .version in
+    let draft = came-draft version (noting .before .before .labelled-at .result .label) (walked .c .came) in
+    ⊎-elim (λ w. w .2 ∙ ap (withCame (walked .c)) (w .1 .ensures))
+    (λ w. w .1 ∙ ap (withCame (walked .c)) (sym (draft (sym (asked .ensures) ∙ w .0 .left)))) (noting .if1 .came)
 
 -- what the pair says
 abbrev Said : Met → Type 0
 Said m =
     let noting = m .before .before in
-    let pair = noting .before .labelled-at in
-    let walked = noting .before .before .before .loop in
+    let pair = noting .before .before .labelled-at in
+    let walked = noting .before .before .before .before .loop in
     let opened = noting .before .before .before .before .before .before .before in
-    let a = opened .before .before .before .before .args in
+    let a = opened .before .before .before .before .before .args in
     let s = part (a .payload .now) in
-    Turn (a .version) (walked .c) s (drop (walked .at) s) (pair .result) (pair .ensures) (noting .noted-label .result)
-    (noting .noted-label .ensures) (m .match2 .c) (m .match2 .verdict) (m .match2 .at)
+    Turn (a .version) (walked .c) s (drop (walked .at) s) (pair .result) (pair .ensures) (noting .if1 .c) (came-noted noting) (m .match2 .c) (m .match2 .verdict) (m .match2 .at)
 
 turn : (m : Met) → Said m
 turn m =
     let named = m .before .parameter-of in
     let noting = m .before .before in
-    let noted = noting .noted-label .ensures in
-    let p = noting .before .labelled-at in
+    let noted = came-noted noting in
+    let p = noting .before .before .labelled-at in
     let opened = noting .before .before .before .before .before .before .before in
-    let version = opened .before .before .before .before .args .version in
+    let version = opened .before .before .before .before .before .args .version in
     let told : (q : Parameter) → named .result ≡ q → parameterOf version (p .result .label) ≡ q = λ q e. sym (named .ensures) ∙ e in
     ⊎-elim (λ w. keys-turn _ _ _ _ _ (p .ensures) _ noted _ _ _ (told name.Keys (w .1 .given .1)) (w .6 .result .verdict)
     (keysParameter (w .6 .result .report) (w .4 .result .parameter .value)) (w .6 .result .next)
-    (w .6 .ensures .0 _ _ (rw (← w .3 .ensures) (w .4 .ensures .0))) (w .6 .ensures .1 (w .4 .ensures .1)) (w .9) (w .10) (w .11))
+    (w .6 .ensures .0 _ _ (rw (← w .3 .ensures) (w .4 .ensures .0))) (w .6 .ensures .1 (w .4 .ensures .1)) (w .10) (w .9) (w .11))
     (⊎-elim (λ w. address-turn _ _ _ _ _ (p .ensures) _ noted _ _ _ (told name.Address (w .1 .given .1)) (w .2 .result .verdict) (w .2 .result .parameter) (w .2 .result .next)
-    (w .2 .ensures .0) (w .2 .ensures .1) (w .4) (w .5) (w .6))
+    (w .2 .ensures .0) (w .2 .ensures .1) (w .5) (rw (w .3 .ensures) at (w .4)) (w .6))
     (⊎-elim (λ w. jrc-turn _ _ _ _ _ (p .ensures) _ noted _ _ _ (told name.Jrc (w .1 .given .1)) (w .3 .result .verdict) (w .3 .result .parameter) (w .3 .result .next)
-    (octets-said (w .3 .result) _ _ (w .3 .ensures .0)) (w .3 .ensures .1) (w .5) (w .6) (w .7))
+    (octets-said (w .3 .result) _ _ (w .3 .ensures .0)) (w .3 .ensures .1) (w .6) (rw (w .4 .ensures) at (w .5)) (w .7))
     (⊎-elim (λ w. network-turn _ _ _ _ _ (p .ensures) _ noted _ _ _ (told name.Network (w .1 .given .1)) (w .3 .result .verdict) (w .3 .result .parameter) (w .3 .result .next)
-    (octets-said (w .3 .result) _ _ (w .3 .ensures .0)) (w .3 .ensures .1) (w .5) (w .6) (w .7))
+    (octets-said (w .3 .result) _ _ (w .3 .ensures .0)) (w .3 .ensures .1) (w .6) (rw (w .4 .ensures) at (w .5)) (w .7))
     (⊎-elim (λ w. prefix-turn _ _ _ _ _ (p .ensures) _ noted _ _ _ (told name.Prefix (w .1 .given .1)) (w .3 .result .verdict) (w .3 .result .parameter) (w .3 .result .next)
-    (octets-said (w .3 .result) _ _ (w .3 .ensures .0)) (w .3 .ensures .1) (w .5) (w .6) (w .7))
+    (octets-said (w .3 .result) _ _ (w .3 .ensures .0)) (w .3 .ensures .1) (w .6) (rw (w .4 .ensures) at (w .5)) (w .7))
     (⊎-elim (λ w. blacklist-turn _ _ _ _ _ (p .ensures) _ noted _ _ _ (told name.Blacklist (w .1 .given .1)) (w .2 .result .verdict) (w .2 .result .parameter) (w .2 .result .next)
-    (w .2 .ensures .0) (w .2 .ensures .1) (w .4) (w .5) (w .6))
+    (w .2 .ensures .0) (w .2 .ensures .1) (w .5) (w .4) (w .6))
     (⊎-elim (λ w. rate-turn _ _ _ _ _ (p .ensures) _ noted _ _ _ (told name.Rate (w .1 .given .1)) (w .2 .result .verdict) (w .2 .result .parameter) (w .2 .result .next)
-    (w .2 .ensures .0) (w .2 .ensures .1) (w .4) (w .5) (w .6))
-    (λ w. passed-turn _ _ _ _ _ (p .ensures) _ noted _ _ _ (told name.Unknown (w .1 .given .1)) (w .3 .result) (w .3 .ensures) (w .4) (w .5) (w .6)))))))) (m .match2 .came)
+    (w .2 .ensures .0) (w .2 .ensures .1) (w .5) (w .4) (w .6))
+    (λ w. passed-turn _ _ _ _ _ (p .ensures) _ noted _ _ _ (told name.Unknown (w .1 .given .1)) (w .3 .result) (w .3 .ensures) (w .5) (w .4) (w .6)))))))) (m .match2 .came)
+
+empty-configuration-requires : tie.Need-empty-configuration-requires Inv-loop μ-loop
+empty-configuration-requires c κs = search needs
 
 open-payload-requires : tie.Need-open-payload-requires Inv-loop μ-loop
 open-payload-requires c κs = search needs
@@ -146,7 +178,7 @@ returns : tie.Need-returns Inv-loop μ-loop
 returns c =
     let told = c .before .before .opened .given in
     let opening = c .before .before .before .before .open-payload in
-    let given = c .before .before .before .before .before .before .args in
+    let given = c .before .before .before .before .before .before .before .args in
     let read = read-refused (configurationForm (given .version)) (given .strict) emptyConfiguration (given .payload .now) (opening .result) (opening .ensures) (told .0 .0) (told .1) in
     c .refused-configuration .ensures ∙ ap configurationAnswer (sym read)
 
@@ -162,19 +194,19 @@ part-s-start c = omega arith
 part-s-end : tie.Need-part-s-end Inv-loop μ-loop
 part-s-end c = omega arith
 
-empty-configuration-requires : tie.Need-empty-configuration-requires Inv-loop μ-loop
-empty-configuration-requires c κs = search needs
-
 loop-holds : tie.Need-loop-holds Inv-loop μ-loop
 loop-holds c =
-    let opened = c .before .before .before in
+    let opened = c .before .before in
     let told = opened .opened2 .given in
-    let a = opened .before .before .before .before .args in
-    rw (c .empty-configuration .ensures)
+    let a = opened .before .before .before .before .before .args in
+    rw (opened .before .before .before .empty-configuration .ensures)
     (walk-start (configurationForm (a .version)) (told .0 .0) emptyConfiguration (drop (told .0 .1 .0) (part (a .payload .now))))
 
 labelled-at-requires : tie.Need-labelled-at-requires Inv-loop μ-loop
 labelled-at-requires c κs = search needs
+
+is-informed-requires : tie.Need-is-informed-requires Inv-loop μ-loop
+is-informed-requires c κs = search needs
 
 noted-label-requires : tie.Need-noted-label-requires Inv-loop μ-loop
 noted-label-requires c κs = search needs
@@ -185,8 +217,8 @@ parameter-of-requires c κs = search needs
 enum-told : tie.Need-enum-told Inv-loop μ-loop
 enum-told c = search needs
 
-is-informed-requires : tie.Need-is-informed-requires Inv-loop μ-loop
-is-informed-requires c κs = search needs
+is-informed-requires-2 : tie.Need-is-informed-requires-2 Inv-loop μ-loop
+is-informed-requires-2 c κs = search needs
 
 read-keys-requires : tie.Need-read-keys-requires Inv-loop μ-loop
 read-keys-requires c κs = search needs
@@ -200,11 +232,17 @@ enum-told-2 c = search needs
 address-once-requires : tie.Need-address-once-requires Inv-loop μ-loop
 address-once-requires c κs = search needs
 
+anew-requires : tie.Need-anew-requires Inv-loop μ-loop
+anew-requires c κs = search needs
+
 enum-told-3 : tie.Need-enum-told-3 Inv-loop μ-loop
 enum-told-3 c = search needs
 
 octets-once-requires : tie.Need-octets-once-requires Inv-loop μ-loop
 octets-once-requires c κs = search needs
+
+anew-requires-2 : tie.Need-anew-requires-2 Inv-loop μ-loop
+anew-requires-2 c κs = search needs
 
 enum-told-4 : tie.Need-enum-told-4 Inv-loop μ-loop
 enum-told-4 c = search needs
@@ -212,11 +250,17 @@ enum-told-4 c = search needs
 octets-once-requires-2 : tie.Need-octets-once-requires-2 Inv-loop μ-loop
 octets-once-requires-2 c κs = search needs
 
+anew-requires-3 : tie.Need-anew-requires-3 Inv-loop μ-loop
+anew-requires-3 c κs = search needs
+
 enum-told-5 : tie.Need-enum-told-5 Inv-loop μ-loop
 enum-told-5 c = search needs
 
 octets-once-requires-3 : tie.Need-octets-once-requires-3 Inv-loop μ-loop
 octets-once-requires-3 c κs = search needs
+
+anew-requires-4 : tie.Need-anew-requires-4 Inv-loop μ-loop
+anew-requires-4 c κs = search needs
 
 enum-told-6 : tie.Need-enum-told-6 Inv-loop μ-loop
 enum-told-6 c = search needs
@@ -235,9 +279,11 @@ enum-told-8 c = search needs
 
 add-c : tie.Need-add-c Inv-loop μ-loop
 add-c c =
-    let test = c .before .before .before .before .before .before in
+    let noting = c .before .before .before .before in
+    let test = noting .before .before .before in
     let walked = test .before in
-    omega (arith, walked .loop .inv .few, test .loop-test .taken, walked .before .before .before .known-told2 .given)
+    let same = ap (λ (x : Configuration). x .passed) (came-noted noting) in
+    omega (arith, walked .loop .inv .few, test .loop-test .taken, walked .before .before .known-told2 .given, same)
 
 item-end-requires : tie.Need-item-end-requires Inv-loop μ-loop
 item-end-requires c κs = search needs
@@ -252,10 +298,10 @@ returns-2 : tie.Need-returns-2 Inv-loop μ-loop
 returns-2 c =
     let why = c .before .before .verdict .given in
     let pair = c .before .before .before .before in
-    let test = pair .before .before .before .before in
+    let test = pair .before .before .before .before .before in
     let walked = test .before .loop in
-    let opened = test .before .before .before .before .before in
-    let a = opened .before .before .before .before .args in
+    let opened = test .before .before .before .before in
+    let a = opened .before .before .before .before .before .args in
     c .refused-configuration2 .ensures
     ∙ ap configurationAnswer
     (turn-stops (configurationForm (a .version)) _ _ (part (a .payload .now)) _ (walked .inv) (omega (arith, test .loop-test .taken)) (pair .match2 .verdict) _
@@ -266,26 +312,26 @@ enum-told-9 : tie.Need-enum-told-9 Inv-loop μ-loop
 enum-told-9 c = search needs
 
 sub-left : tie.Need-sub-left Inv-loop μ-loop
-sub-left c = omega (arith, c .before .before .before .before .before .before .loop-test .taken)
+sub-left c = omega (arith, c .before .before .before .before .before .before .before .loop-test .taken)
 
 loop-less : tie.Need-loop-less Inv-loop μ-loop
-loop-less c = omega (arith, c .before .before .before .before .before .before .loop-test .taken)
+loop-less c = omega (arith, c .before .before .before .before .before .before .before .loop-test .taken)
 
 loop-again : tie.Need-loop-again Inv-loop μ-loop
 loop-again c =
     let pair = c .before .before in
-    let test = pair .before .before .before .before in
+    let test = pair .before .before .before .before .before in
     let walked = test .before .loop in
-    let opened = test .before .before .before .before .before in
-    let a = opened .before .before .before .before .args in
+    let opened = test .before .before .before .before in
+    let a = opened .before .before .before .before .before .args in
     turn-goes (configurationForm (a .version)) _ _ (part (a .payload .now)) _ (walked .inv) (omega (arith, test .loop-test .taken)) (pair .match2 .verdict) _
     (pair .match2 .at) (turn pair .turned) (c .enum-told9 .given .1) (pair .match2 .c .passed) (turn pair .few)
 
 returns-3 : tie.Need-returns-3 Inv-loop μ-loop
 returns-3 c =
     let walked = c .before .loop in
-    let opened = c .before .before .before .before .before in
-    let a = opened .before .before .before .before .args in
+    let opened = c .before .before .before .before in
+    let a = opened .before .before .before .before .before .args in
     ap configurationAnswer (walk-done (configurationForm (a .version)) _ _ (walked .inv) (omega (arith, c .loop-test .left)))
     ∙ pairs-read (a .version) (a .strict) (a .payload .now) _ (opened .before .before .open-payload .ensures) _ _ (opened .opened2 .given .1)
 
@@ -295,6 +341,7 @@ read-by-spec =
     (tie.spec
     Inv-loop
     μ-loop
+    empty-configuration-requires
     open-payload-requires
     enum-known-opened
     refused-configuration-requires
@@ -303,23 +350,27 @@ read-by-spec =
     sub-s
     part-s-start
     part-s-end
-    empty-configuration-requires
     loop-holds
     labelled-at-requires
+    is-informed-requires
     noted-label-requires
     parameter-of-requires
     enum-told
-    is-informed-requires
+    is-informed-requires-2
     read-keys-requires
     keys-once-requires
     enum-told-2
     address-once-requires
+    anew-requires
     enum-told-3
     octets-once-requires
+    anew-requires-2
     enum-told-4
     octets-once-requires-2
+    anew-requires-3
     enum-told-5
     octets-once-requires-3
+    anew-requires-4
     enum-told-6
     blacklist-once-requires
     enum-told-7

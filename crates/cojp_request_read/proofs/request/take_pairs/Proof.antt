@@ -14,6 +14,7 @@ use Rattle.cojp_request_read.proofs.request.take_pairs.Reads as reads
 use Rattle.cojp_request_read.proofs.request.take_pairs.Lts as lts
 use Rattle.cojp.proofs.empty_request.Reads as empty-request-reads
 use Rattle.cojp_map.proofs.octets_once.Reads as octets-once-reads
+use Rattle.cojp.proofs.octets.OctetsParameter.anew.Reads as anew-reads
 use Rattle.cojp_map.proofs.item_end.Reads as item-end-reads
 use Rattle.cojp_map.proofs.labelled_at.Reads as labelled-at-reads
 use Rattle.cojp_request_read.proofs.parameter.request_parameter_of.Reads as request-parameter-of-reads
@@ -43,6 +44,8 @@ Met =
       role-once-reads.Learnt,
       octets-once-reads.Asked,
       octets-once-reads.Learnt,
+      anew-reads.Asked,
+      anew-reads.Learnt,
       unsupported-once-reads.Asked,
       unsupported-once-reads.Learnt,
       item-end-reads.Asked,
@@ -69,7 +72,7 @@ turn m =
     let p = m .before .before .labelled-at in
     let names = sym (m .before .request-parameter-of .ensures) in
     ⊎-elim (λ w. turn-role _ _ _ _ _ _ (p .ensures) _ _ _ _ (names ∙ w .1 .given .1) (w .2 .result) (w .2 .ensures) (w .4) (w .5) (w .6) (w .7))
-    (⊎-elim (λ w. turn-network _ _ _ _ _ _ (p .ensures) _ _ _ _ (names ∙ w .1 .given .1) (w .3 .result) (w .3 .ensures) (w .5) (w .6) (w .7) (w .8))
+    (⊎-elim (λ w. turn-network _ _ _ _ _ _ (p .ensures) _ _ _ _ (names ∙ w .1 .given .1) (w .3 .result) (w .3 .ensures) (w .5) (w .6) (rw (w .4 .ensures) at (w .7)) (w .8))
     (⊎-elim (λ w. turn-unsupported _ _ _ _ _ _ (p .ensures) _ _ _ _ (names ∙ w .1 .given .1) (w .2 .result) (w .2 .ensures) (w .5) (w .6) (w .7) (w .8))
     (λ w. turn-passed _ _ _ _ _ _ (p .ensures) _ _ _ _ (names ∙ w .1 .given .1) (w .3 .result) (w .3 .ensures) (w .4) (w .5) (w .6) (w .7))))
     (m .match .came)
@@ -99,6 +102,9 @@ enum-told-2 c = search needs
 
 octets-once-requires : tie.Need-octets-once-requires Inv-loop μ-loop
 octets-once-requires c κs = search needs
+
+anew-requires : tie.Need-anew-requires Inv-loop μ-loop
+anew-requires c κs = search needs
 
 enum-told-3 : tie.Need-enum-told-3 Inv-loop μ-loop
 enum-told-3 c = search needs
@@ -171,6 +177,7 @@ take-pairs-spec =
     role-once-requires
     enum-told-2
     octets-once-requires
+    anew-requires
     enum-told-3
     unsupported-once-requires
     enum-told-4
