@@ -56,33 +56,33 @@ module _ (w a b : ℕ) where
 -- ---- the flags
 -- the bit of an identifier in a word
 abbrev bitIn : ℕ → ℕ → Bool
-bitIn w i = eqb ((w / 2 ^ (i % 32)) % 2) 1
+bitIn w i = eqb ((w / 2 ^ (i / 8)) % 2) 1
 
-module _ (seen : List ℕ) (d i : ℕ) (room : d / 32 < length seen) where
+module _ (seen : List ℕ) (d i : ℕ) (room : d % 8 < length seen) where
   abbrev word : ℕ
-  word = getD seen (d / 32) 0
+  word = getD seen (d % 8) 0
 
   abbrev more : ℕ
-  more = bitOr word (2 ^ (d % 32))
+  more = bitOr word (2 ^ (d / 8))
 
   flag-set : flagged (flag seen d) i ≡ (flagged seen i || eqb d i)
-  flag-set = go (eqb (i / 32) (d / 32)) refl (eqb (i % 32) (d % 32)) refl
+  flag-set = go (eqb (i % 8) (d % 8)) refl (eqb (i / 8) (d / 8)) refl
     where
-      go : (p : Bool) → eqb (i / 32) (d / 32) ≡ p → (q : Bool) → eqb (i % 32) (d % 32) ≡ q → flagged (flag seen d) i ≡ (flagged seen i || eqb d i)
+      go : (p : Bool) → eqb (i % 8) (d % 8) ≡ p → (q : Bool) → eqb (i / 8) (d / 8) ≡ q → flagged (flag seen d) i ≡ (flagged seen i || eqb d i)
       go false e q f =
-          let apart = eqb-false (i / 32) (d / 32) e in
-          rw (getD-set-other seen (d / 32) (i / 32) more 0 apart, ne-eqb d i (λ z. apart (ap (λ (n : ℕ). n / 32) (sym z))))
+          let apart = eqb-false (i % 8) (d % 8) e in
+          rw (getD-set-other seen (d % 8) (i % 8) more 0 apart, ne-eqb d i (λ z. apart (ap (λ (n : ℕ). n % 8) (sym z))))
           (sym (or-false (flagged seen i)))
       go true e true f =
-          let place = eqb-true (i / 32) (d / 32) e in
-          let bit = eqb-true (i % 32) (d % 32) f in
+          let place = eqb-true (i % 8) (d % 8) e in
+          let bit = eqb-true (i / 8) (d / 8) f in
           let z : d ≡ i = omega arith in
-          rw (place, getD-set-same seen (d / 32) more 0 room, set-bit word (i % 32) (d % 32) bit, eq-eqb d i z) (sym (or-true (bitIn word i)))
+          rw (place, getD-set-same seen (d % 8) more 0 room, set-bit word (i / 8) (d / 8) bit, eq-eqb d i z) (sym (or-true (bitIn word i)))
       go true e false f =
-          let place = eqb-true (i / 32) (d / 32) e in
-          let apart = eqb-false (i % 32) (d % 32) f in
-          let other = ne-eqb d i (λ z. apart (ap (λ (n : ℕ). n % 32) (sym z))) in
-          rw (place, getD-set-same seen (d / 32) more 0 room, kept-bit word (i % 32) (d % 32) apart, other) (sym (or-false (bitIn word i)))
+          let place = eqb-true (i % 8) (d % 8) e in
+          let apart = eqb-false (i / 8) (d / 8) f in
+          let other = ne-eqb d i (λ z. apart (ap (λ (n : ℕ). n / 8) (sym z))) in
+          rw (place, getD-set-same seen (d % 8) more 0 room, kept-bit word (i / 8) (d / 8) apart, other) (sym (or-false (bitIn word i)))
 
 no-word : (n j : ℕ) → getD (replicate n zero) j zero ≡ zero
 no-word zero j = refl
@@ -90,7 +90,7 @@ no-word (suc n) zero = refl
 no-word (suc n) (suc j) = no-word n j
 
 pub exactly-none : Exactly (replicate 8 0) []
-exactly-none = record { words = refl; flags = λ i. rw (no-word 8 (i / 32), zero-div (2 ^ (i % 32))) }
+exactly-none = record { words = refl; flags = λ i. rw (no-word 8 (i % 8), zero-div (2 ^ (i / 8))) }
 
 -- ---- one key more
 bit-clear : (x : ℕ) → x < 2 → eqb x 0 ≡ not (eqb x 1)
@@ -109,15 +109,15 @@ byte-high k ok =
 
 module _ (seen : List ℕ) (k : Key) where
   -- what the code asks and sets
-  pub asked : validKey k ≡ true → eqb ((getD seen (k .identifier / 32) 0 / 2 ^ (k .identifier % 32)) % 2) 0 ≡ joins seen k
+  pub asked : validKey k ≡ true → eqb ((getD seen (k .identifier % 8) 0 / 2 ^ (k .identifier / 8)) % 2) 0 ≡ joins seen k
   unfolding joins
-  asked ok = rw ok (bit-clear ((getD seen (k .identifier / 32) 0 / 2 ^ (k .identifier % 32)) % 2) (omega arith))
+  asked ok = rw ok (bit-clear ((getD seen (k .identifier % 8) 0 / 2 ^ (k .identifier / 8)) % 2) (omega arith))
 
   pub set-in :
       validKey k ≡ true →
-      set seen (k .identifier / 32) (bitOr (getD seen (k .identifier / 32) 0) ((1 * 2 ^ (k .identifier % 32)) % 2 ^ 32)) ≡ noted seen k
+      set seen (k .identifier % 8) (bitOr (getD seen (k .identifier % 8) 0) ((1 * 2 ^ (k .identifier / 8)) % 2 ^ 32)) ≡ noted seen k
   unfolding noted
-  set-in ok = rw (ok, shl-exact {a = 1} 1 (k .identifier % 32) 32 (omega arith) (omega arith), one-mul (2 ^ (k .identifier % 32)))
+  set-in ok = rw (ok, shl-exact {a = 1} 1 (k .identifier / 8) 32 (omega (arith, byte-high k ok)) (omega (arith, byte-high k ok)), one-mul (2 ^ (k .identifier / 8)))
 
   pub outside-none : validKey k ≡ false → (joins seen k ≡ false) × (noted seen k ≡ seen)
   unfolding joins noted
@@ -128,7 +128,7 @@ module _ (seen : List ℕ) (k : Key) where
     own ok =
         let high = byte-high k ok in
         record {
-          words = length-set seen (k .identifier / 32) _ ∙ so-far .words;
+          words = length-set seen (k .identifier % 8) _ ∙ so-far .words;
           flags = λ i.
               flag-set seen (k .identifier) i (omega (arith, so-far .words)) ∙ rw (so-far .flags i, has-append i ks (k ∷ []), or-false (eqb (k .identifier) i));
         }

@@ -1,5 +1,5 @@
 -- Which identifiers have been seen in a key set: 256 flags, one for each byte value. Eight words of 32 bits hold them:
--- the flag of identifier i is bit i % 32 of word i / 32.
+-- the flag of identifier i is bit i / 8 of word i % 8.
 use Prim.Native.Nat.{ℕ, _/_, _%_, _^_}
 use mathlib.Core.Path.{_≡_}
 use mathlib.Core.Bool.{Bool, true, false, not, cond, _&&_}
@@ -13,11 +13,11 @@ use Rattle.link_key_set.specs.KeySet.{has, eachOnce}
 
 -- the flag of an identifier is set
 abbrev pub flagged : List ℕ → ℕ → Bool
-flagged seen identifier = eqb ((getD seen (identifier / 32) 0 / 2 ^ (identifier % 32)) % 2) 1
+flagged seen identifier = eqb ((getD seen (identifier % 8) 0 / 2 ^ (identifier / 8)) % 2) 1
 
 -- the flags with that of an identifier set
 abbrev pub flag : List ℕ → ℕ → List ℕ
-flag seen identifier = set seen (identifier / 32) (bitOr (getD seen (identifier / 32) 0) (2 ^ (identifier % 32)))
+flag seen identifier = set seen (identifier % 8) (bitOr (getD seen (identifier % 8) 0) (2 ^ (identifier / 8)))
 
 -- a key joins the keys so far: it is in its limits, and its flag is not set
 unfoldable pub joins : List ℕ → Key → Bool
@@ -51,7 +51,7 @@ pub record OneMore (ks : List Key) (k : Key) (joined : Bool) (after : List ℕ) 
 abbrev pub WithOneMore : List ℕ → Key → Bool → List ℕ → Type 0
 WithOneMore seen k joined after = (ks : List Key) → Exactly seen ks → OneMore ks k joined after
 
--- over a whole set, from clear flags: each key joins exactly where all are in their limits and no identifier comes twice
+-- over a whole set, from clear flags: all keys join exactly where all are in their limits and no identifier comes twice
 pub record SeenLaws : Type 0 where
   pub clear : Exactly (replicate 8 0) []
   pub told : (ks : List Key) → allJoin (replicate 8 0) ks ≡ eachOnce ks

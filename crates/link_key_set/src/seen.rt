@@ -18,15 +18,16 @@ pub fn flags_tell()
     ensures { λ r. ⌜ SeenLaws ⌝ }
 {}
 
-// One key more of a set: whether it is in its limits and its flag was clear. A key in its limits sets its flag.
+// One key more of a set: whether it is in its limits and its flag was clear. A key in its limits sets its flag. Identifiers that follow each
+// other have their flags in different words, so that a key need not wait for the word that the one before it stored.
 pub fn join(seen: &mut [u32; 8], key: Key) -> bool
     ensures told { λ r. ⌜ r ≡ joins (now (seen .entry)) key ⌝ }
     ensures after { λ r. ⌜ now (seen .exit) ≡ noted (now (seen .entry)) key ⌝ }
     ensures so_far { λ r. ⌜ WithOneMore (now (seen .entry)) key r (now (seen .exit)) ⌝ }
 {
     if key.valid() {
-        let place = (key.identifier / 32) as usize;
-        let bit = (key.identifier % 32) as u32;
+        let place = (key.identifier % 8) as usize;
+        let bit = (key.identifier / 8) as u32;
         let word = seen[place];
         seen[place] = word | (1u32 << bit);
         return (word >> bit) % 2 == 0;
