@@ -55,6 +55,11 @@ serves type x = (covers (x .key) type && not (isUsedUp x))
 abbrev pub firstServing : ℕ → CountedSet → Option Slot
 firstServing type s = firstOf (serves type) (slotsOf s)
 
+-- the place of a key that was found; 8, which is no place, where none was
+abbrev pub placeOf : Option Slot → ℕ
+placeOf none = 8
+placeOf (some x) = x .place
+
 abbrev pub raised : CountedSet → Slot → CountedSet
 raised s x = countedSet (s .set) (set (s .counters) (x .place) (x .counter + 1))
 

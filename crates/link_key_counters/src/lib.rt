@@ -4,9 +4,7 @@ use link_key::no_key;
 use link_key_set::KeySet;
 use link_key_set::key_set::no_keys;
 ghost use mathlib.Core.Path.{_≡_};
-ghost use Prim.Native.Nat.{_<_};
-ghost use mathlib.Core.Option.{some};
-ghost use Rattle.link_key_counters.specs.Counters.{slot, arrived, noCounted, spentOn, spend, keptCounter, succeeded};
+ghost use Rattle.link_key_counters.specs.Counters.{arrived, noCounted, firstServing, placeOf, spend, keptCounter, succeeded};
 ghost use Rattle.link_key_counters.specs.CounterLaws.{CounterLaws};
 
 pub struct CountedSet {
@@ -41,26 +39,9 @@ pub fn none_counted() -> CountedSet
 }
 
 impl CountedSet {
-    // The key at a place is used with its counter, which rises by one.
-    fn used(self, place: usize, key: Key, counter: u32) -> Spent
-        requires { ⌜ place < 8 ⌝ }
-        requires { ⌜ (counter ≡ 4294967295 → ⊥) ⌝ }
-        ensures { λ r. ⌜ r ≡ spentOn self (some (slot place key counter)) ⌝ }
-    {
-        let set = self.set;
-        let mut counters = self.counters;
-        counters[place] = counter + 1;
-        Spent {
-            found: true,
-            key,
-            counter,
-            set: CountedSet { set, counters },
-        }
-    }
-
-    // The first key that covers the frame type and is not used up, its counter, and the set with that counter one higher.
-    pub fn spend(self, frame_type: u8) -> Spent
-        ensures { λ r. ⌜ r ≡ spend «frame_type» self ⌝ }
+    // The place of the first key that covers the frame type and is not used up; 8 where there is none.
+    fn serving(self, frame_type: u8) -> usize
+        ensures { λ r. ⌜ r ≡ placeOf (firstServing «frame_type» self) ⌝ }
     {
         let n = self.set.len();
         let keys = self.set.keys;
@@ -70,16 +51,35 @@ impl CountedSet {
             let key = keys[i];
             let counter = counters[i];
             if counter != 4294967295 && key.covers(frame_type) {
-                return self.used(i, key, counter);
+                return i;
             }
             i += 1;
         }
-        let key = no_key();
+        8
+    }
+
+    // The first key that covers the frame type and is not used up, its counter, and the set with that counter one higher.
+    // The answer is built in one place, after the branch: built in each branch, the set would be copied.
+    pub fn spend(self, frame_type: u8) -> Spent
+        ensures { λ r. ⌜ r ≡ spend «frame_type» self ⌝ }
+    {
+        let place = self.serving(frame_type);
+        let set = self.set;
+        let keys = self.set.keys;
+        let mut counters = self.counters;
+        let mut key = no_key();
+        let mut counter: u32 = 0;
+        let found = place < 8;
+        if place < 8 {
+            key = keys[place];
+            counter = counters[place];
+            counters[place] = counter + 1;
+        }
         Spent {
-            found: false,
+            set: CountedSet { set, counters },
+            found,
             key,
-            counter: 0,
-            set: self,
+            counter,
         }
     }
 

@@ -10,11 +10,11 @@ ghost use Rattle.node.specs.Node.{keyed};
 ghost use Rattle.node.specs.Frames.{sending, receive, verified};
 
 // What a frame is sent with: the key and its counter, and the node with that counter one higher. Beside a refusal stand 0 and the node as
-// it was.
+// it was. The node stands first: with a gap before it, the compiler copies it.
 pub struct Sent {
+    pub node: Node,
     pub answer: KeyAnswer,
     pub counter: u32,
-    pub node: Node,
 }
 
 pub struct Reported {

@@ -12,13 +12,14 @@ use Rattle.link_key_set.specs.KeySet.{has}
 use Rattle.link_key.specs.declared.FoundKey.{FoundKey}
 use Rattle.link_key.specs.declared.Key.{Key}
 use Rattle.node_key_sets.specs.Sets.{activeIn, twoSets}
-use Rattle.node_key_sets.specs.Frames.{withKey, withoutKey, unsent, sending, heldKey, ifCovers, receivingKey, switched, effect, verifiedIn}
+use Rattle.node_key_sets.specs.Frames.{withKey, withoutKey, sentWith, sending, heldKey, ifCovers, receivingKey}
+use Rattle.node_key_sets.specs.Frames.{switched, effect, verifiedIn}
 use Rattle.node_key_sets.specs.declared.frames.Change.the-variants as change
 use Rattle.node_key_sets.specs.declared.frames.KeyAnswer.{KeyAnswer}
 use Rattle.node_key_sets.specs.declared.frames.Sending.{Sending}
 use Rattle.node_key_sets.specs.declared.sets.KeySets.{KeySets}
 use Rattle.link_key_usage.specs.Usage.{knownType}
-use Rattle.link_key_counters.specs.Counters.{spend}
+use Rattle.link_key_counters.specs.Counters.{Slot, firstServing, spentOn, spend}
 use Rattle.link_key_counters.specs.declared.Spent.{Spent}
 
 -- ---- a key that was looked for
@@ -58,16 +59,19 @@ unfolding receivingKey
 from-held s type identifier x e r h = rw (← if-covers (heldKey s identifier) x e type) h
 
 -- ---- a key that was spent
-module _ (s : KeySets) (type : ℕ) (known : knownType type ≡ true) (x : Spent) (e : x ≡ spend type (s .active)) where
-  pub sent-found :
-      x .found ≡ true →
-      _≡_ {A = Sending} (record { answer = withKey (x .key); counter = x .counter; sets = twoSets (x .set) (s .pending) }) (sending s type)
-  unfolding sending
-  sent-found f = rw (known, ← e, f)
+-- as the code builds it: only the answer asks whether a key was found, since without one the counter is 0 and the set as it was
+abbrev sentFrom : KeySets → Spent → Sending
+sentFrom s x =
+    let answer = cond (x .found) (withKey (x .key)) (withoutKey refusal.Silent) in
+    record { answer = answer; counter = x .counter; sets = twoSets (x .set) (s .pending) }
 
-  pub sent-silent : x .found ≡ false → unsent refusal.Silent s ≡ sending s type
-  unfolding sending
-  sent-silent f = rw (known, ← e, f)
+sent-on : (s : KeySets) (o : Option Slot) → sentFrom s (spentOn (s .active) o) ≡ sentWith s (spentOn (s .active) o)
+sent-on s none = refl
+sent-on s (some x) = refl
+
+pub sent-spent : (s : KeySets) (type : ℕ) → knownType type ≡ true → (x : Spent) → x ≡ spend type (s .active) → sentFrom s x ≡ sending s type
+unfolding sending spend
+sent-spent s type known x e = rw (known, e) (sent-on s (firstServing type (s .active)))
 
 -- ---- the verified report
 module _ (s : KeySets) (type identifier : ℕ) (x : KeyAnswer) (e : x ≡ receivingKey s type identifier) where

@@ -63,6 +63,19 @@ fn received(held: FoundKey, frame_type: u8, identifier: u8) -> KeyAnswer
     without_key(Refusal::Silent)
 }
 
+// The answer to a frame that is to be sent, from the key that was looked for. SILENT.
+fn chosen(found: bool, key: Key) -> KeyAnswer
+    ensures { λ r. ⌜ r ≡ cond found (withKey key) (withoutKey refusal.Silent) ⌝ }
+{
+    if found {
+        return KeyAnswer {
+            verdict: Verdict::Accepted,
+            key,
+        };
+    }
+    without_key(Refusal::Silent)
+}
+
 // The three calls for frames are parts of a node's calls, which judge the node with its key sets first: no set is judged twice.
 // They are total all the same: of sets outside their limits they answer the first key that is found.
 impl KeySets {
@@ -78,6 +91,7 @@ impl KeySets {
     }
 
     // The key to send a frame of this type with: the first active one that covers it and is not used up. RANGE: the type; SILENT.
+    // Found or not, the answer is built in one place: where none is found, `spend` gives the set as it was.
     pub fn sending_key(self, frame_type: u8) -> Sending
         ensures { λ r. ⌜ r ≡ sending self «frame_type» ⌝ }
     {
@@ -85,23 +99,17 @@ impl KeySets {
             return self.unsent(Refusal::Range);
         }
         let spent = self.active.spend(frame_type);
-        if spent.found {
-            let key = spent.key;
-            let active = spent.set;
-            let waiting = self.pending;
-            return Sending {
-                answer: KeyAnswer {
-                    verdict: Verdict::Accepted,
-                    key,
-                },
-                counter: spent.counter,
-                sets: KeySets {
-                    active,
-                    pending: waiting,
-                },
-            };
+        let active = spent.set;
+        let waiting = self.pending;
+        let answer = chosen(spent.found, spent.key);
+        Sending {
+            answer,
+            counter: spent.counter,
+            sets: KeySets {
+                active,
+                pending: waiting,
+            },
         }
-        self.unsent(Refusal::Silent)
     }
 
     // The key with the identifier, active or else pending.

@@ -1,129 +1,85 @@
--- `spend` meets its contract: from each place on the question has the answer that it has from the first.
-use Prim.Native.Nat.{_-_}
+-- `spend` meets its contract: the place that `serving` answers says which key is the first that serves, and whether there is one.
 use native.Mathlib.Omega.{arith}
-use mathlib.Core.Path.{_≡_, refl, sym, _∙_}
-use mathlib.Core.Logic.{⊎-elim}
-use mathlib.Core.Bool.{false}
+use mathlib.Core.Path.{_≡_, sym, _∙_}
 use borrow.Author.Needs.{needs}
-use lib.ListN.{length, getD}
-use Rattle.link_key_set.specs.KeySet.{keysOf}
-use Rattle.link_key_set.specs.Lists.{firstOf}
-use Rattle.link_key_counters.specs.Counters.{serves, slot, spend}
-use Rattle.link_key_counters.proofs.Slots.{past, firsts, within, rest, turn, stop, does-serve, not-covering, used-up}
+use borrow.Author.Tests.{lt-ltb, le-ltb}
+use lib.ListN.{length, getD, length-map}
+use mir.Val.{Fits}
+use mir.Syntax.{w32}
+use Rattle.link_key_counters.specs.Counters.{spend}
+use Rattle.link_key_counters.proofs.Places.{is-there, is-none, unused}
 use Rattle.link_key_counters.proofs.CountedSet.spend.Statement.{statement}
 use Rattle.link_key_counters.proofs.CountedSet.spend.Tie as tie
 
-abbrev Inv-loop : tie.InvT-loop
-Inv-loop self frame-type n keys counters i₀ i =
-    firstOf (serves frame-type) (rest keys counters n 0) ≡ firstOf (serves frame-type) (rest keys counters n i)
+-- the array of the set's keys
+eight : (c : tie.Start) → length (c .args .self .set .keys) ≡ 8
+eight c = sym (length-map (c .args .self .set .keys) _) ∙ c .good .0 .1 .1 .0 .1 .1 .1 .0 .1 .0 .1
 
-abbrev μ-loop : tie.MeasureT-loop
-μ-loop self frame-type n keys counters i₀ i = n - i
+serving-requires : tie.Need-serving-requires
+serving-requires c κs = search needs
 
-len-requires : tie.Need-len-requires Inv-loop μ-loop
-len-requires c κs = search needs
-
-loop-holds : tie.Need-loop-holds Inv-loop μ-loop
-loop-holds c = refl
-
-mul-key : tie.Need-mul-key Inv-loop μ-loop
-mul-key c = search needs
-
-array-copy-out-key : tie.Need-array-copy-out-key Inv-loop μ-loop
-array-copy-out-key c = search needs
-
-mul-counter : tie.Need-mul-counter Inv-loop μ-loop
-mul-counter c = search needs
-
-array-read-counter : tie.Need-array-read-counter Inv-loop μ-loop
-array-read-counter c = omega (arith, c .before .before .before .before .before .len .ensures)
-
-covers-requires : tie.Need-covers-requires Inv-loop μ-loop
-covers-requires c κs = search needs
-
-used-requires : tie.Need-used-requires Inv-loop μ-loop
-used-requires c κs =
-    let unused = c .before .before in
-    (omega (arith, unused .before .before .before .before .before .before .len .ensures), unused .if1 .taken)
-
-returns : tie.Need-returns Inv-loop μ-loop
-unfolding spend
-returns c =
-    let unused = c .before .before .before in
-    let turned = unused .before .before in
-    let loop = turned .before .loop in
-    let start = turned .before .before .before .before in
-    let args = start .before .args in
-    let set = args .self .set in
-    let counters = args .self .counters in
-    let n = start .len .result in
-    let size : n ≡ length (keysOf set) = start .len .ensures .0 in
-    let question = firstOf (serves (args .frame-type)) in
-    let key = getD (set .keys) (loop .i) past in
-    let counter = getD counters (loop .i) 0 in
-    let covering = sym (c .before .before .covers .ensures) ∙ c .before .if2 .taken in
-    let serving = does-serve (args .frame-type) (loop .i) key counter covering (unused .if1 .taken) in
-    let next = turn (set .keys) counters question n (loop .i) (within set n size) (turned .loop-test .taken) in
-    rw (← firsts set n size, loop .inv, next, serving) (c .used .ensures)
-
-add-i : tie.Need-add-i Inv-loop μ-loop
-add-i c = search needs
-
-loop-less : tie.Need-loop-less Inv-loop μ-loop
-loop-less c = search needs
-
-loop-again : tie.Need-loop-again Inv-loop μ-loop
-loop-again c =
-    let turned = c .before .before in
-    let loop = turned .before .loop in
-    let start = turned .before .before .before .before in
-    let args = start .before .args in
-    let set = args .self .set in
-    let counters = args .self .counters in
-    let n = start .len .result in
-    let size : n ≡ length (keysOf set) = start .len .ensures .0 in
-    let question = firstOf (serves (args .frame-type)) in
-    let key = getD (set .keys) (loop .i) past in
-    let counter = getD counters (loop .i) 0 in
-    let passed : serves (args .frame-type) (slot (loop .i) key counter) ≡ false =
-    ⊎-elim (λ w. not-covering (args .frame-type) (loop .i) key counter (sym (w .1 .ensures) ∙ w .2 .left))
-    (λ w. used-up (args .frame-type) (loop .i) key counter (w .left)) (c .if1 .came) in
-    rw (loop .inv, turn (set .keys) counters question n (loop .i) (within set n size) (turned .loop-test .taken), passed)
-
-no-key-requires : tie.Need-no-key-requires Inv-loop μ-loop
+no-key-requires : tie.Need-no-key-requires
 no-key-requires c κs = search needs
 
-returns-2 : tie.Need-returns-2 Inv-loop μ-loop
+mul-key : tie.Need-mul-key
+mul-key c = search needs
+
+array-copy-out-key : tie.Need-array-copy-out-key
+array-copy-out-key c = search needs
+
+mul-counter : tie.Need-mul-counter
+mul-counter c = search needs
+
+array-read-counter : tie.Need-array-read-counter
+array-read-counter c = search needs
+
+add-counters : tie.Need-add-counters
+add-counters c =
+    let found = c .before in
+    let asked = found .before .before .before .before .before in
+    let args = asked .before .args in
+    let place = asked .serving .result in
+    let fits : Fits w32 (getD (args .self .counters) place 0) = search needs in
+    let not-last = unused (args .frame-type) (args .self) (eight (asked .before)) place (asked .serving .ensures) (found .if1 .taken) in
+    omega (arith, fits .fits, not-last)
+
+mul-counters : tie.Need-mul-counters
+mul-counters c = search needs
+
+array-write-counters : tie.Need-array-write-counters
+array-write-counters c = search needs
+
+returns : tie.Need-returns
+unfolding spend
+returns c =
+    let found = c .before in
+    let asked = found .before .before .before .before .before in
+    let args = asked .before .args in
+    let place = asked .serving .result in
+    let first = is-there (args .frame-type) (args .self) (eight (asked .before)) place (asked .serving .ensures) (found .if1 .taken) in
+    rw (lt-ltb place 8 (found .if1 .taken), first)
+
+returns-2 : tie.Need-returns-2
 unfolding spend
 returns-2 c =
-    let ended = c .before in
-    let loop = ended .before .loop in
-    let start = ended .before .before .before .before in
-    let args = start .before .args in
-    let set = args .self .set in
-    let counters = args .self .counters in
-    let n = start .len .result in
-    let size : n ≡ length (keysOf set) = start .len .ensures .0 in
-    let question = firstOf (serves (args .frame-type)) in
-    rw (← firsts set n size, loop .inv, stop (set .keys) counters question n (loop .i) (ended .loop-test .left), c .no-key .ensures)
+    let asked = c .before .before .before .before .before in
+    let args = asked .before .args in
+    let place = asked .serving .result in
+    let none-serves = is-none (args .frame-type) (args .self) (eight (asked .before)) place (asked .serving .ensures) (c .if1 .left) in
+    rw (le-ltb place 8 (c .if1 .left), none-serves, c .before .no-key .ensures)
 
 pub spend-spec : {M : Type 1} → statement M
 spend-spec =
     tie.close
     (tie.spec
-    Inv-loop
-    μ-loop
-    len-requires
-    loop-holds
+    serving-requires
+    no-key-requires
     mul-key
     array-copy-out-key
     mul-counter
     array-read-counter
-    covers-requires
-    used-requires
+    add-counters
+    mul-counters
+    array-write-counters
     returns
-    add-i
-    loop-less
-    loop-again
-    no-key-requires
     returns-2)
