@@ -22,4 +22,8 @@ pub bad-values : BadValues
 unfolding payloadBy infoOf decodeBy heading argument next digits members pairs majorOf shortest extraOf bytesOf validKey validKeys isAddress
     addressIn configurationTaking added groups identified used valued stringsIn faultsIn padded octetsJudged parameterOf laterParameter
     rateTaken faultsOf roleJudged requestStanding requestTaking owing payloadReadBy
-bad-values = (refl, (refl, (refl, (refl, (refl, (refl, (refl, (refl, tt))))))))
+bad-values = record {
+  rows = (refl, (refl, (refl, (refl, (refl, (refl, (refl, (refl, tt))))))));
+  no-hours = refl;
+  usage-0 = refl;
+}

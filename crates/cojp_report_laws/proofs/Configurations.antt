@@ -69,7 +69,7 @@ pub record Seen (ks : List Known) (c : Configuration) : Type 0 where
   pub alone : (n : ℕ) → timesIn n (malformed ks) ≡ flag (isIn n (labelsOf ks))
   pub came : Holds (c .came) (malformed ks)
 
-none-seen : Seen [] emptyConfiguration
+pub none-seen : Seen [] emptyConfiguration
 none-seen = record {
   keys = refl;
   address = refl;
@@ -81,7 +81,7 @@ none-seen = record {
   came = none-held;
 }
 
-pass-seen : (ks : List Known) (c : Configuration) → Seen ks c → Seen ks (withPassed c (c .passed + 1))
+pub pass-seen : (ks : List Known) (c : Configuration) → Seen ks c → Seen ks (withPassed c (c .passed + 1))
 pass-seen ks c h = record {
   keys = h .keys;
   address = h .address;
@@ -94,7 +94,7 @@ pass-seen ks c h = record {
 }
 
 -- ---- the standing of a label
-stands : (ks : List Known) (c : Configuration) → Seen ks c → (n : ℕ) →
+pub stands : (ks : List Known) (c : Configuration) → Seen ks c → (n : ℕ) →
     standingFor c (parameterOf Published n) ≡ standsBy configurationLabels (labelsOf ks) n
 unfolding parameterOf laterParameter
 stands ks c h n =
@@ -207,7 +207,7 @@ module _ (ks : List Known) (c : Configuration) (h : Seen ks c) (v : View) where
         came = noted-held 7 one;
       }
 
-  takes : (n : ℕ) → isIn n configurationLabels ≡ true → isIn n (labelsOf ks) ≡ false →
+  pub takes : (n : ℕ) → isIn n configurationLabels ≡ true → isIn n (labelsOf ks) ≡ false →
       Took (Seen (ks ++ (knownOf n v ∷ []))) (configurationTaking Published c n v)
   unfolding configurationTaking parameterOf laterParameter
   takes n =

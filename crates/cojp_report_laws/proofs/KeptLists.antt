@@ -44,7 +44,7 @@ module _ (H : HeadLaws) where
   item-size (string s) = length-append (shortest 2 (length s)) s ∙ ap (λ (n : ℕ). n + length s) (H .length-head 2 (length s))
   item-size other = H .short-head 7 22 (omega arith)
 
-  written-size : (ps : List Plain) → length (written ps) ≡ plainsSize ps
+  pub written-size : (ps : List Plain) → length (written ps) ≡ plainsSize ps
   written-size [] = refl
   written-size (p ∷ ps) = length-append (encode (plainItem p)) (written ps) ∙ omega (arith, item-size p, written-size ps)
 

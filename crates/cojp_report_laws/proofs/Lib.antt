@@ -17,3 +17,10 @@ mod RequestLimits
 mod KeySizes
 mod ConfigurationSizes
 mod WrittenBack
+mod GoodPlain
+mod GoodLists
+mod GoodKeys
+mod CameAs
+mod GoodConfigurations
+mod GoodRequests
+mod GoodValues

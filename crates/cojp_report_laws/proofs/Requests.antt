@@ -98,10 +98,10 @@ pub record Asked (ks : List Known) (g : Gathered) : Type 0 where
   pub few : length (requestReports ks) ≤ flag (isIn 1 (labelsOf ks)) + flag (isIn 8 (labelsOf ks))
   pub faults : Holds (g .request .faults) (requestReports ks)
 
-none-asked : Asked [] nothingGathered
+pub none-asked : Asked [] nothingGathered
 none-asked = record { role = refl; network = refl; unsupported = refl; reads = refl; due = refl; few = omega arith; faults = none-held }
 
-pass-asked : (ks : List Known) (g : Gathered) → Asked ks g → Asked ks (requestPassing g)
+pub pass-asked : (ks : List Known) (g : Gathered) → Asked ks g → Asked ks (requestPassing g)
 pass-asked ks g h = record {
   role = h .role;
   network = h .network;
@@ -113,10 +113,10 @@ pass-asked ks g h = record {
 }
 
 -- role, network identifier and reports, and all others
-each-of-three : (P : ℕ → Type 0) (n : ℕ) → P 1 → P 5 → P 8 → (eqb n 1 ≡ false → eqb n 5 ≡ false → eqb n 8 ≡ false → P n) → P n
+pub each-of-three : (P : ℕ → Type 0) (n : ℕ) → P 1 → P 5 → P 8 → (eqb n 1 ≡ false → eqb n 5 ≡ false → eqb n 8 ≡ false → P n) → P n
 each-of-three P n a b c others = at-label P n 1 a (λ x. at-label P n 5 b (λ y. at-label P n 8 c (λ z. others x y z)))
 
-stands : (ks : List Known) (g : Gathered) → Asked ks g → (n : ℕ) → requestStanding Published g n ≡ standsBy requestLabels (labelsOf ks) n
+pub stands : (ks : List Known) (g : Gathered) → Asked ks g → (n : ℕ) → requestStanding Published g n ≡ standsBy requestLabels (labelsOf ks) n
 unfolding requestStanding
 stands ks g h n =
     each-of-three (λ (m : ℕ). requestStanding Published g m ≡ standsBy requestLabels (labelsOf ks) m) n (h .role) (h .network)
@@ -241,7 +241,7 @@ module _ (ks : List Known) (g : Gathered) (h : Asked ks g) (v : View) where
       by Discarded q s = one (rw q)
       by Absent q s = one (rw q)
 
-  takes : (n : ℕ) → isIn n requestLabels ≡ true → isIn n (labelsOf ks) ≡ false → Took (Asked (more n)) (requestTaking Published g n v)
+  pub takes : (n : ℕ) → isIn n requestLabels ≡ true → isIn n (labelsOf ks) ≡ false → Took (Asked (more n)) (requestTaking Published g n v)
   unfolding requestTaking
   takes n =
       each-of-three

@@ -1,18 +1,23 @@
--- For each way in which docs/RFC9031.md has a value of the published form bad, or just good, a payload and what it is answered with: its
--- reports, or a refusal. A table for each parameter, and one statement.
+-- Ways in which docs/RFC9031.md has a value of the published form bad, or just good: payloads, and what each is answered with, its reports
+-- or a refusal. A table for each parameter, and one statement.
 use Prim.Native.Nat.{ℕ}
 use mathlib.Core.Path.{_≡_}
-use mathlib.Core.Bool.{false}
+use mathlib.Core.Bool.{true, false}
 use mathlib.Core.List.{List, [], _∷_, _++_}
 use lib.ListN.{replicate}
 use Rattle.refusal.specs.declared.Refusal.{Refusal}
 use Rattle.refusal.specs.declared.Refusal.the-variants as refusal
 use Rattle.refusal.specs.declared.Verdict.{Verdict}
 use Rattle.refusal.specs.declared.Verdict.the-variants as verdict
+use Rattle.link_key.specs.Key.{informedKey}
+use Rattle.link_key.specs.declared.info.Info.the-variants.{Absent}
+use Rattle.cojp.specs.Address.{addressOf, addressParameter}
 use Rattle.cojp.specs.Faults.{faultOf, faultList}
+use Rattle.cojp.specs.KeySet.{keySetOf, keysParameter}
 use Rattle.cojp.specs.Reported.{faultsOf}
 use Rattle.cojp.specs.declared.configuration.ConfigurationRead.{ConfigurationRead}
 use Rattle.cojp.specs.declared.fault.Fault.{Fault}
+use Rattle.cojp.specs.declared.report.Report.the-variants.{Taken}
 use Rattle.cojp.specs.declared.request.RequestRead.{RequestRead}
 use Rattle.cojp_report_laws.specs.Verdicts.{configurationOf, requestOf}
 
@@ -85,10 +90,12 @@ shortIdentifiers =
     ∷ bad 3 (0x81 ∷ 0x05 ∷ [])
     ∷ bad 3 (0x82 ∷ 0x42 ∷ 0x12 ∷ 0x34 ∷ 0x20 ∷ [])
     ∷ bad 3 (0x82 ∷ 0x42 ∷ 0x12 ∷ 0x34 ∷ 0x40 ∷ [])
-    -- no byte, one and three; FFFE and FFFF
+    ∷ bad 3 (0x82 ∷ 0x42 ∷ 0x12 ∷ 0x34 ∷ 0xF6 ∷ [])
+    -- no byte, one, three and four; FFFE and FFFF
     ∷ bad 3 (0x81 ∷ 0x40 ∷ [])
     ∷ bad 3 (0x81 ∷ 0x41 ∷ 0x12 ∷ [])
     ∷ bad 3 (0x81 ∷ 0x43 ∷ 0x12 ∷ 0x34 ∷ 0x56 ∷ [])
+    ∷ bad 3 (0x81 ∷ 0x44 ∷ 0x12 ∷ 0x34 ∷ 0x56 ∷ 0x78 ∷ [])
     ∷ bad 3 (0x81 ∷ 0x42 ∷ 0xFF ∷ 0xFE ∷ [])
     ∷ bad 3 (0x81 ∷ 0x42 ∷ 0xFF ∷ 0xFF ∷ [])
     -- FFFD, and one with a lease of no hours
@@ -100,6 +107,7 @@ abbrev pub jrcAddresses : List Row
 jrcAddresses =
     bad 4 (0x4F ∷ replicate 15 7)
     ∷ bad 4 (0x51 ∷ replicate 17 7)
+    ∷ bad 4 (0x52 ∷ replicate 18 7)
     ∷ bad 4 (0x70 ∷ replicate 16 7)
     ∷ bad 4 (0x81 ∷ 0x50 ∷ replicate 16 7)
     ∷ good 4 (0x50 ∷ replicate 16 7)
@@ -112,10 +120,11 @@ blacklists =
     ∷ bad 6 (0x82 ∷ 0x41 ∷ 0x01 ∷ 0x05 ∷ [])
     ∷ bad 6 (0x82 ∷ 0x20 ∷ 0x41 ∷ 0x01 ∷ [])
     ∷ bad 6 (0x81 ∷ 0x61 ∷ 0x61 ∷ [])
-    -- no member; an empty one; one twice
+    -- no member; an empty one; one twice; many
     ∷ good 6 (0x80 ∷ [])
     ∷ good 6 (0x81 ∷ 0x40 ∷ [])
     ∷ good 6 (0x82 ∷ 0x41 ∷ 0x01 ∷ 0x41 ∷ 0x01 ∷ [])
+    ∷ good 6 (0x98 ∷ 0x18 ∷ replicate 24 0x40)
     ∷ []
 
 abbrev pub joinRates : List Row
@@ -128,23 +137,31 @@ keySets =
     ∷ bad 2 (0x80 ∷ [])
     ∷ bad 2 (0x81 ∷ 0x01 ∷ [])
     ∷ bad 2 (0x81 ∷ value16)
-    -- identifiers 0 and 256; usages 15 and -1; values of 15 and of 17 bytes
+    -- identifiers 0, 256 and 257; usages 15, 256 and -1; values of 15 and of 17 bytes
     ∷ bad 2 (0x82 ∷ key 0)
     ∷ bad 2 (0x82 ∷ 0x19 ∷ 0x01 ∷ 0x00 ∷ value16)
+    ∷ bad 2 (0x82 ∷ 0x19 ∷ 0x01 ∷ 0x01 ∷ value16)
     ∷ bad 2 (0x83 ∷ 0x01 ∷ 0x0F ∷ value16)
+    ∷ bad 2 (0x83 ∷ 0x01 ∷ 0x19 ∷ 0x01 ∷ 0x00 ∷ value16)
     ∷ bad 2 (0x83 ∷ 0x01 ∷ 0x20 ∷ value16)
     ∷ bad 2 (0x82 ∷ 0x01 ∷ 0x4F ∷ replicate 15 7)
     ∷ bad 2 (0x82 ∷ 0x01 ∷ 0x51 ∷ replicate 17 7)
-    -- additional information of 3 bytes and of none; three byte strings
+    -- additional information of 3, 5, 9 and 10 bytes and of none; three byte strings
     ∷ bad 2 ((0x83 ∷ key 1) ++ (0x43 ∷ 1 ∷ 2 ∷ 3 ∷ []))
+    ∷ bad 2 ((0x83 ∷ key 1) ++ (0x45 ∷ replicate 5 1))
+    ∷ bad 2 ((0x83 ∷ key 1) ++ (0x49 ∷ replicate 9 1))
+    ∷ bad 2 ((0x83 ∷ key 1) ++ (0x4A ∷ replicate 10 1))
     ∷ bad 2 ((0x83 ∷ key 1) ++ (0x40 ∷ []))
     ∷ bad 2 ((0x84 ∷ key 1) ++ (0x44 ∷ 1 ∷ 2 ∷ 3 ∷ 4 ∷ 0x44 ∷ 1 ∷ 2 ∷ 3 ∷ 4 ∷ []))
-    -- an identifier twice; a good key and a bad one; nine keys
+    -- an identifier twice, also with two sources; a good key and a bad one; nine keys
     ∷ bad 2 ((0x84 ∷ key 1) ++ key 1)
+    ∷ bad 2 ((0x86 ∷ key 1) ++ (0x44 ∷ replicate 4 1) ++ key 1 ++ (0x44 ∷ replicate 4 2))
     ∷ bad 2 ((0x84 ∷ key 1) ++ key 0)
     ∷ bad 2 ((0x92 ∷ key 1) ++ key 2 ++ key 3 ++ key 4 ++ key 5 ++ key 6 ++ key 7 ++ key 8 ++ key 9)
-    -- one key; identifier 255 and usage 14; information of 4 and of 8 bytes
+    -- one key, and eight; usage 0, written; identifier 255 and usage 14; information of 4 and of 8 bytes
     ∷ good 2 (0x82 ∷ key 1)
+    ∷ good 2 ((0x90 ∷ key 1) ++ key 2 ++ key 3 ++ key 4 ++ key 5 ++ key 6 ++ key 7 ++ key 8)
+    ∷ good 2 (0x83 ∷ 0x01 ∷ 0x00 ∷ value16)
     ∷ good 2 (0x83 ∷ 0x18 ∷ 0xFF ∷ 0x0E ∷ value16)
     ∷ good 2 ((0x83 ∷ key 1) ++ (0x44 ∷ 1 ∷ 2 ∷ 3 ∷ 4 ∷ []))
     ∷ good 2 ((0x83 ∷ key 1) ++ (0x48 ∷ 1 ∷ 2 ∷ 3 ∷ 4 ∷ 5 ∷ 6 ∷ 7 ∷ 8 ∷ []))
@@ -170,11 +187,12 @@ reportLists =
     ∷ badAsked 1 8 (0x84 ∷ 0x00 ∷ 0x07 ∷ 0xF6 ∷ 0x00 ∷ [])
     ∷ badAsked 1 8 (0x83 ∷ 0x40 ∷ 0x07 ∷ 0xF6 ∷ [])
     ∷ badAsked 1 8 (0x83 ∷ 0x00 ∷ 0x40 ∷ 0xF6 ∷ [])
-    -- code and label negative; any third item; two groups
+    -- code and label negative; any third item; two groups; six
     ∷ goodAsked 8 (0x83 ∷ 0x20 ∷ 0x07 ∷ 0xF6 ∷ [])
     ∷ goodAsked 8 (0x83 ∷ 0x00 ∷ 0x20 ∷ 0xF6 ∷ [])
     ∷ goodAsked 8 (0x83 ∷ 0x01 ∷ 0x03 ∷ 0x81 ∷ 0x00 ∷ [])
     ∷ goodAsked 8 (0x86 ∷ 0x01 ∷ 0x03 ∷ 0x40 ∷ 0x00 ∷ 0x07 ∷ 0x05 ∷ [])
+    ∷ goodAsked 8 (0x92 ∷ replicate 18 0x07)
     ∷ []
 
 -- at most 16 bytes
@@ -203,5 +221,10 @@ abbrev pub AllFound : List (List Row) → Type 0
 AllFound [] = Unit {0}
 AllFound (t ∷ ts) = (found t ≡ expected t) × AllFound ts
 
-abbrev pub BadValues : Type 0
-BadValues = AllFound tables
+pub record BadValues : Type 0 where
+  pub rows : AllFound tables
+  -- what is good is taken as it stands: a lease of no hours is a lease, a usage that is written as 0 is usage 0
+  pub no-hours : configurationOf false (0xA1 ∷ 0x03 ∷ 0x82 ∷ 0x42 ∷ 0x12 ∷ 0x34 ∷ 0x00 ∷ []) .configuration .address
+      ≡ addressParameter Taken (addressOf (0x12 ∷ 0x34 ∷ []) true 0)
+  pub usage-0 : configurationOf false (0xA1 ∷ 0x02 ∷ 0x83 ∷ 0x01 ∷ 0x00 ∷ value16) .configuration .keys
+      ≡ keysParameter Taken (keySetOf (informedKey 1 0 (replicate 16 7) Absent ∷ []))

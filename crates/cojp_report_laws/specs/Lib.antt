@@ -3,6 +3,8 @@ pub mod Verdicts
 pub mod InOrder
 pub mod PassedOver
 pub mod BadValues
+pub mod Good
+pub mod GoodValues
 pub mod ListedAs
 pub mod InRange
 pub mod WrittenBack

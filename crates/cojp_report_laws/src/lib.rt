@@ -1,6 +1,8 @@
-// What is promised of the definitions of crate cojp besides cojp_laws: which payloads of the published form (RFC 9031) are refused, what is
-// reported and in which order, how many labels are passed over, and that what was read is in range and can be written again.
+// What is promised of the definitions of crate cojp besides cojp_laws: which payloads of the published form (RFC 9031) are refused, which
+// values are good, what is reported and in which order, how many labels are passed over, and that what was read is in range and can be
+// written again.
 ghost use Rattle.cojp_report_laws.specs.BadValues.{BadValues};
+ghost use Rattle.cojp_report_laws.specs.GoodValues.{GoodValues};
 ghost use Rattle.cojp_report_laws.specs.InOrder.{CameInOrder, RequestInOrder};
 ghost use Rattle.cojp_report_laws.specs.InRange.{RequestReadsInRange};
 ghost use Rattle.cojp_report_laws.specs.ListedAs.{ListedAs};
@@ -13,10 +15,19 @@ pub fn bad_never_refuses()
     ensures { λ r. ⌜ BadNeverRefuses ⌝ }
 {}
 
-// Tables of payloads of the published form, one for each way in which a value is bad or just good, and of what they are answered with.
+// Tables of payloads of the published form with values that are bad or just good, and of what they are answered with.
 pub fn bad_values()
     ensures { λ r. ⌜ BadValues ⌝ }
 {}
+
+// Of every payload of the published form that is accepted: a parameter is taken exactly if docs/RFC9031.md calls its value good, and kept
+// as what the value stands for.
+pub fn good_values()
+    ensures { λ r. ⌜ GoodValues ⌝ }
+{
+    cbor::laws();
+    cbor::head_laws();
+}
 
 // What was bad in a configuration is reported once and in payload order, and nothing else is.
 pub fn came_in_order()

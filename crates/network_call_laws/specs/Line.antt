@@ -20,7 +20,7 @@ pub record LineInC : Type 0 where
   pub before : Structs
   pub played : Runs Did first (stored line) told before
   pub none-sends : NoneSends newKeys before
-  -- the border router's board took the set
+  -- the border router's board is handed the set; that it took it shows in what follows
   pub answer : Answer
   pub between : Structs
   pub taken : Did (calling 0 (delivering Update 20000 payload)) before answer between
