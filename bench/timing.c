@@ -3,6 +3,7 @@
    `timing copies` (linked with memcpy and memset wrapped) prints how many block copies reads and a node's calls make. It judges nothing. */
 #include "limit.h"
 #include "payloads.h"
+#include <alloca.h>
 #include <stdio.h>
 #include <stdlib.h>
 #include <time.h>
@@ -19,7 +20,7 @@ uint64_t bench_update(uint8_t *, size_t, const uint8_t *, size_t, const uint8_t 
 typedef uint64_t node_call(uint8_t *, size_t, const uint8_t *, size_t, uint8_t, uint64_t);
 node_call bench_poll, bench_sending, bench_receiving, bench_verified;
 
-enum { BATCHES = 4000, CALLS = 100, FIRST_ID = 200, OTHER_ID = 100 };
+enum { BATCHES = 4096, CALLS = 100, FIRST_ID = 200, OTHER_ID = 100 };
 static volatile uint64_t sink;
 static uint8_t big[256], other[256], dst[256];
 static size_t big_len, other_len;
@@ -72,7 +73,13 @@ static uint64_t by_libcbor(const uint8_t *p, size_t n)
 #define by_libcbor 0
 #endif
 
-/* ---- times */
+/* ---- times
+   Each round stands at another place of the stack, 16 bytes apart over a page: a short call takes up to a fifth more at some places than at
+   others, and a program that stood at one place only would show its luck. */
+enum { PLACES = 256 };
+static volatile uint8_t *lowest;
+#define LOWER(round) (lowest = alloca(16 + 16 * ((round) % PLACES)), lowest[0] = 0)
+
 static double now(void)
 {
     struct timespec t;
@@ -80,10 +87,11 @@ static double now(void)
     return t.tv_sec * 1e9 + t.tv_nsec;
 }
 
-static void batch(double *least, reading *f, const uint8_t *p, size_t n)
+__attribute__((noinline)) static void batch(double *least, int round, reading *f, const uint8_t *p, size_t n)
 {
     if (!f)
         return;
+    LOWER(round);
     double begun = now();
     for (int i = 0; i < CALLS; i++)
         sink += f(p, n);
@@ -104,11 +112,11 @@ static void read_row(const char *name, const uint8_t *p, size_t n, reading *ours
 {
     double o = 1e18, g = 1e18, c = 1e18, l = 1e18;
     for (int i = 0; i < BATCHES; i++) {
-        batch(&o, ours, p, n);
-        batch(&g, gcc, p, n);
-        batch(&c, clang, p, n);
-        if (i % 8 == 0)
-            batch(&l, libcbor, p, n);
+        batch(&o, i, ours, p, n);
+        batch(&g, i, gcc, p, n);
+        batch(&c, i, clang, p, n);
+        if (i / PLACES % 8 == 0)
+            batch(&l, i, libcbor, p, n);
     }
     printf("%-28s%10.0f%10.0f", name, o, g);
     cell(clang != 0, c, "%10.0f");
@@ -136,8 +144,8 @@ static void write_row(const char *name, const uint8_t *p, size_t n, reading *rea
 {
     double r = 1e18, w = 1e18;
     for (int i = 0; i < BATCHES; i++) {
-        batch(&r, reads, p, n);
-        batch(&w, rewrites, p, n);
+        batch(&r, i, reads, p, n);
+        batch(&w, i, rewrites, p, n);
     }
     printf("%-28s%10.0f%20.3f\n", name, w - r, (w - r) / r);
 }
@@ -159,8 +167,9 @@ struct repeated {
     double none, some;
 };
 
-static void repeat(const struct repeated *r, uint64_t n)
+__attribute__((noinline)) static void repeat(const struct repeated *r, int round, uint64_t n)
 {
+    LOWER(round);
     if (r->call)
         sink += r->call(dst, sizeof dst, big, big_len, FIRST_ID, n);
     else
@@ -177,9 +186,9 @@ static void calls(void)
     for (int i = 0; i < BATCHES; i++)
         for (int k = 0; k < KINDS; k++) {
             double begun = now();
-            repeat(&r[k], 0);
+            repeat(&r[k], i, 0);
             double between = now();
-            repeat(&r[k], CALLS);
+            repeat(&r[k], i, CALLS);
             double ended = now();
             if (between - begun < r[k].none)
                 r[k].none = between - begun;
@@ -320,12 +329,12 @@ static void copies(const char *name, reading *f, const uint8_t *p, size_t n)
 static void node_copies(const char *name, node_call *call, const uint8_t *update, size_t len)
 {
     struct repeated r = {name, call, update, len, 0, 0};
-    repeat(&r, 1);
+    repeat(&r, 0, 1);
     blocks = bytes = 0;
-    repeat(&r, 1);
+    repeat(&r, 0, 1);
     long blocks_of_1 = blocks, bytes_of_1 = bytes;
     blocks = bytes = 0;
-    repeat(&r, 11);
+    repeat(&r, 0, 11);
     printf("%-44s%8ld%8ld\n", name, (blocks - blocks_of_1) / 10, (bytes - bytes_of_1) / 10);
 }
 
