@@ -11,9 +11,9 @@
  *            as they were. Refused: not one byte changes, but for the two marks of a serial image that their calls name.
  *   [dst]    a destination for bytes. Accepted: the first bytes are written, the others stay. Refused: not one byte changes.
  *   [result] what the call hands back: a struct below, or a number. Accepted: every byte of it is written. Refused: every byte is 0, the
- *            number is 0. Such a struct reads as the empty object (all absent), so nothing of an earlier board is left in it; it is no
- *            image, and a call that is handed it answers RANGE. Where the length given is not the struct's size the answer is RANGE, and
- *            the struct is not touched.
+ *            number is 0. Such a struct is no image, and a call that is handed it answers RANGE; its members read as an object, node,
+ *            ledger or pledge that is empty (all absent), so nothing of an earlier board is left in it. Where the length given is not the
+ *            struct's size the answer is RANGE, and the struct is not touched.
  *
  * LENDING. A pointer and its length in bytes; the bytes need no alignment. With length 0 the pointer may be NULL. A pointer to a number is
  *   aligned for it and not NULL. No byte that a call may write ([state], [dst], [result]) may be lent to it twice: what was proved says
@@ -280,7 +280,8 @@ uint32_t pothatch_node_verified(uint8_t *node, uint64_t node_len, uint8_t frame_
 /* ---- the ledger of short addresses. Its memory is written by these calls alone. FFFE and FFFF are no addresses: they are never granted
  * and never counted.
  * Opens one over memory that may hold earlier grants of the same range; for a fresh one fill it with 0 first. RANGE: a size that is not 1
- * to 4,096, the last address over FFFF; ROOM: memory under nine bytes an address. [in] memory [result] ledger */
+ * to 4,096, the last address over FFFF (C cuts a larger number off before the call: compare it first); ROOM: memory under nine bytes an
+ * address. [in] memory [result] ledger */
 uint32_t pothatch_ledger_open(uint16_t first, uint16_t size, const uint8_t *memory, uint64_t memory_len, uint8_t *ledger,
     uint64_t ledger_len);
 /* Grants the board (8 bytes, else RANGE) the lowest free address, or the one it holds. RANGE, ROOM; FULL. [state] ledger, memory [in] board
