@@ -74,8 +74,8 @@ static uint64_t by_libcbor(const uint8_t *p, size_t n)
 #endif
 
 /* ---- times
-   Each round stands at another place of the stack, 16 bytes apart over a page: a short call takes up to a fifth more at some places than at
-   others, and a program that stood at one place only would show its luck. */
+   Each round stands at another place of the stack, 16 bytes apart over a page: with one place for a whole run, the rows of short calls moved
+   by a fifth and more from run to run. */
 enum { PLACES = 256 };
 static volatile uint8_t *lowest;
 #define LOWER(round) (lowest = alloca(16 + 16 * ((round) % PLACES)), lowest[0] = 0)
