@@ -10,11 +10,11 @@ use lib.Seq.{length-paste}
 use Rattle.refusal.specs.declared.Refusal.{Refusal}
 use Rattle.refusal.specs.declared.Refusal.the-variants.{Range, Full, Unknown}
 use Rattle.refusal.specs.declared.Verdict.the-variants as verdict
-use Rattle.address_places.specs.Place.{places, fit, heldBy, lowest, has, sought, hold, holdWithin, freed}
-use Rattle.address_places.specs.Marks.{summaryOf, anew, soughtBy}
+use Rattle.address_places.specs.Slot.{slots, fit, heldBy, lowest, has, slotFound, hold, holdWithin, freed}
+use Rattle.address_places.specs.Marks.{summaryOf, refreshed, slotFoundBy}
 use Rattle.address_places.specs.declared.groups.Summary.{Summary}
-use Rattle.address_places.specs.declared.place.Sought.{Sought}
-use Rattle.address_places.specs.declared.place.Sought.the-variants.{Held, Free, Nothing}
+use Rattle.address_places.specs.declared.slot.SlotFound.{SlotFound}
+use Rattle.address_places.specs.declared.slot.SlotFound.the-variants.{Held, Free, Nothing}
 use Rattle.address_places.proofs.Scan.{length-places}
 use Rattle.address_places.proofs.Found.{held-is}
 use Rattle.address_places.proofs.Fit.{fit-all, hold-all}
@@ -22,7 +22,7 @@ use Rattle.address_range.specs.Range.{inLimits, judged, counted, Usable}
 use Rattle.address_ledger.specs.Ledger.{Outcome, outcome, answered, emptyLedger, ledgerOf, withSummary, fewer, more, openedBy, opened}
 use Rattle.address_ledger.specs.Ledger.{granting, grantedBy, granted, givingBack, givenBackBy, givenBack, freeCount}
 use Rattle.address_ledger.specs.declared.answer.AddressAnswer.the-variants.{Address, Refused}
-use Rattle.address_ledger.specs.declared.answer.Answered.{Answered}
+use Rattle.address_ledger.specs.declared.answer.CallResult.{CallResult}
 use Rattle.address_ledger.specs.declared.answer.FreeAnswer.the-variants as free
 use Rattle.address_ledger.specs.declared.ledger.Ledger.{Ledger}
 
@@ -34,13 +34,13 @@ module _ (first size : ℕ) (m : List ℕ) where
   open-refused x e = rw (← e)
 
   pub open-accepted : verdict.Accepted ≡ judged first size (length m)
-      → (n : ℕ) → n ≡ counted first size → (s : Summary) → s ≡ summaryOf (places n m)
+      → (n : ℕ) → n ≡ counted first size → (s : Summary) → s ≡ summaryOf (slots n m)
       → record { verdict = verdict.Accepted; ledger = withSummary first size s } ≡ opened first size m
   unfolding opened openedBy
   open-accepted e n ne s se = rw (se, ne, ← e)
 
 -- ---- what was found decides
-module _ (n : ℕ) (l : Ledger) (m b : List ℕ) (s : Sought) (r : Answered) where
+module _ (n : ℕ) (l : Ledger) (m b : List ℕ) (s : SlotFound) (r : CallResult) where
   pub grant-held : (k : ℕ) → Held k ≡ s → r ≡ answered (Address (l .first + k)) l → outcome (r .answer) (r .ledger) m ≡ granting n l m b s
   unfolding granting
   grant-held k e h = rw (← e, h)
@@ -54,38 +54,38 @@ module _ (n : ℕ) (l : Ledger) (m b : List ℕ) (s : Sought) (r : Answered) whe
   unfolding granting
   grant-nothing e h = rw (← e, h)
 
-module _ (n : ℕ) (l : Ledger) (m b : List ℕ) (r : Answered) (k : ℕ) (e : k ≡ lowest (heldBy b) (places n m)) where
+module _ (n : ℕ) (l : Ledger) (m b : List ℕ) (r : CallResult) (k : ℕ) (e : k ≡ lowest (heldBy b) (slots n m)) where
   pub back-held : k < n → (l′ : Ledger) → l′ ≡ more n k (set m (9 * k) 0) l → r ≡ answered (Address (l′ .first + k)) l′
-      → outcome (r .answer) (r .ledger) (set m (9 * k) 0) ≡ givingBack n l m (sought b (places n m))
-  unfolding givingBack freed sought has
+      → outcome (r .answer) (r .ledger) (set m (9 * k) 0) ≡ givingBack n l m (slotFound b (slots n m))
+  unfolding givingBack freed slotFound has
   back-held h l′ q a = rw (← e, length-places n m, lt-ltb k n h, a, q)
 
-  unknown-by : (s : Sought) → s ≡ sought b (places n m) → n ≤ k → outcome (Refused Unknown) l m ≡ givingBack n l m s
+  unknown-by : (s : SlotFound) → s ≡ slotFound b (slots n m) → n ≤ k → outcome (Refused Unknown) l m ≡ givingBack n l m s
   unfolding givingBack
-  unknown-by (Held j) s h = let i = held-is b (places n m) j s in absurd (omega (arith, i .0, i .1, length-places n m))
+  unknown-by (Held j) s h = let i = held-is b (slots n m) j s in absurd (omega (arith, i .0, i .1, length-places n m))
   unknown-by (Free j) s h = refl
   unknown-by Nothing s h = refl
 
-  pub back-unknown : n ≤ k → r ≡ answered (Refused Unknown) l → outcome (r .answer) (r .ledger) m ≡ givingBack n l m (sought b (places n m))
+  pub back-unknown : n ≤ k → r ≡ answered (Refused Unknown) l → outcome (r .answer) (r .ledger) m ≡ givingBack n l m (slotFound b (slots n m))
   back-unknown h a = rw a (unknown-by _ refl h)
 
 -- ---- RANGE and ROOM come first
 module _ (l : Ledger) (m b : List ℕ) where
   module _ (x : Refusal) (e : verdict.Refused x ≡ judged (l .first) (l .size) (length m)) where
-    pub grant-refused : (r : Answered) → r ≡ answered (Refused x) l → outcome (r .answer) (r .ledger) m ≡ granted l m b
+    pub grant-refused : (r : CallResult) → r ≡ answered (Refused x) l → outcome (r .answer) (r .ledger) m ≡ granted l m b
     unfolding granted grantedBy
     grant-refused r h = rw (← e, h)
 
-    pub back-refused : (r : Answered) → r ≡ answered (Refused x) l → outcome (r .answer) (r .ledger) m ≡ givenBack l m b
+    pub back-refused : (r : CallResult) → r ≡ answered (Refused x) l → outcome (r .answer) (r .ledger) m ≡ givenBack l m b
     unfolding givenBack givenBackBy
     back-refused r h = rw (← e, h)
 
   module _ (e : verdict.Accepted ≡ judged (l .first) (l .size) (length m)) (n : ℕ) (ne : n ≡ counted (l .first) (l .size)) where
-    pub grant-accepted : (o : Outcome) → o ≡ granting n l m b (soughtBy (l .marks) b (places n m)) → o ≡ granted l m b
+    pub grant-accepted : (o : Outcome) → o ≡ granting n l m b (slotFoundBy (l .summary) b (slots n m)) → o ≡ granted l m b
     unfolding granted grantedBy
     grant-accepted o d = rw (← e, ← ne) d
 
-    pub back-accepted : (o : Outcome) → o ≡ givingBack n l m (sought b (places n m)) → o ≡ givenBack l m b
+    pub back-accepted : (o : Outcome) → o ≡ givingBack n l m (slotFound b (slots n m)) → o ≡ givenBack l m b
     unfolding givenBack givenBackBy
     back-accepted o d = rw (← e, ← ne) d
 
@@ -101,12 +101,12 @@ module _ (l : Ledger) where
 
 -- ---- a ledger in use: the places that count have room
 module _ (l : Ledger) (n : ℕ) where
-  pub sought-is : (m b : List ℕ) → Usable (l .first) (length m) n → (s : Sought) → s ≡ soughtBy (l .marks) b (places (fit n (length m)) m)
-      → s ≡ soughtBy (l .marks) b (places n m)
+  pub sought-is : (m b : List ℕ) → Usable (l .first) (length m) n → (s : SlotFound) → s ≡ slotFoundBy (l .summary) b (slots (fit n (length m)) m)
+      → s ≡ slotFoundBy (l .summary) b (slots n m)
   sought-is m b u s e = rw (fit-all n (length m) (u .size) (u .room)) e
 
-  pub board-is : (m b : List ℕ) → Usable (l .first) (length m) n → (k : ℕ) → k ≡ lowest (heldBy b) (places (fit n (length m)) m)
-      → k ≡ lowest (heldBy b) (places n m)
+  pub board-is : (m b : List ℕ) → Usable (l .first) (length m) n → (k : ℕ) → k ≡ lowest (heldBy b) (slots (fit n (length m)) m)
+      → k ≡ lowest (heldBy b) (slots n m)
   board-is m b u k e = rw (fit-all n (length m) (u .size) (u .room)) e
 
   pub usable-freed : (m : List ℕ) (at : ℕ) → Usable (l .first) (length m) n → Usable (l .first) (length (set m at 0)) n
@@ -121,6 +121,6 @@ module _ (l : Ledger) (n : ℕ) where
         let g = length-paste m (9 * k) (1 ∷ b) 9 (omega (arith, u .room)) (omega arith) in
         record { room = rw (w′, g) (u .room); size = u .size; end = u .end }
 
-    pub written : n ≡ fit n (length m) → (x free : ℕ) → x ≡ free → (y : ℕ) → y ≡ anew (l .marks) k (places (fit n (length m)) m)
-        → ledgerOf (l .first) (l .size) x y ≡ ledgerOf (l .first) (l .size) free (anew (l .marks) k (places n m))
-    written f x free e y d = let g : y ≡ anew (l .marks) k (places n m) = rw f d in rw (e, g)
+    pub written : n ≡ fit n (length m) → (x free : ℕ) → x ≡ free → (y : ℕ) → y ≡ refreshed (l .summary) k (slots (fit n (length m)) m)
+        → ledgerOf (l .first) (l .size) x y ≡ ledgerOf (l .first) (l .size) free (refreshed (l .summary) k (slots n m))
+    written f x free e y d = let g : y ≡ refreshed (l .summary) k (slots n m) = rw f d in rw (e, g)

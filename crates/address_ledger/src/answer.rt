@@ -4,7 +4,7 @@ use refusal::Refusal;
 use refusal::Verdict;
 
 // Beside a refusal the ledger is the empty one, of first address 0 and size 0, which every call refuses.
-pub struct Opened {
+pub struct OpenResult {
     pub verdict: Verdict,
     pub ledger: Ledger,
 }
@@ -16,7 +16,7 @@ pub enum AddressAnswer {
 }
 
 // The address, and the ledger as the call left it.
-pub struct Answered {
+pub struct CallResult {
     pub answer: AddressAnswer,
     pub ledger: Ledger,
 }

@@ -1,17 +1,17 @@
 // The ledger and its calls.
 use crate::answer::AddressAnswer;
-use crate::answer::Answered;
+use crate::answer::CallResult;
 use crate::answer::FreeAnswer;
-use crate::answer::Opened;
+use crate::answer::OpenResult;
 use crate::free::one_less;
 use crate::free::one_more;
-use address_places::PLACE;
-use address_places::Sought;
+use address_places::SLOT;
+use address_places::SlotFound;
 use address_places::find_board;
-use address_places::hold_place;
-use address_places::mark_anew;
-use address_places::seek;
-use address_places::survey;
+use address_places::find_slot;
+use address_places::hold_slot;
+use address_places::refresh_group;
+use address_places::summarize;
 use address_range::count;
 use address_range::in_limits;
 use address_range::judge;
@@ -20,8 +20,8 @@ use refusal::Verdict;
 ghost use mathlib.Core.Path.{_≡_};
 ghost use Prim.Native.Nat.{_+_, _<_};
 ghost use lib.ListN.{length};
-ghost use Rattle.address_places.specs.Place.{places, sought};
-ghost use Rattle.address_places.specs.Marks.{soughtBy};
+ghost use Rattle.address_places.specs.Slot.{slots, slotFound};
+ghost use Rattle.address_places.specs.Marks.{slotFoundBy};
 ghost use Rattle.address_range.specs.Range.{Usable};
 ghost use Rattle.address_ledger.specs.Ledger.{opened, outcome, answered, fewer, more, granted, granting, givenBack, givingBack, freeCount};
 
@@ -32,34 +32,34 @@ pub struct Ledger {
     // any number may be handed in: a wrong one changes no other answer
     pub free: usize,
     // a bit for each 64 addresses, the lowest first: whether any is free. Any may be handed in; wrong ones can hide a free address
-    pub marks: u64,
+    pub summary: u64,
 }
 
 impl Ledger {
     // Opens a ledger over the memory as it is: who holds an address there still does, and the count and the summary are made of it.
-    pub fn open(first: usize, size: usize, memory: &[u8]) -> Opened
+    pub fn open(first: usize, size: usize, memory: &[u8]) -> OpenResult
         ensures { λ r. ⌜ r ≡ opened first size (now (memory .entry)) ⌝ }
     {
         let verdict = judge(first, size, memory.len());
         match verdict {
-            Verdict::Refused(refusal) => Opened {
+            Verdict::Refused(refusal) => OpenResult {
                 verdict: Verdict::Refused(refusal),
                 ledger: Ledger {
                     first: 0,
                     size: 0,
                     free: 0,
-                    marks: 0,
+                    summary: 0,
                 },
             },
             Verdict::Accepted => {
-                let found = survey(memory, count(first, size));
-                Opened {
+                let found = summarize(memory, count(first, size));
+                OpenResult {
                     verdict: Verdict::Accepted,
                     ledger: Ledger {
                         first,
                         size,
                         free: found.free,
-                        marks: found.marks,
+                        summary: found.bitmap,
                     },
                 }
             }
@@ -67,7 +67,7 @@ impl Ledger {
     }
 
     // Grants the lowest free address, as the summary leads to it, to the board; a board that holds one gets the same again.
-    pub fn grant(self, memory: &mut [u8], board: [u8; 8]) -> Answered
+    pub fn grant(self, memory: &mut [u8], board: [u8; 8]) -> CallResult
         ensures { λ r. ⌜ outcome (r .answer) (r .ledger) (now (memory .exit)) ≡ granted self (now (memory .entry)) board ⌝ }
     {
         match judge(self.first, self.size, memory.len()) {
@@ -77,7 +77,7 @@ impl Ledger {
     }
 
     // The board gives its address back: a mark 0 is written and nothing else.
-    pub fn give_back(self, memory: &mut [u8], board: [u8; 8]) -> Answered
+    pub fn give_back(self, memory: &mut [u8], board: [u8; 8]) -> CallResult
         ensures { λ r. ⌜ outcome (r .answer) (r .ledger) (now (memory .exit)) ≡ givenBack self (now (memory .entry)) board ⌝ }
     {
         match judge(self.first, self.size, memory.len()) {
@@ -97,29 +97,29 @@ impl Ledger {
     }
 
     // Grants among the first `count` places.
-    fn grant_in(self, count: usize, memory: &mut [u8], board: [u8; 8]) -> Answered
+    fn grant_in(self, count: usize, memory: &mut [u8], board: [u8; 8]) -> CallResult
         requires { ⌜ Usable (self .first) (length (now memory)) count ⌝ }
-        ensures { λ r. ⌜ outcome (r .answer) (r .ledger) (now (memory .exit)) ≡ granting count self (now (memory .entry)) board (soughtBy (self .marks) board (places count (now (memory .entry)))) ⌝ }
+        ensures { λ r. ⌜ outcome (r .answer) (r .ledger) (now (memory .exit)) ≡ granting count self (now (memory .entry)) board (slotFoundBy (self .summary) board (slots count (now (memory .entry)))) ⌝ }
     {
-        let sought = seek(memory, count, self.marks, &board);
+        let sought = find_slot(memory, count, self.summary, &board);
         match sought {
-            Sought::Held(place) => self.address(place),
-            Sought::Free(place) => {
-                hold_place(memory, place, board);
+            SlotFound::Held(place) => self.address(place),
+            SlotFound::Free(place) => {
+                hold_slot(memory, place, board);
                 self.fewer(count, memory, place).address(place)
             }
-            Sought::Nothing => self.refused(Refusal::Full),
+            SlotFound::Nothing => self.refused(Refusal::Full),
         }
     }
 
     // Gives back among the first `count` places.
-    fn give_back_in(self, count: usize, memory: &mut [u8], board: [u8; 8]) -> Answered
+    fn give_back_in(self, count: usize, memory: &mut [u8], board: [u8; 8]) -> CallResult
         requires { ⌜ Usable (self .first) (length (now memory)) count ⌝ }
-        ensures { λ r. ⌜ outcome (r .answer) (r .ledger) (now (memory .exit)) ≡ givingBack count self (now (memory .entry)) (sought board (places count (now (memory .entry)))) ⌝ }
+        ensures { λ r. ⌜ outcome (r .answer) (r .ledger) (now (memory .exit)) ≡ givingBack count self (now (memory .entry)) (slotFound board (slots count (now (memory .entry)))) ⌝ }
     {
         let place = find_board(memory, count, &board);
         if place < count {
-            memory[PLACE * place] = 0;
+            memory[SLOT * place] = 0;
             return self.more(count, memory, place).address(place);
         }
         self.refused(Refusal::Unknown)
@@ -134,7 +134,7 @@ impl Ledger {
             first: self.first,
             size: self.size,
             free: one_less(self.free, count),
-            marks: mark_anew(memory, count, self.marks, place),
+            summary: refresh_group(memory, count, self.summary, place),
         }
     }
 
@@ -147,25 +147,25 @@ impl Ledger {
             first: self.first,
             size: self.size,
             free: one_more(self.free, count),
-            marks: mark_anew(memory, count, self.marks, place),
+            summary: refresh_group(memory, count, self.summary, place),
         }
     }
 
     // The address of a place, answered.
-    fn address(self, place: usize) -> Answered
+    fn address(self, place: usize) -> CallResult
         requires { ⌜ self .first + place < 65536 ⌝ }
         ensures { λ r. ⌜ r ≡ answered (AddressAnswer.Address (self .first + place)) self ⌝ }
     {
-        Answered {
+        CallResult {
             answer: AddressAnswer::Address((self.first + place) as u16),
             ledger: self,
         }
     }
 
-    fn refused(self, refusal: Refusal) -> Answered
+    fn refused(self, refusal: Refusal) -> CallResult
         ensures { λ r. ⌜ r ≡ answered (AddressAnswer.Refused refusal) self ⌝ }
     {
-        Answered {
+        CallResult {
             answer: AddressAnswer::Refused(refusal),
             ledger: self,
         }

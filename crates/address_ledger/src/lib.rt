@@ -4,7 +4,7 @@ mod free;
 mod ledger;
 
 pub use answer::AddressAnswer;
-pub use answer::Answered;
+pub use answer::CallResult;
 pub use answer::FreeAnswer;
-pub use answer::Opened;
+pub use answer::OpenResult;
 pub use ledger::Ledger;

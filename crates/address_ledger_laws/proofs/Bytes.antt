@@ -8,22 +8,22 @@ use lib.Dec.{eqb}
 use lib.ListN.{length, take, drop, set, length-set, length-drop}
 use lib.Seq.{paste, length-paste, drop-paste, take-take, take-add, take-at, drop-at, drop-drop, take-all, length-take-le, take-set-le, drop-set-lt, drop-set-add, getD-set-same, getD-set-other}
 use Rattle.address_ledger_laws.specs.Written.{HoldsNow, FreeNow}
-use Rattle.address_places.specs.Place.{Place, placeAt, places, isFree, hold, freed}
+use Rattle.address_places.specs.Slot.{Slot, slotAt, slots, isFree, hold, freed}
 
 -- a place is its nine bytes
-place-nine : (m : List ℕ) → placeAt (take 9 m) ≡ placeAt m
-unfolding placeAt
+place-nine : (m : List ℕ) → slotAt (take 9 m) ≡ slotAt m
+unfolding slotAt
 place-nine [] = refl
 place-nine (x ∷ m) = rw (take-take 8 8 m (omega arith))
 
-same-nine : (m m′ : List ℕ) → take 9 m′ ≡ take 9 m → placeAt m′ ≡ placeAt m
-same-nine m m′ e = sym (place-nine m′) ∙ ap placeAt e ∙ place-nine m
+same-nine : (m m′ : List ℕ) → take 9 m′ ≡ take 9 m → slotAt m′ ≡ slotAt m
+same-nine m m′ e = sym (place-nine m′) ∙ ap slotAt e ∙ place-nine m
 
 -- two lists that agree up to place k, at place k + 1 and on: the places agree but for k
-pub places-set : (n k : ℕ) (m m′ : List ℕ) (p : Place) → k < n → 9 * n ≤ length m → length m′ ≡ length m
-    → take (9 * k) m′ ≡ take (9 * k) m → placeAt (drop (9 * k) m′) ≡ p → drop (9 * k + 9) m′ ≡ drop (9 * k + 9) m
-    → places n m′ ≡ set (places n m) k p
-unfolding places
+pub places-set : (n k : ℕ) (m m′ : List ℕ) (p : Slot) → k < n → 9 * n ≤ length m → length m′ ≡ length m
+    → take (9 * k) m′ ≡ take (9 * k) m → slotAt (drop (9 * k) m′) ≡ p → drop (9 * k + 9) m′ ≡ drop (9 * k + 9) m
+    → slots n m′ ≡ set (slots n m) k p
+unfolding slots
 places-set zero k m m′ p h l w t q d = absurd (omega arith)
 places-set (suc n) zero m m′ p h l w t q d = rw (d, q)
 places-set (suc n) (suc k) m m′ p h l w t q d =
@@ -35,7 +35,7 @@ places-set (suc n) (suc k) m m′ p h l w t q d =
     sym (drop-at (take 9 m′) (take (9 * k) (drop 9 m′)) 9 (length-take-le 9 m′ (omega arith)))
     ∙ ap (λ (l : List ℕ). drop 9 l) (sym (take-add 9 (9 * k) m′) ∙ t′ ∙ take-add 9 (9 * k) m)
     ∙ drop-at (take 9 m) (take (9 * k) (drop 9 m)) 9 (length-take-le 9 m (omega arith)) in
-    let q′ : placeAt (drop (9 * k) (drop 9 m′)) ≡ p = rw (drop-drop (9 * k) 9 m′, ← e) q in
+    let q′ : slotAt (drop (9 * k) (drop 9 m′)) ≡ p = rw (drop-drop (9 * k) 9 m′, ← e) q in
     let d′ : drop (9 * k + 9) (drop 9 m′) ≡ drop (9 * k + 9) (drop 9 m) = rw (drop-drop (9 * k + 9) 9 m′, drop-drop (9 * k + 9) 9 m, ← z, ← e) d in
     let i = places-set n k (drop 9 m) (drop 9 m′) p (omega arith) (simp length-drop (omega arith)) (simp length-drop (ap (λ (x : ℕ). x - 9) w)) v q′ d′ in
     rw (same-nine m m′ u, i)
@@ -45,8 +45,8 @@ unfolding hold
 length-hold m b k h e = length-paste m (9 * k) (1 ∷ b) 9 h (omega arith)
 
 pub places-hold : (n k : ℕ) (m b : List ℕ) → k < n → 9 * n ≤ length m → length b ≡ 8
-    → places n (hold m k b) ≡ set (places n m) k (record { mark = 1; board = b })
-unfolding hold placeAt
+    → slots n (hold m k b) ≡ set (slots n m) k (record { mark = 1; board = b })
+unfolding hold slotAt
 places-hold n k m b h l e =
     let at = 9 * k in
     let room : 9 * k + 9 ≤ length m = omega arith in
@@ -73,11 +73,11 @@ hold-bytes m b k room e =
     }
 
 -- a place whose mark was set to 0
-abbrev pub cleared : List ℕ → Place
-cleared l = placeAt (set l 0 0)
+abbrev pub cleared : List ℕ → Slot
+cleared l = slotAt (set l 0 0)
 
 pub cleared-free : (l : List ℕ) → eqb (cleared l .mark) 1 ≡ false
-unfolding placeAt
+unfolding slotAt
 cleared-free [] = refl
 cleared-free (x ∷ l) = refl
 
@@ -90,13 +90,13 @@ unfolding freed
 length-freed m k = length-set m (9 * k) 0
 
 pub places-freed : (n k : ℕ) (m : List ℕ) → k < n → 9 * n ≤ length m
-    → places n (freed m k) ≡ set (places n m) k (cleared (drop (9 * k) m))
+    → slots n (freed m k) ≡ set (slots n m) k (cleared (drop (9 * k) m))
 unfolding freed
 places-freed n k m h l =
     let z : 9 * k + 0 ≡ 9 * k = omega arith in
     places-set n k m (set m (9 * k) 0) (cleared (drop (9 * k) m)) h l (length-set m (9 * k) 0)
     (take-set-le (9 * k) m (9 * k) 0 (omega arith))
-    (ap placeAt (rw z at (drop-set-add (9 * k) m 0 0)))
+    (ap slotAt (rw z at (drop-set-add (9 * k) m 0 0)))
     (drop-set-lt (9 * k + 9) m (9 * k) 0 (omega arith))
 
 -- the bytes that freeing it leaves

@@ -8,16 +8,16 @@ use borrow.Author.Tests.{ltb-false}
 use lib.ListN.{length, drop}
 use Rattle.refusal.specs.declared.Verdict.{Verdict}
 use Rattle.refusal.specs.declared.Verdict.the-variants as verdict
-use Rattle.address_places.specs.Place.{places, heldBy, lowest, has, countFree, sought}
+use Rattle.address_places.specs.Slot.{slots, heldBy, lowest, has, countFree, slotFound}
 use Rattle.address_range.specs.Range.{judged, counted}
 use Rattle.address_ledger.specs.Ledger.{countedOf, placesOf, judgedOf, cut, openedBy, opened, granting, grantedBy, granted, givingBack, givenBackBy, givenBack}
 use Rattle.address_ledger.specs.declared.answer.AddressAnswer.the-variants.{Address}
 use Rattle.address_ledger.specs.declared.ledger.Ledger.{Ledger}
-use Rattle.address_places.specs.declared.place.Sought.{Sought}
-use Rattle.address_places.specs.declared.place.Sought.the-variants.{Held, Free, Nothing}
+use Rattle.address_places.specs.declared.slot.SlotFound.{SlotFound}
+use Rattle.address_places.specs.declared.slot.SlotFound.the-variants.{Held, Free, Nothing}
 use Rattle.address_range.proofs.Judged.{usable}
 use Rattle.address_places.proofs.Scan.{length-places}
-use Rattle.address_places.specs.Marks.{soughtBy}
+use Rattle.address_places.specs.Marks.{slotFoundBy}
 use Rattle.address_places.proofs.Found.{held-is}
 use Rattle.address_places.proofs.Offers.{free-inside, held-told, free-told}
 use Rattle.address_ledger_laws.specs.Counts.{RightCount, RightStays, withFree, SameBut, AnyCount, Moves}
@@ -29,19 +29,19 @@ module _ (l : Ledger) (m b : List ℕ) (f : verdict.Accepted ≡ judgedOf l m) (
   room : 9 * countedOf l ≤ length m
   room = usable (l .first) (l .size) (length m) f (countedOf l) refl .room
 
-  grant-right : length b ≡ 8 → (s : Sought) → s ≡ soughtBy (l .marks) b (placesOf l m)
+  grant-right : length b ≡ 8 → (s : SlotFound) → s ≡ slotFoundBy (l .summary) b (placesOf l m)
       → RightCount (granting (countedOf l) l m b s .ledger) (granting (countedOf l) l m b s .memory)
   unfolding granting
   grant-right e (Held k) s = c
   grant-right e (Free k) s =
       let n = countedOf l in
-      let i = free-told (l .marks) b (placesOf l m) k s in
+      let i = free-told (l .summary) b (placesOf l m) k s in
       let p : length (placesOf l m) ≡ countedOf l = length-places n m in
       let w : k < countedOf l = omega (arith, free-inside (placesOf l m) k (i .0)) in
       rw (places-hold n k m b w room e, c) (count-less n b (placesOf l m) k p (i .0))
   grant-right e Nothing s = c
 
-  back-right : (s : Sought) → s ≡ sought b (placesOf l m)
+  back-right : (s : SlotFound) → s ≡ slotFound b (placesOf l m)
       → RightCount (givingBack (countedOf l) l m s .ledger) (givingBack (countedOf l) l m s .memory)
   unfolding givingBack
   back-right (Held k) s =
@@ -58,16 +58,16 @@ module _ (l : Ledger) (m b : List ℕ) (f : verdict.Accepted ≡ judgedOf l m) (
 module _ (l : Ledger) (m b : List ℕ) (c : RightCount l m) where
   granted-right : length b ≡ 8 → (v : Verdict) → v ≡ judgedOf l m → RightCount (grantedBy v l m b .ledger) (grantedBy v l m b .memory)
   unfolding grantedBy
-  granted-right e verdict.Accepted f = grant-right l m b f c e (soughtBy (l .marks) b (placesOf l m)) refl
+  granted-right e verdict.Accepted f = grant-right l m b f c e (slotFoundBy (l .summary) b (placesOf l m)) refl
   granted-right e (verdict.Refused r) f = c
 
   given-right : (v : Verdict) → v ≡ judgedOf l m → RightCount (givenBackBy v l m b .ledger) (givenBackBy v l m b .memory)
   unfolding givenBackBy
-  given-right verdict.Accepted f = back-right l m b f c (sought b (placesOf l m)) refl
+  given-right verdict.Accepted f = back-right l m b f c (slotFound b (placesOf l m)) refl
   given-right (verdict.Refused r) f = c
 
 opened-right : (first size : ℕ) (m : List ℕ) (v : Verdict) → RightCount (openedBy v first size m .ledger) m
-unfolding openedBy counted places countFree
+unfolding openedBy counted slots countFree
 opened-right first size m verdict.Accepted = refl
 opened-right first size m (verdict.Refused r) = refl
 
@@ -82,28 +82,28 @@ right-stays =
 
 -- ---- any count
 module _ (l : Ledger) (x y n : ℕ) (m b : List ℕ) where
-  grant-same : (s : Sought) → SameBut (granting n (withFree l x) m b s) (granting n (withFree l y) m b s)
+  grant-same : (s : SlotFound) → SameBut (granting n (withFree l x) m b s) (granting n (withFree l y) m b s)
   unfolding granting
-  grant-same (Held k) = record { answer = refl; memory = refl; first = refl; size = refl; marks = refl }
-  grant-same (Free k) = record { answer = refl; memory = refl; first = refl; size = refl; marks = refl }
-  grant-same Nothing = record { answer = refl; memory = refl; first = refl; size = refl; marks = refl }
+  grant-same (Held k) = record { answer = refl; memory = refl; first = refl; size = refl; summary = refl }
+  grant-same (Free k) = record { answer = refl; memory = refl; first = refl; size = refl; summary = refl }
+  grant-same Nothing = record { answer = refl; memory = refl; first = refl; size = refl; summary = refl }
 
-  back-same : (s : Sought) → SameBut (givingBack n (withFree l x) m s) (givingBack n (withFree l y) m s)
+  back-same : (s : SlotFound) → SameBut (givingBack n (withFree l x) m s) (givingBack n (withFree l y) m s)
   unfolding givingBack
-  back-same (Held k) = record { answer = refl; memory = refl; first = refl; size = refl; marks = refl }
-  back-same (Free k) = record { answer = refl; memory = refl; first = refl; size = refl; marks = refl }
-  back-same Nothing = record { answer = refl; memory = refl; first = refl; size = refl; marks = refl }
+  back-same (Held k) = record { answer = refl; memory = refl; first = refl; size = refl; summary = refl }
+  back-same (Free k) = record { answer = refl; memory = refl; first = refl; size = refl; summary = refl }
+  back-same Nothing = record { answer = refl; memory = refl; first = refl; size = refl; summary = refl }
 
 module _ (l : Ledger) (x y : ℕ) (m b : List ℕ) where
   granted-same : (v : Verdict) → SameBut (grantedBy v (withFree l x) m b) (grantedBy v (withFree l y) m b)
   unfolding grantedBy
-  granted-same verdict.Accepted = grant-same l x y (countedOf l) m b (soughtBy (l .marks) b (placesOf l m))
-  granted-same (verdict.Refused r) = record { answer = refl; memory = refl; first = refl; size = refl; marks = refl }
+  granted-same verdict.Accepted = grant-same l x y (countedOf l) m b (slotFoundBy (l .summary) b (placesOf l m))
+  granted-same (verdict.Refused r) = record { answer = refl; memory = refl; first = refl; size = refl; summary = refl }
 
   given-same : (v : Verdict) → SameBut (givenBackBy v (withFree l x) m b) (givenBackBy v (withFree l y) m b)
   unfolding givenBackBy
-  given-same verdict.Accepted = back-same l x y (countedOf l) m b (sought b (placesOf l m))
-  given-same (verdict.Refused r) = record { answer = refl; memory = refl; first = refl; size = refl; marks = refl }
+  given-same verdict.Accepted = back-same l x y (countedOf l) m b (slotFound b (placesOf l m))
+  given-same (verdict.Refused r) = record { answer = refl; memory = refl; first = refl; size = refl; summary = refl }
 
 pub any-count : AnyCount
 unfolding granted givenBack
@@ -115,16 +115,16 @@ any-count =
 
 -- ---- where it moves
 again-by : (l : Ledger) (m b : List ℕ) (v : Verdict) → has (heldBy b) (placesOf l m) ≡ true → grantedBy v l m b .ledger ≡ l
-unfolding grantedBy granting soughtBy
+unfolding grantedBy granting slotFoundBy
 again-by l m b verdict.Accepted h = rw h
 again-by l m b (verdict.Refused r) h = refl
 
 module _ (l : Ledger) (m b : List ℕ) (a : ℕ) where
-  new-found : (s : Sought) → s ≡ soughtBy (l .marks) b (placesOf l m) → has (heldBy b) (placesOf l m) ≡ false
+  new-found : (s : SlotFound) → s ≡ slotFoundBy (l .summary) b (placesOf l m) → has (heldBy b) (placesOf l m) ≡ false
       → granting (countedOf l) l m b s .answer ≡ Address a → granting (countedOf l) l m b s .ledger .free ≡ cut (countedOf l) (l .free - 1)
   unfolding granting has
   new-found (Held k) s h e =
-      let i = held-told (l .marks) b (placesOf l m) k s in
+      let i = held-told (l .summary) b (placesOf l m) k s in
       absurd (omega (arith, i .0, i .1, ltb-false (lowest (heldBy b) (placesOf l m)) (length (placesOf l m)) h))
   new-found (Free k) s h e = refl
   new-found Nothing s h e = let z : _≡_ {A = ℕ} 0 1 = cc in absurd (omega arith)
@@ -132,11 +132,11 @@ module _ (l : Ledger) (m b : List ℕ) (a : ℕ) where
   new-by : (v : Verdict) → has (heldBy b) (placesOf l m) ≡ false → grantedBy v l m b .answer ≡ Address a
       → grantedBy v l m b .ledger .free ≡ cut (countedOf l) (l .free - 1)
   unfolding grantedBy
-  new-by verdict.Accepted h e = new-found (soughtBy (l .marks) b (placesOf l m)) refl h e
+  new-by verdict.Accepted h e = new-found (slotFoundBy (l .summary) b (placesOf l m)) refl h e
   new-by (verdict.Refused r) h e = let z : _≡_ {A = ℕ} 0 1 = cc in absurd (omega arith)
 
 pub moves : Moves
-unfolding granted givenBack givenBackBy givingBack sought
+unfolding granted givenBack givenBackBy givingBack slotFound
 moves =
     record {
       granted-new = λ l m b a h e. new-by l m b a (judgedOf l m) h e;

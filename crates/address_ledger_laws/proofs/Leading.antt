@@ -7,16 +7,16 @@ use native.Mathlib.Omega.{arith}
 use native.Mathlib.Nat.{zero-add}
 use borrow.Author.Tests.{lt-ltb, le-ltb, ltb-true, ltb-false}
 use lib.ListN.{length, take, drop, set, length-take, length-drop}
-use Rattle.address_places.specs.Place.{Place, places, isFree, lowest, has, sought}
-use Rattle.address_places.specs.Marks.{marked, groupAt, marksOf, freeBy, soughtBy}
-use Rattle.address_places.specs.declared.place.Sought.{Sought}
-use Rattle.address_places.specs.declared.place.Sought.the-variants.{Free, Nothing}
+use Rattle.address_places.specs.Slot.{Slot, slots, isFree, lowest, has, slotFound}
+use Rattle.address_places.specs.Marks.{marked, groupAt, marksOf, freeBy, slotFoundBy}
+use Rattle.address_places.specs.declared.slot.SlotFound.{SlotFound}
+use Rattle.address_places.specs.declared.slot.SlotFound.the-variants.{Free, Nothing}
 use Rattle.address_places.proofs.Offers.{freeAt, free-inside}
 use Rattle.address_ledger_laws.specs.Marked.{NoneBelow}
 use Rattle.address_ledger_laws.proofs.Marking.{lowest-bit, rest-of, next-group}
 
 -- ---- the lowest free place of a list, by its first places and the rest
-in-front-cons : (p : Place) (i : ℕ) (ps : List Place) (x : Bool) → isFree p ≡ x
+in-front-cons : (p : Slot) (i : ℕ) (ps : List Slot) (x : Bool) → isFree p ≡ x
     → (lowest isFree (take i ps) < length (take i ps) → lowest isFree ps ≡ lowest isFree (take i ps))
     → lowest isFree (p ∷ take i ps) < suc (length (take i ps)) → lowest isFree (p ∷ ps) ≡ lowest isFree (p ∷ take i ps)
 unfolding lowest
@@ -25,12 +25,12 @@ in-front-cons p i ps false e ih h =
     let g : suc (lowest isFree (take i ps)) < suc (length (take i ps)) = rw e at h in
     rw e (ap suc (ih (omega arith)))
 
-in-front : (i : ℕ) (ps : List Place) → lowest isFree (take i ps) < length (take i ps) → lowest isFree ps ≡ lowest isFree (take i ps)
+in-front : (i : ℕ) (ps : List Slot) → lowest isFree (take i ps) < length (take i ps) → lowest isFree ps ≡ lowest isFree (take i ps)
 in-front zero ps h = absurd (omega arith)
 in-front (suc i) [] h = absurd (omega arith)
 in-front (suc i) (p ∷ ps) h = in-front-cons p i ps _ refl (in-front i ps) h
 
-behind-cons : (p : Place) (i : ℕ) (ps : List Place) (x : Bool) → isFree p ≡ x
+behind-cons : (p : Slot) (i : ℕ) (ps : List Slot) (x : Bool) → isFree p ≡ x
     → (length (take i ps) ≤ lowest isFree (take i ps) → lowest isFree ps ≡ length (take i ps) + lowest isFree (drop i ps))
     → suc (length (take i ps)) ≤ lowest isFree (p ∷ take i ps) → lowest isFree (p ∷ ps) ≡ suc (length (take i ps)) + lowest isFree (drop i ps)
 unfolding lowest
@@ -39,17 +39,17 @@ behind-cons p i ps false e ih h =
     let g : suc (length (take i ps)) ≤ suc (lowest isFree (take i ps)) = rw e at h in
     rw e (omega (arith, ih (omega arith)))
 
-behind : (i : ℕ) (ps : List Place) → length (take i ps) ≤ lowest isFree (take i ps) → lowest isFree ps ≡ length (take i ps) + lowest isFree (drop i ps)
+behind : (i : ℕ) (ps : List Slot) → length (take i ps) ≤ lowest isFree (take i ps) → lowest isFree ps ≡ length (take i ps) + lowest isFree (drop i ps)
 unfolding lowest
 behind zero ps h = sym (zero-add (lowest isFree ps))
 behind (suc i) [] h = refl
 behind (suc i) (p ∷ ps) h = behind-cons p i ps _ refl (behind i ps) h
 
 -- ---- right marks
-abbrev walkFound : ℕ → List Place → Sought
+abbrev walkFound : ℕ → List Slot → SlotFound
 walkFound j ps = cond (has isFree ps) (Free (j + lowest isFree ps)) Nothing
 
-module _ (j : ℕ) (ps : List Place) where
+module _ (j : ℕ) (ps : List Slot) where
   front-found : has isFree (take 64 ps) ≡ true → Free (j + lowest isFree (take 64 ps)) ≡ walkFound j ps
   unfolding has
   front-found t =
@@ -72,7 +72,7 @@ module _ (j : ℕ) (ps : List Place) where
       let w : length ps ≤ lowest isFree ps = omega (arith, e, l, length-take 64 ps, length-drop 64 ps) in
       rw (t, le-ltb (lowest isFree ps) (length ps) w)
 
-walk-cons : (n j : ℕ) (ps : List Place) (t : Bool) → has isFree (take 64 ps) ≡ t
+walk-cons : (n j : ℕ) (ps : List Slot) (t : Bool) → has isFree (take 64 ps) ≡ t
     → freeBy n (marksOf n (drop 64 ps)) (j + 64) (drop 64 ps) ≡ walkFound (j + 64) (drop 64 ps) → freeBy (suc n) (marksOf (suc n) ps) j ps ≡ walkFound j ps
 unfolding freeBy marksOf marked
 walk-cons n j ps true t ih =
@@ -81,26 +81,26 @@ walk-cons n j ps false t ih =
     rw (lowest-bit (has isFree (take 64 ps)) (marksOf n (drop 64 ps)), rest-of (has isFree (take 64 ps)) (marksOf n (drop 64 ps)), t)
     (ih ∙ rest-by j ps _ refl t)
 
-walk-found : (n j : ℕ) (ps : List Place) → length ps ≤ 64 * n → freeBy n (marksOf n ps) j ps ≡ walkFound j ps
+walk-found : (n j : ℕ) (ps : List Slot) → length ps ≤ 64 * n → freeBy n (marksOf n ps) j ps ≡ walkFound j ps
 unfolding freeBy has lowest
 walk-found zero j [] h = refl
 walk-found zero j (p ∷ ps) h = absurd (omega arith)
 walk-found (suc n) j ps h = walk-cons n j ps _ refl (walk-found n (j + 64) (drop 64 ps) (omega (arith, length-drop 64 ps)))
 
 -- what right marks find is what a walk of all places finds
-pub as-walked : (b : List ℕ) (ps : List Place) → length ps ≤ 4096 → soughtBy (marksOf 64 ps) b ps ≡ sought b ps
-unfolding soughtBy sought
+pub as-walked : (b : List ℕ) (ps : List Slot) → length ps ≤ 4096 → slotFoundBy (marksOf 64 ps) b ps ≡ slotFound b ps
+unfolding slotFoundBy slotFound
 as-walked b ps h = rw (walk-found 64 0 ps (omega arith), zero-add (lowest isFree ps))
 
 -- ---- any marks
-passed-by : (n x j : ℕ) (ps : List Place) (p q : Bool) → marked zero x ≡ p → has isFree (take 64 ps) ≡ q → (p ≡ true → q ≡ false)
+passed-by : (n x j : ℕ) (ps : List Slot) (p q : Bool) → marked zero x ≡ p → has isFree (take 64 ps) ≡ q → (p ≡ true → q ≡ false)
     → freeBy (suc n) x j ps ≡ freeBy n (x / 2) (j + 64) (drop 64 ps)
 unfolding freeBy
 passed-by n x j ps true true e f h = let z : true ≡ false = h refl in cc
 passed-by n x j ps true false e f h = rw (e, f)
 passed-by n x j ps false q e f h = rw e
 
-module _ (n x j : ℕ) (ps : List Place) (k : ℕ) (none : NoneBelow x ps (suc k)) where
+module _ (n x j : ℕ) (ps : List Slot) (k : ℕ) (none : NoneBelow x ps (suc k)) where
   pub passed : freeBy (suc n) x j ps ≡ freeBy n (x / 2) (j + 64) (drop 64 ps)
   passed = passed-by n x j ps _ _ refl refl (none 0 (omega arith))
 
@@ -112,7 +112,7 @@ marked-rest : (g x : ℕ) → marked (suc g) x ≡ true → marked g (x / 2) ≡
 unfolding marked
 marked-rest g x m = m
 
-pub first-marked : (n g x j : ℕ) (ps : List Place) → g < n → marked g x ≡ true → has isFree (groupAt g ps) ≡ true → NoneBelow x ps g
+pub first-marked : (n g x j : ℕ) (ps : List Slot) → g < n → marked g x ≡ true → has isFree (groupAt g ps) ≡ true → NoneBelow x ps g
     → freeBy n x j ps ≡ Free (j + (64 * g + lowest isFree (groupAt g ps)))
 unfolding freeBy
 first-marked zero g x j ps h m f none = absurd (omega arith)
@@ -124,31 +124,31 @@ first-marked (suc n) (suc g) x j ps h m f none =
     let e : j + 64 + (64 * g + lowest isFree (groupAt g (drop 64 ps))) ≡ j + (64 * suc g + lowest isFree (groupAt g (drop 64 ps))) = omega arith in
     passed n x j ps g none ∙ i ∙ rw (next-group g ps, e)
 
-pub none-marked : (n x j : ℕ) (ps : List Place) → NoneBelow x ps n → freeBy n x j ps ≡ Nothing
+pub none-marked : (n x j : ℕ) (ps : List Slot) → NoneBelow x ps n → freeBy n x j ps ≡ Nothing
 unfolding freeBy
 none-marked zero x j ps none = refl
 none-marked (suc n) x j ps none = passed n x j ps n none ∙ none-marked n (x / 2) (j + 64) (drop 64 ps) (none-further n x j ps n none)
 
 -- ---- a group with a free place has one
-lowest-cons : (p : Place) (ps : List Place) (k : ℕ) (x : Bool) → isFree p ≡ x → lowest isFree ps ≤ k → lowest isFree (p ∷ ps) ≤ suc k
+lowest-cons : (p : Slot) (ps : List Slot) (k : ℕ) (x : Bool) → isFree p ≡ x → lowest isFree ps ≤ k → lowest isFree (p ∷ ps) ≤ suc k
 unfolding lowest
 lowest-cons p ps k true e h = rw e (omega arith)
 lowest-cons p ps k false e h = rw e (omega arith)
 
-no-higher : (ps : List Place) (k : ℕ) → freeAt ps k ≡ true → lowest isFree ps ≤ k
+no-higher : (ps : List Slot) (k : ℕ) → freeAt ps k ≡ true → lowest isFree ps ≤ k
 unfolding freeAt lowest
 no-higher [] k h = omega arith
 no-higher (p ∷ ps) zero h = rw h (omega arith)
 no-higher (p ∷ ps) (suc k) h = lowest-cons p ps k _ refl (no-higher ps k h)
 
-free-taken : (j : ℕ) (ps : List Place) (k : ℕ) → k < j → freeAt ps k ≡ true → freeAt (take j ps) k ≡ true
+free-taken : (j : ℕ) (ps : List Slot) (k : ℕ) → k < j → freeAt ps k ≡ true → freeAt (take j ps) k ≡ true
 unfolding freeAt
 free-taken zero ps k l h = absurd (omega arith)
 free-taken (suc j) [] k l h = h
 free-taken (suc j) (p ∷ ps) zero l h = h
 free-taken (suc j) (p ∷ ps) (suc k) l h = free-taken j ps k (omega arith) h
 
-free-dropped : (j : ℕ) (ps : List Place) (k : ℕ) → freeAt ps (j + k) ≡ true → freeAt (drop j ps) k ≡ true
+free-dropped : (j : ℕ) (ps : List Slot) (k : ℕ) → freeAt ps (j + k) ≡ true → freeAt (drop j ps) k ≡ true
 unfolding freeAt
 free-dropped zero ps k h = rw (zero-add k) at h
 free-dropped (suc j) [] k h = h
@@ -157,7 +157,7 @@ free-dropped (suc j) (p ∷ ps) k h =
     let g : freeAt (p ∷ ps) (suc (j + k)) ≡ true = rw e at h in
     free-dropped j ps k g
 
-pub group-has : (ps : List Place) (k : ℕ) → freeAt ps k ≡ true → has isFree (groupAt (k / 64) ps) ≡ true
+pub group-has : (ps : List Slot) (k : ℕ) → freeAt ps k ≡ true → has isFree (groupAt (k / 64) ps) ≡ true
 unfolding has
 group-has ps k h =
     let e : 64 * (k / 64) + k % 64 ≡ k = omega arith in
@@ -166,7 +166,7 @@ group-has ps k h =
     lt-ltb (lowest isFree (groupAt (k / 64) ps)) (length (groupAt (k / 64) ps))
     (omega (arith, no-higher (groupAt (k / 64) ps) (k % 64) g, free-inside (groupAt (k / 64) ps) (k % 64) g))
 
-pub free-set : (ps : List Place) (k : ℕ) (p : Place) → k < length ps → isFree p ≡ true → freeAt (set ps k p) k ≡ true
+pub free-set : (ps : List Slot) (k : ℕ) (p : Slot) → k < length ps → isFree p ≡ true → freeAt (set ps k p) k ≡ true
 unfolding freeAt
 free-set [] k p l h = absurd (omega arith)
 free-set (q ∷ ps) zero p l h = h

@@ -5,7 +5,7 @@ pub mod Marks
 pub mod Stored
 pub mod Holders
 pub mod Counting
-pub mod Standing
+pub mod Validity
 pub mod Histories
 pub mod Again
 pub mod Contents

@@ -8,8 +8,8 @@ use borrow.Author.Tests.{eq-eqb, ne-eqb, lt-ltb, ltb-true, ltb-false}
 use lib.Dec.{eqb, ltb}
 use lib.ListN.{take, drop, set}
 use lib.Seq.{drop-drop, take-set-le, drop-set-lt, drop-set-add}
-use Rattle.address_places.specs.Place.{Place, isFree, has}
-use Rattle.address_places.specs.Marks.{bit, marked, withMark, groupAt, marksOf, anew}
+use Rattle.address_places.specs.Slot.{Slot, isFree, has}
+use Rattle.address_places.specs.Marks.{bit, marked, withMark, groupAt, marksOf, refreshed}
 
 -- ---- one bit and the rest
 pub lowest-bit : (b : Bool) (y : ℕ) → eqb ((bit b + 2 * y) % 2) 1 ≡ b
@@ -42,13 +42,13 @@ other-mark (suc g) (suc h) b x n =
     rw e (other-mark g h b (x / 2) (λ (q : h ≡ g). n (ap suc q)))
 
 -- ---- the groups after the first
-pub next-group : (g : ℕ) (ps : List Place) → groupAt (suc g) ps ≡ groupAt g (drop 64 ps)
+pub next-group : (g : ℕ) (ps : List Slot) → groupAt (suc g) ps ≡ groupAt g (drop 64 ps)
 next-group g ps =
     let e : 64 * suc g ≡ 64 + 64 * g = omega arith in
     rw (e, ← drop-drop (64 * g) 64 ps)
 
 -- a group's mark says whether an address of it is free
-pub marks-say : (n : ℕ) (ps : List Place) (g : ℕ) → g < n → marked g (marksOf n ps) ≡ has isFree (groupAt g ps)
+pub marks-say : (n : ℕ) (ps : List Slot) (g : ℕ) → g < n → marked g (marksOf n ps) ≡ has isFree (groupAt g ps)
 unfolding marked marksOf
 marks-say zero ps g h = absurd (omega arith)
 marks-say (suc n) ps zero h = lowest-bit (has isFree (take 64 ps)) (marksOf n (drop 64 ps))
@@ -56,7 +56,7 @@ marks-say (suc n) ps (suc g) h =
     rw (rest-of (has isFree (take 64 ps)) (marksOf n (drop 64 ps)), next-group g ps) (marks-say n (drop 64 ps) g (omega arith))
 
 -- ---- a place is set
-right-by : (n k : ℕ) (ps : List Place) (p : Place) (t : Bool) → ltb k 64 ≡ t
+right-by : (n k : ℕ) (ps : List Slot) (p : Slot) (t : Bool) → ltb k 64 ≡ t
     → (64 ≤ k → withMark ((k - 64) / 64) (has isFree (groupAt ((k - 64) / 64) (set (drop 64 ps) (k - 64) p))) (marksOf n (drop 64 ps)) ≡ marksOf n (set (drop 64 ps) (k - 64) p))
     → withMark (k / 64) (has isFree (groupAt (k / 64) (set ps k p))) (marksOf (suc n) ps) ≡ marksOf (suc n) (set ps k p)
 unfolding withMark marksOf
@@ -79,11 +79,11 @@ right-by n k ps p false t ih =
       ih l,
     )
 
-right-set : (n k : ℕ) (ps : List Place) (p : Place) → k < 64 * n
+right-set : (n k : ℕ) (ps : List Slot) (p : Slot) → k < 64 * n
     → withMark (k / 64) (has isFree (groupAt (k / 64) (set ps k p))) (marksOf n ps) ≡ marksOf n (set ps k p)
 right-set zero k ps p h = absurd (omega arith)
 right-set (suc n) k ps p h = right-by n k ps p _ refl (λ (l : 64 ≤ k). right-set n (k - 64) (drop 64 ps) p (omega arith))
 
-pub anew-right : (k : ℕ) (ps : List Place) (p : Place) → k < 4096 → anew (marksOf 64 ps) k (set ps k p) ≡ marksOf 64 (set ps k p)
-unfolding anew
-anew-right k ps p h = rw (lt-ltb k 4096 h) (right-set 64 k ps p (omega arith))
+pub refreshed-right : (k : ℕ) (ps : List Slot) (p : Slot) → k < 4096 → refreshed (marksOf 64 ps) k (set ps k p) ≡ marksOf 64 (set ps k p)
+unfolding refreshed
+refreshed-right k ps p h = rw (lt-ltb k 4096 h) (right-set 64 k ps p (omega arith))

@@ -9,10 +9,10 @@ use borrow.Author.Tests.{lt-ltb, ltb-false}
 use lib.ListN.{length, drop}
 use Rattle.refusal.specs.declared.Verdict.{Verdict}
 use Rattle.refusal.specs.declared.Verdict.the-variants as verdict
-use Rattle.address_places.specs.Place.{places, heldBy, isFree, lowest, has, sought, hold, freed}
-use Rattle.address_places.specs.Marks.{marked, groupAt, marksOf, anew, soughtBy}
-use Rattle.address_places.specs.declared.place.Sought.{Sought}
-use Rattle.address_places.specs.declared.place.Sought.the-variants.{Held, Free, Nothing}
+use Rattle.address_places.specs.Slot.{slots, heldBy, isFree, lowest, has, slotFound, hold, freed}
+use Rattle.address_places.specs.Marks.{marked, groupAt, marksOf, refreshed, slotFoundBy}
+use Rattle.address_places.specs.declared.slot.SlotFound.{SlotFound}
+use Rattle.address_places.specs.declared.slot.SlotFound.the-variants.{Held, Free, Nothing}
 use Rattle.address_places.proofs.Scan.{length-places}
 use Rattle.address_places.proofs.Found.{held-within}
 use Rattle.address_places.proofs.Offers.{freeAt, held-told, free-inside-of}
@@ -24,7 +24,7 @@ use Rattle.address_ledger.specs.declared.ledger.Ledger.{Ledger}
 use Rattle.address_ledger.proofs.Calls.{grant-accepted}
 use Rattle.address_ledger_laws.specs.Marked.{RightMarks, MarksStay, walkedBy, AsWalked, MarkedAnew, AnyMarks}
 use Rattle.address_ledger_laws.proofs.Bytes.{places-hold, places-freed, cleared, cleared-is}
-use Rattle.address_ledger_laws.proofs.Marking.{own-mark, other-mark, marks-say, anew-right}
+use Rattle.address_ledger_laws.proofs.Marking.{own-mark, other-mark, marks-say, refreshed-right}
 use Rattle.address_ledger_laws.proofs.Leading.{as-walked, first-marked, none-marked, group-has, free-set}
 
 module _ (l : Ledger) (m : List ℕ) (f : verdict.Accepted ≡ judgedOf l m) where
@@ -32,52 +32,52 @@ module _ (l : Ledger) (m : List ℕ) (f : verdict.Accepted ≡ judgedOf l m) whe
   in-use = usable (l .first) (l .size) (length m) f (countedOf l) refl
 
   -- ---- right marks find what a walk finds
-  found-alike : (b : List ℕ) → RightMarks l m → soughtBy (l .marks) b (placesOf l m) ≡ sought b (placesOf l m)
+  found-alike : (b : List ℕ) → RightMarks l m → slotFoundBy (l .summary) b (placesOf l m) ≡ slotFound b (placesOf l m)
   found-alike b w = rw w (as-walked b (placesOf l m) (omega (arith, length-places (countedOf l) m, in-use .size)))
 
-  pub walk-accepted : (b : List ℕ) → RightMarks l m → granting (countedOf l) l m b (sought b (placesOf l m)) ≡ granted l m b
+  pub walk-accepted : (b : List ℕ) → RightMarks l m → granting (countedOf l) l m b (slotFound b (placesOf l m)) ≡ granted l m b
   walk-accepted b w =
-      grant-accepted l m b f (countedOf l) refl _ (ap (λ (s : Sought). granting (countedOf l) l m b s) (sym (found-alike b w)))
+      grant-accepted l m b f (countedOf l) refl _ (ap (λ (s : SlotFound). granting (countedOf l) l m b s) (sym (found-alike b w)))
 
   -- ---- right stays right
   module _ (b : List ℕ) (w : RightMarks l m) where
-    grant-right : length b ≡ 8 → (s : Sought) → s ≡ soughtBy (l .marks) b (placesOf l m)
+    grant-right : length b ≡ 8 → (s : SlotFound) → s ≡ slotFoundBy (l .summary) b (placesOf l m)
         → RightMarks (granting (countedOf l) l m b s .ledger) (granting (countedOf l) l m b s .memory)
     unfolding granting
     grant-right e (Held k) s = w
     grant-right e (Free k) s =
         let n = countedOf l in
-        let i = free-inside-of (l .marks) b (countedOf l) m k s in
-        rw (places-hold n k m b i (in-use .room) e, w) (anew-right k (placesOf l m) (record { mark = 1; board = b }) (omega (arith, i, in-use .size)))
+        let i = free-inside-of (l .summary) b (countedOf l) m k s in
+        rw (places-hold n k m b i (in-use .room) e, w) (refreshed-right k (placesOf l m) (record { mark = 1; board = b }) (omega (arith, i, in-use .size)))
     grant-right e Nothing s = w
 
-    back-right : (s : Sought) → s ≡ sought b (placesOf l m) → RightMarks (givingBack (countedOf l) l m s .ledger) (givingBack (countedOf l) l m s .memory)
+    back-right : (s : SlotFound) → s ≡ slotFound b (placesOf l m) → RightMarks (givingBack (countedOf l) l m s .ledger) (givingBack (countedOf l) l m s .memory)
     unfolding givingBack
     back-right (Held k) s =
         let n = countedOf l in
         let i = held-within b (countedOf l) m k s in
-        rw (places-freed n k m i (in-use .room), w) (anew-right k (placesOf l m) (cleared (drop (9 * k) m)) (omega (arith, i, in-use .size)))
+        rw (places-freed n k m i (in-use .room), w) (refreshed-right k (placesOf l m) (cleared (drop (9 * k) m)) (omega (arith, i, in-use .size)))
     back-right (Free k) s = w
     back-right Nothing s = w
 
 module _ (l : Ledger) (m b : List ℕ) (w : RightMarks l m) where
   granted-right : length b ≡ 8 → (v : Verdict) → v ≡ judgedOf l m → RightMarks (grantedBy v l m b .ledger) (grantedBy v l m b .memory)
   unfolding grantedBy
-  granted-right e verdict.Accepted f = grant-right l m f b w e (soughtBy (l .marks) b (placesOf l m)) refl
+  granted-right e verdict.Accepted f = grant-right l m f b w e (slotFoundBy (l .summary) b (placesOf l m)) refl
   granted-right e (verdict.Refused r) f = w
 
   given-right : (v : Verdict) → v ≡ judgedOf l m → RightMarks (givenBackBy v l m b .ledger) (givenBackBy v l m b .memory)
   unfolding givenBackBy
-  given-right verdict.Accepted f = back-right l m f b w (sought b (placesOf l m)) refl
+  given-right verdict.Accepted f = back-right l m f b w (slotFound b (placesOf l m)) refl
   given-right (verdict.Refused r) f = w
 
   walked-by : (v : Verdict) → v ≡ judgedOf l m → grantedBy v l m b ≡ walkedBy v l m b
   unfolding grantedBy walkedBy
-  walked-by verdict.Accepted f = ap (λ (s : Sought). granting (countedOf l) l m b s) (found-alike l m f b w)
+  walked-by verdict.Accepted f = ap (λ (s : SlotFound). granting (countedOf l) l m b s) (found-alike l m f b w)
   walked-by (verdict.Refused r) f = refl
 
 opened-right : (first size : ℕ) (m : List ℕ) (v : Verdict) → RightMarks (openedBy v first size m .ledger) m
-unfolding openedBy counted places marksOf has lowest
+unfolding openedBy counted slots marksOf has lowest
 opened-right first size m verdict.Accepted = refl
 opened-right first size m (verdict.Refused r) = refl
 
@@ -96,13 +96,13 @@ unfolding AsWalked granted
 walks-alike l m b w = walked-by l m b w (judgedOf l m) refl
 
 -- ---- any marks
-written : (l : Ledger) (k : ℕ) (m′ : List ℕ) → k < 4096 → (o : Outcome) → o .memory ≡ m′ → o .ledger .marks ≡ anew (l .marks) k (placesOf l m′)
+written : (l : Ledger) (k : ℕ) (m′ : List ℕ) → k < 4096 → (o : Outcome) → o .memory ≡ m′ → o .ledger .summary ≡ refreshed (l .summary) k (placesOf l m′)
     → MarkedAnew l k o
-unfolding anew
+unfolding refreshed
 written l k m′ h o e q =
     record {
-      own = rw (q, e, lt-ltb k 4096 h) (own-mark (k / 64) (has isFree (groupAt (k / 64) (placesOf l m′))) (l .marks));
-      others = λ g n. rw (q, lt-ltb k 4096 h) (other-mark (k / 64) g (has isFree (groupAt (k / 64) (placesOf l m′))) (l .marks) n);
+      own = rw (q, e, lt-ltb k 4096 h) (own-mark (k / 64) (has isFree (groupAt (k / 64) (placesOf l m′))) (l .summary));
+      others = λ g n. rw (q, lt-ltb k 4096 h) (other-mark (k / 64) g (has isFree (groupAt (k / 64) (placesOf l m′))) (l .summary) n);
     }
 
 -- an answered address tells its place
@@ -110,19 +110,19 @@ pub same-place : (l : Ledger) (k j : ℕ) → Address (l .first + j) ≡ Address
 same-place l k j e = let z : l .first + j ≡ l .first + k = cc in omega arith
 
 module _ (l : Ledger) (m b : List ℕ) (k : ℕ) (f : verdict.Accepted ≡ judgedOf l m) where
-  grant-new : (s : Sought) → s ≡ soughtBy (l .marks) b (placesOf l m) → has (heldBy b) (placesOf l m) ≡ false
+  grant-new : (s : SlotFound) → s ≡ slotFoundBy (l .summary) b (placesOf l m) → has (heldBy b) (placesOf l m) ≡ false
       → granting (countedOf l) l m b s .answer ≡ Address (l .first + k) → MarkedAnew l k (granting (countedOf l) l m b s)
   unfolding granting has
   grant-new (Held j) s h e =
-      let i = held-told (l .marks) b (placesOf l m) j s in
+      let i = held-told (l .summary) b (placesOf l m) j s in
       absurd (omega (arith, i .0, i .1, ltb-false (lowest (heldBy b) (placesOf l m)) (length (placesOf l m)) h))
   grant-new (Free j) s h e =
-      let i = free-inside-of (l .marks) b (countedOf l) m j s in
+      let i = free-inside-of (l .summary) b (countedOf l) m j s in
       let q = same-place l k j e in
       rw (← q) (written l j (hold m j b) (omega (arith, i, in-use l m f .size)) _ refl refl)
   grant-new Nothing s h e = let z : _≡_ {A = ℕ} 0 1 = cc in absurd (omega arith)
 
-  back-new : (s : Sought) → s ≡ sought b (placesOf l m)
+  back-new : (s : SlotFound) → s ≡ slotFound b (placesOf l m)
       → givingBack (countedOf l) l m s .answer ≡ Address (l .first + k) → MarkedAnew l k (givingBack (countedOf l) l m s)
   unfolding givingBack
   back-new (Held j) s e =
@@ -132,8 +132,8 @@ module _ (l : Ledger) (m b : List ℕ) (k : ℕ) (f : verdict.Accepted ≡ judge
   back-new (Free j) s e = let z : _≡_ {A = ℕ} 0 1 = cc in absurd (omega arith)
   back-new Nothing s e = let z : _≡_ {A = ℕ} 0 1 = cc in absurd (omega arith)
 
-  back-marked : (s : Sought) → s ≡ sought b (placesOf l m)
-      → givingBack (countedOf l) l m s .answer ≡ Address (l .first + k) → marked (k / 64) (givingBack (countedOf l) l m s .ledger .marks) ≡ true
+  back-marked : (s : SlotFound) → s ≡ slotFound b (placesOf l m)
+      → givingBack (countedOf l) l m s .answer ≡ Address (l .first + k) → marked (k / 64) (givingBack (countedOf l) l m s .ledger .summary) ≡ true
   unfolding givingBack
   back-marked (Held j) s e =
       let i = held-within b (countedOf l) m j s in
@@ -150,26 +150,26 @@ module _ (l : Ledger) (m b : List ℕ) (k : ℕ) where
   granted-new : (v : Verdict) → v ≡ judgedOf l m → has (heldBy b) (placesOf l m) ≡ false → grantedBy v l m b .answer ≡ Address (l .first + k)
       → MarkedAnew l k (grantedBy v l m b)
   unfolding grantedBy
-  granted-new verdict.Accepted f h e = grant-new l m b k f (soughtBy (l .marks) b (placesOf l m)) refl h e
+  granted-new verdict.Accepted f h e = grant-new l m b k f (slotFoundBy (l .summary) b (placesOf l m)) refl h e
   granted-new (verdict.Refused r) f h e = let z : _≡_ {A = ℕ} 0 1 = cc in absurd (omega arith)
 
   given-new : (v : Verdict) → v ≡ judgedOf l m → givenBackBy v l m b .answer ≡ Address (l .first + k) → MarkedAnew l k (givenBackBy v l m b)
   unfolding givenBackBy
-  given-new verdict.Accepted f e = back-new l m b k f (sought b (placesOf l m)) refl e
+  given-new verdict.Accepted f e = back-new l m b k f (slotFound b (placesOf l m)) refl e
   given-new (verdict.Refused r) f e = let z : _≡_ {A = ℕ} 0 1 = cc in absurd (omega arith)
 
   given-marked : (v : Verdict) → v ≡ judgedOf l m → givenBackBy v l m b .answer ≡ Address (l .first + k)
-      → marked (k / 64) (givenBackBy v l m b .ledger .marks) ≡ true
+      → marked (k / 64) (givenBackBy v l m b .ledger .summary) ≡ true
   unfolding givenBackBy
-  given-marked verdict.Accepted f e = back-marked l m b k f (sought b (placesOf l m)) refl e
+  given-marked verdict.Accepted f e = back-marked l m b k f (slotFound b (placesOf l m)) refl e
   given-marked (verdict.Refused r) f e = let z : _≡_ {A = ℕ} 0 1 = cc in absurd (omega arith)
 
 pub any-marks : AnyMarks
-unfolding granted grantedBy granting givenBack soughtBy
+unfolding granted grantedBy granting givenBack slotFoundBy
 any-marks =
     record {
-      first = λ l m b f h g i t u none. rw (← f, h, first-marked 64 g (l .marks) 0 (placesOf l m) i t u none, zero-add (64 * g + lowest isFree (groupAt g (placesOf l m))));
-      full = λ l m b f h none. rw (← f, h, none-marked 64 (l .marks) 0 (placesOf l m) none);
+      first = λ l m b f h g i t u none. rw (← f, h, first-marked 64 g (l .summary) 0 (placesOf l m) i t u none, zero-add (64 * g + lowest isFree (groupAt g (placesOf l m))));
+      full = λ l m b f h none. rw (← f, h, none-marked 64 (l .summary) 0 (placesOf l m) none);
       granted-new = λ l m b k h e. granted-new l m b k (judgedOf l m) refl h e;
       given-back = λ l m b k e. given-new l m b k (judgedOf l m) refl e;
       given-marked = λ l m b k e. given-marked l m b k (judgedOf l m) refl e;

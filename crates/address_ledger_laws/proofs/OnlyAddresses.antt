@@ -12,14 +12,14 @@ use Rattle.refusal.specs.declared.Refusal.the-variants.{Full, Unknown}
 use Rattle.refusal.specs.declared.Verdict.{Verdict}
 use Rattle.refusal.specs.declared.Verdict.the-variants as verdict
 use Rattle.short_address.specs.Address.{isAddress, bytesOf, AddressLaws}
-use Rattle.address_places.specs.Place.{Place, places, lowest, has, countFree, sought}
-use Rattle.address_places.specs.Marks.{soughtBy}
+use Rattle.address_places.specs.Slot.{Slot, slots, lowest, has, countFree, slotFound}
+use Rattle.address_places.specs.Marks.{slotFoundBy}
 use Rattle.address_range.specs.Range.{judged, counted}
 use Rattle.address_ledger.specs.Ledger.{outcome, countedOf, placesOf, judgedOf, granting, grantedBy, granted, givingBack, givenBackBy, givenBack, freeCount}
 use Rattle.address_ledger.specs.declared.answer.AddressAnswer.the-variants.{Address, Refused}
 use Rattle.address_ledger.specs.declared.ledger.Ledger.{Ledger}
-use Rattle.address_places.specs.declared.place.Sought.{Sought}
-use Rattle.address_places.specs.declared.place.Sought.the-variants.{Held, Free, Nothing}
+use Rattle.address_places.specs.declared.slot.SlotFound.{SlotFound}
+use Rattle.address_places.specs.declared.slot.SlotFound.the-variants.{Held, Free, Nothing}
 use Rattle.address_range.proofs.Judged.{end-limit, within-limits}
 use Rattle.address_range.proofs.Counted.{counted-number, counted-is-address, other-is-none}
 use Rattle.address_places.proofs.Found.{held-within}
@@ -42,13 +42,13 @@ module _ (laws : AddressLaws) where
         let z : l .first + k ≡ a = cc in
         rw (← z) (counted-is-address laws (l .first) (l .size) k (end-limit (l .first) (l .size) (length m) f) w)
 
-    grant-by : (s : Sought) → s ≡ soughtBy (l .marks) b (placesOf l m) → granting (countedOf l) l m b s .answer ≡ Address a → isAddress (bytesOf a) ≡ true
+    grant-by : (s : SlotFound) → s ≡ slotFoundBy (l .summary) b (placesOf l m) → granting (countedOf l) l m b s .answer ≡ Address a → isAddress (bytesOf a) ≡ true
     unfolding granting
-    grant-by (Held k) s e = one k (held-inside (l .marks) b (counted (l .first) (l .size)) m k s) e
-    grant-by (Free k) s e = one k (free-inside-of (l .marks) b (counted (l .first) (l .size)) m k s) e
+    grant-by (Held k) s e = one k (held-inside (l .summary) b (counted (l .first) (l .size)) m k s) e
+    grant-by (Free k) s e = one k (free-inside-of (l .summary) b (counted (l .first) (l .size)) m k s) e
     grant-by Nothing s e = let z : _≡_ {A = ℕ} 0 1 = cc in absurd (omega arith)
 
-    back-by : (s : Sought) → s ≡ sought b (placesOf l m) → givingBack (countedOf l) l m s .answer ≡ Address a → isAddress (bytesOf a) ≡ true
+    back-by : (s : SlotFound) → s ≡ slotFound b (placesOf l m) → givingBack (countedOf l) l m s .answer ≡ Address a → isAddress (bytesOf a) ≡ true
     unfolding givingBack
     back-by (Held k) s e = one k (held-within b (counted (l .first) (l .size)) m k s) e
     back-by (Free k) s e = let z : _≡_ {A = ℕ} 0 1 = cc in absurd (omega arith)
@@ -56,12 +56,12 @@ module _ (laws : AddressLaws) where
 
   granted-by : (l : Ledger) (m b : List ℕ) (a : ℕ) (v : Verdict) → v ≡ judgedOf l m → grantedBy v l m b .answer ≡ Address a → isAddress (bytesOf a) ≡ true
   unfolding grantedBy
-  granted-by l m b a verdict.Accepted f e = grant-by l m b a f (soughtBy (l .marks) b (placesOf l m)) refl e
+  granted-by l m b a verdict.Accepted f e = grant-by l m b a f (slotFoundBy (l .summary) b (placesOf l m)) refl e
   granted-by l m b a (verdict.Refused r) f e = let z : _≡_ {A = ℕ} 0 1 = cc in absurd (omega arith)
 
   given-by : (l : Ledger) (m b : List ℕ) (a : ℕ) (v : Verdict) → v ≡ judgedOf l m → givenBackBy v l m b .answer ≡ Address a → isAddress (bytesOf a) ≡ true
   unfolding givenBackBy
-  given-by l m b a verdict.Accepted f e = back-by l m b a f (sought b (placesOf l m)) refl e
+  given-by l m b a verdict.Accepted f e = back-by l m b a f (slotFound b (placesOf l m)) refl e
   given-by l m b a (verdict.Refused r) f e = let z : _≡_ {A = ℕ} 0 1 = cc in absurd (omega arith)
 
   pub addresses-alone : AddressesAlone
@@ -74,13 +74,13 @@ module _ (laws : AddressLaws) where
       }
 
 -- no place is free and none is the board's
-nothing-there : (x : ℕ) (b : List ℕ) (m : List ℕ) → Nothing ≡ soughtBy x b (places 0 m)
-unfolding soughtBy places has lowest
-nothing-there x b m = sym (none-marked 64 x 0 [] (λ g h t. rw (drop-nil {A = Place} (64 * g))))
+nothing-there : (x : ℕ) (b : List ℕ) (m : List ℕ) → Nothing ≡ slotFoundBy x b (slots 0 m)
+unfolding slotFoundBy slots has lowest
+nothing-there x b m = sym (none-marked 64 x 0 [] (λ g h t. rw (drop-nil {A = Slot} (64 * g))))
 
 module _ (first size : ℕ) (m b : List ℕ) (e : counted first size ≡ 0) (f : verdict.Accepted ≡ judged first size (length m)) where
   lists-none : freeCount (rightLedger first size m) ≡ Count 0
-  unfolding places countFree
+  unfolding slots countFree
   lists-none = rw (← calls.free-within (rightLedger first size m) (sym (within-limits first size (length m) f)), e)
 
   grants-none : granted (rightLedger first size m) m b ≡ outcome (Refused Full) (rightLedger first size m) m
@@ -88,10 +88,10 @@ module _ (first size : ℕ) (m b : List ℕ) (e : counted first size ≡ 0) (f :
   grants-none =
       sym
       (calls.grant-accepted (rightLedger first size m) m b f 0 (sym e) _
-      (ap (λ (s : Sought). granting 0 (rightLedger first size m) m b s) (nothing-there (rightLedger first size m .marks) b m)))
+      (ap (λ (s : SlotFound). granting 0 (rightLedger first size m) m b s) (nothing-there (rightLedger first size m .summary) b m)))
 
   gives-none : givenBack (rightLedger first size m) m b ≡ outcome (Refused Unknown) (rightLedger first size m) m
-  unfolding givingBack places sought has lowest
+  unfolding givingBack slots slotFound has lowest
   gives-none = sym (calls.back-accepted (rightLedger first size m) m b f 0 (sym e) _ refl)
 
 module _ (laws : AddressLaws) where

@@ -4,13 +4,13 @@ use mathlib.Core.Path.{_≡_, refl}
 use native.Mathlib.Omega.{arith}
 use borrow.Author.Tests.{eqb-false}
 use lib.ListN.{getD}
-use Rattle.address_places.specs.Place.{placeAt, places, same, isFree, heldBy, lowest, has, countFree, sought, hold, freed}
-use Rattle.address_places.specs.Marks.{marked, withMark, marksOf, anew, freeBy, soughtBy}
+use Rattle.address_places.specs.Slot.{slotAt, slots, same, isFree, heldBy, lowest, has, countFree, slotFound, hold, freed}
+use Rattle.address_places.specs.Marks.{marked, withMark, marksOf, refreshed, freeBy, slotFoundBy}
 use Rattle.short_address.specs.Address.{isAddress, bytesOf}
 use Rattle.address_range.specs.Range.{inLimits, judged, counted}
 use Rattle.address_ledger.specs.Ledger.{openedBy, opened, granting, grantedBy, granted, givingBack, givenBackBy, givenBack, freeCount}
 use Rattle.address_ledger_laws.specs.History.{listed, addressOf, enter, strike, afterAsk, afterGive, step, run, after, wholeBoards}
-use Rattle.address_ledger_laws.specs.Shift.{lent, Shift}
+use Rattle.address_ledger_laws.specs.Example.{lent, LedgerExample}
 
 fresh : (k : ℕ) → k < 3 → getD lent (9 * k) 0 ≡ 1 → ⊥
 fresh zero h = eqb-false 7 1 refl
@@ -18,8 +18,8 @@ fresh (suc zero) h = eqb-false 7 1 refl
 fresh (suc (suc zero)) h = eqb-false 7 1 refl
 fresh (suc (suc (suc k))) h = absurd (omega arith)
 
-pub played : Shift
-unfolding placeAt places same isFree heldBy lowest has countFree sought marked withMark marksOf anew freeBy soughtBy
+pub played : LedgerExample
+unfolding slotAt slots same isFree heldBy lowest has countFree slotFound marked withMark marksOf refreshed freeBy slotFoundBy
     hold freed inLimits judged counted isAddress bytesOf openedBy opened granting grantedBy granted givingBack givenBackBy
     givenBack freeCount listed addressOf enter strike afterAsk afterGive step run after wholeBoards
 played =

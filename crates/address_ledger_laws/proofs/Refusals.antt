@@ -10,14 +10,14 @@ use Rattle.refusal.specs.Verdict.{verdictNumber}
 use Rattle.refusal.specs.declared.Refusal.{Refusal}
 use Rattle.refusal.specs.declared.Verdict.{Verdict}
 use Rattle.refusal.specs.declared.Verdict.the-variants as verdict
-use Rattle.address_places.specs.Place.{Place, heldBy, isFree, has, sought}
-use Rattle.address_places.specs.Marks.{marked, freeBy, soughtBy}
+use Rattle.address_places.specs.Slot.{Slot, heldBy, isFree, has, slotFound}
+use Rattle.address_places.specs.Marks.{marked, freeBy, slotFoundBy}
 use Rattle.address_range.specs.Range.{inLimits, judged}
 use Rattle.address_ledger.specs.Ledger.{Outcome, countedOf, placesOf, judgedOf, emptyLedger, openedBy, opened, granting, grantedBy, granted, givingBack, givenBackBy, givenBack, freeCount}
 use Rattle.address_ledger.specs.Answers.{addressVerdict, addressValue, freeVerdict, freeValue}
 use Rattle.address_ledger.specs.declared.ledger.Ledger.{Ledger}
-use Rattle.address_places.specs.declared.place.Sought.{Sought}
-use Rattle.address_places.specs.declared.place.Sought.the-variants.{Held, Free, Nothing}
+use Rattle.address_places.specs.declared.slot.SlotFound.{SlotFound}
+use Rattle.address_places.specs.declared.slot.SlotFound.the-variants.{Held, Free, Nothing}
 use Rattle.address_ledger_laws.specs.Demand1.{LedgerCall, opening, asking, returning, counting, perform, Untouched, offers, refusalNumber, Demand1}
 
 -- ---- a refusal leaves everything
@@ -30,13 +30,13 @@ accepted-not : (r : Refusal) → verdict.Accepted ≡ verdict.Refused r → ⊥
 accepted-not r e = let z : _≡_ {A = ℕ} 0 1 = cc in omega arith
 
 module _ (n : ℕ) (l : Ledger) (m b : List ℕ) (r : Refusal) where
-  grant-found : (s : Sought) → addressVerdict (granting n l m b s .answer) ≡ verdict.Refused r → Left l m (granting n l m b s)
+  grant-found : (s : SlotFound) → addressVerdict (granting n l m b s .answer) ≡ verdict.Refused r → Left l m (granting n l m b s)
   unfolding granting
   grant-found (Held k) e = absurd (accepted-not r e)
   grant-found (Free k) e = absurd (accepted-not r e)
   grant-found Nothing e = record { value = refl; ledger = refl; memory = refl }
 
-  back-found : (s : Sought) → addressVerdict (givingBack n l m s .answer) ≡ verdict.Refused r → Left l m (givingBack n l m s)
+  back-found : (s : SlotFound) → addressVerdict (givingBack n l m s .answer) ≡ verdict.Refused r → Left l m (givingBack n l m s)
   unfolding givingBack
   back-found (Held k) e = absurd (accepted-not r e)
   back-found (Free k) e = record { value = refl; ledger = refl; memory = refl }
@@ -45,12 +45,12 @@ module _ (n : ℕ) (l : Ledger) (m b : List ℕ) (r : Refusal) where
 module _ (l : Ledger) (m b : List ℕ) (r : Refusal) where
   grant-left : (v : Verdict) → addressVerdict (grantedBy v l m b .answer) ≡ verdict.Refused r → Left l m (grantedBy v l m b)
   unfolding grantedBy
-  grant-left verdict.Accepted e = grant-found (countedOf l) l m b r (soughtBy (l .marks) b (placesOf l m)) e
+  grant-left verdict.Accepted e = grant-found (countedOf l) l m b r (slotFoundBy (l .summary) b (placesOf l m)) e
   grant-left (verdict.Refused x) e = record { value = refl; ledger = refl; memory = refl }
 
   back-left : (v : Verdict) → addressVerdict (givenBackBy v l m b .answer) ≡ verdict.Refused r → Left l m (givenBackBy v l m b)
   unfolding givenBackBy
-  back-left verdict.Accepted e = back-found (countedOf l) l m b r (sought b (placesOf l m)) e
+  back-left verdict.Accepted e = back-found (countedOf l) l m b r (slotFound b (placesOf l m)) e
   back-left (verdict.Refused x) e = record { value = refl; ledger = refl; memory = refl }
 
 free-left : (l : Ledger) (r : Refusal) (x : Bool) → inLimits (l .first) (l .size) ≡ x → freeVerdict (freeCount l) ≡ verdict.Refused r
@@ -78,29 +78,29 @@ untouched (returning b) l m r e =
 untouched counting l m r e = record { value = free-left l r _ refl e; ledger = refl; memory = refl }
 
 -- ---- the numbers
-offer-cons : (n x j : ℕ) (ps : List Place) (c : ℕ) (l : Ledger) (m b : List ℕ) (t : Bool) → (marked zero x && has isFree (take 64 ps)) ≡ t
+offer-cons : (n x j : ℕ) (ps : List Slot) (c : ℕ) (l : Ledger) (m b : List ℕ) (t : Bool) → (marked zero x && has isFree (take 64 ps)) ≡ t
     → verdictNumber (addressVerdict (granting c l m b (freeBy n (x / 2) (j + 64) (drop 64 ps)) .answer)) ≡ cond (offers n (x / 2) (drop 64 ps)) 0 17
     → verdictNumber (addressVerdict (granting c l m b (freeBy (suc n) x j ps) .answer)) ≡ cond (offers (suc n) x ps) 0 17
 unfolding freeBy offers granting
 offer-cons n x j ps c l m b true t ih = rw t
 offer-cons n x j ps c l m b false t ih = rw t ih
 
-offer : (n x j : ℕ) (ps : List Place) (c : ℕ) (l : Ledger) (m b : List ℕ)
+offer : (n x j : ℕ) (ps : List Slot) (c : ℕ) (l : Ledger) (m b : List ℕ)
     → verdictNumber (addressVerdict (granting c l m b (freeBy n x j ps) .answer)) ≡ cond (offers n x ps) 0 17
 unfolding freeBy offers granting
 offer zero x j ps c l m b = refl
 offer (suc n) x j ps c l m b = offer-cons n x j ps c l m b _ refl (offer n (x / 2) (j + 64) (drop 64 ps) c l m b)
 
 grant-own : (l : Ledger) (m b : List ℕ) (x : Bool) → has (heldBy b) (placesOf l m) ≡ x
-    → verdictNumber (addressVerdict (granting (countedOf l) l m b (soughtBy (l .marks) b (placesOf l m)) .answer))
-    ≡ cond (has (heldBy b) (placesOf l m) || offers 64 (l .marks) (placesOf l m)) 0 17
-unfolding granting soughtBy
+    → verdictNumber (addressVerdict (granting (countedOf l) l m b (slotFoundBy (l .summary) b (placesOf l m)) .answer))
+    ≡ cond (has (heldBy b) (placesOf l m) || offers 64 (l .summary) (placesOf l m)) 0 17
+unfolding granting slotFoundBy
 grant-own l m b true p = rw p
-grant-own l m b false p = rw p (offer 64 (l .marks) 0 (placesOf l m) (countedOf l) l m b)
+grant-own l m b false p = rw p (offer 64 (l .summary) 0 (placesOf l m) (countedOf l) l m b)
 
 back-own : (l : Ledger) (m b : List ℕ) (x y : Bool) → has (heldBy b) (placesOf l m) ≡ x → has isFree (placesOf l m) ≡ y
-    → verdictNumber (addressVerdict (givingBack (countedOf l) l m (sought b (placesOf l m)) .answer)) ≡ cond (has (heldBy b) (placesOf l m)) 0 18
-unfolding givingBack sought
+    → verdictNumber (addressVerdict (givingBack (countedOf l) l m (slotFound b (placesOf l m)) .answer)) ≡ cond (has (heldBy b) (placesOf l m)) 0 18
+unfolding givingBack slotFound
 back-own l m b true y p q = rw p
 back-own l m b false true p q = rw (p, q)
 back-own l m b false false p q = rw (p, q)

@@ -5,7 +5,7 @@ use mathlib.Core.Bool.{true, false}
 use mathlib.Core.List.{List}
 use lib.ListN.{length}
 use Rattle.refusal.specs.declared.Verdict.the-variants.{Accepted}
-use Rattle.address_places.specs.Place.{heldBy, has, countFree}
+use Rattle.address_places.specs.Slot.{heldBy, has, countFree}
 use Rattle.address_ledger.specs.Ledger.{Outcome, countedOf, placesOf, judgedOf, cut, ledgerOf, opened, granted, givenBack}
 use Rattle.address_ledger.specs.declared.answer.AddressAnswer.the-variants.{Address}
 use Rattle.address_ledger.specs.declared.ledger.Ledger.{Ledger}
@@ -21,14 +21,14 @@ pub record RightStays : Type 0 where
 
 -- ---- any two counts get the same answer, the same memory and the same marks
 abbrev pub withFree : Ledger → ℕ → Ledger
-withFree l free = ledgerOf (l .first) (l .size) free (l .marks)
+withFree l free = ledgerOf (l .first) (l .size) free (l .summary)
 
 pub record SameBut (o p : Outcome) : Type 0 where
   pub answer : o .answer ≡ p .answer
   pub memory : o .memory ≡ p .memory
   pub first : o .ledger .first ≡ p .ledger .first
   pub size : o .ledger .size ≡ p .ledger .size
-  pub marks : o .ledger .marks ≡ p .ledger .marks
+  pub summary : o .ledger .summary ≡ p .ledger .summary
 
 pub record AnyCount : Type 0 where
   pub grants : (l : Ledger) (x y : ℕ) (m b : List ℕ) → SameBut (granted (withFree l x) m b) (granted (withFree l y) m b)

@@ -9,7 +9,7 @@ use Rattle.refusal.specs.Verdict.{verdictNumber}
 use Rattle.refusal.specs.declared.Refusal.{Refusal}
 use Rattle.refusal.specs.declared.Verdict.{Verdict}
 use Rattle.refusal.specs.declared.Verdict.the-variants as verdict
-use Rattle.address_places.specs.Place.{Place, heldBy, isFree, has}
+use Rattle.address_places.specs.Slot.{Slot, heldBy, isFree, has}
 use Rattle.address_places.specs.Marks.{marked}
 use Rattle.address_range.specs.Range.{inLimits}
 use Rattle.address_ledger.specs.Ledger.{placesOf, emptyLedger, opened, granted, givenBack, freeCount}
@@ -72,14 +72,14 @@ sizeOf (returning b) l = l .size
 sizeOf counting l = l .size
 
 -- whether one of so many groups is marked and has a free address
-unfoldable pub offers : ℕ → ℕ → List Place → Bool
+unfoldable pub offers : ℕ → ℕ → List Slot → Bool
 offers zero x ps = false
 offers (suc n) x ps = ((marked zero x && has isFree (take 64 ps)) || offers n (x / 2) (drop 64 ps))
 
 -- FULL: no marked group has a free address and the board holds none; UNKNOWN: the board holds none
 abbrev pub ownNumber : LedgerCall → Ledger → List ℕ → ℕ
 ownNumber (opening first size) l m = 0
-ownNumber (asking b) l m = cond (has (heldBy b) (placesOf l m) || offers 64 (l .marks) (placesOf l m)) 0 17
+ownNumber (asking b) l m = cond (has (heldBy b) (placesOf l m) || offers 64 (l .summary) (placesOf l m)) 0 17
 ownNumber (returning b) l m = cond (has (heldBy b) (placesOf l m)) 0 18
 ownNumber counting l m = 0
 

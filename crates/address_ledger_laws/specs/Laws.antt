@@ -6,7 +6,7 @@ use mathlib.Core.List.{List, List·Memᴰ}
 use lib.ListN.{length, getD, take, drop}
 use Rattle.refusal.specs.declared.Refusal.{Refusal}
 use Rattle.refusal.specs.declared.Refusal.the-variants.{Unknown}
-use Rattle.address_places.specs.Place.{places, countFree}
+use Rattle.address_places.specs.Slot.{slots, countFree}
 use Rattle.address_range.specs.Range.{counted}
 use Rattle.address_ledger.specs.Ledger.{outcome, granted, givenBack, freeCount}
 use Rattle.address_ledger.specs.declared.answer.AddressAnswer.the-variants.{Address, Refused}
@@ -16,10 +16,10 @@ use Rattle.address_ledger_laws.specs.History.{Call, gives, Holding, list
 -- ---- held plus free is the size of the range: held counted from the history, free from the memory; and that is what the ledger answers
 pub record HeldAndFree : Type 0 where
   pub all : (first size : ℕ) (m : List ℕ) (cs : List Call) → Begins first size m cs
-      → length (after first size m cs .holding) + countFree (places (counted first size) (after first size m cs .memory)) ≡ counted first size
+      → length (after first size m cs .holding) + countFree (slots (counted first size) (after first size m cs .memory)) ≡ counted first size
   pub answered : (first size : ℕ) (m : List ℕ) (cs : List Call) → Begins first size m cs
       → freeCount (after first size m cs .ledger)
-      ≡ Count (countFree (places (counted first size) (after first size m cs .memory)))
+      ≡ Count (countFree (slots (counted first size) (after first size m cs .memory)))
 
 -- ---- no two boards hold one address, and at its place stand mark 1 and the board
 pub record Stands (first n : ℕ) (m : List ℕ) (h : Holding) : Type 0 where

@@ -6,4 +6,4 @@ pub mod AnyMemory
 pub mod Addresses
 pub mod Counts
 pub mod Demand1
-pub mod Shift
+pub mod Example

@@ -6,84 +6,84 @@ ghost use Rattle.address_ledger_laws.specs.Counts.{RightStays, AnyCount,
 ghost use Rattle.address_ledger_laws.specs.Marked.{MarksStay, AsWalked, AnyMarks};
 ghost use Rattle.address_ledger_laws.specs.Written.{Written};
 ghost use Rattle.address_ledger_laws.specs.Demand1.{Demand1};
-ghost use Rattle.address_ledger_laws.specs.Shift.{Shift};
+ghost use Rattle.address_ledger_laws.specs.Example.{LedgerExample};
 
 // Boards held, counted from the history, plus addresses free in the memory are the size of the range.
-pub fn held_and_free_are_all()
+pub fn held_and_free_law()
     ensures { λ _. ⌜ HeldAndFree ⌝ }
 {}
 
 // No two boards hold one address at any moment.
-pub fn one_board_an_address()
+pub fn one_holder_law()
     ensures { λ _. ⌜ OneHolder ⌝ }
 {}
 
 // A board that holds an address gets the same again.
-pub fn same_address_again()
+pub fn same_address_law()
     ensures { λ _. ⌜ SameAgain ⌝ }
 {}
 
 // A board gives back the address that it holds, and none that it does not hold.
-pub fn own_address_back()
+pub fn give_back_law()
     ensures { λ _. ⌜ GivesBack ⌝ }
 {}
 
 // An address that was given back is granted again.
-pub fn freed_address_again()
+pub fn freed_address_law()
     ensures { λ _. ⌜ FreedAgain ⌝ }
 {}
 
 // On memory with any contents the lowest matching place counts.
-pub fn lowest_matching_place()
+pub fn lowest_slot_law()
     ensures { λ _. ⌜ AnyMemory ⌝ }
 {}
 
 // FFFE and FFFF are never granted: only addresses count.
-pub fn addresses_alone()
+pub fn addresses_law()
     ensures { λ _. ⌜ AddressesAlone ⌝ }
 {
     short_address::laws();
 }
 
 // A range of FFFE and FFFF has nothing to grant.
-pub fn two_alone()
+pub fn reserved_range_law()
     ensures { λ _. ⌜ TwoAlone ⌝ }
 {
     short_address::laws();
 }
 
 // A new grant writes its place, a give back a mark, a repeated grant nothing.
-pub fn bytes_written()
+pub fn bytes_written_law()
     ensures { λ _. ⌜ Written ⌝ }
 {}
 
 // Every call leaves a right count of free addresses right.
-pub fn right_count_stays()
+pub fn count_stays_law()
     ensures { λ _. ⌜ RightStays ⌝ }
 {}
 
 // A wrong count changes no other answer.
-pub fn any_count_answers_alike()
+pub fn any_count_law()
     ensures { λ _. ⌜ AnyCount ⌝ }
 {}
 
 // The count moves by one where an address changes hands, and is then cut.
-pub fn count_moves_by_one()
+pub fn count_moves_law()
     ensures { λ _. ⌜ Moves ⌝ }
 {}
 
 // Every call leaves right marks right.
-pub fn right_marks_stay()
+pub fn summary_stays_law()
     ensures { λ _. ⌜ MarksStay ⌝ }
 {}
 
 // With right marks a grant is that of a walk of all addresses.
-pub fn marks_find_what_a_walk_finds()
+pub fn summary_search_law()
     ensures { λ _. ⌜ AsWalked ⌝ }
 {}
 
 // With any marks the first marked group that has a free address counts, and only a group written to is marked anew.
-pub fn any_marks()
+pub fn any_summary_law()
     ensures { λ _. ⌜ AnyMarks ⌝ }
 {}
 
@@ -93,6 +93,6 @@ pub fn demand1()
 {}
 
 // A shift of four boards on three addresses, as a witness.
-pub fn shift_of_four()
-    ensures { λ _. ⌜ Shift ⌝ }
+pub fn ledger_example()
+    ensures { λ _. ⌜ LedgerExample ⌝ }
 {}

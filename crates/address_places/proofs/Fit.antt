@@ -7,7 +7,7 @@ use native.Mathlib.Omega.{arith}
 use borrow.Author.Tests.{le-leb, lt-leb, lt-ltb, le-ltb, leb-true}
 use lib.Dec.{leb}
 use lib.ListN.{length}
-use Rattle.address_places.specs.Place.{fit, hold, holdWithin}
+use Rattle.address_places.specs.Slot.{fit, hold, holdWithin}
 
 module _ (n len : ℕ) where
   pub fit-over : 4096 < n → 0 ≡ fit n len

@@ -6,7 +6,7 @@ use native.Mathlib.Omega.{arith}
 use native.Mathlib.Numerals.{add-one}
 use lib.ListN.{length, getD, set}
 use lib.Seq.{paste, paste-zero, paste-suc, take-suc-set, drop-set-lt, append-snoc}
-use Rattle.address_places.specs.Place.{hold}
+use Rattle.address_places.specs.Slot.{hold}
 
 pub board-none : (d : List ℕ) (at : ℕ) (b : List ℕ) → d ≡ paste d (at + 1) b 0
 board-none d at b = paste-zero d (at + 1) b

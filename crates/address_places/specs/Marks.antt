@@ -5,10 +5,10 @@ use mathlib.Core.Bool.{Bool, cond, _&&_}
 use mathlib.Core.List.{List}
 use lib.Dec.{eqb, ltb}
 use lib.ListN.{take, drop}
-use Rattle.address_places.specs.Place.{Place, isFree, heldBy, lowest, has, countFree}
+use Rattle.address_places.specs.Slot.{Slot, isFree, heldBy, lowest, has, countFree}
 use Rattle.address_places.specs.declared.groups.Summary.{Summary}
-use Rattle.address_places.specs.declared.place.Sought.{Sought}
-use Rattle.address_places.specs.declared.place.Sought.the-variants.{Held, Free, Nothing}
+use Rattle.address_places.specs.declared.slot.SlotFound.{SlotFound}
+use Rattle.address_places.specs.declared.slot.SlotFound.the-variants.{Held, Free, Nothing}
 
 -- ---- the marks of a number
 
@@ -26,33 +26,33 @@ withMark zero b x = bit b + 2 * (x / 2)
 withMark (suc g) b x = x % 2 + 2 * withMark g b (x / 2)
 
 -- ---- the groups of a list of places
-abbrev pub groupAt : ℕ → List Place → List Place
+abbrev pub groupAt : ℕ → List Slot → List Slot
 groupAt g ps = take 64 (drop (64 * g) ps)
 
 abbrev pub groupOf : ℕ → ℕ
 groupOf k = k / 64
 
 -- the marks of so many groups as they should be
-unfoldable pub marksOf : ℕ → List Place → ℕ
+unfoldable pub marksOf : ℕ → List Slot → ℕ
 marksOf zero ps = 0
 marksOf (suc n) ps = bit (has isFree (take 64 ps)) + 2 * marksOf n (drop 64 ps)
 
 -- what opening finds
-abbrev pub summaryOf : List Place → Summary
-summaryOf ps = record { free = countFree ps; marks = marksOf 64 ps }
+abbrev pub summaryOf : List Slot → Summary
+summaryOf ps = record { free = countFree ps; bitmap = marksOf 64 ps }
 
 -- the group of place k marked anew, by its places as they are now; there are 64 groups
-unfoldable pub anew : ℕ → ℕ → List Place → ℕ
-anew x k ps = cond (ltb k 4096) (withMark (groupOf k) (has isFree (groupAt (groupOf k) ps)) x) x
+unfoldable pub refreshed : ℕ → ℕ → List Slot → ℕ
+refreshed x k ps = cond (ltb k 4096) (withMark (groupOf k) (has isFree (groupAt (groupOf k) ps)) x) x
 
 -- ---- what there is for a board by the marks
 
 -- the lowest free place of the first marked group that has one, of so many groups; j places come before them
-unfoldable pub freeBy : ℕ → ℕ → ℕ → List Place → Sought
+unfoldable pub freeBy : ℕ → ℕ → ℕ → List Slot → SlotFound
 freeBy zero x j ps = Nothing
 freeBy (suc n) x j ps =
     cond (marked zero x && has isFree (take 64 ps)) (Free (j + lowest isFree (take 64 ps))) (freeBy n (x / 2) (j + 64) (drop 64 ps))
 
 -- the lowest place that it holds, whatever the marks; else the free one that they lead to
-unfoldable pub soughtBy : ℕ → List ℕ → List Place → Sought
-soughtBy x b ps = cond (has (heldBy b) ps) (Held (lowest (heldBy b) ps)) (freeBy 64 x 0 ps)
+unfoldable pub slotFoundBy : ℕ → List ℕ → List Slot → SlotFound
+slotFoundBy x b ps = cond (has (heldBy b) ps) (Held (lowest (heldBy b) ps)) (freeBy 64 x 0 ps)

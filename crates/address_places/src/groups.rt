@@ -1,15 +1,15 @@
 // The groups of 64 places and their marks, the bits of one number.
-use crate::place::PLACES_MOST;
-use crate::place::count_free;
-use crate::place::find_free;
-use crate::place::fit;
+use crate::slot::PLACES_MOST;
+use crate::slot::count_free;
+use crate::slot::find_free;
+use crate::slot::fit;
 ghost use mathlib.Core.Path.{_≡_};
 ghost use mathlib.Core.Bool.{not};
 ghost use Prim.Native.Nat.{_+_, _*_, _≤_, _<_, min};
 ghost use lib.Dec.{eqb};
 ghost use lib.ListN.{length};
-ghost use Rattle.address_places.specs.Place.{places, isFree, has, fit};
-ghost use Rattle.address_places.specs.Marks.{bit, withMark, groupAt, summaryOf, anew};
+ghost use Rattle.address_places.specs.Slot.{slots, isFree, has, fit};
+ghost use Rattle.address_places.specs.Marks.{bit, withMark, groupAt, summaryOf, refreshed};
 
 pub(crate) const GROUP: usize = 64;
 
@@ -18,7 +18,7 @@ pub(crate) const GROUPS: usize = 64;
 // How many places are free, and which groups have a free one.
 pub struct Summary {
     pub free: usize,
-    pub marks: u64,
+    pub bitmap: u64,
 }
 
 // Where a group of the first `count` places ends.
@@ -37,7 +37,7 @@ pub(crate) fn group_end(group: usize, count: usize) -> usize
 fn any_free(memory: &[u8], group: usize, count: usize) -> bool
     requires { ⌜ group < 64 ⌝ }
     requires { ⌜ 9 * count ≤ length (now memory) ⌝ }
-    ensures { λ r. ⌜ r ≡ has isFree (groupAt group (places count (now (memory .entry)))) ⌝ }
+    ensures { λ r. ⌜ r ≡ has isFree (groupAt group (slots count (now (memory .entry)))) ⌝ }
 {
     let end = group_end(group, count);
     let place = find_free(memory, GROUP * group, end);
@@ -55,10 +55,10 @@ fn mark_of(free: usize) -> u64
 }
 
 // One walk over the first `count` places, group by group from the highest.
-fn survey_in(memory: &[u8], count: usize) -> Summary
+fn summarize_in(memory: &[u8], count: usize) -> Summary
     requires { ⌜ count ≤ 4096 ⌝ }
     requires { ⌜ 9 * count ≤ length (now memory) ⌝ }
-    ensures { λ r. ⌜ r ≡ summaryOf (places count (now (memory .entry))) ⌝ }
+    ensures { λ r. ⌜ r ≡ summaryOf (slots count (now (memory .entry))) ⌝ }
 {
     let mut free: usize = 0;
     let mut marks: u64 = 0;
@@ -72,14 +72,17 @@ fn survey_in(memory: &[u8], count: usize) -> Summary
         marks = mark + 2 * marks;
         above = group;
     }
-    Summary { free, marks }
+    Summary {
+        free,
+        bitmap: marks,
+    }
 }
 
 // What opening finds in the first `count` places.
-pub fn survey(memory: &[u8], count: usize) -> Summary
-    ensures { λ r. ⌜ r ≡ summaryOf (places (fit count (length (now (memory .entry)))) (now (memory .entry))) ⌝ }
+pub fn summarize(memory: &[u8], count: usize) -> Summary
+    ensures { λ r. ⌜ r ≡ summaryOf (slots (fit count (length (now (memory .entry)))) (now (memory .entry))) ⌝ }
 {
-    survey_in(memory, fit(count, memory.len()))
+    summarize_in(memory, fit(count, memory.len()))
 }
 
 // The marks with one group's mark written.
@@ -96,8 +99,8 @@ fn with_mark(marks: u64, group: usize, mark: bool) -> u64
 }
 
 // The marks after a place was written: its group is marked anew.
-pub fn mark_anew(memory: &[u8], count: usize, marks: u64, place: usize) -> u64
-    ensures { λ r. ⌜ r ≡ anew marks place (places (fit count (length (now (memory .entry)))) (now (memory .entry))) ⌝ }
+pub fn refresh_group(memory: &[u8], count: usize, marks: u64, place: usize) -> u64
+    ensures { λ r. ⌜ r ≡ refreshed marks place (slots (fit count (length (now (memory .entry)))) (now (memory .entry))) ⌝ }
 {
     if PLACES_MOST <= place {
         return marks;

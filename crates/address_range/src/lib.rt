@@ -1,5 +1,5 @@
 // The range of an address ledger: its limits, the memory that it needs, and how many of its addresses count.
-use address_places::PLACE;
+use address_places::SLOT;
 use refusal::Refusal;
 use refusal::Verdict;
 use short_address::bytes_of;
@@ -38,7 +38,7 @@ pub fn judge(first: usize, size: usize, len: usize) -> Verdict
     ensures { λ r. ⌜ r ≡ judged first size len ⌝ }
 {
     if in_limits(first, size) {
-        if len < PLACE * size {
+        if len < SLOT * size {
             return Verdict::Refused(Refusal::Room);
         }
         return Verdict::Accepted;

@@ -14,8 +14,8 @@ use Rattle.byte_lists.specs.Table.{length-table}
 use Rattle.refusal.specs.declared.Refusal.{Refusal}
 use Rattle.refusal.specs.declared.Refusal.the-variants.{Room, Range, Seal}
 use Rattle.aes.specs.Cipher.{roundKeys}
-use Rattle.aes_ccm.specs.declared.Written.{Written}
-use Rattle.aes_ccm.specs.declared.Written.the-variants.{Refused, Length}
+use Rattle.aes_ccm.specs.declared.WriteResult.{WriteResult}
+use Rattle.aes_ccm.specs.declared.WriteResult.the-variants.{Refused, Length}
 use Rattle.aes_ccm.specs.Ccm.{crypt, tag, sealed, textOf, genuine}
 use Rattle.aes_ccm.specs.Plan.{Plan, refuse, emit, Did, sealPlan, releasePlan, unsealPlan}
 use Rattle.aes_ccm.proofs.Streams.{length-crypt}
@@ -35,7 +35,7 @@ refused p k d e = subst⁻¹ (λ (x : Plan). Did x d (Refused k) d) e (record { 
 written : (p : Plan) (bs d d′ : List ℕ) (n : ℕ) → p ≡ emit bs → length bs ≡ n → d′ ≡ bs ++ drop (length bs) d → Did p d (Length n) d′
 written p bs d d′ n e l q = subst⁻¹ (λ (x : Plan). Did x d (Length n) d′) e (record { says = ap Length (sym l); holds = q })
 
-same-plan : {p q : Plan} (d : List ℕ) (r : Written) (d′ : List ℕ) → p ≡ q → Did q d r d′ → Did p d r d′
+same-plan : {p q : Plan} (d : List ℕ) (r : WriteResult) (d′ : List ℕ) → p ≡ q → Did q d r d′ → Did p d r d′
 same-plan d r d′ e w = subst⁻¹ (λ (x : Plan). Did x d r d′) e w
 
 -- ---- sealing
@@ -134,7 +134,7 @@ module _ (key nonce a c d : List ℕ) where
         (rw (le-ltb 64 (length a) ha, le-ltb (length c) 8 hc, le-ltb 264 (length c) hl, lt-ltb (length d) (length c - 8) h))
 
     -- f is the text as it was decrypted into room with z after it, u its tag, b whether the two tags are the same
-    pub unseal-done : (ks : List (List ℕ)) (f u z : List ℕ) (b : Bool) (r : Written) (d′ : List ℕ) → length c - 8 ≤ length d → ks ≡ roundKeys 10 key
+    pub unseal-done : (ks : List (List ℕ)) (f u z : List ℕ) (b : Bool) (r : WriteResult) (d′ : List ℕ) → length c - 8 ≤ length d → ks ≡ roundKeys 10 key
         → f ≡ crypt ks nonce (take (length c - 8) c) ++ z → u ≡ tag ks nonce a (take (length c - 8) f)
         → b ≡ same (take (length c - (length c - 8)) (drop (length c - 8) c)) u
         → Did (releasePlan b (take (length c - 8) f)) d r d′ → Did (unsealPlan key nonce a c (length d)) d r d′

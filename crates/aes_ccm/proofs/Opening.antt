@@ -16,7 +16,7 @@ use Rattle.byte_lists.specs.Same.{same-equal, same-refl}
 use Rattle.aes.specs.Bounds.{Bytes, cut as cut-bytes}
 use Rattle.aes.specs.Cipher.{roundKeys}
 use Rattle.aes.specs.Laws.{AesLaws}
-use Rattle.aes_ccm.specs.declared.Written.{Written}
+use Rattle.aes_ccm.specs.declared.WriteResult.{WriteResult}
 use Rattle.aes_ccm.specs.Ccm.{crypt, tag, sealed, textOf, genuine}
 use Rattle.aes_ccm.specs.Plan.{Plan, refuse, emit, Did, numberIn, lengthIn, releasePlan, unsealPlan}
 use Rattle.aes_ccm.specs.Laws.{CcmLaws, Judged, RightTag}
@@ -116,7 +116,7 @@ module _ (laws : AesLaws) (key nonce a : List ℕ) where
         = record { data-fits = ha; tag-there = omega arith; text-fits = omega arith; has-room = omega arith } in
         right-tag key nonce a (sealed key nonce a m) room fits right ∙ ap emit text-back
 
-refused : (k : Refusal) (d d′ : List ℕ) (r : Written) → Did (refuse k) d r d′ → (numberIn r ≡ numberOf k) × (lengthIn r ≡ 0) × (d′ ≡ d)
+refused : (k : Refusal) (d d′ : List ℕ) (r : WriteResult) → Did (refuse k) d r d′ → (numberIn r ≡ numberOf k) × (lengthIn r ≡ 0) × (d′ ≡ d)
 refused k d d′ r did = (rw (did .says), rw (did .says), did .holds)
 
 pub ccm-laws : AesLaws → CcmLaws

@@ -8,7 +8,7 @@ use Rattle.refusal.specs.declared.Refusal.{Refusal}
 use Rattle.refusal.specs.declared.Refusal.the-variants.{Seal}
 use Rattle.aes.specs.Bounds.{Bytes}
 use Rattle.aes.specs.Cipher.{roundKeys}
-use Rattle.aes_ccm.specs.declared.Written.{Written}
+use Rattle.aes_ccm.specs.declared.WriteResult.{WriteResult}
 use Rattle.aes_ccm.specs.Ccm.{sealed, textOf, tag}
 use Rattle.aes_ccm.specs.Plan.{refuse, emit, Did, numberIn, lengthIn, sealPlan, unsealPlan}
 
@@ -41,5 +41,5 @@ pub record CcmLaws : Type 0 where
   pub opened-bytes : (key nonce a c m : List ℕ) (room : ℕ) → Bytes key → Bytes c → unsealPlan key nonce a c room ≡ emit m → Bytes m
   pub length-sealed : (key nonce a m : List ℕ) → length (sealed key nonce a m) ≡ length m + 8
   -- a refused call answers the refusal's number and no length, and leaves the destination
-  pub refused : (k : Refusal) (d d′ : List ℕ) (r : Written) → Did (refuse k) d r d′
+  pub refused : (k : Refusal) (d d′ : List ℕ) (r : WriteResult) → Did (refuse k) d r d′
       → (numberIn r ≡ numberOf k) × (lengthIn r ≡ 0) × (d′ ≡ d)

@@ -8,8 +8,8 @@ use lib.ListN.{length, drop}
 use Rattle.refusal.specs.Refusal.{numberOf}
 use Rattle.refusal.specs.declared.Refusal.{Refusal}
 use Rattle.refusal.specs.declared.Refusal.the-variants.{Room, Range, Seal}
-use Rattle.aes_ccm.specs.declared.Written.{Written}
-use Rattle.aes_ccm.specs.declared.Written.the-variants.{Refused, Length}
+use Rattle.aes_ccm.specs.declared.WriteResult.{WriteResult}
+use Rattle.aes_ccm.specs.declared.WriteResult.the-variants.{Refused, Length}
 use Rattle.aes_ccm.specs.Ccm.{sealed, textOf, genuine}
 
 -- a refusal, or the bytes to write
@@ -17,7 +17,7 @@ pub data Plan : Type 0 where
   refuse : Refusal → Plan
   emit : List ℕ → Plan
 
-abbrev pub answer : Plan → Written
+abbrev pub answer : Plan → WriteResult
 answer (refuse k) = Refused k
 answer (emit p) = Length (length p)
 
@@ -27,16 +27,16 @@ after (refuse k) d = d
 after (emit p) d = p ++ drop (length p) d
 
 -- the plan was followed: the answer r, and the destination d before and d′ afterwards
-pub record Did (plan : Plan) (d : List ℕ) (r : Written) (d′ : List ℕ) : Type 0 where
+pub record Did (plan : Plan) (d : List ℕ) (r : WriteResult) (d′ : List ℕ) : Type 0 where
   pub says : r ≡ answer plan
   pub holds : d′ ≡ after plan d
 
 -- the number of an answer, 0 for an accepted call, and how many bytes were written
-abbrev pub numberIn : Written → ℕ
+abbrev pub numberIn : WriteResult → ℕ
 numberIn (Refused k) = numberOf k
 numberIn (Length n) = 0
 
-abbrev pub lengthIn : Written → ℕ
+abbrev pub lengthIn : WriteResult → ℕ
 lengthIn (Refused k) = 0
 lengthIn (Length n) = n
 

@@ -17,7 +17,7 @@ ghost use Rattle.aes_ccm.specs.Laws.{CcmLaws};
 ghost use Rattle.aes_ccm.specs.Plan.{Did, sealPlan, unsealPlan, releasePlan};
 
 // What a call answers: how many bytes it wrote, or why it wrote none.
-pub enum Written {
+pub enum WriteResult {
     Refused(Refusal),
     Length(usize),
 }
@@ -29,17 +29,17 @@ pub fn seal(
     associated: &[u8],
     text: &[u8],
     dst: &mut [u8],
-) -> Written
+) -> WriteResult
     ensures { λ r. ⌜ Did (sealPlan key nonce (now (associated .entry)) (now (text .entry)) (length (now (dst .entry)))) (now (dst .entry)) r (now (dst .exit)) ⌝ }
 {
     if 64 < associated.len() {
-        return Written::Refused(Refusal::Range);
+        return WriteResult::Refused(Refusal::Range);
     }
     if 256 < text.len() {
-        return Written::Refused(Refusal::Range);
+        return WriteResult::Refused(Refusal::Range);
     }
     if dst.len() < text.len() + 8 {
-        return Written::Refused(Refusal::Room);
+        return WriteResult::Refused(Refusal::Room);
     }
     let n = text.len();
     let table = aes::round_table();
@@ -47,7 +47,7 @@ pub fn seal(
     crypt_into(&table, keys, nonce, text, dst);
     let tag = tag_of(&table, keys, nonce, associated, text);
     put(&tag, &mut dst[n..]);
-    Written::Length(n + 8)
+    WriteResult::Length(n + 8)
 }
 
 // Opens `sealed` into `dst`: RANGE, ROOM, SEAL where the tag is not the one of the text in it, or the length written.
@@ -57,21 +57,21 @@ pub fn unseal(
     associated: &[u8],
     sealed: &[u8],
     dst: &mut [u8],
-) -> Written
+) -> WriteResult
     ensures { λ r. ⌜ Did (unsealPlan key nonce (now (associated .entry)) (now (sealed .entry)) (length (now (dst .entry)))) (now (dst .entry)) r (now (dst .exit)) ⌝ }
 {
     if 64 < associated.len() {
-        return Written::Refused(Refusal::Range);
+        return WriteResult::Refused(Refusal::Range);
     }
     if sealed.len() < 8 {
-        return Written::Refused(Refusal::Range);
+        return WriteResult::Refused(Refusal::Range);
     }
     if 264 < sealed.len() {
-        return Written::Refused(Refusal::Range);
+        return WriteResult::Refused(Refusal::Range);
     }
     let n = sealed.len() - 8;
     if dst.len() < n {
-        return Written::Refused(Refusal::Room);
+        return WriteResult::Refused(Refusal::Room);
     }
     let table = aes::round_table();
     let keys = aes::expand(key);
@@ -90,16 +90,16 @@ fn shown(right: bool, n: usize) -> usize
 }
 
 // The text leaves for `dst` where its tag is right.
-fn release(right: bool, text: &[u8], dst: &mut [u8]) -> Written
+fn release(right: bool, text: &[u8], dst: &mut [u8]) -> WriteResult
     requires { ⌜ length (now text) ≤ length (now dst) ⌝ }
     ensures { λ r. ⌜ Did (releasePlan right (now (text .entry))) (now (dst .entry)) r (now (dst .exit)) ⌝ }
 {
     let count = shown(right, text.len());
     put(&text[..count], dst);
     if right {
-        return Written::Length(count);
+        return WriteResult::Length(count);
     }
-    Written::Refused(Refusal::Seal)
+    WriteResult::Refused(Refusal::Seal)
 }
 
 // What the definitions say of each other: what was sealed opens to its text, nothing else opens, and a text that opens is of bytes.

@@ -1,5 +1,5 @@
 // Sealing and opening as C calls them, for bench/cipher.sh: how many bytes were written, 0 for a refusal.
-use aes_ccm::Written;
+use aes_ccm::WriteResult;
 
 #[no_mangle]
 pub extern "C" fn bench_seal(
@@ -23,10 +23,10 @@ pub extern "C" fn bench_open(
     written(aes_ccm::unseal(sixteen(key), thirteen(nonce), associated, sealed, dst))
 }
 
-fn written(answer: Written) -> usize {
+fn written(answer: WriteResult) -> usize {
     match answer {
-        Written::Length(len) => len,
-        Written::Refused(_) => 0,
+        WriteResult::Length(len) => len,
+        WriteResult::Refused(_) => 0,
     }
 }
 

@@ -53,5 +53,5 @@ pub(crate) fn configuration_number(c: Configuration, pick: u8) -> u64 {
         ^ octets_number(jrc.value, pick)
         ^ octets_number(network.value, pick)
         ^ octets_number(prefix.value, pick)
-        ^ c.passed
+        ^ c.unknown
 }

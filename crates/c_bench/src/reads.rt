@@ -19,7 +19,7 @@ pub extern "C" fn bench_configuration(payload: &[u8]) -> u64 {
     let set = keys.value;
     let address = c.address;
     let value = address.value;
-    (set.count as u64) ^ value.lease ^ c.passed
+    (set.count as u64) ^ value.lease ^ c.unknown
 }
 
 // Reads a join request, the same way.
@@ -31,7 +31,7 @@ pub extern "C" fn bench_request(payload: &[u8]) -> u64 {
         return 0;
     }
     let q = r.request;
-    wide(q.role) ^ q.passed
+    wide(q.role) ^ q.unknown
 }
 
 // The whole answer to a configuration as a number, its values looked at in the places that `pick` names: for comparing.

@@ -1,15 +1,15 @@
 // Writing: an object is read from a payload and written again. What the writing takes is what this takes less the reading.
-use cbor::Written;
+use cbor::WriteResult;
 use cojp_configuration_read::read_configuration;
 use cojp_configuration_write::write_configuration;
 use cojp_request_read::read_request;
 use cojp_request_write::write_request;
 
 // How many bytes were written.
-fn length(written: Written) -> usize {
+fn length(written: WriteResult) -> usize {
     match written {
-        Written::Refused(_) => 0,
-        Written::Length(n) => n,
+        WriteResult::Refused(_) => 0,
+        WriteResult::Length(n) => n,
     }
 }
 

@@ -11,12 +11,12 @@ use Rattle.cbor.specs.Item.{Item}
 use Rattle.cbor.specs.Decode.{Outcome, refused, got, heading, Heading, members, decodeBy}
 use Rattle.cbor.specs.Strict.{headBy}
 use Rattle.cbor.specs.Answer.{headAnswer, skipAnswer, outcomeNumber, skipNumber}
-use Rattle.cbor.specs.Says.{saysEnd, SkipSays}
+use Rattle.cbor.specs.ReaderSpecs.{saysEnd, SkipSpec}
 use Rattle.cbor.specs.declared.head.Head.{Head}
-use Rattle.cbor.specs.declared.head.HeadRead.{HeadRead}
-use Rattle.cbor.specs.declared.head.HeadRead.the-variants as hv
-use Rattle.cbor.specs.declared.item.Skip.{Skip}
-use Rattle.cbor.specs.declared.item.Skip.the-variants as sv
+use Rattle.cbor.specs.declared.head.HeadResult.{HeadResult}
+use Rattle.cbor.specs.declared.head.HeadResult.the-variants as hv
+use Rattle.cbor.specs.declared.item.SkipResult.{SkipResult}
+use Rattle.cbor.specs.declared.item.SkipResult.the-variants as sv
 use Rattle.cbor.proofs.Places.{plainly, HeadAt, stop, rest, Passed}
 use Rattle.cbor.proofs.Tails.{Tail, head-tail, decode-tail, members-tail}
 
@@ -25,7 +25,7 @@ left-over : (s t : List ℕ) (p : ℕ) → p ≤ length s → drop p s ≡ t →
 left-over s t p i e = omega (arith, ap length e, length-drop p s)
 
 -- ---- to the equations
-pub skip-answer : {A : Type 0} (s : List ℕ) (o : Outcome A) (r : Skip) → Passed s o r → r ≡ skipAnswer (length s) o
+pub skip-answer : {A : Type 0} (s : List ℕ) (o : Outcome A) (r : SkipResult) → Passed s o r → r ≡ skipAnswer (length s) o
 skip-answer s (refused k) (sv.Refused j) q = let e : stop j ≡ stop k = q .says in cc
 skip-answer s (refused k) (sv.Next p) q = let e : rest (drop p s) ≡ stop k = q .says in cc
 skip-answer s (got a t) (sv.Refused j) q = let e : stop j ≡ rest t = q .says in cc
@@ -38,13 +38,13 @@ tells-number : {A : Type 0} (n : ℕ) (o : Outcome A) → skipNumber (skipAnswer
 tells-number n (refused k) = refl
 tells-number n (got a t) = refl
 
-tells-end : {A : Type 0} (s : List ℕ) (o : Outcome A) (r : Skip) → Passed s o r → saysEnd s o r
+tells-end : {A : Type 0} (s : List ℕ) (o : Outcome A) (r : SkipResult) → Passed s o r → saysEnd s o r
 tells-end s (refused k) (sv.Refused j) q = refl
 tells-end s (refused k) (sv.Next p) q = let e : rest (drop p s) ≡ stop k = q .says in cc
 tells-end s (got a t) (sv.Refused j) q = let e : stop j ≡ rest t = q .says in cc
 tells-end s (got a t) (sv.Next p) q = let e : rest (drop p s) ≡ rest t = q .says in cc
 
-pub skip-tells : {A : Type 0} (s : List ℕ) (o : Outcome A) (r : Skip) → Passed s o r → SkipSays s o r
+pub skip-tells : {A : Type 0} (s : List ℕ) (o : Outcome A) (r : SkipResult) → Passed s o r → SkipSpec s o r
 skip-tells s o r q =
     let e = skip-answer s o r q in
     record { is = e; number = rw e (tells-number (length s) o); end = tells-end s o r q }
@@ -62,7 +62,7 @@ place s t at k l h e =
 pub within : (s : List ℕ) (at k : ℕ) → 1 ≤ k → k ≤ length (drop at s) → at ≤ length s
 within s at k l h = omega (arith, length-drop at s)
 
-pub head-says : (b : Bool) (s : List ℕ) (at : ℕ) (r : HeadRead) → r ≡ headAnswer (length s) (headBy b (drop at s)) → HeadAt b s at r
+pub head-says : (b : Bool) (s : List ℕ) (at : ℕ) (r : HeadResult) → r ≡ headAnswer (length s) (headBy b (drop at s)) → HeadAt b s at r
 head-says b s at r e = rw e (go (headBy b (drop at s)) (head-tail b (drop at s)) refl)
   where
     go : (o : Outcome Heading) → Tail (drop at s) 1 o → o ≡ headBy b (drop at s) → HeadAt b s at (headAnswer (length s) o)
@@ -71,7 +71,7 @@ head-says b s at r e = rw e (go (headBy b (drop at s)) (head-tail b (drop at s))
         let q = place s t at k (within s at k x y) y z in
         record { says = ap (got h) (sym (q .0)) ∙ e; inside = q .1 }
 
-passed : {A : Type 0} (s : List ℕ) (at j : ℕ) (o : Outcome A) (r : Skip) → at ≤ length s → Tail (drop at s) j o
+passed : {A : Type 0} (s : List ℕ) (at j : ℕ) (o : Outcome A) (r : SkipResult) → at ≤ length s → Tail (drop at s) j o
     → r ≡ skipAnswer (length s) o → Passed s o r
 passed s at j (refused k) r l t e = rw e (record { says = refl; inside = tt })
 passed s at j (got a u) r l t e =
@@ -82,14 +82,14 @@ module _ (b : Bool) (s : List ℕ) (at d : ℕ) where
   abbrev item : List ℕ → Outcome Item
   item = decodeBy (headBy b) d
 
-  pub passed-item : (r : Skip) → r ≡ skipAnswer (length s) (item (drop at s)) → Passed s (item (drop at s)) r
+  pub passed-item : (r : SkipResult) → r ≡ skipAnswer (length s) (item (drop at s)) → Passed s (item (drop at s)) r
   passed-item r e = go (item (drop at s)) (decode-tail b d (drop at s)) e
     where
       go : (o : Outcome Item) → Tail (drop at s) 1 o → r ≡ skipAnswer (length s) o → Passed s o r
       go (refused k) t e = rw e (record { says = refl; inside = tt })
       go (got i u) t e = passed s at 1 (got i u) r (within s at (t .0) (t .1) (t .2)) t e
 
-  pub passed-members : (n : ℕ) (r : Skip) → at ≤ length s
+  pub passed-members : (n : ℕ) (r : SkipResult) → at ≤ length s
       → r ≡ skipAnswer (length s) (members item n (drop at s)) → Passed s (members item n (drop at s)) r
   passed-members n r l e = passed s at n (members item n (drop at s)) r l (members-tail item (decode-tail b d) n (drop at s)) e
 
@@ -108,7 +108,7 @@ passed-refused s (refused j) k q = let e : stop k ≡ stop j = q .says in cc
 passed-refused s (got a t) k q = let e : stop k ≡ rest t = q .says in cc
 
 -- ---- in the arm of a head that was refused, or got
-module _ (s : List ℕ) (at : ℕ) (r : HeadRead) (e : r ≡ headAnswer (length s) (heading (drop at s))) where
+module _ (s : List ℕ) (at : ℕ) (r : HeadResult) (e : r ≡ headAnswer (length s) (heading (drop at s))) where
   pub head-refused : (k : Refusal) → r ≡ hv.Refused k → heading (drop at s) ≡ refused k
   head-refused k g = let h : HeadAt false s at (hv.Refused k) = rw g at (head-says false s at r e) in sym (h .says)
 

@@ -12,7 +12,7 @@ use Rattle.refusal.specs.declared.Refusal.the-variants.{Cut}
 use Rattle.cbor.specs.Decode.{Outcome, refused, got, Heading, Major, unsigneds, negatives, byteStrings, textStrings, arrays, maps, tags, others}
 use Rattle.cbor.specs.Decode.{majorOf, next, bigEndian, argument, heading}
 use Rattle.cbor.specs.Laws.{Bytes}
-use Rattle.cbor.specs.View.{PlainFits, stringOf, plainBy, plainHead, plainAt}
+use Rattle.cbor.specs.View.{ScalarValid, stringOf, scalarBy, scalarHead, scalarAt}
 use Rattle.cbor.proofs.Heads.{next-got, next-cut, argument-direct, argument-form, argument-wide}
 use Rattle.cbor.proofs.Outcomes.{never, then-got, same-value}
 use Rattle.cbor.proofs.Shortest.{digits-below}
@@ -49,15 +49,15 @@ head-fits (x ∷ s) h t b e =
     let a : h .argument ≡ n = ap (λ (k : Heading). k .argument) (sym (same-value g)) in
     omega (arith, argument-fits (x % 32) s n u (λ y m. b y (List·Memᴰ·tail m)) f)
 
-string-fits : (n : ℕ) (t : List ℕ) → n < 2 ^ 64 → PlainFits (stringOf (next n t))
+string-fits : (n : ℕ) (t : List ℕ) → n < 2 ^ 64 → ScalarValid (stringOf (next n t))
 unfolding next
 string-fits n t h = go (leb n (length t))
   where
-    go : (b : Bool) → PlainFits (stringOf (cond b (got (take n t) (drop n t)) (refused Cut)))
+    go : (b : Bool) → ScalarValid (stringOf (cond b (got (take n t) (drop n t)) (refused Cut)))
     go true = omega (arith, length-take n t)
     go false = tt
 
-by-major : (M : Major) (n : ℕ) (t : List ℕ) → n < 2 ^ 64 → PlainFits (plainBy M n t)
+by-major : (M : Major) (n : ℕ) (t : List ℕ) → n < 2 ^ 64 → ScalarValid (scalarBy M n t)
 by-major unsigneds n t h = h
 by-major negatives n t h = h
 by-major byteStrings n t h = string-fits n t h
@@ -67,10 +67,10 @@ by-major maps n t h = tt
 by-major tags n t h = tt
 by-major others n t h = tt
 
-pub plain-fits : (s : List ℕ) → Bytes s → PlainFits (plainAt s)
-unfolding plainAt
+pub plain-fits : (s : List ℕ) → Bytes s → ScalarValid (scalarAt s)
+unfolding scalarAt
 plain-fits s b = go (heading s) refl
   where
-    go : (o : Outcome Heading) → heading s ≡ o → PlainFits (plainHead o)
+    go : (o : Outcome Heading) → heading s ≡ o → ScalarValid (scalarHead o)
     go (refused k) e = tt
     go (got h t) e = by-major (majorOf (h .major)) (h .argument) t (head-fits s h t b e)

@@ -16,7 +16,7 @@ use Rattle.cbor.specs.Decode.{refused, got, andThen, next, bigEndian, ar
 use Rattle.cbor.specs.Answer.{headAnswer, announced}
 use Rattle.cbor.specs.Encode.{infoOf}
 use Rattle.cbor.specs.Strict.{isShort}
-use Rattle.cbor.specs.declared.head.HeadRead.the-variants as hv
+use Rattle.cbor.specs.declared.head.HeadResult.the-variants as hv
 
 pub next-got : (n : ℕ) (s : List ℕ) → n ≤ length s → next n s ≡ got (take n s) (drop n s)
 unfolding next

@@ -12,12 +12,12 @@ use Rattle.refusal.specs.declared.Refusal.{Refusal}
 use Rattle.cbor.specs.Item.{Item, Pairs, map, pair}
 use Rattle.cbor.specs.Decode.{Outcome, refused, got, andThen, next, heading, Heading, members, pairs, majorOf, content, decodeBy, decode, payload, payloadBy, ended}
 use Rattle.cbor.specs.Answer.{mapAnswer, openAnswer, outcomeNumber, openedNumber}
-use Rattle.cbor.specs.Says.{PairsAt, saysOpened, OpenSays}
+use Rattle.cbor.specs.ReaderSpecs.{PairsAt, saysOpened, OpenSpec}
 use Rattle.cbor.specs.Strict.{headBy}
 use Rattle.cbor.specs.View.{ifMap}
 use Rattle.refusal.specs.declared.Refusal.the-variants.{Loose}
-use Rattle.cbor.specs.declared.item.Opened.{Opened}
-use Rattle.cbor.specs.declared.item.Opened.the-variants as ov
+use Rattle.cbor.specs.declared.item.OpenResult.{OpenResult}
+use Rattle.cbor.specs.declared.item.OpenResult.the-variants as ov
 use Rattle.cbor.proofs.Answers.{place}
 use Rattle.cbor.proofs.Outcomes.{never, then-got, same-value, same-rest}
 use Rattle.cbor.proofs.Strict.{payload-same}
@@ -83,7 +83,7 @@ module _ (x a : ℕ) (l : List ℕ) (i : Item) (t : List ℕ) where
       rw (← same-value e) (special-all (ifMap f r) r (λ n. refl) (λ w n. refl) x a)
 
 -- what the test of the major type decided
-by-test : (b : Bool) (n p : ℕ) (r : Opened) → r ≡ cond b (ov.Map n p) ov.NoMap → ((b ≡ true) × (r ≡ ov.Map n p)) ⊎ ((b ≡ false) × (r ≡ ov.NoMap))
+by-test : (b : Bool) (n p : ℕ) (r : OpenResult) → r ≡ cond b (ov.Map n p) ov.NoMap → ((b ≡ true) × (r ≡ ov.Map n p)) ⊎ ((b ≡ false) × (r ≡ ov.NoMap))
 by-test true n p r e = inl (refl, e)
 by-test false n p r e = inr (refl, e)
 
@@ -93,7 +93,7 @@ same-refusal e = cc
 same-map : {n m p q : ℕ} → ov.Map n p ≡ ov.Map m q → (n ≡ m) × (p ≡ q)
 same-map e = (cc, cc)
 
-module _ (s : List ℕ) (r : Opened) (e : r ≡ openAnswer (length s) (payload s) (heading s)) where
+module _ (s : List ℕ) (r : OpenResult) (e : r ≡ openAnswer (length s) (payload s) (heading s)) where
   plain-refused : (k : Refusal) → r ≡ ov.Refused k → payload s ≡ refused k
   plain-refused k g = go (payload s) refl (sym g ∙ e)
     where
@@ -161,7 +161,7 @@ pairs-stand (suc n) l ps u e =
     subst (PairsAt (suc n) l) (same-value j) (first-stands n l k t v w qs a x (pairs-stand n w qs z i))
 
 -- ---- read strictly, or not: a payload that is not LOOSE is as in the ordinary reading
-module _ (b : Bool) (s : List ℕ) (r : Opened) (e : r ≡ openAnswer (length s) (payloadBy (headBy b) s) (heading s)) where
+module _ (b : Bool) (s : List ℕ) (r : OpenResult) (e : r ≡ openAnswer (length s) (payloadBy (headBy b) s) (heading s)) where
   as-plain : payloadBy (headBy b) s ≡ payload s → r ≡ openAnswer (length s) (payload s) (heading s)
   as-plain f = rw f at e
 
@@ -193,7 +193,7 @@ module _ (b : Bool) (s : List ℕ) (r : Opened) (e : r ≡ openAnswer (length s)
       record { item = w .item; read = f ∙ w .read; other = w .other })
       (payload-same b s)
 
-  tells : (x : Opened) → r ≡ x → (openedNumber x ≡ outcomeNumber (payloadBy (headBy b) s)) × saysOpened b s x
+  tells : (x : OpenResult) → r ≡ x → (openedNumber x ≡ outcomeNumber (payloadBy (headBy b) s)) × saysOpened b s x
   tells (ov.Refused k) g = let f = opened-refused k g in (rw f, f)
   tells ov.NoMap g =
       let w = opened-other g in
@@ -208,5 +208,5 @@ module _ (b : Bool) (s : List ℕ) (r : Opened) (e : r ≡ openAnswer (length s)
         },
       )
 
-  pub opened-tells : OpenSays b s r
+  pub opened-tells : OpenSpec b s r
   opened-tells = record { is = e; number = tells r refl .0; says = tells r refl .1 }

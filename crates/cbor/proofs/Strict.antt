@@ -16,12 +16,12 @@ use Rattle.cbor.specs.Decode.{Outcome, refused, got, andThen, next, argu
 use Rattle.cbor.specs.Decode.{negatives, byteStrings, textStrings, arrays, maps, tags, others, majorOf, content, decodeBy, decode, payload, payloadBy, ended}
 use Rattle.cbor.specs.Answer.{headAnswer}
 use Rattle.cbor.specs.declared.head.Head.{Head}
-use Rattle.cbor.specs.declared.head.HeadRead.{HeadRead}
-use Rattle.cbor.specs.declared.head.HeadRead.the-variants as hv
+use Rattle.cbor.specs.declared.head.HeadResult.{HeadResult}
+use Rattle.cbor.specs.declared.head.HeadResult.the-variants as hv
 use Rattle.cbor.specs.Strict.{short, shortOnly, strictHeading, headBy, after, looseMembers, loosePairs, looseContent, looseHead, loose, strictPayload, loosePayload}
 
 -- ---- a head, by the returns of `read_head_by`
-abbrev strictly : HeadRead → HeadRead
+abbrev strictly : HeadResult → HeadResult
 strictly (hv.Refused k) = hv.Refused k
 strictly (hv.Got h) = cond (h .short) (hv.Got h) (hv.Refused Loose)
 
@@ -33,12 +33,12 @@ strict-answer n (got h t) = go (short h)
     go true = refl
     go false = refl
 
-module _ (s : List ℕ) (at : ℕ) (b : Bool) (r : HeadRead) (e : r ≡ headAnswer (length s) (heading (drop at s))) where
+module _ (s : List ℕ) (at : ℕ) (b : Bool) (r : HeadResult) (e : r ≡ headAnswer (length s) (heading (drop at s))) where
   pub not-strict : b ≡ false → r ≡ headAnswer (length s) (headBy b (drop at s))
   not-strict f = rw f e
 
   module _ (f : b ≡ true) where
-    strict-as : (q : HeadRead) → r ≡ q → strictly q ≡ headAnswer (length s) (headBy b (drop at s))
+    strict-as : (q : HeadResult) → r ≡ q → strictly q ≡ headAnswer (length s) (headBy b (drop at s))
     unfolding strictHeading
     strict-as q g = rw f (ap strictly (sym g ∙ e) ∙ strict-answer (length s) (heading (drop at s)))
 

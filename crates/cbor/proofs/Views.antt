@@ -15,12 +15,12 @@ use Rattle.cbor.specs.Item.{Size, half, single, double, Item, Items, uns
 use Rattle.cbor.specs.Decode.{Outcome, refused, got, andThen, next, heading, Heading, members, pairs, Major, unsigneds, negatives}
 use Rattle.cbor.specs.Decode.{byteStrings, textStrings, arrays, maps, tags, others, majorOf, special, content, decodeBy, decode}
 use Rattle.cbor.specs.Answer.{headAnswer, outcomeNumber, headNumber}
-use Rattle.cbor.specs.Says.{LabelSays, saysLabel, HeadSays}
-use Rattle.cbor.specs.View.{number, string, other, plain, list, plainOf, plainsOf, viewOf, labelOf, plainBy, plainAt}
-use Rattle.cbor.specs.View.{plainsAt, viewBy, viewAt, labelBy, labelAt, valueBy, valueAnswer, restOf, afterItem, afterItems, ValueAt, ValueSays}
+use Rattle.cbor.specs.ReaderSpecs.{LabelSpec, saysLabel, HeadSpec}
+use Rattle.cbor.specs.View.{number, string, other, scalar, list, scalarOf, scalarsOf, viewOf, labelOf, scalarBy, scalarAt}
+use Rattle.cbor.specs.View.{scalarsAt, viewBy, viewAt, labelBy, labelAt, valueBy, valueAnswer, restOf, afterItem, afterItems, ValueAt, ValueSpec}
 use Rattle.cbor.specs.declared.head.Head.{Head}
-use Rattle.cbor.specs.declared.head.HeadRead.{HeadRead}
-use Rattle.cbor.specs.declared.head.HeadRead.the-variants as hv
+use Rattle.cbor.specs.declared.head.HeadResult.{HeadResult}
+use Rattle.cbor.specs.declared.head.HeadResult.the-variants as hv
 use Rattle.cbor.specs.declared.value.Label.the-variants as lv
 use Rattle.cbor.specs.declared.value.Value.{Value}
 use Rattle.cbor.specs.declared.value.Value.the-variants as vv
@@ -30,7 +30,7 @@ use Rattle.cbor.proofs.Outcomes.{then-got, same-value}
 use Rattle.cbor.proofs.Tails.{Tail, heading-tail}
 
 -- ---- a head, and the returns of `value_at`
-module _ (s : List ℕ) (at : ℕ) (r : HeadRead) (e : r ≡ headAnswer (length s) (heading (drop at s))) where
+module _ (s : List ℕ) (at : ℕ) (r : HeadResult) (e : r ≡ headAnswer (length s) (heading (drop at s))) where
   label-refused : (k : Refusal) → r ≡ hv.Refused k → labelAt (drop at s) ≡ lv.NoInteger
   unfolding labelAt
   label-refused k g = rw (head-refused s at r e k g)
@@ -82,7 +82,7 @@ module _ (s : List ℕ) (at : ℕ) (r : HeadRead) (e : r ≡ headAnswer (length 
     unfolding decodeBy
     head-ends l d = rw (head-got s at r e h g) (integer-ends m l (h .info) a t d)
 
-    label-says : LabelSays s at h
+    label-says : LabelSpec s at h
     label-says =
         record { number = label-number; negative = label-negative; none = λ l. label-got ∙ no-integer m l; ends = head-ends }
 
@@ -127,7 +127,7 @@ module _ (s : List ℕ) (at : ℕ) (r : HeadRead) (e : r ≡ headAnswer (length 
     pub value-other : ¬ (m ≡ 0) → ¬ (m ≡ 1) → ¬ (m ≡ 2) → ¬ (m ≡ 4) → vv.Other ≡ valueAnswer (length s) (heading (drop at s))
     value-other n x o q = sym (value-got ∙ neither m n x o q)
 
-  tells-label : (x : HeadRead) → r ≡ x → saysLabel s at x
+  tells-label : (x : HeadResult) → r ≡ x → saysLabel s at x
   tells-label (hv.Refused k) g = label-refused k g
   tells-label (hv.Got h) g = label-says h g
 
@@ -135,7 +135,7 @@ module _ (s : List ℕ) (at : ℕ) (r : HeadRead) (e : r ≡ headAnswer (length 
   tells-number (refused k) = refl
   tells-number (got h u) = refl
 
-  pub head-tells : HeadSays s at r
+  pub head-tells : HeadSpec s at r
   head-tells = record { is = e; number = rw e (tells-number (heading (drop at s))); label = tells-label r refl }
 
 -- ---- what is left after n members is what is left after n items
@@ -173,8 +173,8 @@ module _ (d : ℕ) (s : List ℕ) (at : ℕ) where
     unfolding viewAt
     view-headed = rw (← e)
 
-    plain-headed : plainAt (drop at s) ≡ plainBy (majorOf (h .major)) (h .argument) t
-    unfolding plainAt
+    plain-headed : scalarAt (drop at s) ≡ scalarBy (majorOf (h .major)) (h .argument) t
+    unfolding scalarAt
     plain-headed = rw (← e)
 
     abbrev p : ℕ
@@ -184,7 +184,7 @@ module _ (d : ℕ) (s : List ℕ) (at : ℕ) where
     arg = h .argument
 
     -- neither an integer, nor a byte string, nor an array
-    says-other : (M : Major) → majorOf (h .major) ≡ M → viewBy (suc d) M arg t ≡ plain other → plainBy M arg t ≡ other → ValueAt d s at vv.Other
+    says-other : (M : Major) → majorOf (h .major) ≡ M → viewBy (suc d) M arg t ≡ scalar other → scalarBy M arg t ≡ other → ValueAt d s at vv.Other
     says-other M f v q = record { view = view-headed ∙ rw f v; member = plain-headed ∙ rw f q; rest = tt }
 
     says-string : majorOf (h .major) ≡ byteStrings → Dec (arg ≤ length t) → ValueAt d s at (valueBy (length s) byteStrings arg t)
@@ -215,7 +215,7 @@ module _ (d : ℕ) (s : List ℕ) (at : ℕ) where
     says-by byteStrings f = says-string f (decLe arg (length t))
     says-by textStrings f = says-other textStrings f refl refl
     says-by arrays f = record {
-      view = view-headed ∙ rw f (ap (λ (u : List ℕ). list (plainsAt (suc d) arg u)) l);
+      view = view-headed ∙ rw f (ap (λ (u : List ℕ). list (scalarsAt (suc d) arg u)) l);
       member = plain-headed ∙ rw f;
       rest = (
         i,
@@ -228,7 +228,7 @@ module _ (d : ℕ) (s : List ℕ) (at : ℕ) where
     says-by others f = says-other others f refl refl
 
   value-says : (r : Value) → r ≡ valueAnswer (length s) (heading (drop at s)) → ValueAt d s at r
-  unfolding viewAt plainAt
+  unfolding viewAt scalarAt
   value-says r e = rw e (go (heading (drop at s)) (heading-tail (drop at s)) refl)
     where
       go : (o : Outcome Heading) → Tail (drop at s) 1 o → o ≡ heading (drop at s) → ValueAt d s at (valueAnswer (length s) o)
@@ -237,7 +237,7 @@ module _ (d : ℕ) (s : List ℕ) (at : ℕ) where
           let q = place s t at k (within s at k x y) y z in
           says-by h t e (q .0) (q .1) (majorOf (h .major)) refl
 
-pub value-told : (s : List ℕ) (at : ℕ) (r : Value) → r ≡ valueAnswer (length s) (heading (drop at s)) → ValueSays s at r
+pub value-told : (s : List ℕ) (at : ℕ) (r : Value) → r ≡ valueAnswer (length s) (heading (drop at s)) → ValueSpec s at r
 value-told s at r e = record { is = e; says = λ d. value-says d s at r e }
 
 -- ---- what is said of bytes is what is said of the tree that is read there
@@ -263,15 +263,15 @@ module _ (item : List ℕ → Outcome Item) (x a : ℕ) (l : List ℕ) (k : Item
   label-by tags e = let q = then-got (item l) _ k u e in ap labelOf (same-value (q .3))
   label-by others e = sym (special-all labelOf lv.NoInteger (λ n. refl) (λ w n. refl) x a) ∙ ap labelOf (same-value e)
 
-  plain-by : (M : Major) → content item M x a l ≡ got k u → plainBy M a l ≡ plainOf k
-  plain-by unsigneds e = ap plainOf (same-value e)
-  plain-by negatives e = ap plainOf (same-value e)
-  plain-by byteStrings e = let q = then-got (next a l) _ k u e in rw (q .2) (ap plainOf (same-value (q .3)))
-  plain-by textStrings e = let q = then-got (next a l) _ k u e in ap plainOf (same-value (q .3))
-  plain-by arrays e = let q = then-got (members item a l) _ k u e in ap plainOf (same-value (q .3))
-  plain-by maps e = let q = then-got (pairs item a l) _ k u e in ap plainOf (same-value (q .3))
-  plain-by tags e = let q = then-got (item l) _ k u e in ap plainOf (same-value (q .3))
-  plain-by others e = sym (special-all plainOf other (λ n. refl) (λ w n. refl) x a) ∙ ap plainOf (same-value e)
+  plain-by : (M : Major) → content item M x a l ≡ got k u → scalarBy M a l ≡ scalarOf k
+  plain-by unsigneds e = ap scalarOf (same-value e)
+  plain-by negatives e = ap scalarOf (same-value e)
+  plain-by byteStrings e = let q = then-got (next a l) _ k u e in rw (q .2) (ap scalarOf (same-value (q .3)))
+  plain-by textStrings e = let q = then-got (next a l) _ k u e in ap scalarOf (same-value (q .3))
+  plain-by arrays e = let q = then-got (members item a l) _ k u e in ap scalarOf (same-value (q .3))
+  plain-by maps e = let q = then-got (pairs item a l) _ k u e in ap scalarOf (same-value (q .3))
+  plain-by tags e = let q = then-got (item l) _ k u e in ap scalarOf (same-value (q .3))
+  plain-by others e = sym (special-all scalarOf other (λ n. refl) (λ w n. refl) x a) ∙ ap scalarOf (same-value e)
 
 pub tree-label : (d : ℕ) (l : List ℕ) (k : Item) (u : List ℕ) → decode (suc d) l ≡ got k u → labelAt l ≡ labelOf k
 unfolding decodeBy labelAt
@@ -279,20 +279,20 @@ tree-label d l k u e =
     let q = then-got (heading l) _ k u e in
     rw (q .2) (label-by (decode d) (q .0 .info) (q .0 .argument) (q .1) k u (majorOf (q .0 .major)) (q .3))
 
-pub tree-plain : (d : ℕ) (l : List ℕ) (k : Item) (u : List ℕ) → decode (suc d) l ≡ got k u → plainAt l ≡ plainOf k
-unfolding decodeBy plainAt
+pub tree-plain : (d : ℕ) (l : List ℕ) (k : Item) (u : List ℕ) → decode (suc d) l ≡ got k u → scalarAt l ≡ scalarOf k
+unfolding decodeBy scalarAt
 tree-plain d l k u e =
     let q = then-got (heading l) _ k u e in
     rw (q .2) (plain-by (decode d) (q .0 .info) (q .0 .argument) (q .1) k u (majorOf (q .0 .major)) (q .3))
 
 module _ (d : ℕ) where
-  tree-plains : (n : ℕ) (l : List ℕ) (is : Items) (u : List ℕ) → members (decode (suc d)) n l ≡ got is u → plainsAt (suc d) n l ≡ plainsOf is
+  tree-plains : (n : ℕ) (l : List ℕ) (is : Items) (u : List ℕ) → members (decode (suc d)) n l ≡ got is u → scalarsAt (suc d) n l ≡ scalarsOf is
   unfolding members
-  tree-plains zero l is u e = ap plainsOf (same-value e)
+  tree-plains zero l is u e = ap scalarsOf (same-value e)
   tree-plains (suc n) l is u e =
       let q = then-got (decode (suc d) l) _ is u e in
       let r = then-got (members (decode (suc d)) n (q .1)) _ is u (q .3) in
-      rw (q .2, tree-plain d l (q .0) (q .1) (q .2), tree-plains n (q .1) (r .0) (r .1) (r .2)) (ap plainsOf (same-value (r .3)))
+      rw (q .2, tree-plain d l (q .0) (q .1) (q .2), tree-plains n (q .1) (r .0) (r .1) (r .2)) (ap scalarsOf (same-value (r .3)))
 
   module _ (x a : ℕ) (l : List ℕ) (k : Item) (u : List ℕ) where
     view-by : (M : Major) → content (decode (suc d)) M x a l ≡ got k u → viewBy (suc d) M a l ≡ viewOf k
@@ -305,7 +305,7 @@ module _ (d : ℕ) where
         rw (tree-plains a l (q .0) (q .1) (q .2)) (ap viewOf (same-value (q .3)))
     view-by maps e = let q = then-got (pairs (decode (suc d)) a l) _ k u e in ap viewOf (same-value (q .3))
     view-by tags e = let q = then-got (decode (suc d) l) _ k u e in ap viewOf (same-value (q .3))
-    view-by others e = sym (special-all viewOf (plain other) (λ n. refl) (λ w n. refl) x a) ∙ ap viewOf (same-value e)
+    view-by others e = sym (special-all viewOf (scalar other) (λ n. refl) (λ w n. refl) x a) ∙ ap viewOf (same-value e)
 
   pub tree-view : (l : List ℕ) (k : Item) (u : List ℕ) → decode (suc (suc d)) l ≡ got k u → viewAt (suc d) l ≡ viewOf k
   unfolding decodeBy viewAt

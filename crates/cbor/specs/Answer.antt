@@ -15,14 +15,14 @@ use Rattle.cbor.specs.Decode.{Outcome, refused, got, Heading}
 use Rattle.cbor.specs.Encode.{shortest}
 use Rattle.cbor.specs.Item.{Item}
 use Rattle.cbor.specs.Strict.{short}
-use Rattle.cbor.specs.declared.head.HeadRead.{HeadRead}
-use Rattle.cbor.specs.declared.head.HeadRead.the-variants as hv
-use Rattle.cbor.specs.declared.write.Written.{Written}
-use Rattle.cbor.specs.declared.write.Written.the-variants as wv
-use Rattle.cbor.specs.declared.item.Skip.{Skip}
-use Rattle.cbor.specs.declared.item.Skip.the-variants as sv
-use Rattle.cbor.specs.declared.item.Opened.{Opened}
-use Rattle.cbor.specs.declared.item.Opened.the-variants as ov
+use Rattle.cbor.specs.declared.head.HeadResult.{HeadResult}
+use Rattle.cbor.specs.declared.head.HeadResult.the-variants as hv
+use Rattle.cbor.specs.declared.write.WriteResult.{WriteResult}
+use Rattle.cbor.specs.declared.write.WriteResult.the-variants as wv
+use Rattle.cbor.specs.declared.item.SkipResult.{SkipResult}
+use Rattle.cbor.specs.declared.item.SkipResult.the-variants as sv
+use Rattle.cbor.specs.declared.item.OpenResult.{OpenResult}
+use Rattle.cbor.specs.declared.item.OpenResult.the-variants as ov
 
 -- ---- reading
 -- how many bytes hold the argument that length information 0 to 27 announces
@@ -30,13 +30,13 @@ abbrev pub announced : ℕ → ℕ
 announced info = cond (ltb info 24) 0 (2 ^ (info - 24))
 
 -- a head, and where the bytes go on after it
-abbrev pub headAnswer : ℕ → Outcome Heading → HeadRead
+abbrev pub headAnswer : ℕ → Outcome Heading → HeadResult
 headAnswer n (refused k) = hv.Refused k
 headAnswer n (got h t) =
     hv.Got (record { major = h .major; info = h .info; argument = h .argument; short = short h; next = n - length t })
 
 -- where the bytes go on after what was passed over
-abbrev pub skipAnswer : {A : Type 0} → ℕ → Outcome A → Skip
+abbrev pub skipAnswer : {A : Type 0} → ℕ → Outcome A → SkipResult
 skipAnswer n (refused k) = sv.Refused k
 skipAnswer n (got a t) = sv.Next (n - length t)
 
@@ -46,10 +46,10 @@ scanAnswer (refused k) = vv.Refused k
 scanAnswer (got a t) = vv.Accepted
 
 -- a scanned payload whose outermost item is a map: how many pairs, and where they begin
-abbrev pub mapAnswer : ℕ → Heading → List ℕ → Opened
+abbrev pub mapAnswer : ℕ → Heading → List ℕ → OpenResult
 mapAnswer n h t = cond (eqb (h .major) 5) (ov.Map (h .argument) (n - length t)) ov.NoMap
 
-abbrev pub openAnswer : ℕ → Outcome Item → Outcome Heading → Opened
+abbrev pub openAnswer : ℕ → Outcome Item → Outcome Heading → OpenResult
 openAnswer n (refused k) h = ov.Refused k
 openAnswer n (got i u) (refused k) = ov.Refused k
 openAnswer n (got i u) (got h t) = mapAnswer n h t
@@ -59,15 +59,15 @@ abbrev pub outcomeNumber : {A : Type 0} → Outcome A → ℕ
 outcomeNumber (refused k) = numberOf k
 outcomeNumber (got a t) = 0
 
-abbrev pub headNumber : HeadRead → ℕ
+abbrev pub headNumber : HeadResult → ℕ
 headNumber (hv.Refused k) = numberOf k
 headNumber (hv.Got h) = 0
 
-abbrev pub skipNumber : Skip → ℕ
+abbrev pub skipNumber : SkipResult → ℕ
 skipNumber (sv.Refused k) = numberOf k
 skipNumber (sv.Next p) = 0
 
-abbrev pub openedNumber : Opened → ℕ
+abbrev pub openedNumber : OpenResult → ℕ
 openedNumber (ov.Refused k) = numberOf k
 openedNumber ov.NoMap = 0
 openedNumber (ov.Map n p) = 0
@@ -79,7 +79,7 @@ pub data Plan : Type 0 where
   emit : List ℕ → Plan
 
 -- the answer, d being what the destination holds: ROOM where it is too short, else the length
-abbrev pub answer : Plan → List ℕ → Written
+abbrev pub answer : Plan → List ℕ → WriteResult
 answer (refuse k) d = wv.Refused k
 answer (emit p) d = cond (leb (length p) (length d)) (wv.Length (length p)) (wv.Refused Room)
 
@@ -89,7 +89,7 @@ after (refuse k) d = d
 after (emit p) d = cond (leb (length p) (length d)) (p ++ drop (length p) d) d
 
 -- a public writer: its answer r, and the destination d before and d′ afterwards
-pub record Did (plan : Plan) (d : List ℕ) (r : Written) (d′ : List ℕ) : Type 0 where
+pub record Did (plan : Plan) (d : List ℕ) (r : WriteResult) (d′ : List ℕ) : Type 0 where
   pub says : r ≡ answer plan d
   pub holds : d′ ≡ after plan d
 

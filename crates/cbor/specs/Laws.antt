@@ -10,7 +10,7 @@ use Rattle.refusal.specs.declared.Refusal.the-variants.{Loose}
 use Rattle.cbor.specs.Decode.{refused, got, Heading, heading, decode, members, payload, payloadBy}
 use Rattle.cbor.specs.Encode.{shortest, encode, infoOf}
 use Rattle.cbor.specs.Strict.{short, headBy, strictPayload, loosePayload}
-use Rattle.cbor.specs.View.{PlainFits, plainOf, plainAt}
+use Rattle.cbor.specs.View.{ScalarValid, scalarOf, scalarAt}
 
 -- s is at least n bytes and then t
 pub record Suffix (n : ℕ) (t s : List ℕ) : Type 0 where
@@ -29,9 +29,9 @@ pub record ItemLaws : Type 0 where
   -- and a payload is, read strictly or not: what was encoded is never LOOSE
   pub payload-round-trip : (b : Bool) (i : Item) → depth i ≤ 8 → Fit i → payloadBy (headBy b) (encode i) ≡ got i []
   -- what a place's head says of an item is what the tree says
-  pub item-plain : (d : ℕ) (s : List ℕ) (i : Item) (t : List ℕ) → decode (suc d) s ≡ got i t → plainAt s ≡ plainOf i
+  pub item-plain : (d : ℕ) (s : List ℕ) (i : Item) (t : List ℕ) → decode (suc d) s ≡ got i t → scalarAt s ≡ scalarOf i
   -- and what it says of bytes fits a head
-  pub plain-fits : (s : List ℕ) → Bytes s → PlainFits (plainAt s)
+  pub plain-fits : (s : List ℕ) → Bytes s → ScalarValid (scalarAt s)
   -- what is left after an item is a proper suffix of the bytes, and n members take at least n bytes
   pub item-suffix : (d : ℕ) (s : List ℕ) (i : Item) (t : List ℕ) → decode d s ≡ got i t → Suffix 1 t s
   pub members-suffix :

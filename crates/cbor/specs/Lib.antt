@@ -7,5 +7,5 @@ pub mod Answer
 pub mod Writing
 pub mod HeadLaws
 pub mod View
-pub mod Says
+pub mod ReaderSpecs
 pub mod Laws

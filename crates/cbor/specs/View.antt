@@ -14,51 +14,51 @@ use Rattle.cbor.specs.declared.value.Value.{Value}
 use Rattle.cbor.specs.declared.value.Value.the-variants as vv
 
 -- a member of an array
-pub data Plain : Type 0 where
-  number : ℕ → Plain
+pub data Scalar : Type 0 where
+  number : ℕ → Scalar
   -- the number -1 - n
-  minus : ℕ → Plain
-  string : List ℕ → Plain
-  other : Plain
+  minus : ℕ → Scalar
+  string : List ℕ → Scalar
+  other : Scalar
 
 -- its number, or how many bytes it has, fits the 64 bits that a head can hold
-abbrev pub PlainFits : Plain → Type 0
-PlainFits (number n) = n < 2 ^ 64
-PlainFits (minus n) = n < 2 ^ 64
-PlainFits (string s) = length s < 2 ^ 64
-PlainFits other = Unit {0}
+abbrev pub ScalarValid : Scalar → Type 0
+ScalarValid (number n) = n < 2 ^ 64
+ScalarValid (minus n) = n < 2 ^ 64
+ScalarValid (string s) = length s < 2 ^ 64
+ScalarValid other = Unit {0}
 
 -- a value
 pub data View : Type 0 where
-  plain : Plain → View
-  list : List Plain → View
+  scalar : Scalar → View
+  list : List Scalar → View
 
 -- ---- of the tree
-abbrev pub plainOf : Item → Plain
-plainOf (unsigned n) = number n
-plainOf (negative n) = minus n
-plainOf (bytes s) = string s
-plainOf (text s) = other
-plainOf (array is) = other
-plainOf (map ps) = other
-plainOf (tag n i) = other
-plainOf (simple n) = other
-plainOf (float w n) = other
+abbrev pub scalarOf : Item → Scalar
+scalarOf (unsigned n) = number n
+scalarOf (negative n) = minus n
+scalarOf (bytes s) = string s
+scalarOf (text s) = other
+scalarOf (array is) = other
+scalarOf (map ps) = other
+scalarOf (tag n i) = other
+scalarOf (simple n) = other
+scalarOf (float w n) = other
 
-abbrev pub plainsOf : Items → List Plain
-plainsOf none = []
-plainsOf (more i is) = plainOf i ∷ plainsOf is
+abbrev pub scalarsOf : Items → List Scalar
+scalarsOf none = []
+scalarsOf (more i is) = scalarOf i ∷ scalarsOf is
 
 abbrev pub viewOf : Item → View
-viewOf (unsigned n) = plain (number n)
-viewOf (negative n) = plain (minus n)
-viewOf (bytes s) = plain (string s)
-viewOf (text s) = plain other
-viewOf (array is) = list (plainsOf is)
-viewOf (map ps) = plain other
-viewOf (tag n i) = plain other
-viewOf (simple n) = plain other
-viewOf (float w n) = plain other
+viewOf (unsigned n) = scalar (number n)
+viewOf (negative n) = scalar (minus n)
+viewOf (bytes s) = scalar (string s)
+viewOf (text s) = scalar other
+viewOf (array is) = list (scalarsOf is)
+viewOf (map ps) = scalar other
+viewOf (tag n i) = scalar other
+viewOf (simple n) = scalar other
+viewOf (float w n) = scalar other
 
 -- an integer is major type 0 or 1: a tagged bignum is none
 abbrev pub labelOf : Item → Label
@@ -85,48 +85,48 @@ ifMap f x (simple n) = x
 ifMap f x (float w n) = x
 
 -- ---- of bytes: the same where an item can be read there, and anything where it cannot
-abbrev pub stringOf : Outcome (List ℕ) → Plain
+abbrev pub stringOf : Outcome (List ℕ) → Scalar
 stringOf (refused k) = other
 stringOf (got s t) = string s
 
-abbrev pub plainBy : Major → ℕ → List ℕ → Plain
-plainBy unsigneds n t = number n
-plainBy negatives n t = minus n
-plainBy byteStrings n t = stringOf (next n t)
-plainBy textStrings n t = other
-plainBy arrays n t = other
-plainBy maps n t = other
-plainBy tags n t = other
-plainBy others n t = other
+abbrev pub scalarBy : Major → ℕ → List ℕ → Scalar
+scalarBy unsigneds n t = number n
+scalarBy negatives n t = minus n
+scalarBy byteStrings n t = stringOf (next n t)
+scalarBy textStrings n t = other
+scalarBy arrays n t = other
+scalarBy maps n t = other
+scalarBy tags n t = other
+scalarBy others n t = other
 
-abbrev pub plainHead : Outcome Heading → Plain
-plainHead (refused k) = other
-plainHead (got h t) = plainBy (majorOf (h .major)) (h .argument) t
+abbrev pub scalarHead : Outcome Heading → Scalar
+scalarHead (refused k) = other
+scalarHead (got h t) = scalarBy (majorOf (h .major)) (h .argument) t
 
-unfoldable pub plainAt : List ℕ → Plain
-plainAt l = plainHead (heading l)
+unfoldable pub scalarAt : List ℕ → Scalar
+scalarAt l = scalarHead (heading l)
 
-abbrev pub andOn : Plain → Outcome Item → (List ℕ → List Plain) → List Plain
+abbrev pub andOn : Scalar → Outcome Item → (List ℕ → List Scalar) → List Scalar
 andOn p (refused k) f = other ∷ []
 andOn p (got i t) f = p ∷ f t
 
 -- the next n members, each with d levels left
-abbrev pub plainsAt : ℕ → ℕ → List ℕ → List Plain
-plainsAt d zero l = []
-plainsAt d (suc n) l = andOn (plainAt l) (decode d l) (λ t. plainsAt d n t)
+abbrev pub scalarsAt : ℕ → ℕ → List ℕ → List Scalar
+scalarsAt d zero l = []
+scalarsAt d (suc n) l = andOn (scalarAt l) (decode d l) (λ t. scalarsAt d n t)
 
 abbrev pub viewBy : ℕ → Major → ℕ → List ℕ → View
-viewBy d unsigneds n t = plain (number n)
-viewBy d negatives n t = plain (minus n)
-viewBy d byteStrings n t = plain (stringOf (next n t))
-viewBy d textStrings n t = plain other
-viewBy d arrays n t = list (plainsAt d n t)
-viewBy d maps n t = plain other
-viewBy d tags n t = plain other
-viewBy d others n t = plain other
+viewBy d unsigneds n t = scalar (number n)
+viewBy d negatives n t = scalar (minus n)
+viewBy d byteStrings n t = scalar (stringOf (next n t))
+viewBy d textStrings n t = scalar other
+viewBy d arrays n t = list (scalarsAt d n t)
+viewBy d maps n t = scalar other
+viewBy d tags n t = scalar other
+viewBy d others n t = scalar other
 
 abbrev pub viewHead : ℕ → Outcome Heading → View
-viewHead d (refused k) = plain other
+viewHead d (refused k) = scalar other
 viewHead d (got h t) = viewBy d (majorOf (h .major)) (h .argument) t
 
 -- what is left after an item with d levels left, and after n of them: nothing where none can be read
@@ -180,11 +180,11 @@ valueAnswer n (got h t) = valueBy n (majorOf (h .major)) (h .argument) t
 -- ---- what that answer says of the bytes, members having suc d levels left: what the value is, and where the bytes go on
 module _ (d : ℕ) (s : List ℕ) where
   abbrev pub saysView : Value → View
-  saysView (vv.Number n p) = plain (number n)
-  saysView (vv.Bytes p a) = plain (string (take a (drop p s)))
-  saysView (vv.Array p n) = list (plainsAt (suc d) n (drop p s))
-  saysView vv.Other = plain other
-  saysView (vv.Minus n p) = plain (minus n)
+  saysView (vv.Number n p) = scalar (number n)
+  saysView (vv.Bytes p a) = scalar (string (take a (drop p s)))
+  saysView (vv.Array p n) = list (scalarsAt (suc d) n (drop p s))
+  saysView vv.Other = scalar other
+  saysView (vv.Minus n p) = scalar (minus n)
 
   abbrev pub saysRest : ℕ → Value → Type 0
   saysRest at (vv.Number n p) = (p ≤ length s) × (decode (suc d) (drop at s) ≡ got (unsigned n) (drop p s))
@@ -195,16 +195,16 @@ module _ (d : ℕ) (s : List ℕ) where
   saysRest at (vv.Minus n p) = (p ≤ length s) × (decode (suc d) (drop at s) ≡ got (negative n) (drop p s))
 
 -- a value as a member: an array is neither a number nor a byte string
-abbrev pub flat : View → Plain
-flat (plain p) = p
+abbrev pub flat : View → Scalar
+flat (scalar p) = p
 flat (list ps) = other
 
 pub record ValueAt (d : ℕ) (s : List ℕ) (at : ℕ) (r : Value) : Type 0 where
   pub view : viewAt (suc d) (drop at s) ≡ saysView d s r
-  pub member : plainAt (drop at s) ≡ flat (saysView d s r)
+  pub member : scalarAt (drop at s) ≡ flat (saysView d s r)
   pub rest : saysRest d s at r
 
 -- the answer r at a place of s, and what it says, however many levels are left
-pub record ValueSays (s : List ℕ) (at : ℕ) (r : Value) : Type 0 where
+pub record ValueSpec (s : List ℕ) (at : ℕ) (r : Value) : Type 0 where
   pub is : r ≡ valueAnswer (length s) (heading (drop at s))
   pub says : (d : ℕ) → ValueAt d s at r

@@ -11,8 +11,8 @@ use Rattle.refusal.specs.declared.Refusal.{Refusal}
 use Rattle.refusal.specs.declared.Refusal.the-variants.{Room}
 use Rattle.cbor.specs.Encode.{shortest}
 use Rattle.cbor.specs.Answer.{refuse, emit, Did, Wrote, headPlan}
-use Rattle.cbor.specs.declared.write.Written.{Written}
-use Rattle.cbor.specs.declared.write.Written.the-variants as wv
+use Rattle.cbor.specs.declared.write.WriteResult.{WriteResult}
+use Rattle.cbor.specs.declared.write.WriteResult.the-variants as wv
 
 -- ---- bytes in front of a destination
 module _ {p d d′ : List ℕ} {n : ℕ} (w : Wrote p d n d′) (fits : length p ≤ length d) where
@@ -59,20 +59,20 @@ pub did-room : (p d : List ℕ) → length d < length p → Did (emit p) d (wv.R
 did-room p d h = record { says = simp (lt-leb (length p) (length d) h); holds = simp (lt-leb (length p) (length d) h) }
 
 -- what a caller that knows of the room learns
-pub did-kept : (p d : List ℕ) (r : Written) (d′ : List ℕ) → length p ≤ length d → Did (emit p) d r d′ → Wrote p d (length p) d′
+pub did-kept : (p d : List ℕ) (r : WriteResult) (d′ : List ℕ) → length p ≤ length d → Did (emit p) d r d′ → Wrote p d (length p) d′
 did-kept p d r d′ h w = record { many = refl; holds = simp (le-leb (length p) (length d) h) at (w .holds) }
 
-pub did-done : (p d : List ℕ) (r : Written) (d′ : List ℕ) (n : ℕ) → length p ≤ length d → Did (emit p) d r d′ → r ≡ wv.Length n → Wrote p d n d′
+pub did-done : (p d : List ℕ) (r : WriteResult) (d′ : List ℕ) (n : ℕ) → length p ≤ length d → Did (emit p) d r d′ → r ≡ wv.Length n → Wrote p d n d′
 did-done p d r d′ n h w e =
     let f : r ≡ wv.Length (length p) = simp (le-leb (length p) (length d) h) at (w .says) in
     wrote-as n (cc) (did-kept p d r d′ h w)
 
-pub did-never : (p d : List ℕ) (r : Written) (d′ : List ℕ) (k : Refusal) → length p ≤ length d → Did (emit p) d r d′ → r ≡ wv.Refused k → ⊥
+pub did-never : (p d : List ℕ) (r : WriteResult) (d′ : List ℕ) (k : Refusal) → length p ≤ length d → Did (emit p) d r d′ → r ≡ wv.Refused k → ⊥
 did-never p d r d′ k h w e =
     let f : r ≡ wv.Length (length p) = simp (le-leb (length p) (length d) h) at (w .says) in
     let z : _≡_ {A = ℕ} 0 1 = cc in
     omega arith
 
 -- a head of a major type that there is
-pub head-did : (m n : ℕ) (d : List ℕ) (r : Written) (d′ : List ℕ) → m ≤ 7 → Did (headPlan m n) d r d′ → Did (emit (shortest m n)) d r d′
+pub head-did : (m n : ℕ) (d : List ℕ) (r : WriteResult) (d′ : List ℕ) → m ≤ 7 → Did (headPlan m n) d r d′ → Did (emit (shortest m n)) d r d′
 head-did m n d r d′ h w = simp (le-ltb 7 m h) at w

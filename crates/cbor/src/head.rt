@@ -7,7 +7,7 @@ ghost use lib.ListN.{length, drop};
 ghost use Rattle.cbor.specs.Answer.{headAnswer, announced};
 ghost use Rattle.cbor.specs.Decode.{got, argument, heading};
 ghost use Rattle.cbor.specs.Encode.{infoOf};
-ghost use Rattle.cbor.specs.Says.{HeadSays};
+ghost use Rattle.cbor.specs.ReaderSpecs.{HeadSpec};
 ghost use Rattle.cbor.specs.Strict.{isShort, headBy};
 
 // A head, whether it is the shortest that holds its argument, and the place where the bytes go on after it.
@@ -20,7 +20,7 @@ pub struct Head {
 }
 
 // What reading a head answers.
-pub enum HeadRead {
+pub enum HeadResult {
     Refused(Refusal),
     Got(Head),
 }
@@ -83,14 +83,14 @@ fn is_short(major: u8, info: u8, argument: u64) -> bool
 }
 
 // The head whose first byte is given, its other bytes standing from `at` on.
-fn head_from(s: &[u8], at: usize, first: u8) -> HeadRead
+fn head_from(s: &[u8], at: usize, first: u8) -> HeadResult
     requires { ⌜ at ≤ length (now s) ⌝ }
     ensures { λ r. ⌜ r ≡ headAnswer (length (now (s .entry))) (heading (first ∷ drop at (now (s .entry)))) ⌝ }
 {
     let info = first % 32;
     if info < 24 {
         let argument = info as u64;
-        return HeadRead::Got(Head {
+        return HeadResult::Got(Head {
             major: first / 32,
             info: info,
             argument: argument,
@@ -99,15 +99,15 @@ fn head_from(s: &[u8], at: usize, first: u8) -> HeadRead
         });
     }
     if 27 < info {
-        return HeadRead::Refused(Refusal::Form);
+        return HeadResult::Refused(Refusal::Form);
     }
     let next = at + width(info);
     if s.len() < next {
-        return HeadRead::Refused(Refusal::Cut);
+        return HeadResult::Refused(Refusal::Cut);
     }
     let argument = argument_at(s, info, at, next);
     let short = is_short(first / 32, info, argument);
-    HeadRead::Got(Head {
+    HeadResult::Got(Head {
         major: first / 32,
         info: info,
         argument: argument,
@@ -117,28 +117,28 @@ fn head_from(s: &[u8], at: usize, first: u8) -> HeadRead
 }
 
 // The head at a place; CUT where its bytes end, FORM where its length information is 28 to 31.
-pub fn read_head(s: &[u8], at: usize) -> HeadRead
-    ensures { λ r. ⌜ HeadSays (now (s .entry)) at r ⌝ }
+pub fn read_head(s: &[u8], at: usize) -> HeadResult
+    ensures { λ r. ⌜ HeadSpec (now (s .entry)) at r ⌝ }
 {
     if s.len() <= at {
-        return HeadRead::Refused(Refusal::Cut);
+        return HeadResult::Refused(Refusal::Cut);
     }
     head_from(s, at + 1, s[at])
 }
 
 // The head at a place; in a strict reading a head that is not the shortest is LOOSE.
-pub fn read_head_by(s: &[u8], at: usize, strict: bool) -> HeadRead
+pub fn read_head_by(s: &[u8], at: usize, strict: bool) -> HeadResult
     ensures { λ r. ⌜ r ≡ headAnswer (length (now (s .entry))) (headBy strict (drop at (now (s .entry)))) ⌝ }
 {
     let h = read_head(s, at);
     if strict {
         match h {
-            HeadRead::Refused(k) => HeadRead::Refused(k),
-            HeadRead::Got(head) => {
+            HeadResult::Refused(k) => HeadResult::Refused(k),
+            HeadResult::Got(head) => {
                 if head.short {
-                    HeadRead::Got(head)
+                    HeadResult::Got(head)
                 } else {
-                    HeadRead::Refused(Refusal::Loose)
+                    HeadResult::Refused(Refusal::Loose)
                 }
             }
         }

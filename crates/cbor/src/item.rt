@@ -2,13 +2,13 @@
 use refusal::Refusal;
 
 // What passing over answers: the place where the bytes go on.
-pub enum Skip {
+pub enum SkipResult {
     Refused(Refusal),
     Next(usize),
 }
 
 // A scanned payload: its outermost item is a map of `count` pairs that begin at `start`, or none.
-pub enum Opened {
+pub enum OpenResult {
     Refused(Refusal),
     NoMap,
     Map { count: u64, start: usize },

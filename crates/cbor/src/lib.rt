@@ -6,15 +6,15 @@ pub mod value;
 pub mod write;
 
 pub use head::Head;
-pub use head::HeadRead;
+pub use head::HeadResult;
 pub use head::read_head;
 pub use head::read_head_by;
-pub use item::Opened;
-pub use item::Skip;
+pub use item::OpenResult;
+pub use item::SkipResult;
 pub use value::Label;
 pub use value::Value;
 pub use value::value_at;
-pub use write::Written;
+pub use write::WriteResult;
 pub use write::head_laws;
 ghost use Rattle.cbor.specs.Laws.{ItemLaws};
 

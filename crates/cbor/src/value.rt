@@ -1,7 +1,7 @@
 // What stands at a place, as far as the layer above asks.
-use crate::head::HeadRead;
+use crate::head::HeadResult;
 use crate::head::read_head;
-ghost use Rattle.cbor.specs.View.{ValueSays};
+ghost use Rattle.cbor.specs.View.{ValueSpec};
 
 // A map's label: an integer, or something else.
 pub enum Label {
@@ -22,12 +22,12 @@ pub enum Value {
 
 // The value at a place; a byte string that the slice does not hold whole is something else.
 pub fn value_at(s: &[u8], at: usize) -> Value
-    ensures { λ r. ⌜ ValueSays (now (s .entry)) at r ⌝ }
+    ensures { λ r. ⌜ ValueSpec (now (s .entry)) at r ⌝ }
 {
     let h = read_head(s, at);
     match h {
-        HeadRead::Refused(_) => Value::Other,
-        HeadRead::Got(head) => {
+        HeadResult::Refused(_) => Value::Other,
+        HeadResult::Got(head) => {
             let major = head.major;
             let argument = head.argument;
             let next = head.next;

@@ -3,7 +3,7 @@ use refusal::Refusal;
 ghost use Rattle.cbor.specs.HeadLaws.{HeadLaws};
 
 // How many bytes were written. A refusal has changed no byte.
-pub enum Written {
+pub enum WriteResult {
     Refused(Refusal),
     Length(usize),
 }

@@ -15,9 +15,9 @@ use Rattle.cbor.specs.Decode.{Outcome, refused, got, andThen, next, Heading, me
 use Rattle.cbor.specs.Strict.{headBy}
 use Rattle.cbor.specs.Answer.{scanAnswer}
 use Rattle.cbor.specs.declared.head.Head.{Head}
-use Rattle.cbor.specs.declared.head.HeadRead.the-variants as hv
-use Rattle.cbor.specs.declared.item.Skip.{Skip}
-use Rattle.cbor.specs.declared.item.Skip.the-variants as sv
+use Rattle.cbor.specs.declared.head.HeadResult.the-variants as hv
+use Rattle.cbor.specs.declared.item.SkipResult.{SkipResult}
+use Rattle.cbor.specs.declared.item.SkipResult.the-variants as sv
 use Rattle.cbor.proofs.Answers.{passed-got, passed-refused}
 use Rattle.cbor.proofs.Heads.{next-got, next-cut}
 use Rattle.cbor.proofs.Places.{HeadAt, headSays, Rest, stop, rest, forget, Passed}
@@ -157,7 +157,7 @@ module _ (b : Bool) (s : List ℕ) (at d : ℕ) where
           inside = tt;
         }
 
-    pub item-array : m ≡ 4 → (r : Skip) → Passed s (members below a (drop p s)) r → Passed s (itemBy b d (drop at s)) r
+    pub item-array : m ≡ 4 → (r : SkipResult) → Passed s (members below a (drop p s)) r → Passed s (itemBy b d (drop at s)) r
     item-array e r q =
         record { says = q .says ∙ sym (ap forget decode-got ∙ array-content below (h .info) a (drop p s) m e); inside = q .inside }
 
@@ -167,14 +167,14 @@ module _ (b : Bool) (s : List ℕ) (at d : ℕ) where
       inside = tt;
     }
 
-    pub item-map : m ≡ 5 → (q : ℕ) (r : Skip) → Passed s (members below a (drop p s)) (sv.Next q)
+    pub item-map : m ≡ 5 → (q : ℕ) (r : SkipResult) → Passed s (members below a (drop p s)) (sv.Next q)
         → Passed s (members below a (drop q s)) r → Passed s (itemBy b d (drop at s)) r
     item-map e q r f g = record {
       says = g .says ∙ sym (ap forget decode-got ∙ map-content below (h .info) a (drop p s) m e ∙ rw (← f .says));
       inside = g .inside;
     }
 
-    pub item-tag : m ≡ 6 → (r : Skip) → Passed s (below (drop p s)) r → Passed s (itemBy b d (drop at s)) r
+    pub item-tag : m ≡ 6 → (r : SkipResult) → Passed s (below (drop p s)) r → Passed s (itemBy b d (drop at s)) r
     item-tag e r q =
         record { says = q .says ∙ sym (ap forget decode-got ∙ tag-content below (h .info) a (drop p s) m e); inside = q .inside }
 

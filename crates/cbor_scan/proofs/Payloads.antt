@@ -15,9 +15,9 @@ use Rattle.cbor.specs.Decode.{Outcome, refused, got, heading, payloadBy}
 use Rattle.cbor.specs.Strict.{headBy}
 use Rattle.cbor.specs.Answer.{headAnswer, scanAnswer, openAnswer}
 use Rattle.cbor.specs.declared.head.Head.{Head}
-use Rattle.cbor.specs.declared.head.HeadRead.{HeadRead}
-use Rattle.cbor.specs.declared.head.HeadRead.the-variants as hv
-use Rattle.cbor.specs.declared.item.Opened.the-variants as ov
+use Rattle.cbor.specs.declared.head.HeadResult.{HeadResult}
+use Rattle.cbor.specs.declared.head.HeadResult.the-variants as hv
+use Rattle.cbor.specs.declared.item.OpenResult.the-variants as ov
 use Rattle.cbor.proofs.Answers.{head-refused, head-got, head-place}
 
 scan-no : (k : Refusal) (o : Outcome Item) → vv.Refused k ≡ scanAnswer o → o ≡ refused k
@@ -32,7 +32,7 @@ module _ (b : Bool) (s : List ℕ) (v : Verdict) (e : v ≡ scanAnswer (payloadB
   pub open-refused : (k : Refusal) → v ≡ vv.Refused k → ov.Refused k ≡ openAnswer (length s) (payloadBy (headBy b) s) (heading s)
   open-refused k g = rw (scan-no k (payloadBy (headBy b) s) (sym g ∙ e))
 
-  module _ (g : v ≡ vv.Accepted) (r : HeadRead) (f : r ≡ headAnswer (length s) (heading (drop 0 s))) where
+  module _ (g : v ≡ vv.Accepted) (r : HeadResult) (f : r ≡ headAnswer (length s) (heading (drop 0 s))) where
     pub open-unheaded : (k : Refusal) → r ≡ hv.Refused k → ov.Refused k ≡ openAnswer (length s) (payloadBy (headBy b) s) (heading s)
     open-unheaded k o =
         let (i, t, w) = scan-yes (payloadBy (headBy b) s) (sym g ∙ e) in

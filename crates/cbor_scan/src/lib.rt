@@ -1,5 +1,5 @@
 // CBOR data items (RFC 7049) are passed over where they stand, and a payload is scanned: any bytes, any place.
-// The definitions stand in `cbor`, and so do the answers `Skip` and `Opened`.
+// The definitions stand in `cbor`, and so do the answers `SkipResult` and `OpenResult`.
 pub mod item;
 
 pub use item::open_map;

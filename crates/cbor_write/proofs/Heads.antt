@@ -12,7 +12,7 @@ use lib.Seq.{drop-set-lt, drop-cons, getD-set-same}
 use Rattle.refusal.specs.declared.Refusal.the-variants.{Room, Range}
 use Rattle.cbor.specs.Answer.{Did, Wrote, headPlan}
 use Rattle.cbor.specs.Encode.{bytesOf, infoOf, extraOf, shortest}
-use Rattle.cbor.specs.declared.write.Written.the-variants as wv
+use Rattle.cbor.specs.declared.write.WriteResult.the-variants as wv
 use Rattle.cbor.specs.Writing.{did-refuse, did-emit, did-room}
 use Rattle.cbor.proofs.HeadLengths.{length-head}
 

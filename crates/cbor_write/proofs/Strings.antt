@@ -9,7 +9,7 @@ use Rattle.refusal.specs.declared.Refusal.the-variants.{Room}
 use Rattle.cbor.specs.Answer.{Did, Wrote, emit}
 use Rattle.cbor.specs.Encode.{encode, extraOf, shortest}
 use Rattle.cbor.specs.Item.{bytes}
-use Rattle.cbor.specs.declared.write.Written.the-variants as wv
+use Rattle.cbor.specs.declared.write.WriteResult.the-variants as wv
 use Rattle.cbor.specs.Writing.{did-emit, did-room, seam, wrote-length}
 use Rattle.cbor.proofs.HeadLengths.{extra-most, length-string}
 

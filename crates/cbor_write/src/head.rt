@@ -1,5 +1,5 @@
 // The shortest head of a major type and an argument.
-use cbor::Written;
+use cbor::WriteResult;
 use refusal::Refusal;
 ghost use mathlib.Core.Path.{_≡_};
 ghost use Prim.Native.Nat.{_+_, _≤_};
@@ -56,16 +56,16 @@ pub(crate) fn put_head(dst: &mut [u8], major: u8, argument: u64, n: usize)
 }
 
 // Writes the shortest head of a major type and an argument.
-pub fn write_head(dst: &mut [u8], major: u8, argument: u64) -> Written
+pub fn write_head(dst: &mut [u8], major: u8, argument: u64) -> WriteResult
     ensures { λ r. ⌜ Did (headPlan major argument) (now (dst .entry)) r (now (dst .exit)) ⌝ }
 {
     if 7 < major {
-        return Written::Refused(Refusal::Range);
+        return WriteResult::Refused(Refusal::Range);
     }
     let n = head_len(argument);
     if dst.len() < n {
-        return Written::Refused(Refusal::Room);
+        return WriteResult::Refused(Refusal::Room);
     }
     put_head(dst, major, argument, n);
-    Written::Length(n)
+    WriteResult::Length(n)
 }

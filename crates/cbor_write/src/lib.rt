@@ -1,5 +1,5 @@
 // CBOR heads and byte strings (RFC 7049) are written to the front of a lent slice: shortest heads, and no byte where there is no room.
-// The definitions stand in `cbor`, and so does the answer `Written`.
+// The definitions stand in `cbor`, and so does the answer `WriteResult`.
 pub mod head;
 pub mod string;
 

@@ -1,6 +1,6 @@
 // The answers to commands, by the library's calls.
 use crate::verb::Verb;
-use aes_ccm::Written;
+use aes_ccm::WriteResult;
 use tool_text::output::Buffer;
 use tool_text::output::Output;
 use tool_words::copies::sixteen;
@@ -106,13 +106,13 @@ fn put_opened(
 fn put_written(
     out: Output,
     word: &[u8],
-    written: Written,
+    written: WriteResult,
     dst: &[u8],
     buffer: &mut Buffer,
 ) -> Output {
     match written {
-        Written::Length(len) => out.text(word, buffer)
+        WriteResult::Length(len) => out.text(word, buffer)
             .octets(tool_text::first(dst, len), buffer),
-        Written::Refused(refusal) => tool_notation::put_refusal(out, refusal, buffer),
+        WriteResult::Refused(refusal) => tool_notation::put_refusal(out, refusal, buffer),
     }
 }

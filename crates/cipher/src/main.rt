@@ -3,7 +3,7 @@ mod answers;
 mod verb;
 
 use answers::answer;
-use tool_text::fault::put_fault;
+use tool_text::line_error::put_line_error;
 use tool_text::output::Buffer;
 use tool_text::output::Output;
 use tool_text::session::Session;
@@ -72,7 +72,7 @@ fn put_answer(
     buffer: &mut Buffer,
 ) -> Output {
     match verb {
-        Verb::Wrong(fault) => put_fault(out, fault, buffer),
+        Verb::Wrong(fault) => put_line_error(out, fault, buffer),
         _ => answer(out, verb, words, room, store, dst, buffer),
     }
 }

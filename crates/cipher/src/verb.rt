@@ -1,5 +1,5 @@
 // The commands by their first words, and which words stand after each.
-use tool_text::fault::Fault;
+use tool_text::line_error::LineError;
 use tool_text::word::Word;
 use tool_words::shape::Kind;
 use tool_words::shape::Shape;
@@ -7,7 +7,7 @@ use tool_words::shape::of_words;
 
 pub enum Verb {
     // a line that is no command
-    Wrong(Fault),
+    Wrong(LineError),
     Block,
     Expand,
     Substitute,
@@ -45,7 +45,7 @@ fn of_blocks(word: Word) -> Verb {
     if word.is(b"substitute") {
         return Verb::Substitute;
     }
-    Verb::Wrong(Fault::Command)
+    Verb::Wrong(LineError::Command)
 }
 
 pub fn shape_of(verb: Verb) -> Shape {

@@ -1,8 +1,8 @@
 // AES-CCM-16-64-128.
-use crate::told::tell_length;
+use crate::store::store_length;
 use image::RANGE;
-use image::sixteen_at;
-use image::thirteen_at;
+use image::array_13_at;
+use image::array_16_at;
 ghost use lib.ListN.{length as size};
 ghost use Rattle.cipher_calls.specs.Cipher.{Wrote, sealing, unsealing};
 
@@ -26,13 +26,13 @@ pub fn seal(
         return RANGE;
     }
     let written = aes_ccm::seal(
-        sixteen_at(key, 0),
-        thirteen_at(nonce, 0),
+        array_16_at(key, 0),
+        array_13_at(nonce, 0),
         associated,
         text,
         dst,
     );
-    tell_length(written, length)
+    store_length(written, length)
 }
 
 // Opens `sealed` with the associated data into `dst`.
@@ -55,11 +55,11 @@ pub fn unseal(
         return RANGE;
     }
     let written = aes_ccm::unseal(
-        sixteen_at(key, 0),
-        thirteen_at(nonce, 0),
+        array_16_at(key, 0),
+        array_13_at(nonce, 0),
         associated,
         sealed,
         dst,
     );
-    tell_length(written, length)
+    store_length(written, length)
 }

@@ -11,17 +11,17 @@ use lib.Seq.{drop-cons, length-take-le}
 use types.Run.{OneOf}
 use denote.Enum.Declared.{tagOf}
 use Rattle.short_address.specs.Address.{isAddress, AddressLaws}
-use Rattle.cbor.specs.View.{Plain, number, minus, string, other, ValueSays}
+use Rattle.cbor.specs.View.{Scalar, number, minus, string, other, ValueSpec}
 use Rattle.cbor.specs.declared.value.Value.{Value}
 use Rattle.cbor.specs.declared.value.Value.the-variants as vv
 use Rattle.cbor.proofs.value.Value as value
 use Rattle.cojp.specs.Address.{addressOf, addressParameter, addressBy, addressIn, addressConcluded, addressRead}
-use Rattle.cojp.specs.Bytes.{valueView, membersAt, Neither, MemberAt, MemberSays}
+use Rattle.cojp.specs.Bytes.{valueView, membersAt, Neither, MemberAt, MemberSpec}
 use Rattle.cojp.specs.Reading.{Reading, read, broken, unfit}
 use Rattle.cojp.specs.declared.address.AddressParameter.{AddressParameter}
 use Rattle.cojp.specs.declared.members.Member.{Member}
 use Rattle.cojp.specs.declared.members.Member.the-variants as mv
-use Rattle.cojp.specs.declared.report.Report.the-variants.{Taken}
+use Rattle.cojp.specs.declared.disposition.Disposition.the-variants.{Taken}
 use Rattle.cojp.proofs.Arrays.{members-none, members-some, array-here, no-array}
 use Rattle.cojp.proofs.members.Member as member
 
@@ -56,7 +56,7 @@ module _ (s b : List ℕ) (at n : ℕ) (r : Reading AddressParameter) where
   unfolding addressIn
   lease-none h e = e ∙ rw (members-none n (drop at s) h)
 
-  module _ (v : Member) (a : MemberSays s at n v) where
+  module _ (v : Member) (a : MemberSpec s at n v) where
     module _ (x p : ℕ) (g : v ≡ mv.Number x p) where
       number-here : membersAt n (drop at s) ≡ number x ∷ membersAt (n - 1) (drop p s)
       number-here = let w : MemberAt s at n (mv.Number x p) = rw g at (a .here) in w .1
@@ -79,38 +79,38 @@ module _ (s b : List ℕ) (at n : ℕ) (r : Reading AddressParameter) where
         e ∙ rw f (last q qs (go v (a .here) o q qs f))
       where
         -- a byte string or something else
-        Wrong : Plain → Type 0
+        Wrong : Scalar → Type 0
         Wrong (number x) = ⊥
         Wrong (string t) = Unit {0}
         Wrong (minus x) = Unit {0}
         Wrong other = Unit {0}
 
-        wrong : (q : Plain) (qs : List Plain) → Neither (q ∷ qs) → Wrong q
+        wrong : (q : Scalar) (qs : List Scalar) → Neither (q ∷ qs) → Wrong q
         wrong (number x) qs w = w
         wrong (string t) qs w = tt
         wrong (minus x) qs w = tt
         wrong other qs w = tt
 
-        strings : (t : List ℕ) (q : Plain) → string t ≡ q → Wrong q
+        strings : (t : List ℕ) (q : Scalar) → string t ≡ q → Wrong q
         strings t (number x) f = absurd (let z : _≡_ {A = ℕ} 0 1 = cc in omega arith)
         strings t (string u) f = tt
         strings t (minus x) f = tt
         strings t other f = tt
 
         go : (v : Member) → MemberAt s at n v → OneOf (1 ∷ 2 ∷ []) (tagOf member.the-type v)
-            → (q : Plain) (qs : List Plain) → membersAt n (drop at s) ≡ q ∷ qs → Wrong q
+            → (q : Scalar) (qs : List Scalar) → membersAt n (drop at s) ≡ q ∷ qs → Wrong q
         go (mv.Number x p) w o q qs f = absurd (⊎-elim (λ e. omega arith) (λ e. omega arith) o)
         go (mv.Bytes p a) (_, _, e) o q qs f = strings (take a (drop p s)) q (let g : string (take a (drop p s)) ≡ q = cc in g)
         go mv.Neither w o q qs f = wrong q qs (rw f at w)
 
-        last : (q : Plain) (qs : List Plain) → Wrong q → addressConcluded broken ≡ addressConcluded (addressIn (string b ∷ q ∷ qs))
+        last : (q : Scalar) (qs : List Scalar) → Wrong q → addressConcluded broken ≡ addressConcluded (addressIn (string b ∷ q ∷ qs))
         last (number x) qs w = absurd w
         last (string t) qs w = refl
         last (minus x) qs w = refl
         last other qs w = refl
 
 -- ---- its members
-module _ (s : List ℕ) (at n : ℕ) (v : Member) (m : MemberSays s at n v) (r : Reading AddressParameter) where
+module _ (s : List ℕ) (at n : ℕ) (v : Member) (m : MemberSpec s at n v) (r : Reading AddressParameter) where
   pub address-begun : (p a : ℕ) → v ≡ mv.Bytes p a
       → r ≡ addressConcluded (addressIn (string (take a (drop p s)) ∷ membersAt (n - 1) (drop (p + a) s)))
       → r ≡ addressConcluded (addressIn (membersAt n (drop at s)))
@@ -121,7 +121,7 @@ module _ (s : List ℕ) (at n : ℕ) (v : Member) (m : MemberSays s at n v) (r :
   unfolding addressIn
   address-headless o e = e ∙ go v (m .here) o
     where
-      none : (ps : List Plain) → Neither ps → addressConcluded broken ≡ addressConcluded (addressIn ps)
+      none : (ps : List Scalar) → Neither ps → addressConcluded broken ≡ addressConcluded (addressIn ps)
       none [] w = refl
       none (number x ∷ ps) w = refl
       none (string t ∷ ps) w = absurd w
@@ -135,7 +135,7 @@ module _ (s : List ℕ) (at n : ℕ) (v : Member) (m : MemberSays s at n v) (r :
       go mv.Neither w o = none (membersAt n (drop at s)) w
 
 -- ---- the value
-module _ (s : List ℕ) (at : ℕ) (v : Value) (e : ValueSays s at v) (r : Reading AddressParameter) where
+module _ (s : List ℕ) (at : ℕ) (v : Value) (e : ValueSpec s at v) (r : Reading AddressParameter) where
   pub address-array : (p n : ℕ) → v ≡ vv.Array p n → r ≡ addressConcluded (addressIn (membersAt n (drop p s)))
       → r ≡ addressRead (valueView (drop at s))
   address-array p n g f = f ∙ rw (array-here s at v e p n g .1)

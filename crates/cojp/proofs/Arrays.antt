@@ -10,36 +10,36 @@ use types.Run.{OneOf}
 use denote.Enum.Declared.{tagOf}
 use Rattle.cbor.specs.Decode.{Outcome, refused, got, decode}
 use Rattle.cbor.specs.Item.{Item}
-use Rattle.cbor.specs.View.{Plain, number, minus, string, other, plain, list, plainAt, andOn, restOf, ValueAt, ValueSays}
+use Rattle.cbor.specs.View.{Scalar, number, minus, string, other, scalar, list, scalarAt, andOn, restOf, ValueAt, ValueSpec}
 use Rattle.cbor.specs.declared.value.Value.{Value}
 use Rattle.cbor.specs.declared.value.Value.the-variants as vv
 use Rattle.cbor.proofs.value.Value as value
-use Rattle.cojp.specs.Bytes.{valueView, membersAt, afterValue, afterMembers, GoesOn}
-use Rattle.cojp.specs.Bytes.{memberOf, Neither, MemberAt, MemberRest, MemberSays}
+use Rattle.cojp.specs.Bytes.{valueView, membersAt, afterValue, afterMembers, EndsAt}
+use Rattle.cojp.specs.Bytes.{memberOf, Neither, MemberAt, MemberRest, MemberSpec}
 use Rattle.cojp.specs.declared.members.Member.{Member}
 use Rattle.cojp.specs.declared.members.Member.the-variants as mv
 
 pub members-none : (n : ℕ) (l : List ℕ) → n ≡ 0 → membersAt n l ≡ []
 members-none n l e = rw e
 
-pub members-step : (n : ℕ) (l : List ℕ) → 0 < n → membersAt n l ≡ andOn (plainAt l) (decode 6 l) (λ t. membersAt (n - 1) t)
+pub members-step : (n : ℕ) (l : List ℕ) → 0 < n → membersAt n l ≡ andOn (scalarAt l) (decode 6 l) (λ t. membersAt (n - 1) t)
 members-step n l h = let e : n ≡ suc (n - 1) = omega arith in ap (λ (k : ℕ). membersAt k l) e
 
 -- there is one where one is left
-pub members-some : (n : ℕ) (l : List ℕ) → 0 < n → (p : Plain) × (ps : List Plain) × (membersAt n l ≡ p ∷ ps)
+pub members-some : (n : ℕ) (l : List ℕ) → 0 < n → (p : Scalar) × (ps : List Scalar) × (membersAt n l ≡ p ∷ ps)
 members-some n l h = go (decode 6 l) (members-step n l h)
   where
-    go : (o : Outcome Item) → membersAt n l ≡ andOn (plainAt l) o (λ t. membersAt (n - 1) t)
-        → (p : Plain) × (ps : List Plain) × (membersAt n l ≡ p ∷ ps)
+    go : (o : Outcome Item) → membersAt n l ≡ andOn (scalarAt l) o (λ t. membersAt (n - 1) t)
+        → (p : Scalar) × (ps : List Scalar) × (membersAt n l ≡ p ∷ ps)
     go (refused k) e = (other, [], e)
-    go (got i t) e = (plainAt l, membersAt (n - 1) t, e)
+    go (got i t) e = (scalarAt l, membersAt (n - 1) t, e)
 
 -- ---- what a value says as a member, n being left
 module _ (s : List ℕ) (at n : ℕ) where
-  nothing : 0 < n → (p : Plain) → plainAt (drop at s) ≡ p → ((ps : List Plain) → Neither (p ∷ ps)) → Neither (membersAt n (drop at s))
+  nothing : 0 < n → (p : Scalar) → scalarAt (drop at s) ≡ p → ((ps : List Scalar) → Neither (p ∷ ps)) → Neither (membersAt n (drop at s))
   nothing h p m z = rw (members-step n (drop at s) h) (go (decode 6 (drop at s)))
     where
-      go : (o : Outcome Item) → Neither (andOn (plainAt (drop at s)) o (λ t. membersAt (n - 1) t))
+      go : (o : Outcome Item) → Neither (andOn (scalarAt (drop at s)) o (λ t. membersAt (n - 1) t))
       go (refused k) = tt
       go (got i t) = rw m (z (membersAt (n - 1) t))
 
@@ -69,16 +69,16 @@ module _ (s : List ℕ) (at n : ℕ) where
 
 -- ---- the returns of `member_at`
 module _ (s : List ℕ) (at n : ℕ) where
-  pub none-told : n ≡ 0 → MemberSays s at n mv.Neither
+  pub none-told : n ≡ 0 → MemberSpec s at n mv.Neither
   none-told h = record { is = rw (eq-eqb n 0 h); here = rw (members-none n (drop at s) h) tt; rest = tt }
 
-  module _ (h : ¬ (n ≡ 0)) (v : Value) (e : ValueSays s at v) where
-    pub value-told : (m : Member) → memberOf v ≡ m → MemberSays s at n m
+  module _ (h : ¬ (n ≡ 0)) (v : Value) (e : ValueSpec s at v) where
+    pub value-told : (m : Member) → memberOf v ≡ m → MemberSpec s at n m
     value-told m f =
         let l : 0 < n = omega arith in
         rw (← f) (record { is = rw (ne-eqb n 0 h) (ap memberOf (e .is)); here = value-member s at n l v (e .says 5); rest = value-rest s at n l v (e .says 5) })
 
-    pub neither-told : OneOf (2 ∷ 3 ∷ 4 ∷ []) (tagOf value.the-type v) → MemberSays s at n mv.Neither
+    pub neither-told : OneOf (2 ∷ 3 ∷ 4 ∷ []) (tagOf value.the-type v) → MemberSpec s at n mv.Neither
     neither-told o = value-told mv.Neither (go v o)
       where
         go : (v : Value) → OneOf (2 ∷ 3 ∷ 4 ∷ []) (tagOf value.the-type v) → memberOf v ≡ mv.Neither
@@ -89,7 +89,7 @@ module _ (s : List ℕ) (at n : ℕ) where
         go (vv.Minus x p) o = refl
 
 -- ---- what an answer of `member_at` says
-module _ (s : List ℕ) (at n : ℕ) (v : Member) (e : MemberSays s at n v) where
+module _ (s : List ℕ) (at n : ℕ) (v : Member) (e : MemberSpec s at n v) where
   pub number-left : (x p : ℕ) → v ≡ mv.Number x p → 1 ≤ n
   number-left x p g = let w : MemberAt s at n (mv.Number x p) = rw g at (e .here) in w .0
 
@@ -103,7 +103,7 @@ module _ (s : List ℕ) (at n : ℕ) (v : Member) (e : MemberSays s at n v) wher
     pub bytes-inside : p + a ≤ length s
     bytes-inside = bytes-here .1
 
-module _ (s : List ℕ) (at n : ℕ) (v : Member) (e : MemberSays s at n v) where
+module _ (s : List ℕ) (at n : ℕ) (v : Member) (e : MemberSpec s at n v) where
   pub number-after : (x p : ℕ) → v ≡ mv.Number x p → afterMembers n (drop at s) ≡ afterMembers (n - 1) (drop p s)
   number-after x p g = let w : MemberRest s at n (mv.Number x p) = rw g at (e .rest) in w .1
 
@@ -114,7 +114,7 @@ module _ (s : List ℕ) (at n : ℕ) (v : Member) (e : MemberSays s at n v) wher
   bytes-after p a g = let w : MemberRest s at n (mv.Bytes p a) = rw g at (e .rest) in w
 
 -- ---- an array, and anything else
-module _ (s : List ℕ) (at : ℕ) (v : Value) (e : ValueSays s at v) where
+module _ (s : List ℕ) (at : ℕ) (v : Value) (e : ValueSpec s at v) where
   pub array-here : (p n : ℕ) → v ≡ vv.Array p n → (p ≤ length s) × (valueView (drop at s) ≡ list (membersAt n (drop p s)))
   array-here p n g = let w : ValueAt 5 s at (vv.Array p n) = rw g at (e .says 5) in (w .rest .0, w .view)
 
@@ -123,16 +123,16 @@ module _ (s : List ℕ) (at : ℕ) (v : Value) (e : ValueSays s at v) where
       let w : ValueAt 6 s at (vv.Array p n) = rw g at (e .says 6) in
       w .rest .1
 
-  pub string-after : (p a : ℕ) → v ≡ vv.Bytes p a → GoesOn s (p + a) (afterValue (drop at s))
+  pub string-after : (p a : ℕ) → v ≡ vv.Bytes p a → EndsAt s (p + a) (afterValue (drop at s))
   string-after p a g =
       let w : ValueAt 6 s at (vv.Bytes p a) = rw g at (e .says 6) in
       record { rest = sym (ap restOf (w .rest .1)); inside = omega (arith, w .rest .0) }
 
-  pub no-array : OneOf (0 ∷ 1 ∷ 3 ∷ 4 ∷ []) (tagOf value.the-type v) → (p : Plain) × (valueView (drop at s) ≡ plain p)
+  pub no-array : OneOf (0 ∷ 1 ∷ 3 ∷ 4 ∷ []) (tagOf value.the-type v) → (p : Scalar) × (valueView (drop at s) ≡ scalar p)
   no-array o = go v (e .says 5) o
     where
       go : (v : Value) → ValueAt 5 s at v → OneOf (0 ∷ 1 ∷ 3 ∷ 4 ∷ []) (tagOf value.the-type v)
-          → (p : Plain) × (valueView (drop at s) ≡ plain p)
+          → (p : Scalar) × (valueView (drop at s) ≡ scalar p)
       go (vv.Number x p) w o = (number x, w .view)
       go (vv.Bytes p a) w o = (string (take a (drop p s)), w .view)
       go (vv.Array p a) w o =

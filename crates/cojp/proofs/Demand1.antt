@@ -5,9 +5,9 @@ use native.Mathlib.Omega.{arith}
 use Rattle.refusal.specs.Verdict.{verdictNumber}
 use Rattle.refusal.specs.declared.Refusal.{Refusal}
 use Rattle.refusal.specs.declared.Verdict.the-variants.{Refused}
-use Rattle.cojp.specs.Reading.{Reading, refused, read, onward}
+use Rattle.cojp.specs.Reading.{Reading, refused, read, bind}
 use Rattle.cojp.specs.Walk.{payloadReadBy}
-use Rattle.cojp.specs.Request.{emptyRequest, requestAnswer, requestForm, nothingGathered, settled}
+use Rattle.cojp.specs.Request.{emptyRequest, requestAnswer, requestForm, emptyRequestState, settled}
 use Rattle.cojp.specs.Configuration.{emptyConfiguration, configurationAnswer, configurationForm}
 use Rattle.cojp.specs.Laws.{ReadersDemand1}
 use Rattle.cojp.specs.declared.configuration.Configuration.{Configuration}
@@ -35,8 +35,8 @@ configuration-zero (read c) e = absurd (e refl)
 
 pub readers-demand1 : ReadersDemand1
 readers-demand1 = record {
-  request = (λ v head s k e. request-empty (onward (payloadReadBy (requestForm v) head nothingGathered s) (settled v)) k e);
+  request = (λ v head s k e. request-empty (bind (payloadReadBy (requestForm v) head emptyRequestState s) (settled v)) k e);
   configuration = (λ v head s k e. configuration-empty (payloadReadBy (configurationForm v) head emptyConfiguration s) k e);
-  request-number = (λ v head s e. request-zero (onward (payloadReadBy (requestForm v) head nothingGathered s) (settled v)) e);
+  request-number = (λ v head s e. request-zero (bind (payloadReadBy (requestForm v) head emptyRequestState s) (settled v)) e);
   configuration-number = (λ v head s e. configuration-zero (payloadReadBy (configurationForm v) head emptyConfiguration s) e);
 }

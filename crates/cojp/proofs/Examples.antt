@@ -11,25 +11,25 @@ use Rattle.cojp.specs.Address.{addressIn}
 use Rattle.cojp.specs.KeySet.{groups, identified, used, valued}
 use Rattle.cojp.specs.Walk.{payloadReadBy}
 use Rattle.cojp.specs.Parameter.{parameterOf, laterParameter}
-use Rattle.cojp.specs.Request.{roleJudged, requestStanding, requestTaking, owing}
+use Rattle.cojp.specs.Request.{roleJudged, requestLabelStatus, requestTaking, owing}
 use Rattle.cojp.specs.Configuration.{configurationTaking}
 use Rattle.cojp.specs.Examples.{MarkedExamples}
-use Rattle.cojp.specs.Faults.{added}
-use Rattle.cojp.specs.Lists.{stringsIn, faultsIn}
+use Rattle.cojp.specs.ErrorReports.{added}
+use Rattle.cojp.specs.Lists.{stringsIn, errorReportsIn}
 use Rattle.cojp.specs.PublishedExamples.{PublishedExamples}
 use Rattle.cojp.specs.Rate.{rateTaken}
 use Rattle.cbor.specs.Encode.{shortest, extraOf, bytesOf}
 
 pub marked : MarkedExamples
 unfolding payloadBy strictHeading isShort infoOf decodeBy heading argument next digits members pairs majorOf validKeys padded octetsJudged
-    isAddress addressIn groups identified used valued payloadReadBy roleJudged requestStanding requestTaking owing parameterOf laterParameter
+    isAddress addressIn groups identified used valued payloadReadBy roleJudged requestLabelStatus requestTaking owing parameterOf laterParameter
     configurationTaking
 marked =
     (refl, (refl, (refl, (refl, (refl, (refl, (refl, (refl, (refl, (refl, (refl, (refl, (refl, (refl, (refl, tt)))))))))))))))
 
 pub published : PublishedExamples
 unfolding payloadBy infoOf decodeBy heading argument next digits members pairs majorOf validKeys padded octetsJudged isAddress addressIn
-    groups identified used valued payloadReadBy roleJudged requestStanding requestTaking owing parameterOf laterParameter configurationTaking
-    validKey added stringsIn faultsIn rateTaken shortest extraOf bytesOf
+    groups identified used valued payloadReadBy roleJudged requestLabelStatus requestTaking owing parameterOf laterParameter configurationTaking
+    validKey added stringsIn errorReportsIn rateTaken shortest extraOf bytesOf
 published =
     (refl, (refl, (refl, (refl, (refl, (refl, (refl, (refl, (refl, (refl, (refl, (refl, (refl, (refl, (refl, (refl, (refl, (refl, (refl, (refl, (refl, tt)))))))))))))))))))))

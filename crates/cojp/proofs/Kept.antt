@@ -14,25 +14,25 @@ use Rattle.cbor.specs.Decode.{decode, got}
 use Rattle.cbor.specs.Encode.{encode, encodes, shortest}
 use Rattle.cbor.specs.Item.{Fit, depth}
 use Rattle.cbor.specs.Laws.{ItemLaws}
-use Rattle.cbor.specs.View.{Plain, number, minus, string, other, View, plain, list, plainOf, plainAt, andOn}
+use Rattle.cbor.specs.View.{Scalar, number, minus, string, other, View, scalar, list, scalarOf, scalarAt, andOn}
 use Rattle.cojp.specs.Bytes.{membersAt}
-use Rattle.cojp.specs.Lists.{Picked, nothing, picked, before, plainItem, itemsOf, written, stringsIn, fitting, inArray, listOf, listAnswer}
+use Rattle.cojp.specs.Lists.{Picked, nothing, picked, before, scalarItem, itemsOf, written, stringsIn, fitting, inArray, listOf, listAnswer}
 use Rattle.cojp.specs.Lists.{bytesIn, sameAs, kept, listTaken, blacklistTaken}
 use Rattle.cojp.specs.Octets.{padded}
 use Rattle.cojp.specs.Writing.{listInRange}
 
 -- ---- members that a head can hold
-abbrev pub Small : List Plain → Type 0
+abbrev pub Small : List Scalar → Type 0
 Small [] = Unit {0}
-Small (p ∷ ps) = Fit (plainItem p) × Small ps
+Small (p ∷ ps) = Fit (scalarItem p) × Small ps
 
-plain-back : (p : Plain) → plainOf (plainItem p) ≡ p
+plain-back : (p : Scalar) → scalarOf (scalarItem p) ≡ p
 plain-back (number n) = refl
 plain-back (minus n) = refl
 plain-back (string s) = refl
 plain-back other = refl
 
-shallow : (p : Plain) → depth (plainItem p) ≤ 6
+shallow : (p : Scalar) → depth (scalarItem p) ≤ 6
 shallow (number n) = omega arith
 shallow (minus n) = omega arith
 shallow (string s) = omega arith
@@ -40,16 +40,16 @@ shallow other = omega arith
 
 module _ (laws : ItemLaws) where
   -- what is written of them reads back
-  pub members-back : (ps : List Plain) → Small ps → membersAt (length ps) (written ps) ≡ ps
+  pub members-back : (ps : List Scalar) → Small ps → membersAt (length ps) (written ps) ≡ ps
   members-back [] h = refl
   members-back (p ∷ ps) h =
-      let l = encode (plainItem p) ++ encodes (itemsOf ps) in
-      let got-it = laws .round-trip (plainItem p) 6 (encodes (itemsOf ps)) (shallow p) (h .0) in
-      let here = laws .item-plain 5 l (plainItem p) (encodes (itemsOf ps)) got-it ∙ plain-back p in
+      let l = encode (scalarItem p) ++ encodes (itemsOf ps) in
+      let got-it = laws .round-trip (scalarItem p) 6 (encodes (itemsOf ps)) (shallow p) (h .0) in
+      let here = laws .item-plain 5 l (scalarItem p) (encodes (itemsOf ps)) got-it ∙ plain-back p in
       rw (got-it, here, members-back ps (h .1))
 
   -- so a list of them is kept, if they are what would be picked of them and have room
-  pub listed-kept : (f : List Plain → Picked) (ps : List Plain) → Small ps → f ps ≡ picked ps → length (written ps) ≤ 253 → kept f (listOf ps) ≡ true
+  pub listed-kept : (f : List Scalar → Picked) (ps : List Scalar) → Small ps → f ps ≡ picked ps → length (written ps) ≤ 253 → kept f (listOf ps) ≡ true
   unfolding kept sameAs padded
   listed-kept f ps h e r =
       let w = written ps in
@@ -58,7 +58,7 @@ module _ (laws : ItemLaws) where
 
 -- ---- byte strings
 -- picked ones are byte strings, and would be picked again
-pub record Strings (ps : List Plain) : Type 0 where
+pub record Strings (ps : List Scalar) : Type 0 where
   pub again : stringsIn ps ≡ picked ps
   pub small : length (written ps) ≤ 253 → Small ps
 
@@ -72,12 +72,12 @@ one-more s nothing h = tt
 one-more s (picked ps) h = record {
   again = rw (h .again);
   small = λ r.
-      let parts = length-append (encode (plainItem (string s))) (written ps) in
+      let parts = length-append (encode (scalarItem (string s))) (written ps) in
       let text = length-append (shortest 2 (length s)) s in
       (omega (arith, r, parts, text), h .small (omega (arith, r, parts)));
 }
 
-strings-picked : (ms : List Plain) → Stringy (stringsIn ms)
+strings-picked : (ms : List Scalar) → Stringy (stringsIn ms)
 unfolding stringsIn
 strings-picked [] = record { again = refl; small = λ r. tt }
 strings-picked (number n ∷ r) = tt
@@ -87,10 +87,10 @@ strings-picked (other ∷ r) = tt
 
 -- ---- a blacklist that is taken is in range
 pub blacklist-good : ItemLaws → (x : View) → listInRange stringsIn (blacklistTaken x) ≡ true
-blacklist-good laws (plain p) = refl
+blacklist-good laws (scalar p) = refl
 blacklist-good laws (list ms) = go (stringsIn ms) (strings-picked ms)
   where
-    by : (ps : List Plain) → Strings ps → (b : Bool) → leb (length (written ps)) 253 ≡ b
+    by : (ps : List Scalar) → Strings ps → (b : Bool) → leb (length (written ps)) 253 ≡ b
         → listInRange stringsIn (listTaken (listAnswer (cond b (picked ps) nothing))) ≡ true
     by ps h false e = refl
     by ps h true e =

@@ -7,7 +7,7 @@ use lib.ListN.{length, length-drop}
 use Rattle.refusal.specs.declared.Verdict.{Verdict}
 use Rattle.refusal.specs.declared.Verdict.the-variants as verdict
 use Rattle.cojp.specs.Address.{addressAnswer}
-use Rattle.cojp.specs.Bytes.{GoesOn, OnePlace}
+use Rattle.cojp.specs.Bytes.{EndsAt, EndUnique}
 use Rattle.cojp.specs.KeySet.{keysAnswer}
 use Rattle.cojp.specs.Octets.{octetsAnswer}
 use Rattle.cojp.specs.Reading.{Reading, refused, read, Accepting}
@@ -23,12 +23,12 @@ accepting-on verdict.Accepted f p = f p
 accepting-on (verdict.Refused k) f p = tt
 
 -- a place in s is told by how many bytes are left there
-pub one-place : OnePlace
+pub one-place : EndUnique
 one-place s left m n a b =
     omega (arith, a .inside, b .inside, length-drop m s, length-drop n s, ap length (a .rest ∙ sym (b .rest)))
 
 -- the same place, what is left there being said otherwise
-pub on-with : {s t u : List ℕ} {n : ℕ} → t ≡ u → GoesOn s n t → GoesOn s n u
+pub on-with : {s t u : List ℕ} {n : ℕ} → t ≡ u → EndsAt s n t → EndsAt s n u
 on-with e g = record { rest = g .rest ∙ e; inside = g .inside }
 
 module _ (r : OctetsRead) (x : Reading OctetsParameter) (n : ℕ) (e : r ≡ octetsAnswer x n) where
@@ -39,15 +39,15 @@ module _ (r : OctetsRead) (x : Reading OctetsParameter) (n : ℕ) (e : r ≡ oct
       go (refused k) e = e
       go (read p) e = e ∙ ap (octetsAnswer (read p)) (sym (ap (λ (q : OctetsRead). q .next) e))
 
-  octets-rest : (s t : List ℕ) → GoesOn s n t → Accepting (r .verdict) (GoesOn s (r .next) t)
+  octets-rest : (s t : List ℕ) → EndsAt s n t → Accepting (r .verdict) (EndsAt s (r .next) t)
   octets-rest s t f = rw e (go x)
     where
-      go : (x : Reading OctetsParameter) → Accepting (octetsAnswer x n .verdict) (GoesOn s (octetsAnswer x n .next) t)
+      go : (x : Reading OctetsParameter) → Accepting (octetsAnswer x n .verdict) (EndsAt s (octetsAnswer x n .next) t)
       go (refused k) = tt
       go (read p) = f
 
-  pub octets-told : (y : Reading OctetsParameter) → x ≡ y → (s t : List ℕ) → GoesOn s n t
-      → (r ≡ octetsAnswer y (r .next)) × Accepting (r .verdict) (GoesOn s (r .next) t)
+  pub octets-told : (y : Reading OctetsParameter) → x ≡ y → (s t : List ℕ) → EndsAt s n t
+      → (r ≡ octetsAnswer y (r .next)) × Accepting (r .verdict) (EndsAt s (r .next) t)
   octets-told y f s t g = (octets-settled y f, octets-rest s t g)
 
 module _ (r : AddressRead) (x : Reading AddressParameter) (n : ℕ) (e : r ≡ addressAnswer x n) where
@@ -58,15 +58,15 @@ module _ (r : AddressRead) (x : Reading AddressParameter) (n : ℕ) (e : r ≡ a
       go (refused k) e = e
       go (read p) e = e ∙ ap (addressAnswer (read p)) (sym (ap (λ (q : AddressRead). q .next) e))
 
-  address-rest : (s t : List ℕ) → GoesOn s n t → Accepting (r .verdict) (GoesOn s (r .next) t)
+  address-rest : (s t : List ℕ) → EndsAt s n t → Accepting (r .verdict) (EndsAt s (r .next) t)
   address-rest s t f = rw e (go x)
     where
-      go : (x : Reading AddressParameter) → Accepting (addressAnswer x n .verdict) (GoesOn s (addressAnswer x n .next) t)
+      go : (x : Reading AddressParameter) → Accepting (addressAnswer x n .verdict) (EndsAt s (addressAnswer x n .next) t)
       go (refused k) = tt
       go (read p) = f
 
-  pub address-told : (y : Reading AddressParameter) → x ≡ y → (s t : List ℕ) → GoesOn s n t
-      → (r ≡ addressAnswer y (r .next)) × Accepting (r .verdict) (GoesOn s (r .next) t)
+  pub address-told : (y : Reading AddressParameter) → x ≡ y → (s t : List ℕ) → EndsAt s n t
+      → (r ≡ addressAnswer y (r .next)) × Accepting (r .verdict) (EndsAt s (r .next) t)
   address-told y f s t g = (address-settled y f, address-rest s t g)
 
 module _ (r : KeysRead) (x : Reading KeysParameter) (n : ℕ) (e : r ≡ keysAnswer x n) where

@@ -8,14 +8,14 @@ use lib.ListN.{drop}
 use types.Run.{OneOf}
 use denote.Enum.Declared.{tagOf}
 use Rattle.cbor.proofs.value.Value as value
-use Rattle.cbor.specs.View.{ValueAt, ValueSays}
+use Rattle.cbor.specs.View.{ValueAt, ValueSpec}
 use Rattle.cbor.specs.declared.value.Value.{Value}
 use Rattle.cbor.specs.declared.value.Value.the-variants as vv
 use Rattle.cojp.specs.Bytes.{valueView}
 use Rattle.cojp.specs.Rate.{rateParameter, noRateParameter, rateTaken}
-use Rattle.cojp.specs.declared.report.Report.the-variants.{Taken, Discarded}
+use Rattle.cojp.specs.declared.disposition.Disposition.the-variants.{Taken, Discarded}
 
-module _ (s : List ℕ) (at : ℕ) (v : Value) (e : ValueSays s at v) where
+module _ (s : List ℕ) (at : ℕ) (v : Value) (e : ValueSpec s at v) where
   pub rate-number : (n p : ℕ) → v ≡ vv.Number n p → rateParameter Taken n ≡ rateTaken (valueView (drop at s))
   unfolding rateTaken
   rate-number n p g = let here : ValueAt 5 s at (vv.Number n p) = rw g at (e .says 5) in rw (here .view)

@@ -24,23 +24,23 @@ use Rattle.cojp.specs.Configuration.{configurationTaking, configurationF
 use Rattle.cojp.specs.KeySet.{keysParameter, noKeysParameter, keysJudgedAs, keysReadAs}
 use Rattle.cojp.specs.Laws.{StrictReaders, meetsLonger}
 use Rattle.cojp.specs.Octets.{octetsParameter, noOctetsParameter, octetsJudged, octetsRead}
-use Rattle.cojp.specs.Reading.{Reading, refused, read, onward, put, Judgement, broken, unfit, good, concluded, following}
-use Rattle.cojp.specs.Request.{nothingGathered, withRole, withNetwork as withIdentifier, roleJudged, roleConcluded, roleGathered}
+use Rattle.cojp.specs.Reading.{Reading, refused, read, bind, mapReading, Judgement, broken, unfit, good, concluded, byVersionOf}
+use Rattle.cojp.specs.Request.{emptyRequestState, withRole, withNetwork as withIdentifier, roleJudged, roleConcluded, roleGathered}
 use Rattle.cojp.specs.Request.{requestTaking, requestForm, requestAnswer, owing, settled}
 use Rattle.cojp.specs.Parameter.{parameterOf}
-use Rattle.cojp.specs.Version.{informed}
+use Rattle.cojp.specs.Version.{allowsAdditionalInfo}
 use Rattle.cojp.specs.Walk.{Form, knownRead, pairRead, pairsRead, mapRead, scannedRead, payloadRead, payloadReadBy}
 use Rattle.cojp.specs.declared.configuration.Configuration.{Configuration}
 use Rattle.cojp.specs.declared.parameter.Parameter.{Parameter}
 use Rattle.cojp.specs.declared.parameter.Parameter.the-variants as name
-use Rattle.cojp.specs.declared.report.Report.the-variants.{Taken, Discarded}
-use Rattle.cojp.specs.declared.request.Gathered.{Gathered}
+use Rattle.cojp.specs.declared.disposition.Disposition.the-variants.{Taken, Discarded}
+use Rattle.cojp.specs.declared.request.RequestState.{RequestState}
 use Rattle.cojp.specs.declared.request.JoinRequest.{JoinRequest}
 use Rattle.cojp.specs.declared.request.RequestRead.{RequestRead}
 use Rattle.cojp.specs.declared.version.Version.{Version}
 use Rattle.cojp.specs.declared.version.Version.the-variants.{Draft, Published}
-use Rattle.cojp.specs.declared.walk.Standing.{Standing}
-use Rattle.cojp.specs.declared.walk.Standing.the-variants.{Unknown, Fresh, Again}
+use Rattle.cojp.specs.declared.walk.LabelStatus.{LabelStatus}
+use Rattle.cojp.specs.declared.walk.LabelStatus.the-variants.{Unknown, First, Repeated}
 
 -- an answer to LOOSE or to what the ordinary reading says
 answers : {A B : Type 0} (f : A → B) (c : Bool) (x y : A) → f (cond c x y) ≡ cond c (f x) (f y)
@@ -67,11 +67,11 @@ Firm (read a) = Unit {0}
 another : (k : Refusal) → numberOf k ≤ 16 → k ≡ Loose → ⊥
 another k h e = let l : numberOf Loose ≤ 16 = rw e at h in omega (arith, l)
 
-firm-onward : {A B : Type 0} (r : Reading A) (f : A → Reading B) → Firm r → ((a : A) → Firm (f a)) → Firm (onward r f)
+firm-onward : {A B : Type 0} (r : Reading A) (f : A → Reading B) → Firm r → ((a : A) → Firm (f a)) → Firm (bind r f)
 firm-onward (refused k) f h g = h
 firm-onward (read a) f h g = g a
 
-firm-put : {A B : Type 0} (f : A → B) (r : Reading A) → Firm r → Firm (put f r)
+firm-put : {A B : Type 0} (f : A → B) (r : Reading A) → Firm r → Firm (mapReading f r)
 firm-put f (refused k) h = h
 firm-put f (read a) h = tt
 
@@ -85,10 +85,10 @@ firm-concluded o take unfit h = h
 firm-concluded o take (good a) h = tt
 
 module _ {S : Type 0} (F : Form S) (taking : (s : S) (n : ℕ) (v : View) → Firm (F .taking s n v)) where
-  known-firm : (t : Standing) (s : S) (n : ℕ) (v : View) → Firm (knownRead F t s n v)
+  known-firm : (t : LabelStatus) (s : S) (n : ℕ) (v : View) → Firm (knownRead F t s n v)
   known-firm Unknown s n v = tt
-  known-firm Fresh s n v = taking s n v
-  known-firm Again s n v = another Twice (omega arith)
+  known-firm First s n v = taking s n v
+  known-firm Repeated s n v = another Twice (omega arith)
 
   pair-firm : (s : S) (l : Label) (v : View) → Firm (pairRead F s l v)
   pair-firm s label.NoInteger v = another «Type» (omega arith)
@@ -123,38 +123,38 @@ module _ {S : Type 0} (F : Form S) (taking : (s : S) (n : ℕ) (v : View) → Fi
 octets-firm : (least : ℕ) (v : View) → Firm (octetsRead least v)
 octets-firm least v = firm-concluded (read (noOctetsParameter Discarded)) (octetsParameter Taken) (octetsJudged least v) tt
 
-following-firm : {P : Type 0} (v : Version) (bad : P) (r : Reading P) → Firm r → Firm (following v bad r)
+following-firm : {P : Type 0} (v : Version) (bad : P) (r : Reading P) → Firm r → Firm (byVersionOf v bad r)
 following-firm Draft bad r h = h
 following-firm Published bad r h = tt
 
-role-firm : (v : Version) (g : Gathered) (j : Judgement ℕ) → Firm (roleGathered v g j)
+role-firm : (v : Version) (g : RequestState) (j : Judgement ℕ) → Firm (roleGathered v g j)
 role-firm Draft g j = firm-put (withRole g) (roleConcluded j) (firm-concluded (refused Role) (λ n. n) j (another Role (omega arith)))
 role-firm Published g broken = tt
 role-firm Published g unfit = tt
 role-firm Published g (good n) = tt
 
-request-taking : (v : Version) (g : Gathered) (n : ℕ) (x : View) → Firm (requestTaking v g n x)
+request-taking : (v : Version) (g : RequestState) (n : ℕ) (x : View) → Firm (requestTaking v g n x)
 unfolding requestTaking
 request-taking v g n x =
     let none = noOctetsParameter Discarded in
     firm-cond (eqb n 1) _ _ (role-firm v g (roleJudged x))
     (firm-cond (eqb n 5) _ _
-    (firm-put (withIdentifier g) (following v none (octetsRead 0 x)) (following-firm v none (octetsRead 0 x) (octets-firm 0 x))) tt)
+    (firm-put (withIdentifier g) (byVersionOf v none (octetsRead 0 x)) (following-firm v none (octetsRead 0 x) (octets-firm 0 x))) tt)
 
 parameter-firm : (v : Version) (c : Configuration) (p : Parameter) (x : View) → Firm (takingFor v c p x)
 parameter-firm v c name.Keys x =
     let none = noKeysParameter Discarded in
-    let r = keysReadAs (informed v) x in
-    firm-put (withKeys c) (following v none r)
-    (following-firm v none r (firm-concluded (refused Keys) (keysParameter Taken) (keysJudgedAs (informed v) x) (another Keys (omega arith))))
+    let r = keysReadAs (allowsAdditionalInfo v) x in
+    firm-put (withKeys c) (byVersionOf v none r)
+    (following-firm v none r (firm-concluded (refused Keys) (keysParameter Taken) (keysJudgedAs (allowsAdditionalInfo v) x) (another Keys (omega arith))))
 parameter-firm v c name.Address x =
     let none = noAddressParameter Discarded in
     let r = addressRead x in
-    firm-put (withAddress c) (following v none r)
+    firm-put (withAddress c) (byVersionOf v none r)
     (following-firm v none r (firm-concluded (read none) (addressParameter Taken) (addressJudged x) tt))
 parameter-firm v c name.Jrc x =
     let none = noOctetsParameter Discarded in
-    firm-put (withJrc c) (following v none (octetsRead 16 x)) (following-firm v none (octetsRead 16 x) (octets-firm 16 x))
+    firm-put (withJrc c) (byVersionOf v none (octetsRead 16 x)) (following-firm v none (octetsRead 16 x) (octets-firm 16 x))
 parameter-firm v c name.Network x = firm-put (withNetwork c) (octetsRead 0 x) (octets-firm 0 x)
 parameter-firm v c name.Prefix x = firm-put (withPrefix c) (octetsRead 0 x) (octets-firm 0 x)
 parameter-firm v c name.Blacklist x = tt
@@ -174,27 +174,27 @@ configuration-never : (r : Reading Configuration) → Firm r → configurationAn
 configuration-never (refused k) h e = h cc
 configuration-never (read c) h e = let z : _≡_ {A = ℕ} 0 1 = cc in omega arith
 
-settled-firm : (v : Version) (g : Gathered) → Firm (settled v g)
+settled-firm : (v : Version) (g : RequestState) → Firm (settled v g)
 settled-firm v g =
-    firm-cond (owing v (g .request .role) (g .request .network .report)) (refused Owed) (read (g .request)) (another Owed (omega arith)) tt
+    firm-cond (owing v (g .request .role) (g .request .network .disposition)) (refused Owed) (read (g .request)) (another Owed (omega arith)) tt
 
 -- the answer to a request after its last pair
-answered : Version → Reading Gathered → RequestRead
-answered v x = requestAnswer (onward x (settled v))
+answered : Version → Reading RequestState → RequestRead
+answered v x = requestAnswer (bind x (settled v))
 
 pub strict-readers : ItemLaws → StrictReaders
 unfolding answered
 strict-readers laws = record {
   request = λ v s.
-      ap (answered v) (payload-strict laws (requestForm v) nothingGathered s)
-      ∙ answers (answered v) (meetsLonger s) (refused Loose) (payloadRead (requestForm v) nothingGathered s);
+      ap (answered v) (payload-strict laws (requestForm v) emptyRequestState s)
+      ∙ answers (answered v) (meetsLonger s) (refused Loose) (payloadRead (requestForm v) emptyRequestState s);
   configuration = λ v s.
       ap configurationAnswer (payload-strict laws (configurationForm v) emptyConfiguration s)
       ∙ answers configurationAnswer (meetsLonger s) (refused Loose) (payloadRead (configurationForm v) emptyConfiguration s);
   ordinary-request = λ v s.
-      let r = payloadRead (requestForm v) nothingGathered s in
-      request-never (onward r (settled v))
-      (firm-onward r (settled v) (payload-firm (requestForm v) (request-taking v) laws nothingGathered s) (settled-firm v));
+      let r = payloadRead (requestForm v) emptyRequestState s in
+      request-never (bind r (settled v))
+      (firm-onward r (settled v) (payload-firm (requestForm v) (request-taking v) laws emptyRequestState s) (settled-firm v));
   ordinary-configuration = λ v s.
       configuration-never (payloadRead (configurationForm v) emptyConfiguration s)
       (payload-firm (configurationForm v) (configuration-taking v) laws emptyConfiguration s);

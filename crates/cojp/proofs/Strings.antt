@@ -11,7 +11,7 @@ use borrow.Author.Tests.{le-leb, lt-leb}
 use types.Run.{OneOf}
 use denote.Enum.Declared.{tagOf}
 use Rattle.refusal.specs.declared.Refusal.the-variants as refusal
-use Rattle.cbor.specs.View.{ValueAt, ValueSays}
+use Rattle.cbor.specs.View.{ValueAt, ValueSpec}
 use Rattle.cbor.specs.declared.value.Value.{Value}
 use Rattle.cbor.specs.declared.value.Value.the-variants as vv
 use Rattle.cbor.proofs.value.Value as value
@@ -19,7 +19,7 @@ use Rattle.cojp.specs.Bytes.{valueView}
 use Rattle.cojp.specs.Octets.{padded, copiedFrom, octetsParameter, noOctetsParameter, octetsJudged, octetsRead}
 use Rattle.cojp.specs.Reading.{Reading, refused, read}
 use Rattle.cojp.specs.declared.octets.OctetsParameter.{OctetsParameter}
-use Rattle.cojp.specs.declared.report.Report.the-variants.{Taken, Discarded}
+use Rattle.cojp.specs.declared.disposition.Disposition.the-variants.{Taken, Discarded}
 
 -- ---- copying
 pub pad-none : (s : List ℕ) (at : ℕ) → replicate 16 0 ≡ padded 16 (take 0 (drop at s))
@@ -59,7 +59,7 @@ pub pad-end : (s : List ℕ) (at n i : ℕ) (out : List ℕ) → out ≡ padded 
 pad-end s at n i out e f l h = sym (copied-inside s at n l h ∙ rw (← f) (sym e))
 
 -- ---- the returns of `read_octets`
-module _ (s : List ℕ) (at least : ℕ) (v : Value) (e : ValueSays s at v) where
+module _ (s : List ℕ) (at least : ℕ) (v : Value) (e : ValueSpec s at v) where
   module _ (p a : ℕ) (g : v ≡ vv.Bytes p a) where
     string-here : ValueAt 5 s at (vv.Bytes p a)
     string-here = rw g at (e .says 5)

@@ -13,10 +13,10 @@ use Rattle.cbor.specs.Item.{Item, Pairs, unsigned, negative, bytes, text, array
 use Rattle.cbor.specs.View.{View, labelOf, viewOf}
 use Rattle.cbor.specs.declared.value.Label.{Label}
 use Rattle.cbor.specs.declared.value.Label.the-variants as label
-use Rattle.cojp.specs.Reading.{Reading, refused, read, onward}
+use Rattle.cojp.specs.Reading.{Reading, refused, read, bind}
 use Rattle.cojp.specs.Walk.{Form, knownRead, pairRead, pairsRead, mapRead, scannedRead, payloadReadBy}
-use Rattle.cojp.specs.declared.walk.Standing.{Standing}
-use Rattle.cojp.specs.declared.walk.Standing.the-variants.{Unknown, Fresh, Again}
+use Rattle.cojp.specs.declared.walk.LabelStatus.{LabelStatus}
+use Rattle.cojp.specs.declared.walk.LabelStatus.the-variants.{Unknown, First, Repeated}
 
 -- P holds of what was read, where it was not refused
 abbrev pub Gives : {S : Type 0} → (S → Type 0) → Reading S → Type 0
@@ -24,18 +24,18 @@ Gives P (refused k) = Unit {0}
 Gives P (read s) = P s
 
 module _ {S : Type 0} (F : Form S) (P : S → Type 0) (passing : (s : S) → P s → P (F .passing s))
-    (taking : (s : S) → P s → (n : ℕ) → F .standing s n ≡ Fresh → (v : View) → Gives P (F .taking s n v)) where
-  known-gives : (s : S) → P s → (x : Standing) (n : ℕ) → F .standing s n ≡ x → (v : View) → Gives P (knownRead F x s n v)
+    (taking : (s : S) → P s → (n : ℕ) → F .standing s n ≡ First → (v : View) → Gives P (F .taking s n v)) where
+  known-gives : (s : S) → P s → (x : LabelStatus) (n : ℕ) → F .standing s n ≡ x → (v : View) → Gives P (knownRead F x s n v)
   known-gives s h Unknown n e v = passing s h
-  known-gives s h Fresh n e v = taking s h n e v
-  known-gives s h Again n e v = tt
+  known-gives s h First n e v = taking s h n e v
+  known-gives s h Repeated n e v = tt
 
   pair-gives : (s : S) → P s → (l : Label) (v : View) → Gives P (pairRead F s l v)
   pair-gives s h label.NoInteger v = tt
   pair-gives s h label.Negative v = passing s h
   pair-gives s h (label.Number n) v = known-gives s h (F .standing s n) n refl v
 
-  onward-gives : (r : Reading S) (f : S → Reading S) → Gives P r → ((s : S) → P s → Gives P (f s)) → Gives P (onward r f)
+  onward-gives : (r : Reading S) (f : S → Reading S) → Gives P r → ((s : S) → P s → Gives P (f s)) → Gives P (bind r f)
   onward-gives (refused k) f p g = tt
   onward-gives (read s) f p g = g s p
 

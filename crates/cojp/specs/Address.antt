@@ -4,14 +4,14 @@ use mathlib.Core.Bool.{Bool, true, false, cond}
 use mathlib.Core.List.{List, [], _∷_}
 use lib.ListN.{replicate}
 use Rattle.short_address.specs.Address.{isAddress}
-use Rattle.cbor.specs.View.{Plain, number, minus, string, other, View, plain, list}
+use Rattle.cbor.specs.View.{Scalar, number, minus, string, other, View, scalar, list}
 use Rattle.refusal.specs.declared.Verdict.the-variants as verdict
 use Rattle.cojp.specs.declared.address.AddressRead.{AddressRead}
 use Rattle.cojp.specs.Reading.{Reading, refused, read, Judgement, broken, unfit, good, concluded}
 use Rattle.cojp.specs.declared.address.ShortAddress.{ShortAddress}
 use Rattle.cojp.specs.declared.address.AddressParameter.{AddressParameter}
-use Rattle.cojp.specs.declared.report.Report.{Report}
-use Rattle.cojp.specs.declared.report.Report.the-variants.{Absent, Taken, Discarded}
+use Rattle.cojp.specs.declared.disposition.Disposition.{Disposition}
+use Rattle.cojp.specs.declared.disposition.Disposition.the-variants.{Absent, Taken, Discarded}
 
 abbrev pub addressOf : List ℕ → Bool → ℕ → ShortAddress
 addressOf s leased lease = record { bytes = s; leased = leased; lease = lease }
@@ -20,10 +20,10 @@ abbrev pub noAddress : ShortAddress
 noAddress = addressOf (replicate 2 0) false 0
 
 -- ---- the parameter
-abbrev pub addressParameter : Report → ShortAddress → AddressParameter
-addressParameter r a = record { report = r; value = a }
+abbrev pub addressParameter : Disposition → ShortAddress → AddressParameter
+addressParameter r a = record { disposition = r; value = a }
 
-abbrev pub noAddressParameter : Report → AddressParameter
+abbrev pub noAddressParameter : Disposition → AddressParameter
 noAddressParameter r = addressParameter r noAddress
 
 -- ---- reading
@@ -31,7 +31,7 @@ abbrev pub addressBy : List ℕ → Bool → ℕ → Judgement ShortAddress
 addressBy s leased lease = cond (isAddress s) (good (addressOf s leased lease)) unfit
 
 -- an absent lease means no end
-unfoldable pub addressIn : List Plain → Judgement ShortAddress
+unfoldable pub addressIn : List Scalar → Judgement ShortAddress
 addressIn [] = broken
 addressIn (number n ∷ r) = broken
 addressIn (minus n ∷ r) = broken
@@ -44,7 +44,7 @@ addressIn (string s ∷ minus n ∷ r) = broken
 addressIn (string s ∷ other ∷ r) = broken
 
 abbrev pub addressJudged : View → Judgement ShortAddress
-addressJudged (plain p) = broken
+addressJudged (scalar p) = broken
 addressJudged (list ps) = addressIn ps
 
 -- one that is no address is discarded

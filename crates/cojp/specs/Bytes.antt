@@ -7,7 +7,7 @@ use mathlib.Core.List.{List, [], _∷_}
 use lib.Dec.{eqb}
 use lib.ListN.{length, take, drop}
 use Rattle.cbor.specs.Decode.{heading}
-use Rattle.cbor.specs.View.{Plain, number, minus, string, other, View, viewAt, plainsAt, afterItem, afterItems, valueAnswer}
+use Rattle.cbor.specs.View.{Scalar, number, minus, string, other, View, viewAt, scalarsAt, afterItem, afterItems, valueAnswer}
 use Rattle.cbor.specs.declared.value.Value.{Value}
 use Rattle.cbor.specs.declared.value.Value.the-variants as vv
 use Rattle.cojp.specs.declared.members.Member.{Member}
@@ -18,8 +18,8 @@ abbrev pub valueView : List ℕ → View
 valueView l = viewAt 6 l
 
 -- ---- the members of an array
-abbrev pub membersAt : ℕ → List ℕ → List Plain
-membersAt n l = plainsAt 6 n l
+abbrev pub membersAt : ℕ → List ℕ → List Scalar
+membersAt n l = scalarsAt 6 n l
 
 -- what is left after a value, and after n members of an array
 abbrev pub afterValue : List ℕ → List ℕ
@@ -29,16 +29,16 @@ abbrev pub afterMembers : ℕ → List ℕ → List ℕ
 afterMembers n l = afterItems 6 n l
 
 -- at which place s goes on with what is left: in s, or its end
-pub record GoesOn (s : List ℕ) (next : ℕ) (left : List ℕ) : Type 0 where
+pub record EndsAt (s : List ℕ) (next : ℕ) (left : List ℕ) : Type 0 where
   pub rest : drop next s ≡ left
   pub inside : next ≤ length s
 
 -- there is no other such place, also where nothing is left
-abbrev pub OnePlace : Type 0
-OnePlace = (s left : List ℕ) (m n : ℕ) → GoesOn s m left → GoesOn s n left → m ≡ n
+abbrev pub EndUnique : Type 0
+EndUnique = (s left : List ℕ) (m n : ℕ) → EndsAt s m left → EndsAt s n left → m ≡ n
 
 -- the bytes of a string, and the n members that follow it
-abbrev pub stringAnd : List ℕ → ℕ → ℕ → ℕ → List Plain
+abbrev pub stringAnd : List ℕ → ℕ → ℕ → ℕ → List Scalar
 stringAnd s start len n = string (take len (drop start s)) ∷ membersAt n (drop (start + len) s)
 
 -- a value as a member: an array is neither a number nor a byte string
@@ -55,7 +55,7 @@ memberAnswer s at n = cond (eqb n 0) mv.Neither (memberOf (valueAnswer (length s
 
 -- ---- what that answer says of the members and of the bytes after them
 -- neither an unsigned number nor a byte string comes next
-abbrev pub Neither : List Plain → Type 0
+abbrev pub Neither : List Scalar → Type 0
 Neither [] = Unit {0}
 Neither (number n ∷ ps) = ⊥
 Neither (string s ∷ ps) = ⊥
@@ -73,7 +73,7 @@ MemberRest s at n (mv.Number x p) = (p ≤ length s) × (afterMembers n (drop at
 MemberRest s at n (mv.Bytes p a) = afterMembers n (drop at s) ≡ afterMembers (n - 1) (drop (p + a) s)
 MemberRest s at n mv.Neither = Unit {0}
 
-pub record MemberSays (s : List ℕ) (at n : ℕ) (r : Member) : Type 0 where
+pub record MemberSpec (s : List ℕ) (at n : ℕ) (r : Member) : Type 0 where
   pub is : r ≡ memberAnswer s at n
   pub here : MemberAt s at n r
   pub rest : MemberRest s at n r

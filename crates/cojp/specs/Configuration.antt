@@ -7,31 +7,31 @@ use Rattle.refusal.specs.declared.Verdict.the-variants as verdict
 use Rattle.cbor.specs.Decode.{Outcome, Heading, heading}
 use Rattle.cbor.specs.Strict.{strictHeading}
 use Rattle.cbor.specs.View.{View}
-use Rattle.cojp.specs.Version.{byVersion, informed}
-use Rattle.cojp.specs.Reading.{Reading, refused, read, put, following}
+use Rattle.cojp.specs.Version.{byVersion, allowsAdditionalInfo}
+use Rattle.cojp.specs.Reading.{Reading, refused, read, mapReading, byVersionOf}
 use Rattle.cojp.specs.Octets.{noOctetsParameter, octetsRead}
 use Rattle.cojp.specs.Address.{noAddressParameter, addressRead}
-use Rattle.cojp.specs.Faults.{noFaults, added}
+use Rattle.cojp.specs.ErrorReports.{noErrorReports, added}
 use Rattle.cojp.specs.KeySet.{noKeysParameter, keysReadAs}
 use Rattle.cojp.specs.Lists.{noListParameter, blacklistTaken}
 use Rattle.cojp.specs.Parameter.{parameterOf}
 use Rattle.cojp.specs.Rate.{noRateParameter, rateTaken}
-use Rattle.cojp.specs.Walk.{Form, standingOf, payloadReadBy}
+use Rattle.cojp.specs.Walk.{Form, labelStatusOf, payloadReadBy}
 use Rattle.cojp.specs.declared.address.AddressParameter.{AddressParameter}
 use Rattle.cojp.specs.declared.configuration.Configuration.{Configuration}
 use Rattle.cojp.specs.declared.configuration.ConfigurationRead.{ConfigurationRead}
-use Rattle.cojp.specs.declared.fault.Faults.{Faults}
+use Rattle.cojp.specs.declared.error_report.ErrorReports.{ErrorReports}
 use Rattle.cojp.specs.declared.key_set.KeysParameter.{KeysParameter}
 use Rattle.cojp.specs.declared.list.ListParameter.{ListParameter}
 use Rattle.cojp.specs.declared.octets.OctetsParameter.{OctetsParameter}
 use Rattle.cojp.specs.declared.parameter.Parameter.{Parameter}
 use Rattle.cojp.specs.declared.parameter.Parameter.the-variants as name
 use Rattle.cojp.specs.declared.rate.RateParameter.{RateParameter}
-use Rattle.cojp.specs.declared.report.Report.the-variants.{Absent, Discarded}
+use Rattle.cojp.specs.declared.disposition.Disposition.the-variants.{Absent, Discarded}
 use Rattle.cojp.specs.declared.version.Version.{Version}
 use Rattle.cojp.specs.declared.version.Version.the-variants.{Draft}
-use Rattle.cojp.specs.declared.walk.Standing.{Standing}
-use Rattle.cojp.specs.declared.walk.Standing.the-variants.{Unknown}
+use Rattle.cojp.specs.declared.walk.LabelStatus.{LabelStatus}
+use Rattle.cojp.specs.declared.walk.LabelStatus.the-variants.{Unknown}
 
 abbrev pub emptyConfiguration : Configuration
 emptyConfiguration = record {
@@ -42,8 +42,8 @@ emptyConfiguration = record {
   prefix = noOctetsParameter Absent;
   blacklist = noListParameter Absent;
   rate = noRateParameter Absent;
-  came = noFaults;
-  passed = 0;
+  labels = noErrorReports;
+  unknown = 0;
 }
 
 -- ---- the configuration with one part changed
@@ -57,8 +57,8 @@ module _ (c : Configuration) where
     prefix = c .prefix;
     blacklist = c .blacklist;
     rate = c .rate;
-    came = c .came;
-    passed = c .passed;
+    labels = c .labels;
+    unknown = c .unknown;
   }
 
   abbrev pub withAddress : AddressParameter → Configuration
@@ -70,8 +70,8 @@ module _ (c : Configuration) where
     prefix = c .prefix;
     blacklist = c .blacklist;
     rate = c .rate;
-    came = c .came;
-    passed = c .passed;
+    labels = c .labels;
+    unknown = c .unknown;
   }
 
   abbrev pub withJrc : OctetsParameter → Configuration
@@ -83,8 +83,8 @@ module _ (c : Configuration) where
     prefix = c .prefix;
     blacklist = c .blacklist;
     rate = c .rate;
-    came = c .came;
-    passed = c .passed;
+    labels = c .labels;
+    unknown = c .unknown;
   }
 
   abbrev pub withNetwork : OctetsParameter → Configuration
@@ -96,8 +96,8 @@ module _ (c : Configuration) where
     prefix = c .prefix;
     blacklist = c .blacklist;
     rate = c .rate;
-    came = c .came;
-    passed = c .passed;
+    labels = c .labels;
+    unknown = c .unknown;
   }
 
   abbrev pub withPrefix : OctetsParameter → Configuration
@@ -109,8 +109,8 @@ module _ (c : Configuration) where
     prefix = p;
     blacklist = c .blacklist;
     rate = c .rate;
-    came = c .came;
-    passed = c .passed;
+    labels = c .labels;
+    unknown = c .unknown;
   }
 
   abbrev pub withBlacklist : ListParameter → Configuration
@@ -122,8 +122,8 @@ module _ (c : Configuration) where
     prefix = c .prefix;
     blacklist = p;
     rate = c .rate;
-    came = c .came;
-    passed = c .passed;
+    labels = c .labels;
+    unknown = c .unknown;
   }
 
   abbrev pub withRate : RateParameter → Configuration
@@ -135,12 +135,12 @@ module _ (c : Configuration) where
     prefix = c .prefix;
     blacklist = c .blacklist;
     rate = p;
-    came = c .came;
-    passed = c .passed;
+    labels = c .labels;
+    unknown = c .unknown;
   }
 
-  abbrev pub withCame : Faults → Configuration
-  withCame f = record {
+  abbrev pub withLabelsSeen : ErrorReports → Configuration
+  withLabelsSeen f = record {
     keys = c .keys;
     address = c .address;
     jrc = c .jrc;
@@ -148,12 +148,12 @@ module _ (c : Configuration) where
     prefix = c .prefix;
     blacklist = c .blacklist;
     rate = c .rate;
-    came = f;
-    passed = c .passed;
+    labels = f;
+    unknown = c .unknown;
   }
 
-  abbrev pub withPassed : ℕ → Configuration
-  withPassed n = record {
+  abbrev pub withUnknownCount : ℕ → Configuration
+  withUnknownCount n = record {
     keys = c .keys;
     address = c .address;
     jrc = c .jrc;
@@ -161,45 +161,45 @@ module _ (c : Configuration) where
     prefix = c .prefix;
     blacklist = c .blacklist;
     rate = c .rate;
-    came = c .came;
-    passed = n;
+    labels = c .labels;
+    unknown = n;
   }
 
 -- ---- labels that are known, by the parameter that they name
-abbrev pub standingFor : Configuration → Parameter → Standing
-standingFor c name.Keys = standingOf (c .keys .report)
-standingFor c name.Address = standingOf (c .address .report)
-standingFor c name.Jrc = standingOf (c .jrc .report)
-standingFor c name.Network = standingOf (c .network .report)
-standingFor c name.Prefix = standingOf (c .prefix .report)
-standingFor c name.Blacklist = standingOf (c .blacklist .report)
-standingFor c name.Rate = standingOf (c .rate .report)
-standingFor c name.Unknown = Unknown
+abbrev pub labelStatusFor : Configuration → Parameter → LabelStatus
+labelStatusFor c name.Keys = labelStatusOf (c .keys .disposition)
+labelStatusFor c name.Address = labelStatusOf (c .address .disposition)
+labelStatusFor c name.Jrc = labelStatusOf (c .jrc .disposition)
+labelStatusFor c name.Network = labelStatusOf (c .network .disposition)
+labelStatusFor c name.Prefix = labelStatusOf (c .prefix .disposition)
+labelStatusFor c name.Blacklist = labelStatusOf (c .blacklist .disposition)
+labelStatusFor c name.Rate = labelStatusOf (c .rate .disposition)
+labelStatusFor c name.Unknown = Unknown
 
 abbrev pub configurationPassing : Configuration → Configuration
-configurationPassing c = withPassed c (c .passed + 1)
+configurationPassing c = withUnknownCount c (c .unknown + 1)
 
 -- what is taken of its value; network identifier and prefix are the draft's alone, blacklist and join rate the published form's
 abbrev pub takingFor : Version → Configuration → Parameter → View → Reading Configuration
-takingFor v c name.Keys x = put (withKeys c) (following v (noKeysParameter Discarded) (keysReadAs (informed v) x))
-takingFor v c name.Address x = put (withAddress c) (following v (noAddressParameter Discarded) (addressRead x))
-takingFor v c name.Jrc x = put (withJrc c) (following v (noOctetsParameter Discarded) (octetsRead 16 x))
-takingFor v c name.Network x = put (withNetwork c) (octetsRead 0 x)
-takingFor v c name.Prefix x = put (withPrefix c) (octetsRead 0 x)
+takingFor v c name.Keys x = mapReading (withKeys c) (byVersionOf v (noKeysParameter Discarded) (keysReadAs (allowsAdditionalInfo v) x))
+takingFor v c name.Address x = mapReading (withAddress c) (byVersionOf v (noAddressParameter Discarded) (addressRead x))
+takingFor v c name.Jrc x = mapReading (withJrc c) (byVersionOf v (noOctetsParameter Discarded) (octetsRead 16 x))
+takingFor v c name.Network x = mapReading (withNetwork c) (octetsRead 0 x)
+takingFor v c name.Prefix x = mapReading (withPrefix c) (octetsRead 0 x)
 takingFor v c name.Blacklist x = read (withBlacklist c (blacklistTaken x))
 takingFor v c name.Rate x = read (withRate c (rateTaken x))
 takingFor v c name.Unknown x = read c
 
 -- in the published form the known labels are noted in the order in which they came, each as the report that it would get: 1 is malformed
 abbrev pub noted : Version → ℕ → Configuration → Configuration
-noted v n c = withCame c (byVersion v (c .came) (added (c .came) 1 n))
+noted v n c = withLabelsSeen c (byVersion v (c .labels) (added (c .labels) 1 n))
 
 unfoldable pub configurationTaking : Version → Configuration → ℕ → View → Reading Configuration
-configurationTaking v c n x = put (noted v n) (takingFor v c (parameterOf v n) x)
+configurationTaking v c n x = mapReading (noted v n) (takingFor v c (parameterOf v n) x)
 
 abbrev pub configurationForm : Version → Form Configuration
 configurationForm v = record {
-  standing = λ c n. standingFor c (parameterOf v n);
+  standing = λ c n. labelStatusFor c (parameterOf v n);
   passing = configurationPassing;
   taking = configurationTaking v;
 }

@@ -5,15 +5,15 @@ use mathlib.Core.Bool.{true}
 use mathlib.Core.List.{List, [], _∷_}
 use lib.ListN.{replicate}
 use Rattle.refusal.specs.declared.Refusal.the-variants as refusal
-use Rattle.cojp.specs.Faults.{noFaults}
+use Rattle.cojp.specs.ErrorReports.{noErrorReports}
 use Rattle.cojp.specs.Lists.{noListParameter}
 use Rattle.cojp.specs.Octets.{octetsParameter, noOctetsParameter}
 use Rattle.cojp.specs.Address.{addressOf, addressParameter, noAddressParameter}
 use Rattle.cojp.specs.Request.{readRequest, readRequestAs, readStrictRequest, refuseRequest, acceptRequest}
-use Rattle.cojp.specs.Configuration.{emptyConfiguration, withAddress, withPassed, readConfiguration, readConfigurationAs, refuseConfiguration, acceptConfiguration}
+use Rattle.cojp.specs.Configuration.{emptyConfiguration, withAddress, withUnknownCount, readConfiguration, readConfigurationAs, refuseConfiguration, acceptConfiguration}
 use Rattle.cojp.specs.declared.configuration.ConfigurationRead.{ConfigurationRead}
 use Rattle.cojp.specs.declared.octets.OctetsParameter.{OctetsParameter}
-use Rattle.cojp.specs.declared.report.Report.the-variants.{Absent, Taken, Discarded}
+use Rattle.cojp.specs.declared.disposition.Disposition.the-variants.{Absent, Taken, Discarded}
 use Rattle.cojp.specs.declared.request.RequestRead.{RequestRead}
 use Rattle.cojp.specs.declared.version.Version.the-variants.{Published}
 
@@ -41,15 +41,15 @@ asking role network = acceptRequest (record {
   role = role;
   network = network;
   unsupported = noListParameter Absent;
-  faults = noFaults;
-  passed = 0;
+  errors = noErrorReports;
+  unknown = 0;
 })
 
 abbrev pub cafe : OctetsParameter
 cafe = octetsParameter Taken (record { len = 2; bytes = 0xCA ∷ 0xFE ∷ replicate 14 0 })
 
 abbrev pub onePassed : ConfigurationRead
-onePassed = acceptConfiguration (withPassed emptyConfiguration 1)
+onePassed = acceptConfiguration (withUnknownCount emptyConfiguration 1)
 
 abbrev pub markedExamples : List Example
 markedExamples =

@@ -6,30 +6,30 @@ use mathlib.Core.List.{List, [], _∷_, _++_}
 use mathlib.Core.Option.{Option, none, some}
 use lib.ListN.{length, replicate}
 use Rattle.refusal.specs.declared.Refusal.the-variants.{Keys}
-use Rattle.cbor.specs.View.{Plain, number, minus, string, other, View, plain, list}
-use Rattle.link_key.specs.Info.{infoIn}
-use Rattle.link_key.specs.Key.{informedKey, noKey}
+use Rattle.cbor.specs.View.{Scalar, number, minus, string, other, View, scalar, list}
+use Rattle.link_key.specs.AdditionalInfo.{additionalInfoIn}
+use Rattle.link_key.specs.Key.{keyWithAdditionalInfo, noKey}
 use Rattle.link_key_set.specs.KeySet.{noKeys, validKeys}
 use Rattle.link_key.specs.declared.Key.{Key}
-use Rattle.link_key.specs.declared.info.Info.{Info}
-use Rattle.link_key.specs.declared.info.Info.the-variants as info
+use Rattle.link_key.specs.declared.additional_info.AdditionalInfo.{AdditionalInfo}
+use Rattle.link_key.specs.declared.additional_info.AdditionalInfo.the-variants as info
 use Rattle.link_key_set.specs.declared.key_set.KeySet.{KeySet}
 use Rattle.refusal.specs.declared.Verdict.the-variants as verdict
 use Rattle.cojp.specs.declared.key_set.KeysRead.{KeysRead}
 use Rattle.cojp.specs.Reading.{Reading, refused, read, Judgement, broken, unfit, good, concluded}
 use Rattle.cojp.specs.declared.key_set.KeysParameter.{KeysParameter}
-use Rattle.cojp.specs.declared.report.Report.{Report}
-use Rattle.cojp.specs.declared.report.Report.the-variants.{Absent, Taken}
+use Rattle.cojp.specs.declared.disposition.Disposition.{Disposition}
+use Rattle.cojp.specs.declared.disposition.Disposition.the-variants.{Absent, Taken}
 
 -- the set of these keys, zeros in its other places
 abbrev pub keySetOf : List Key → KeySet
 keySetOf ks = record { count = length ks; keys = ks ++ replicate (8 - length ks) noKey }
 
 -- ---- the parameter
-abbrev pub keysParameter : Report → KeySet → KeysParameter
-keysParameter r s = record { report = r; value = s }
+abbrev pub keysParameter : Disposition → KeySet → KeysParameter
+keysParameter r s = record { disposition = r; value = s }
 
-abbrev pub noKeysParameter : Report → KeysParameter
+abbrev pub noKeysParameter : Disposition → KeysParameter
 noKeysParameter r = keysParameter r noKeys
 
 -- ---- reading
@@ -38,46 +38,46 @@ pub data Groups : Type 0 where
   notGroups : Groups
   groupsOf : List Key → Groups
 
-abbrev pub group : ℕ → ℕ → List ℕ → Info → Groups → Groups
+abbrev pub group : ℕ → ℕ → List ℕ → AdditionalInfo → Groups → Groups
 group i u v w notGroups = notGroups
-group i u v w (groupsOf ks) = groupsOf (informedKey i u v w ∷ ks)
+group i u v w (groupsOf ks) = groupsOf (keyWithAdditionalInfo i u v w ∷ ks)
 
 -- a group with a second byte string: only where keys may have additional information, and only of 4 or 8 bytes
-abbrev pub further : Bool → ℕ → ℕ → List ℕ → Option Info → Groups → Groups
+abbrev pub further : Bool → ℕ → ℕ → List ℕ → Option AdditionalInfo → Groups → Groups
 further false i u v w gs = notGroups
 further true i u v none gs = notGroups
 further true i u v (some w) gs = group i u v w gs
 
--- what comes next, `informed` telling whether keys may have additional information: an identifier; after it a usage or a value; after a usage
+-- what comes next, `allowsAdditionalInfo` telling whether keys may have additional information: an identifier; after it a usage or a value; after a usage
 -- a value; after a value perhaps additional information, and then the next group
 unfoldable mutual
-  pub groups : Bool → List Plain → Groups
-  groups informed [] = groupsOf []
-  groups informed (number i ∷ r) = identified informed i r
-  groups informed (minus n ∷ r) = notGroups
-  groups informed (string v ∷ r) = notGroups
-  groups informed (other ∷ r) = notGroups
+  pub groups : Bool → List Scalar → Groups
+  groups allowed [] = groupsOf []
+  groups allowed (number i ∷ r) = identified allowed i r
+  groups allowed (minus n ∷ r) = notGroups
+  groups allowed (string v ∷ r) = notGroups
+  groups allowed (other ∷ r) = notGroups
 
-  pub identified : Bool → ℕ → List Plain → Groups
-  identified informed i [] = notGroups
-  identified informed i (number u ∷ r) = used informed i u r
-  identified informed i (minus n ∷ r) = notGroups
-  identified informed i (string v ∷ r) = valued informed i 0 v r
-  identified informed i (other ∷ r) = notGroups
+  pub identified : Bool → ℕ → List Scalar → Groups
+  identified allowed i [] = notGroups
+  identified allowed i (number u ∷ r) = used allowed i u r
+  identified allowed i (minus n ∷ r) = notGroups
+  identified allowed i (string v ∷ r) = valued allowed i 0 v r
+  identified allowed i (other ∷ r) = notGroups
 
-  pub used : Bool → ℕ → ℕ → List Plain → Groups
-  used informed i u [] = notGroups
-  used informed i u (number n ∷ r) = notGroups
-  used informed i u (minus n ∷ r) = notGroups
-  used informed i u (string v ∷ r) = valued informed i u v r
-  used informed i u (other ∷ r) = notGroups
+  pub used : Bool → ℕ → ℕ → List Scalar → Groups
+  used allowed i u [] = notGroups
+  used allowed i u (number n ∷ r) = notGroups
+  used allowed i u (minus n ∷ r) = notGroups
+  used allowed i u (string v ∷ r) = valued allowed i u v r
+  used allowed i u (other ∷ r) = notGroups
 
-  pub valued : Bool → ℕ → ℕ → List ℕ → List Plain → Groups
-  valued informed i u v [] = group i u v info.Absent (groupsOf [])
-  valued informed i u v (number n ∷ r) = group i u v info.Absent (identified informed n r)
-  valued informed i u v (minus n ∷ r) = notGroups
-  valued informed i u v (string w ∷ r) = further informed i u v (infoIn w) (groups informed r)
-  valued informed i u v (other ∷ r) = notGroups
+  pub valued : Bool → ℕ → ℕ → List ℕ → List Scalar → Groups
+  valued allowed i u v [] = group i u v info.Absent (groupsOf [])
+  valued allowed i u v (number n ∷ r) = group i u v info.Absent (identified allowed n r)
+  valued allowed i u v (minus n ∷ r) = notGroups
+  valued allowed i u v (string w ∷ r) = further allowed i u v (additionalInfoIn w) (groups allowed r)
+  valued allowed i u v (other ∷ r) = notGroups
 
 -- the whole pattern comes before the limits
 abbrev pub keysIn : Groups → Judgement KeySet
@@ -85,15 +85,15 @@ keysIn notGroups = broken
 keysIn (groupsOf ks) = cond (validKeys ks) (good (keySetOf ks)) unfit
 
 abbrev pub keysJudgedAs : Bool → View → Judgement KeySet
-keysJudgedAs informed (plain p) = broken
-keysJudgedAs informed (list ps) = keysIn (groups informed ps)
+keysJudgedAs allowed (scalar p) = broken
+keysJudgedAs allowed (list ps) = keysIn (groups allowed ps)
 
 -- a set outside the limits refuses the payload
 abbrev pub keysConcluded : Judgement KeySet → Reading KeysParameter
 keysConcluded j = concluded (refused Keys) (keysParameter Taken) j
 
 abbrev pub keysReadAs : Bool → View → Reading KeysParameter
-keysReadAs informed v = keysConcluded (keysJudgedAs informed v)
+keysReadAs allowed v = keysConcluded (keysJudgedAs allowed v)
 
 -- in draft 004 keys have no additional information
 abbrev pub keysRead : View → Reading KeysParameter

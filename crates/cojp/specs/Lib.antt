@@ -6,7 +6,7 @@ pub mod KeySet
 pub mod Bytes
 pub mod Lists
 pub mod Rate
-pub mod Faults
+pub mod ErrorReports
 pub mod Parameter
 pub mod Walk
 pub mod Request

@@ -4,14 +4,14 @@ use mathlib.Core.Bool.{cond, _&&_}
 use mathlib.Core.List.{List, _++_}
 use lib.Dec.{leb}
 use lib.ListN.{length, take, drop, replicate}
-use Rattle.cbor.specs.View.{number, minus, string, other, View, plain, list}
+use Rattle.cbor.specs.View.{number, minus, string, other, View, scalar, list}
 use Rattle.refusal.specs.declared.Verdict.the-variants as verdict
 use Rattle.cojp.specs.declared.octets.OctetsRead.{OctetsRead}
 use Rattle.cojp.specs.Reading.{Reading, refused, read, Judgement, broken, unfit, good, concluded}
 use Rattle.cojp.specs.declared.octets.Octets.{Octets}
 use Rattle.cojp.specs.declared.octets.OctetsParameter.{OctetsParameter}
-use Rattle.cojp.specs.declared.report.Report.{Report}
-use Rattle.cojp.specs.declared.report.Report.the-variants.{Absent, Taken, Discarded}
+use Rattle.cojp.specs.declared.disposition.Disposition.{Disposition}
+use Rattle.cojp.specs.declared.disposition.Disposition.the-variants.{Absent, Taken, Discarded}
 
 -- the bytes, and zeros up to n of them
 unfoldable pub padded : ℕ → List ℕ → List ℕ
@@ -32,19 +32,19 @@ abbrev pub bytesIn : Octets → List ℕ
 bytesIn o = take (o .len) (o .bytes)
 
 -- ---- the parameter
-abbrev pub octetsParameter : Report → Octets → OctetsParameter
-octetsParameter r o = record { report = r; value = o }
+abbrev pub octetsParameter : Disposition → Octets → OctetsParameter
+octetsParameter r o = record { disposition = r; value = o }
 
-abbrev pub noOctetsParameter : Report → OctetsParameter
+abbrev pub noOctetsParameter : Disposition → OctetsParameter
 noOctetsParameter r = octetsParameter r noOctets
 
 -- ---- reading
 -- a byte string of `least` to 16 bytes
 unfoldable pub octetsJudged : ℕ → View → Judgement Octets
-octetsJudged least (plain (string s)) = cond (leb least (length s) && leb (length s) 16) (good (octetsOf s)) unfit
-octetsJudged least (plain (number n)) = broken
-octetsJudged least (plain (minus n)) = broken
-octetsJudged least (plain other) = broken
+octetsJudged least (scalar (string s)) = cond (leb least (length s) && leb (length s) 16) (good (octetsOf s)) unfit
+octetsJudged least (scalar (number n)) = broken
+octetsJudged least (scalar (minus n)) = broken
+octetsJudged least (scalar other) = broken
 octetsJudged least (list ps) = broken
 
 -- one of another length is discarded

@@ -4,8 +4,8 @@ use Rattle.refusal.specs.declared.Refusal.the-variants as refusal
 use Rattle.refusal.specs.declared.Verdict.{Verdict}
 use Rattle.refusal.specs.declared.Verdict.the-variants as verdict
 use Rattle.cojp.specs.Version.{byVersion}
-use Rattle.cojp.specs.declared.report.Report.{Report}
-use Rattle.cojp.specs.declared.report.Report.the-variants.{Absent, Taken, Discarded}
+use Rattle.cojp.specs.declared.disposition.Disposition.{Disposition}
+use Rattle.cojp.specs.declared.disposition.Disposition.the-variants.{Absent, Taken, Discarded}
 use Rattle.cojp.specs.declared.version.Version.{Version}
 
 -- a refusal, or what was read
@@ -13,19 +13,19 @@ pub data Reading (A : Type 0) : Type 0 where
   refused : Refusal → Reading A
   read : A → Reading A
 
-abbrev pub onward : {A B : Type 0} → Reading A → (A → Reading B) → Reading B
-onward (refused k) f = refused k
-onward (read a) f = f a
+abbrev pub bind : {A B : Type 0} → Reading A → (A → Reading B) → Reading B
+bind (refused k) f = refused k
+bind (read a) f = f a
 
 -- what was read, put in its place
-abbrev pub put : {A B : Type 0} → (A → B) → Reading A → Reading B
-put f (refused k) = refused k
-put f (read a) = read (f a)
+abbrev pub mapReading : {A B : Type 0} → (A → B) → Reading A → Reading B
+mapReading f (refused k) = refused k
+mapReading f (read a) = read (f a)
 
 -- what an answer says: beside a refusal nothing is looked at
-abbrev pub said : {A : Type 0} → Verdict → A → Reading A
-said verdict.Accepted a = read a
-said (verdict.Refused k) a = refused k
+abbrev pub resultOf : {A : Type 0} → Verdict → A → Reading A
+resultOf verdict.Accepted a = read a
+resultOf (verdict.Refused k) a = refused k
 
 -- what an answer that accepts promises besides
 abbrev pub Accepting : Verdict → Type 0 → Type 0
@@ -45,16 +45,16 @@ concluded outside take unfit = outside
 concluded outside take (good a) = read (take a)
 
 -- in the published form what is bad is reported, whatever is bad about it: nothing of it is taken, and the payload is not refused
-abbrev pub forgiven : {P : Type 0} → P → Reading P → P
-forgiven bad (refused k) = bad
-forgiven bad (read p) = p
+abbrev pub malformedAs : {P : Type 0} → P → Reading P → P
+malformedAs bad (refused k) = bad
+malformedAs bad (read p) = p
 
 -- what follows from a known label's value in each form, `bad` being the parameter with nothing taken
-abbrev pub following : {P : Type 0} → Version → P → Reading P → Reading P
-following v bad r = byVersion v r (read (forgiven bad r))
+abbrev pub byVersionOf : {P : Type 0} → Version → P → Reading P → Reading P
+byVersionOf v bad r = byVersion v r (read (malformedAs bad r))
 
 -- one thing where a parameter is taken, another where it is absent or discarded
-abbrev pub ifTaken : {A : Type 0} → Report → A → A → A
+abbrev pub ifTaken : {A : Type 0} → Disposition → A → A → A
 ifTaken Absent a b = b
 ifTaken Taken a b = a
 ifTaken Discarded a b = b

@@ -20,25 +20,25 @@ use Rattle.cojp.specs.declared.request.JoinRequest.{JoinRequest}
 
 -- ---- what is taken: the bytes, which may be none
 abbrev pub octetsTaken : OctetsParameter → Option (List ℕ)
-octetsTaken p = ifTaken (p .report) (some (bytesIn (p .value))) none
+octetsTaken p = ifTaken (p .disposition) (some (bytesIn (p .value))) none
 
 -- an address and its lease; one without a lease is another than one with a lease
 abbrev pub leaseOf : ShortAddress → Option ℕ
 leaseOf a = cond (a .leased) (some (a .lease)) none
 
 abbrev pub addressTaken : AddressParameter → Option (List ℕ × Option ℕ)
-addressTaken p = ifTaken (p .report) (some (p .value .bytes, leaseOf (p .value))) none
+addressTaken p = ifTaken (p .disposition) (some (p .value .bytes, leaseOf (p .value))) none
 
 -- identifiers, usages, values and additional information in their order
 abbrev pub keysTaken : KeysParameter → Option (List Key)
-keysTaken p = ifTaken (p .report) (some (keysOf (p .value))) none
+keysTaken p = ifTaken (p .disposition) (some (keysOf (p .value))) none
 
 -- the members of a list as they are written; a list of none is another than no list
 abbrev pub listTaken : ListParameter → Option (ℕ × List ℕ)
-listTaken p = ifTaken (p .report) (some (p .value .count, listBytes (p .value))) none
+listTaken p = ifTaken (p .disposition) (some (p .value .count, listBytes (p .value))) none
 
 abbrev pub rateTaken : RateParameter → Option ℕ
-rateTaken p = ifTaken (p .report) (some (p .value)) none
+rateTaken p = ifTaken (p .disposition) (some (p .value)) none
 
 -- ---- the relation: what was passed over, and what was reported, does not count
 pub record SameRequest (p q : JoinRequest) : Type 0 where

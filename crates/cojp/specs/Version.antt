@@ -9,5 +9,5 @@ byVersion Draft a b = a
 byVersion Published a b = b
 
 -- whether a key may have additional information
-abbrev pub informed : Version → Bool
-informed v = byVersion v false true
+abbrev pub allowsAdditionalInfo : Version → Bool
+allowsAdditionalInfo v = byVersion v false true

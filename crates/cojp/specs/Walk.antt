@@ -12,32 +12,32 @@ use Rattle.cbor.specs.Decode as decode
 use Rattle.cbor.specs.View.{View, labelOf, viewOf, ifMap}
 use Rattle.cbor.specs.declared.value.Label.{Label}
 use Rattle.cbor.specs.declared.value.Label.the-variants as label
-use Rattle.cojp.specs.Reading.{Reading, refused, read, onward}
-use Rattle.cojp.specs.declared.report.Report.{Report}
-use Rattle.cojp.specs.declared.report.Report.the-variants.{Absent, Taken, Discarded}
-use Rattle.cojp.specs.declared.walk.Standing.{Standing}
-use Rattle.cojp.specs.declared.walk.Standing.the-variants.{Unknown, Fresh, Again}
+use Rattle.cojp.specs.Reading.{Reading, refused, read, bind}
+use Rattle.cojp.specs.declared.disposition.Disposition.{Disposition}
+use Rattle.cojp.specs.declared.disposition.Disposition.the-variants.{Absent, Taken, Discarded}
+use Rattle.cojp.specs.declared.walk.LabelStatus.{LabelStatus}
+use Rattle.cojp.specs.declared.walk.LabelStatus.the-variants.{Unknown, First, Repeated}
 
 -- what an object makes of its pairs, S being what is gathered
 pub record Form (S : Type 0) : Type 0 where
   -- of a label: unknown, known and not yet seen, known and seen before
-  pub standing : S → ℕ → Standing
+  pub standing : S → ℕ → LabelStatus
   -- one label more was passed over
   pub passing : S → S
   -- the value of a known label: its kind, then its content
   pub taking : S → ℕ → View → Reading S
 
 -- a known label was seen before if its parameter was taken or discarded
-abbrev pub standingOf : Report → Standing
-standingOf Absent = Fresh
-standingOf Taken = Again
-standingOf Discarded = Again
+abbrev pub labelStatusOf : Disposition → LabelStatus
+labelStatusOf Absent = First
+labelStatusOf Taken = Repeated
+labelStatusOf Discarded = Repeated
 
 module _ {S : Type 0} (F : Form S) where
-  abbrev pub knownRead : Standing → S → ℕ → View → Reading S
+  abbrev pub knownRead : LabelStatus → S → ℕ → View → Reading S
   knownRead Unknown s n v = read (F .passing s)
-  knownRead Fresh s n v = F .taking s n v
-  knownRead Again s n v = refused refusal.Twice
+  knownRead First s n v = F .taking s n v
+  knownRead Repeated s n v = refused refusal.Twice
 
   -- a label is an integer; a negative one is unknown
   abbrev pub pairRead : S → Label → View → Reading S
@@ -47,7 +47,7 @@ module _ {S : Type 0} (F : Form S) where
 
   abbrev pub pairsRead : S → Pairs → Reading S
   pairsRead s empty = read s
-  pairsRead s (pair k v ps) = onward (pairRead s (labelOf k) (viewOf v)) (λ t. pairsRead t ps)
+  pairsRead s (pair k v ps) = bind (pairRead s (labelOf k) (viewOf v)) (λ t. pairsRead t ps)
 
   -- the outermost item is a map
   abbrev pub mapRead : S → Item → Reading S

@@ -10,14 +10,14 @@ use Rattle.refusal.specs.declared.Refusal.the-variants.{Range, Owed}
 use Rattle.cbor.specs.Answer.{Plan, refuse, emit}
 use Rattle.cbor.specs.Encode.{encode}
 use Rattle.cbor.specs.Item.{Item, Items, Pairs, unsigned, bytes, array, map, none, more, empty, pair}
-use Rattle.cbor.specs.View.{Plain}
-use Rattle.link_key.specs.Info.{infoBytes}
-use Rattle.link_key_set.specs.KeySet.{keysOf, validSet, plainKeys}
+use Rattle.cbor.specs.View.{Scalar}
+use Rattle.link_key.specs.AdditionalInfo.{additionalInfoBytes}
+use Rattle.link_key_set.specs.KeySet.{keysOf, validSet, noAdditionalInfos}
 use Rattle.link_key.specs.declared.Key.{Key}
-use Rattle.link_key.specs.declared.info.Info.{Info}
-use Rattle.link_key.specs.declared.info.Info.the-variants as info
+use Rattle.link_key.specs.declared.additional_info.AdditionalInfo.{AdditionalInfo}
+use Rattle.link_key.specs.declared.additional_info.AdditionalInfo.the-variants as info
 use Rattle.cojp.specs.Reading.{ifTaken}
-use Rattle.cojp.specs.Lists.{Picked, stringsIn, faultsIn, some, itemsIn, kept}
+use Rattle.cojp.specs.Lists.{Picked, stringsIn, errorReportsIn, some, itemsIn, kept}
 use Rattle.cojp.specs.Octets.{bytesIn}
 use Rattle.short_address.specs.Address.{isAddress}
 use Rattle.cojp.specs.Request.{owing}
@@ -28,7 +28,7 @@ use Rattle.cojp.specs.declared.key_set.KeysParameter.{KeysParameter}
 use Rattle.cojp.specs.declared.list.ListParameter.{ListParameter}
 use Rattle.cojp.specs.declared.octets.OctetsParameter.{OctetsParameter}
 use Rattle.cojp.specs.declared.rate.RateParameter.{RateParameter}
-use Rattle.cojp.specs.declared.report.Report.{Report}
+use Rattle.cojp.specs.declared.disposition.Disposition.{Disposition}
 use Rattle.cojp.specs.declared.request.JoinRequest.{JoinRequest}
 use Rattle.cojp.specs.declared.version.Version.{Version}
 
@@ -49,7 +49,7 @@ abbrev pub rolePairs : ℕ → Pairs
 rolePairs role = cond (eqb role 0) empty (labelled 1 (unsigned role))
 
 abbrev pub octetsPairs : ℕ → OctetsParameter → Pairs
-octetsPairs n p = ifTaken (p .report) (labelled n (bytes (bytesIn (p .value)))) empty
+octetsPairs n p = ifTaken (p .disposition) (labelled n (bytes (bytesIn (p .value)))) empty
 
 abbrev pub leaseItems : Bool → ℕ → Items
 leaseItems true lease = more (unsigned lease) none
@@ -57,7 +57,7 @@ leaseItems false lease = none
 
 abbrev pub addressPairs : AddressParameter → Pairs
 addressPairs p =
-    ifTaken (p .report)
+    ifTaken (p .disposition)
     (labelled 3 (array (more (bytes (p .value .bytes)) (leaseItems (p .value .leased) (p .value .lease)))))
     empty
 
@@ -65,50 +65,50 @@ abbrev pub usageItems : ℕ → Items
 usageItems usage = cond (eqb usage 0) none (more (unsigned usage) none)
 
 -- additional information is a second byte string
-abbrev pub infoItems : Info → Items
-infoItems info.Absent = none
-infoItems (info.Four a b c d) = more (bytes (infoBytes (info.Four a b c d))) none
-infoItems (info.Eight a b c d e f g h) = more (bytes (infoBytes (info.Eight a b c d e f g h))) none
+abbrev pub additionalInfoItems : AdditionalInfo → Items
+additionalInfoItems info.Absent = none
+additionalInfoItems (info.Four a b c d) = more (bytes (additionalInfoBytes (info.Four a b c d))) none
+additionalInfoItems (info.Eight a b c d e f g h) = more (bytes (additionalInfoBytes (info.Eight a b c d e f g h))) none
 
 abbrev pub groupItems : Key → Items
-groupItems k = chain (more (unsigned (k .identifier)) (usageItems (k .usage))) (more (bytes (k .value)) (infoItems (k .info)))
+groupItems k = chain (more (unsigned (k .identifier)) (usageItems (k .usage))) (more (bytes (k .value)) (additionalInfoItems (k .info)))
 
 abbrev pub groupsItems : List Key → Items
 groupsItems [] = none
 groupsItems (k ∷ ks) = chain (groupItems k) (groupsItems ks)
 
 abbrev pub keysPairs : KeysParameter → Pairs
-keysPairs p = ifTaken (p .report) (labelled 2 (array (groupsItems (keysOf (p .value))))) empty
+keysPairs p = ifTaken (p .disposition) (labelled 2 (array (groupsItems (keysOf (p .value))))) empty
 
-abbrev pub listPairs : ℕ → (List Plain → Picked) → ListParameter → Pairs
-listPairs n f p = ifTaken (p .report) (labelled n (array (itemsIn f (p .value)))) empty
+abbrev pub listPairs : ℕ → (List Scalar → Picked) → ListParameter → Pairs
+listPairs n f p = ifTaken (p .disposition) (labelled n (array (itemsIn f (p .value)))) empty
 
 abbrev pub ratePairs : RateParameter → Pairs
-ratePairs p = ifTaken (p .report) (labelled 7 (unsigned (p .value))) empty
+ratePairs p = ifTaken (p .disposition) (labelled 7 (unsigned (p .value))) empty
 
 -- ---- the limits: an absent or discarded parameter is not judged
 abbrev pub octetsInRange : OctetsParameter → Bool
-octetsInRange p = ifTaken (p .report) (leb (p .value .len) 16) true
+octetsInRange p = ifTaken (p .disposition) (leb (p .value .len) 16) true
 
 abbrev pub jrcInRange : OctetsParameter → Bool
-jrcInRange p = ifTaken (p .report) (eqb (p .value .len) 16) true
+jrcInRange p = ifTaken (p .disposition) (eqb (p .value .len) 16) true
 
 abbrev pub addressInRange : AddressParameter → Bool
-addressInRange p = ifTaken (p .report) (isAddress (p .value .bytes)) true
+addressInRange p = ifTaken (p .disposition) (isAddress (p .value .bytes)) true
 
 abbrev pub keysInRange : KeysParameter → Bool
-keysInRange p = ifTaken (p .report) (validSet (p .value)) true
+keysInRange p = ifTaken (p .disposition) (validSet (p .value)) true
 
 -- a blacklist, and a list of reports
-abbrev pub listInRange : (List Plain → Picked) → ListParameter → Bool
-listInRange f p = ifTaken (p .report) (kept f (p .value)) true
+abbrev pub listInRange : (List Scalar → Picked) → ListParameter → Bool
+listInRange f p = ifTaken (p .disposition) (kept f (p .value)) true
 
 -- the draft's keys have no additional information
-abbrev pub keysPlain : KeysParameter → Bool
-keysPlain p = ifTaken (p .report) (plainKeys (keysOf (p .value))) true
+abbrev pub keysWithoutAdditionalInfo : KeysParameter → Bool
+keysWithoutAdditionalInfo p = ifTaken (p .disposition) (noAdditionalInfos (keysOf (p .value))) true
 
 -- a parameter of the other form
-abbrev pub missing : Report → Bool
+abbrev pub missing : Disposition → Bool
 missing r = ifTaken r false true
 
 -- a payload has at most 256 bytes
@@ -117,13 +117,13 @@ fits s = cond (leb (length s) 256) (emit s) (refuse Range)
 
 -- ---- the join request
 abbrev pub requestPairs : JoinRequest → Pairs
-requestPairs q = join (join (rolePairs (q .role)) (octetsPairs 5 (q .network))) (listPairs 8 (some faultsIn) (q .unsupported))
+requestPairs q = join (join (rolePairs (q .role)) (octetsPairs 5 (q .network))) (listPairs 8 (some errorReportsIn) (q .unsupported))
 
 unfoldable pub requestInRange : Version → JoinRequest → Bool
 requestInRange v q =
     (leb (q .role) 1
     && octetsInRange (q .network)
-    && byVersion v (missing (q .unsupported .report)) (listInRange (some faultsIn) (q .unsupported)))
+    && byVersion v (missing (q .unsupported .disposition)) (listInRange (some errorReportsIn) (q .unsupported)))
 
 -- RANGE, also where the payload would have more than 256 bytes, OWED, then the bytes, for which there may be no ROOM
 abbrev pub owingPlan : Bool → Plan → Plan
@@ -134,7 +134,7 @@ unfoldable pub requestPlan : Version → JoinRequest → Plan
 requestPlan v q =
     cond (not (requestInRange v q))
     (refuse Range)
-    (owingPlan (owing v (q .role) (q .network .report)) (fits (encode (map (requestPairs q)))))
+    (owingPlan (owing v (q .role) (q .network .disposition)) (fits (encode (map (requestPairs q)))))
 
 -- ---- the configuration
 abbrev pub configurationPairs : Configuration → Pairs
@@ -148,11 +148,11 @@ configurationPairs c =
     (ratePairs (c .rate))
 
 -- what a form asks besides: the other form's parameters are missing
-unfoldable pub ofForm : Version → Configuration → Bool
-ofForm v c =
+unfoldable pub ofVersion : Version → Configuration → Bool
+ofVersion v c =
     byVersion v
-    (keysPlain (c .keys) && missing (c .blacklist .report) && missing (c .rate .report))
-    (missing (c .network .report) && missing (c .prefix .report) && listInRange stringsIn (c .blacklist))
+    (keysWithoutAdditionalInfo (c .keys) && missing (c .blacklist .disposition) && missing (c .rate .disposition))
+    (missing (c .network .disposition) && missing (c .prefix .disposition) && listInRange stringsIn (c .blacklist))
 
 unfoldable pub configurationInRange : Version → Configuration → Bool
 configurationInRange v c =
@@ -161,7 +161,7 @@ configurationInRange v c =
     && jrcInRange (c .jrc)
     && octetsInRange (c .network)
     && octetsInRange (c .prefix)
-    && ofForm v c)
+    && ofVersion v c)
 
 -- RANGE, also where the payload would have more than 256 bytes, then the bytes, for which there may be no ROOM
 unfoldable pub configurationPlan : Version → Configuration → Plan

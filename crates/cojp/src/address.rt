@@ -1,7 +1,7 @@
 // Short addresses, with the time that they are leased for: seconds, in the published form hours.
+use crate::disposition::Disposition;
 use crate::members::Member;
 use crate::members::member_at;
-use crate::report::Report;
 use cbor::Value;
 use cbor::value_at;
 use refusal::Refusal;
@@ -11,7 +11,7 @@ ghost use mathlib.Core.Path.{_≡_};
 ghost use Prim.Native.Nat.{_+_, _≤_};
 ghost use lib.ListN.{length, take, drop};
 ghost use Rattle.cojp.specs.Address.{noAddressParameter, addressBy, addressIn, addressConcluded, addressRead, addressAnswer};
-ghost use Rattle.cojp.specs.Bytes.{valueView, membersAt, stringAnd, afterValue, afterMembers, GoesOn};
+ghost use Rattle.cojp.specs.Bytes.{valueView, membersAt, stringAnd, afterValue, afterMembers, EndsAt};
 ghost use Rattle.cojp.specs.Reading.{broken, unfit, Accepting};
 
 // An address that is not leased has no end; its lease is 0 in a value that we make.
@@ -23,7 +23,7 @@ pub struct ShortAddress {
 
 // The value counts where it is taken.
 pub struct AddressParameter {
-    pub report: Report,
+    pub disposition: Disposition,
     pub value: ShortAddress,
 }
 
@@ -35,7 +35,7 @@ pub struct AddressRead {
 }
 
 // A parameter with no value.
-pub fn no_address(report: Report) -> AddressParameter
+pub fn no_address(report: Disposition) -> AddressParameter
     ensures { λ r. ⌜ r ≡ noAddressParameter report ⌝ }
 {
     let zeros = [0u8; 2];
@@ -45,17 +45,17 @@ pub fn no_address(report: Report) -> AddressParameter
         lease: 0,
     };
     AddressParameter {
-        report: report,
+        disposition: report,
         value: value,
     }
 }
 
 impl AddressParameter {
     // The same parameter, made anew field by field, as crate::octets does it.
-    pub fn anew(self) -> AddressParameter
+    pub fn repacked(self) -> AddressParameter
         ensures { λ r. ⌜ r ≡ self ⌝ }
     {
-        let report = self.report;
+        let report = self.disposition;
         let held = self.value;
         let bytes = held.bytes;
         let value = ShortAddress {
@@ -64,7 +64,7 @@ impl AddressParameter {
             lease: held.lease,
         };
         AddressParameter {
-            report: report,
+            disposition: report,
             value: value,
         }
     }
@@ -73,7 +73,7 @@ impl AddressParameter {
 fn broken_address() -> AddressRead
     ensures { λ r. ⌜ r ≡ addressAnswer (addressConcluded broken) 0 ⌝ }
 {
-    let parameter = no_address(Report::Absent);
+    let parameter = no_address(Disposition::Absent);
     AddressRead {
         verdict: Verdict::Refused(Refusal::Type),
         parameter: parameter,
@@ -85,7 +85,7 @@ fn broken_address() -> AddressRead
 fn discarded_address(next: usize) -> AddressRead
     ensures { λ r. ⌜ r ≡ addressAnswer (addressConcluded unfit) next ⌝ }
 {
-    let none = no_address(Report::Discarded);
+    let none = no_address(Disposition::Discarded);
     AddressRead {
         verdict: Verdict::Accepted,
         parameter: none,
@@ -117,7 +117,7 @@ fn address_from(
             lease: lease,
         };
         let parameter = AddressParameter {
-            report: Report::Taken,
+            disposition: Disposition::Taken,
             value: value,
         };
         return AddressRead {
@@ -134,7 +134,7 @@ fn lease_after(s: &[u8], start: usize, len: usize, left: u64) -> AddressRead
     requires { ⌜ start + len ≤ length (now s) ⌝ }
     ensures { λ r. ⌜ r ≡ addressAnswer (addressConcluded (addressIn (stringAnd (now (s .entry)) start len left))) (r .next) ⌝ }
     ensures rest { λ r. ⌜ Accepting (r .verdict)
-        (GoesOn (now (s .entry)) (r .next) (afterMembers left (drop (start + len) (now (s .entry))))) ⌝ }
+        (EndsAt (now (s .entry)) (r .next) (afterMembers left (drop (start + len) (now (s .entry))))) ⌝ }
 {
     let end = start + len;
     if left == 0 {
@@ -156,7 +156,7 @@ fn lease_after(s: &[u8], start: usize, len: usize, left: u64) -> AddressRead
 // The short address whose `count` members begin at a place.
 fn address_members(s: &[u8], at: usize, count: u64) -> AddressRead
     ensures { λ r. ⌜ r ≡ addressAnswer (addressConcluded (addressIn (membersAt count (drop at (now (s .entry)))))) (r .next) ⌝ }
-    ensures rest { λ r. ⌜ Accepting (r .verdict) (GoesOn (now (s .entry)) (r .next) (afterMembers count (drop at (now (s .entry))))) ⌝ }
+    ensures rest { λ r. ⌜ Accepting (r .verdict) (EndsAt (now (s .entry)) (r .next) (afterMembers count (drop at (now (s .entry))))) ⌝ }
 {
     let first = member_at(s, at, count);
     match first {
@@ -168,7 +168,7 @@ fn address_members(s: &[u8], at: usize, count: u64) -> AddressRead
 // The short address at a place of a payload that passed the item scan; of other bytes it says what `valueView` makes of them.
 pub fn read_address(s: &[u8], at: usize) -> AddressRead
     ensures { λ r. ⌜ r ≡ addressAnswer (addressRead (valueView (drop at (now (s .entry))))) (r .next) ⌝ }
-    ensures rest { λ r. ⌜ Accepting (r .verdict) (GoesOn (now (s .entry)) (r .next) (afterValue (drop at (now (s .entry))))) ⌝ }
+    ensures rest { λ r. ⌜ Accepting (r .verdict) (EndsAt (now (s .entry)) (r .next) (afterValue (drop at (now (s .entry))))) ⌝ }
 {
     let v = value_at(s, at);
     match v {

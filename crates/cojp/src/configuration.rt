@@ -1,8 +1,9 @@
 // Configurations, which join responses and parameter updates carry.
 use crate::address::AddressParameter;
 use crate::address::no_address;
-use crate::fault::Faults;
-use crate::fault::no_faults;
+use crate::disposition::Disposition;
+use crate::error_report::ErrorReports;
+use crate::error_report::no_error_reports;
 use crate::key_set::KeysParameter;
 use crate::key_set::no_key_set;
 use crate::list::ListParameter;
@@ -11,13 +12,12 @@ use crate::octets::OctetsParameter;
 use crate::octets::no_octets;
 use crate::rate::RateParameter;
 use crate::rate::no_rate;
-use crate::report::Report;
 use refusal::Verdict;
 ghost use mathlib.Core.Path.{_≡_};
 ghost use Rattle.cojp.specs.Configuration.{emptyConfiguration};
 
 // What does not belong to a form (crate::version) is absent in it. `came` has the known labels of a published payload in their order, each
-// as the report that it would get; `passed` labels were passed over.
+// as the report that it would get; `unknown` labels were passed over.
 pub struct Configuration {
     pub keys: KeysParameter,
     pub address: AddressParameter,
@@ -26,8 +26,8 @@ pub struct Configuration {
     pub prefix: OctetsParameter,
     pub blacklist: ListParameter,
     pub rate: RateParameter,
-    pub came: Faults,
-    pub passed: u64,
+    pub labels: ErrorReports,
+    pub unknown: u64,
 }
 
 // Beside a refusal stands the empty configuration.
@@ -40,12 +40,12 @@ pub struct ConfigurationRead {
 pub fn empty_configuration() -> Configuration
     ensures { λ r. ⌜ r ≡ emptyConfiguration ⌝ }
 {
-    let keys = no_key_set(Report::Absent);
-    let address = no_address(Report::Absent);
-    let octets = no_octets(Report::Absent);
-    let blacklist = no_list(Report::Absent);
-    let rate = no_rate(Report::Absent);
-    let came = no_faults();
+    let keys = no_key_set(Disposition::Absent);
+    let address = no_address(Disposition::Absent);
+    let octets = no_octets(Disposition::Absent);
+    let blacklist = no_list(Disposition::Absent);
+    let rate = no_rate(Disposition::Absent);
+    let met = no_error_reports();
     Configuration {
         keys: keys,
         address: address,
@@ -54,7 +54,7 @@ pub fn empty_configuration() -> Configuration
         prefix: octets,
         blacklist: blacklist,
         rate: rate,
-        came: came,
-        passed: 0,
+        labels: met,
+        unknown: 0,
     }
 }

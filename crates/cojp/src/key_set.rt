@@ -1,5 +1,5 @@
 // Link-layer key sets as a parameter.
-use crate::report::Report;
+use crate::disposition::Disposition;
 use link_key_set::KeySet;
 use link_key_set::key_set::no_keys;
 use refusal::Verdict;
@@ -8,7 +8,7 @@ ghost use Rattle.cojp.specs.KeySet.{noKeysParameter};
 
 // The value counts where it is taken.
 pub struct KeysParameter {
-    pub report: Report,
+    pub disposition: Disposition,
     pub value: KeySet,
 }
 
@@ -20,12 +20,12 @@ pub struct KeysRead {
 }
 
 // A parameter with no value.
-pub fn no_key_set(report: Report) -> KeysParameter
+pub fn no_key_set(report: Disposition) -> KeysParameter
     ensures { λ r. ⌜ r ≡ noKeysParameter report ⌝ }
 {
     let none = no_keys();
     KeysParameter {
-        report: report,
+        disposition: report,
         value: none,
     }
 }

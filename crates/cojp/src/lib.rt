@@ -3,14 +3,14 @@
 pub mod address;
 pub mod configuration;
 pub mod copy;
-pub mod fault;
+pub mod disposition;
+pub mod error_report;
 pub mod key_set;
 pub mod list;
 pub mod members;
 pub mod octets;
 pub mod parameter;
 pub mod rate;
-pub mod report;
 pub mod reported;
 pub mod request;
 pub mod version;
@@ -25,10 +25,11 @@ pub use configuration::Configuration;
 pub use configuration::ConfigurationRead;
 pub use configuration::empty_configuration;
 pub use copy::copied;
-pub use fault::Fault;
-pub use fault::Faults;
-pub use fault::fault_of;
-pub use fault::no_faults;
+pub use disposition::Disposition;
+pub use error_report::ErrorReport;
+pub use error_report::ErrorReports;
+pub use error_report::error_report_of;
+pub use error_report::no_error_reports;
 pub use key_set::KeysParameter;
 pub use key_set::KeysRead;
 pub use key_set::no_key_set;
@@ -48,18 +49,17 @@ pub use parameter::parameter_of;
 pub use rate::RateParameter;
 pub use rate::no_rate;
 pub use rate::read_rate;
-pub use report::Report;
-pub use reported::faults_of;
-pub use request::Gathered;
+pub use reported::error_reports_of;
 pub use request::JoinRequest;
 pub use request::RequestRead;
+pub use request::RequestState;
 pub use request::empty_request;
 pub use request::is_owing;
 pub use version::Version;
-pub use walk::Standing;
-ghost use Rattle.cojp.specs.Bytes.{OnePlace};
+pub use walk::LabelStatus;
+ghost use Rattle.cojp.specs.Bytes.{EndUnique};
 ghost use Rattle.cojp.specs.Examples.{MarkedExamples};
-ghost use Rattle.cojp.specs.InRange.{ReadsInRange, ReportsFit};
+ghost use Rattle.cojp.specs.InRange.{ReadsInRange, ErrorReportsValid};
 ghost use Rattle.cojp.specs.PublishedExamples.{PublishedExamples};
 ghost use Rattle.cojp.specs.Laws.{ReadersDemand1, StrictReaders};
 
@@ -74,7 +74,7 @@ pub fn published_examples()
 {}
 
 // What the reader of configurations takes is in range.
-pub fn reads_in_range()
+pub fn reads_in_range_law()
     ensures { λ r. ⌜ ReadsInRange ⌝ }
 {
     link_key_set::laws();
@@ -82,22 +82,22 @@ pub fn reads_in_range()
 }
 
 // The reports of a configuration that was read may be made.
-pub fn reports_fit()
-    ensures { λ r. ⌜ ReportsFit ⌝ }
+pub fn error_reports_valid_law()
+    ensures { λ r. ⌜ ErrorReportsValid ⌝ }
 {}
 
 // What a reader says of the place after a value is so of one place only.
-pub fn one_place()
-    ensures { λ r. ⌜ OnePlace ⌝ }
+pub fn end_unique_law()
+    ensures { λ r. ⌜ EndUnique ⌝ }
 {}
 
 // Demand 1 for the readers: a refusal comes with the empty object.
-pub fn readers_demand1()
+pub fn readers_demand1_law()
     ensures { λ r. ⌜ ReadersDemand1 ⌝ }
 {}
 
 // The strict readings are LOOSE exactly where the scan meets a longer head, and else the ordinary ones.
-pub fn strict_readers()
+pub fn strict_readers_law()
     ensures { λ r. ⌜ StrictReaders ⌝ }
 {
     cbor::laws();

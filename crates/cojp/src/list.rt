@@ -1,5 +1,5 @@
 // Arrays that are kept as they are written (RFC 9031: a blacklist, and reports of what a node could not act on).
-use crate::report::Report;
+use crate::disposition::Disposition;
 ghost use mathlib.Core.Path.{_≡_};
 ghost use Rattle.cojp.specs.Lists.{noListParameter};
 
@@ -19,11 +19,11 @@ pub struct ListRead {
 // The value counts where it is taken. It stands first, where its numbers are aligned: a report before it makes each copy dearer.
 pub struct ListParameter {
     pub value: ItemList,
-    pub report: Report,
+    pub disposition: Disposition,
 }
 
 // A parameter with no value.
-pub fn no_list(report: Report) -> ListParameter
+pub fn no_list(report: Disposition) -> ListParameter
     ensures { λ r. ⌜ r ≡ noListParameter report ⌝ }
 {
     let zeros = [0u8; 253];
@@ -34,6 +34,6 @@ pub fn no_list(report: Report) -> ListParameter
     };
     ListParameter {
         value: value,
-        report: report,
+        disposition: report,
     }
 }

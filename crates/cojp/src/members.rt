@@ -1,7 +1,7 @@
 // The members of an array, as far as a short address or a key set asks.
 use cbor::Value;
 use cbor::value_at;
-ghost use Rattle.cojp.specs.Bytes.{MemberSays};
+ghost use Rattle.cojp.specs.Bytes.{MemberSpec};
 
 // A member: an unsigned number and where the bytes go on, a byte string, or no such member.
 pub enum Member {
@@ -12,7 +12,7 @@ pub enum Member {
 
 // The member at a place of a payload that passed the item scan, where `left` members are left.
 pub fn member_at(s: &[u8], at: usize, left: u64) -> Member
-    ensures { λ r. ⌜ MemberSays (now (s .entry)) at left r ⌝ }
+    ensures { λ r. ⌜ MemberSpec (now (s .entry)) at left r ⌝ }
 {
     if left == 0 {
         return Member::Neither;

@@ -1,13 +1,13 @@
 // Network identifiers, network prefixes and JRC addresses: byte strings of at most 16 bytes.
 use crate::copy::copied;
-use crate::report::Report;
+use crate::disposition::Disposition;
 use cbor::Value;
 use cbor::value_at;
 use refusal::Refusal;
 use refusal::Verdict;
 ghost use mathlib.Core.Path.{_≡_};
 ghost use lib.ListN.{drop};
-ghost use Rattle.cojp.specs.Bytes.{valueView, afterValue, GoesOn};
+ghost use Rattle.cojp.specs.Bytes.{valueView, afterValue, EndsAt};
 ghost use Rattle.cojp.specs.Octets.{noOctetsParameter, octetsRead, octetsAnswer};
 ghost use Rattle.cojp.specs.Reading.{read, Accepting};
 
@@ -19,7 +19,7 @@ pub struct Octets {
 
 // A parameter that is a byte string; the value counts where it is taken.
 pub struct OctetsParameter {
-    pub report: Report,
+    pub disposition: Disposition,
     pub value: Octets,
 }
 
@@ -31,7 +31,7 @@ pub struct OctetsRead {
 }
 
 // A parameter with no value.
-pub fn no_octets(report: Report) -> OctetsParameter
+pub fn no_octets(report: Disposition) -> OctetsParameter
     ensures { λ r. ⌜ r ≡ noOctetsParameter report ⌝ }
 {
     let zeros = [0u8; 16];
@@ -40,7 +40,7 @@ pub fn no_octets(report: Report) -> OctetsParameter
         bytes: zeros,
     };
     OctetsParameter {
-        report: report,
+        disposition: report,
         value: value,
     }
 }
@@ -48,10 +48,10 @@ pub fn no_octets(report: Report) -> OctetsParameter
 impl OctetsParameter {
     // The same parameter, made anew field by field: so a reader that stores it copies none of the unused bytes between its fields, for
     // which the next copy of the whole would wait.
-    pub fn anew(self) -> OctetsParameter
+    pub fn repacked(self) -> OctetsParameter
         ensures { λ r. ⌜ r ≡ self ⌝ }
     {
-        let report = self.report;
+        let report = self.disposition;
         let held = self.value;
         let bytes = held.bytes;
         let value = Octets {
@@ -59,7 +59,7 @@ impl OctetsParameter {
             bytes: bytes,
         };
         OctetsParameter {
-            report: report,
+            disposition: report,
             value: value,
         }
     }
@@ -69,7 +69,7 @@ impl OctetsParameter {
 // of them.
 pub fn read_octets(s: &[u8], at: usize, least: usize) -> OctetsRead
     ensures { λ r. ⌜ r ≡ octetsAnswer (octetsRead least (valueView (drop at (now (s .entry))))) (r .next) ⌝ }
-    ensures rest { λ r. ⌜ Accepting (r .verdict) (GoesOn (now (s .entry)) (r .next) (afterValue (drop at (now (s .entry))))) ⌝ }
+    ensures rest { λ r. ⌜ Accepting (r .verdict) (EndsAt (now (s .entry)) (r .next) (afterValue (drop at (now (s .entry))))) ⌝ }
 {
     let v = value_at(s, at);
     match v {
@@ -87,7 +87,7 @@ pub fn read_octets(s: &[u8], at: usize, least: usize) -> OctetsRead
                 bytes: bytes,
             };
             let parameter = OctetsParameter {
-                report: Report::Taken,
+                disposition: Disposition::Taken,
                 value: value,
             };
             OctetsRead {
@@ -97,7 +97,7 @@ pub fn read_octets(s: &[u8], at: usize, least: usize) -> OctetsRead
             }
         }
         _ => {
-            let parameter = no_octets(Report::Absent);
+            let parameter = no_octets(Disposition::Absent);
             OctetsRead {
                 verdict: Verdict::Refused(Refusal::Type),
                 parameter: parameter,
@@ -109,9 +109,9 @@ pub fn read_octets(s: &[u8], at: usize, least: usize) -> OctetsRead
 
 // A byte string whose length is outside the limits.
 fn discarded(next: usize) -> OctetsRead
-    ensures { λ r. ⌜ r ≡ octetsAnswer (read (noOctetsParameter Report.Discarded)) next ⌝ }
+    ensures { λ r. ⌜ r ≡ octetsAnswer (read (noOctetsParameter Disposition.Discarded)) next ⌝ }
 {
-    let parameter = no_octets(Report::Discarded);
+    let parameter = no_octets(Disposition::Discarded);
     OctetsRead {
         verdict: Verdict::Accepted,
         parameter: parameter,

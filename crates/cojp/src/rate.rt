@@ -1,5 +1,5 @@
 // Join rates (RFC 9031): how many bytes of join traffic a proxy forwards in a second.
-use crate::report::Report;
+use crate::disposition::Disposition;
 use cbor::Value;
 use cbor::value_at;
 ghost use mathlib.Core.Path.{_≡_};
@@ -9,16 +9,16 @@ ghost use Rattle.cojp.specs.Rate.{noRateParameter, rateTaken};
 
 // The value counts where it is taken.
 pub struct RateParameter {
-    pub report: Report,
+    pub disposition: Disposition,
     pub value: u64,
 }
 
 // A parameter with no value.
-pub fn no_rate(report: Report) -> RateParameter
+pub fn no_rate(report: Disposition) -> RateParameter
     ensures { λ r. ⌜ r ≡ noRateParameter report ⌝ }
 {
     RateParameter {
-        report: report,
+        disposition: report,
         value: 0,
     }
 }
@@ -30,9 +30,9 @@ pub fn read_rate(s: &[u8], at: usize) -> RateParameter
     let v = value_at(s, at);
     match v {
         Value::Number { number, next: _ } => RateParameter {
-            report: Report::Taken,
+            disposition: Disposition::Taken,
             value: number,
         },
-        _ => no_rate(Report::Discarded),
+        _ => no_rate(Disposition::Discarded),
     }
 }

@@ -1,25 +1,25 @@
 // What a configuration of the published form is answered with.
 use crate::configuration::Configuration;
-use crate::fault::Fault;
-use crate::fault::Faults;
-use crate::fault::no_faults;
+use crate::disposition::Disposition;
+use crate::error_report::ErrorReport;
+use crate::error_report::ErrorReports;
+use crate::error_report::no_error_reports;
 use crate::parameter::Parameter;
 use crate::parameter::parameter_of;
-use crate::report::Report;
 use crate::version::Version;
 ghost use mathlib.Core.Path.{_≡_};
 ghost use mathlib.Core.Bool.{cond};
-ghost use Rattle.cojp.specs.Faults.{noFaults, faultList, added};
-ghost use Rattle.cojp.specs.Reported.{isBad, badIn, badAt, reportsOn, faultsOf};
+ghost use Rattle.cojp.specs.ErrorReports.{noErrorReports, errorReportList, added};
+ghost use Rattle.cojp.specs.Reported.{isBad, badIn, badAt, reportsOn, errorReportsOf};
 
 // Whether a parameter was in the payload and bad.
-fn is_bad(report: Report) -> bool
+fn is_bad(report: Disposition) -> bool
     ensures { λ r. ⌜ r ≡ isBad report ⌝ }
 {
     match report {
-        Report::Absent => false,
-        Report::Taken => false,
-        Report::Discarded => true,
+        Disposition::Absent => false,
+        Disposition::Taken => false,
+        Disposition::Discarded => true,
     }
 }
 
@@ -37,15 +37,15 @@ fn bad_in(c: Configuration) -> Bad
     ensures { λ r. ⌜ r ≡ badIn c ⌝ }
 {
     let keys = c.keys;
-    let keys_report = keys.report;
+    let keys_report = keys.disposition;
     let address = c.address;
-    let address_report = address.report;
+    let address_report = address.disposition;
     let jrc = c.jrc;
-    let jrc_report = jrc.report;
+    let jrc_report = jrc.disposition;
     let blacklist = c.blacklist;
-    let blacklist_report = blacklist.report;
+    let blacklist_report = blacklist.disposition;
     let rate = c.rate;
-    let rate_report = rate.report;
+    let rate_report = rate.disposition;
     Bad {
         keys: is_bad(keys_report),
         address: is_bad(address_report),
@@ -73,17 +73,17 @@ fn bad_at(bad: Bad, label: u8) -> bool
 }
 
 // A report for each bad parameter, in payload order; a configuration that was read in the draft's form has none.
-pub fn faults_of(c: Configuration) -> Faults
-    ensures { λ r. ⌜ r ≡ faultsOf c ⌝ }
+pub fn error_reports_of(c: Configuration) -> ErrorReports
+    ensures { λ r. ⌜ r ≡ errorReportsOf c ⌝ }
 {
     let bad = bad_in(c);
-    let came = c.came;
-    came.bad_of(bad)
+    let met = c.labels;
+    met.bad_of(bad)
 }
 
-impl Fault {
+impl ErrorReport {
     // The reports with this one after them, if its parameter was bad.
-    fn reported(self, bad: Bad, before: Faults) -> Faults
+    fn reported(self, bad: Bad, before: ErrorReports) -> ErrorReports
         ensures { λ r. ⌜ r ≡ cond (badAt bad (self .label)) (added before (self .code) (self .label)) before ⌝ }
     {
         if bad_at(bad, self.label) {
@@ -93,14 +93,14 @@ impl Fault {
     }
 }
 
-impl Faults {
+impl ErrorReports {
     // Those whose parameter was bad.
-    fn bad_of(self, bad: Bad) -> Faults
-        ensures { λ r. ⌜ r ≡ reportsOn bad noFaults (faultList self) ⌝ }
+    fn bad_of(self, bad: Bad) -> ErrorReports
+        ensures { λ r. ⌜ r ≡ reportsOn bad noErrorReports (errorReportList self) ⌝ }
     {
         let n = self.len();
-        let faults = self.faults;
-        let mut out = no_faults();
+        let faults = self.reports;
+        let mut out = no_error_reports();
         let mut i: usize = 0;
         while i < n {
             let f = faults[i];

@@ -1,11 +1,11 @@
 // Join requests.
-use crate::fault::Faults;
-use crate::fault::no_faults;
+use crate::disposition::Disposition;
+use crate::error_report::ErrorReports;
+use crate::error_report::no_error_reports;
 use crate::list::ListParameter;
 use crate::list::no_list;
 use crate::octets::OctetsParameter;
 use crate::octets::no_octets;
-use crate::report::Report;
 use crate::version::Version;
 use refusal::Verdict;
 ghost use mathlib.Core.Path.{_≡_};
@@ -15,13 +15,13 @@ ghost use Rattle.cojp.specs.Request.{emptyRequest, owing};
 ghost use Rattle.cojp.specs.Version.{byVersion};
 
 // Role 0 is an ordinary node, 1 the border router (6LBR). In the published form `unsupported` has what a node could not act on, and `faults`
-// what was bad in this request; in the draft both are empty. `passed` labels were passed over.
+// what was bad in this request; in the draft both are empty. `unknown` labels were passed over.
 pub struct JoinRequest {
     pub role: u8,
     pub network: OctetsParameter,
     pub unsupported: ListParameter,
-    pub faults: Faults,
-    pub passed: u64,
+    pub errors: ErrorReports,
+    pub unknown: u64,
 }
 
 // Beside a refusal stands the empty request.
@@ -31,7 +31,7 @@ pub struct RequestRead {
 }
 
 // What was read so far, and whether a role was among it.
-pub struct Gathered {
+pub struct RequestState {
     pub named: bool,
     pub request: JoinRequest,
 }
@@ -40,15 +40,15 @@ pub struct Gathered {
 pub fn empty_request() -> JoinRequest
     ensures { λ r. ⌜ r ≡ emptyRequest ⌝ }
 {
-    let network = no_octets(Report::Absent);
-    let unsupported = no_list(Report::Absent);
-    let faults = no_faults();
+    let network = no_octets(Disposition::Absent);
+    let unsupported = no_list(Disposition::Absent);
+    let faults = no_error_reports();
     JoinRequest {
         role: 0,
         network: network,
         unsupported: unsupported,
-        faults: faults,
-        passed: 0,
+        errors: faults,
+        unknown: 0,
     }
 }
 
@@ -63,12 +63,12 @@ fn is_due(version: Version, role: u8) -> bool
 }
 
 // Whether a network identifier is due and none was taken.
-pub fn is_owing(version: Version, role: u8, report: Report) -> bool
+pub fn is_owing(version: Version, role: u8, report: Disposition) -> bool
     ensures { λ r. ⌜ r ≡ owing version role report ⌝ }
 {
     match report {
-        Report::Absent => is_due(version, role),
-        Report::Taken => false,
-        Report::Discarded => is_due(version, role),
+        Disposition::Absent => is_due(version, role),
+        Disposition::Taken => false,
+        Disposition::Discarded => is_due(version, role),
     }
 }

@@ -1,8 +1,8 @@
 // The labels of a map.
 
 // How a label stands to what was read before it.
-pub enum Standing {
+pub enum LabelStatus {
     Unknown,
-    Fresh,
-    Again,
+    First,
+    Repeated,
 }

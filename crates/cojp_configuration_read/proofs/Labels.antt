@@ -11,13 +11,13 @@ use types.Run.{OneOf}
 use denote.Enum.Declared.{tagOf}
 use Rattle.cojp.proofs.parameter.Parameter as parameter
 use Rattle.cojp.specs.Parameter.{parameterOf, laterParameter}
-use Rattle.cojp.specs.Version.{informed}
-use Rattle.cojp.specs.declared.fault.Faults.{Faults}
+use Rattle.cojp.specs.Version.{allowsAdditionalInfo}
+use Rattle.cojp.specs.declared.error_report.ErrorReports.{ErrorReports}
 use Rattle.cojp.specs.declared.parameter.Parameter.{Parameter}
 use Rattle.cojp.specs.declared.parameter.Parameter.the-variants as name
 use Rattle.cojp.specs.declared.version.Version.{Version}
 use Rattle.cojp.specs.declared.version.Version.the-variants.{Draft, Published}
-use Rattle.cojp_configuration_read.specs.Noted.{isNamed, cameWith}
+use Rattle.cojp_configuration_read.specs.Noted.{isNamed, labelsSeenWith}
 
 -- any parameter but the last, which is none
 pub named : (p : Parameter) → OneOf (0 ∷ 1 ∷ 2 ∷ 3 ∷ 4 ∷ 5 ∷ 6 ∷ []) (tagOf parameter.the-type p) → isNamed p ≡ true
@@ -66,10 +66,10 @@ named-some Draft zero h = absurd (let z : _≡_ {A = ℕ} 0 1 = cc in omega arit
 named-some Published zero h = absurd (let z : _≡_ {A = ℕ} 0 1 = cc in omega arith)
 named-some v (suc n) h = omega arith
 
-pub came-draft : (v : Version) (n : ℕ) (f : Faults) → informed v ≡ false → cameWith v n f ≡ f
-came-draft Draft n f h = refl
-came-draft Published n f h = absurd (let z : _≡_ {A = ℕ} 0 1 = cc in omega arith)
+pub met-draft : (v : Version) (n : ℕ) (f : ErrorReports) → allowsAdditionalInfo v ≡ false → labelsSeenWith v n f ≡ f
+met-draft Draft n f h = refl
+met-draft Published n f h = absurd (let z : _≡_ {A = ℕ} 0 1 = cc in omega arith)
 
-pub came-same : (v : Version) (n : ℕ) (f : Faults) → parameterOf v n ≡ name.Unknown → cameWith v n f ≡ f
-came-same Draft n f h = refl
-came-same Published n f h = rw h
+pub met-same : (v : Version) (n : ℕ) (f : ErrorReports) → parameterOf v n ≡ name.Unknown → labelsSeenWith v n f ≡ f
+met-same Draft n f h = refl
+met-same Published n f h = rw h

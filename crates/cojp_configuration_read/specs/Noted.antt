@@ -1,10 +1,10 @@
 -- What the walk notes of a pair's label before it reads the value: what `noted` of Configuration notes after it.
 use Prim.Native.Nat.{ℕ}
 use mathlib.Core.Bool.{Bool, true, false, cond}
-use Rattle.cojp.specs.Faults.{added}
+use Rattle.cojp.specs.ErrorReports.{added}
 use Rattle.cojp.specs.Parameter.{parameterOf}
 use Rattle.cojp.specs.Version.{byVersion}
-use Rattle.cojp.specs.declared.fault.Faults.{Faults}
+use Rattle.cojp.specs.declared.error_report.ErrorReports.{ErrorReports}
 use Rattle.cojp.specs.declared.parameter.Parameter.{Parameter}
 use Rattle.cojp.specs.declared.parameter.Parameter.the-variants as name
 use Rattle.cojp.specs.declared.version.Version.{Version}
@@ -21,5 +21,5 @@ isNamed name.Rate = true
 isNamed name.Unknown = false
 
 -- the known labels that came, this one among them
-abbrev pub cameWith : Version → ℕ → Faults → Faults
-cameWith v n f = byVersion v f (cond (isNamed (parameterOf v n)) (added f 1 n) f)
+abbrev pub labelsSeenWith : Version → ℕ → ErrorReports → ErrorReports
+labelsSeenWith v n f = byVersion v f (cond (isNamed (parameterOf v n)) (added f 1 n) f)

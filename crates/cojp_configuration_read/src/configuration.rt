@@ -1,7 +1,7 @@
 // Configurations, which join responses and parameter updates carry.
 use crate::once::KeysStep;
 use crate::once::address_once;
-use crate::once::is_informed;
+use crate::once::allows_additional_info;
 use crate::once::keys_once;
 use crate::published::blacklist_once;
 use crate::published::noted_label;
@@ -13,7 +13,7 @@ use cojp::Version;
 use cojp::empty_configuration;
 use cojp::parameter_of;
 use cojp_key_set_read::read_keys;
-use cojp_map::Start;
+use cojp_map::PayloadResult;
 use cojp_map::item_end;
 use cojp_map::labelled_at;
 use cojp_map::octets_once;
@@ -46,40 +46,40 @@ fn read_by(payload: &[u8], version: Version, strict: bool) -> ConfigurationRead
     let mut c = empty_configuration();
     let opened = open_payload(payload, strict);
     match opened {
-        Start::Refused(k) => return refused_configuration(k),
-        Start::Pairs { count, start } => {
+        PayloadResult::Refused(k) => return refused_configuration(k),
+        PayloadResult::Pairs { count, start } => {
             let s = &payload[0..];
             let mut at = start;
             let mut left = count;
             while 0 < left {
                 let pair = labelled_at(s, at);
                 let mut verdict = pair.verdict;
-                if is_informed(version) {
-                    c.came = noted_label(c.came, version, pair.label);
+                if allows_additional_info(version) {
+                    c.labels = noted_label(c.labels, version, pair.label);
                 }
                 let named = parameter_of(version, pair.label);
                 match named {
                     Parameter::Keys => {
                         let before = c.keys;
-                        let held = before.report;
-                        let informed = is_informed(version);
-                        let r = read_keys(s, pair.value, informed);
+                        let held = before.disposition;
+                        let allowed = allows_additional_info(version);
+                        let r = read_keys(s, pair.value, allowed);
                         let parameter = r.parameter;
                         c.keys = parameter;
                         let said = r.verdict;
-                        let report = parameter.report;
+                        let report = parameter.disposition;
                         let told = KeysStep {
                             verdict: said,
-                            report: report,
+                            disposition: report,
                             next: r.next,
                         };
                         let step = keys_once(s, pair.value, held, version, told);
                         verdict = step.verdict;
-                        let became = step.report;
+                        let became = step.disposition;
                         let stored = c.keys;
                         let set = stored.value;
                         let settled = KeysParameter {
-                            report: became,
+                            disposition: became,
                             value: set,
                         };
                         c.keys = settled;
@@ -88,31 +88,31 @@ fn read_by(payload: &[u8], version: Version, strict: bool) -> ConfigurationRead
                     Parameter::Address => {
                         let r = address_once(s, pair.value, c.address, version);
                         verdict = r.verdict;
-                        c.address = r.parameter.anew();
+                        c.address = r.parameter.repacked();
                         at = r.next;
                     }
                     Parameter::Jrc => {
                         let held = c.jrc;
-                        let report = held.report;
+                        let report = held.disposition;
                         let r = octets_once(s, pair.value, report, 16, version);
                         verdict = r.verdict;
-                        c.jrc = r.parameter.anew();
+                        c.jrc = r.parameter.repacked();
                         at = r.next;
                     }
                     Parameter::Network => {
                         let held = c.network;
-                        let report = held.report;
+                        let report = held.disposition;
                         let r = octets_once(s, pair.value, report, 0, Version::Draft);
                         verdict = r.verdict;
-                        c.network = r.parameter.anew();
+                        c.network = r.parameter.repacked();
                         at = r.next;
                     }
                     Parameter::Prefix => {
                         let held = c.prefix;
-                        let report = held.report;
+                        let report = held.disposition;
                         let r = octets_once(s, pair.value, report, 0, Version::Draft);
                         verdict = r.verdict;
-                        c.prefix = r.parameter.anew();
+                        c.prefix = r.parameter.repacked();
                         at = r.next;
                     }
                     Parameter::Blacklist => {
@@ -130,7 +130,7 @@ fn read_by(payload: &[u8], version: Version, strict: bool) -> ConfigurationRead
                         at = r.next;
                     }
                     Parameter::Unknown => {
-                        c.passed += 1;
+                        c.unknown += 1;
                         at = item_end(s, pair.value);
                     }
                 }

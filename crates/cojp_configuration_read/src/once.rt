@@ -1,7 +1,7 @@
 // The parameters of both forms that may come once: key set and short address.
 use cojp::AddressParameter;
 use cojp::AddressRead;
-use cojp::Report;
+use cojp::Disposition;
 use cojp::Version;
 use cojp::no_address;
 use cojp::read_address;
@@ -12,16 +12,16 @@ use refusal::Verdict;
 ghost use mathlib.Core.Path.{_≡_};
 ghost use lib.ListN.{drop};
 ghost use Rattle.cojp.specs.Address.{noAddressParameter, addressRead};
-ghost use Rattle.cojp.specs.Bytes.{valueView, afterValue, GoesOn};
+ghost use Rattle.cojp.specs.Bytes.{valueView, afterValue, EndsAt};
 ghost use Rattle.cojp.specs.KeySet.{noKeysParameter};
-ghost use Rattle.cojp.specs.Reading.{read, said, forgiven, following, Accepting};
-ghost use Rattle.cojp.specs.Version.{informed};
+ghost use Rattle.cojp.specs.Reading.{read, resultOf, malformedAs, byVersionOf, Accepting};
+ghost use Rattle.cojp.specs.Version.{allowsAdditionalInfo};
 ghost use Rattle.cojp_map.specs.Pairs.{seen, once};
 ghost use Rattle.cojp_configuration_read.specs.Follow.{KeysFollow, RestFollows};
 
 // Whether keys may have additional information.
-pub(crate) fn is_informed(version: Version) -> bool
-    ensures { λ r. ⌜ r ≡ informed version ⌝ }
+pub(crate) fn allows_additional_info(version: Version) -> bool
+    ensures { λ r. ⌜ r ≡ allowsAdditionalInfo version ⌝ }
 {
     match version {
         Version::Draft => false,
@@ -33,13 +33,13 @@ pub(crate) fn is_informed(version: Version) -> bool
 // tenth of a short read. `next` is where the bytes go on.
 pub(crate) struct KeysStep {
     pub verdict: Verdict,
-    pub report: Report,
+    pub disposition: Disposition,
     pub next: usize,
 }
 
 // What follows in the published form from what was told of the key set at a place: nothing of a bad one is taken, and the bytes go on after it.
-fn forgiven_keys(s: &[u8], at: usize, told: KeysStep) -> KeysStep
-    ensures { λ r. ⌜ KeysFollow told r (λ x. read (forgiven (noKeysParameter Report.Discarded) x)) ⌝ }
+fn malformed_keys(s: &[u8], at: usize, told: KeysStep) -> KeysStep
+    ensures { λ r. ⌜ KeysFollow told r (λ x. read (malformedAs (noKeysParameter Disposition.Discarded) x)) ⌝ }
     ensures rest { λ r. ⌜ RestFollows (now (s .entry)) at told r ⌝ }
 {
     let verdict = told.verdict;
@@ -49,7 +49,7 @@ fn forgiven_keys(s: &[u8], at: usize, told: KeysStep) -> KeysStep
             let next = item_end(s, at);
             KeysStep {
                 verdict: Verdict::Accepted,
-                report: Report::Discarded,
+                disposition: Disposition::Discarded,
                 next: next,
             }
         }
@@ -61,37 +61,37 @@ fn forgiven_keys(s: &[u8], at: usize, told: KeysStep) -> KeysStep
 pub(crate) fn keys_once(
     s: &[u8],
     at: usize,
-    held: Report,
+    held: Disposition,
     version: Version,
     told: KeysStep,
 ) -> KeysStep
-    ensures { λ r. ⌜ KeysFollow told r (λ x. once (seen held) (following version (noKeysParameter Report.Discarded) x)) ⌝ }
+    ensures { λ r. ⌜ KeysFollow told r (λ x. once (seen held) (byVersionOf version (noKeysParameter Disposition.Discarded) x)) ⌝ }
     ensures rest { λ r. ⌜ RestFollows (now (s .entry)) at told r ⌝ }
 {
     if is_seen(held) {
         return KeysStep {
             verdict: Verdict::Refused(Refusal::Twice),
-            report: Report::Absent,
+            disposition: Disposition::Absent,
             next: 0,
         };
     }
     match version {
         Version::Draft => told,
-        Version::Published => forgiven_keys(s, at, told),
+        Version::Published => malformed_keys(s, at, told),
     }
 }
 
 // The short address at a place, in the published form: nothing of a bad one is taken, and the bytes go on after it.
-fn forgiven_address(s: &[u8], at: usize) -> AddressRead
-    ensures { λ r. ⌜ said (r .verdict) (r .parameter) ≡ read (forgiven (noAddressParameter Report.Discarded) (addressRead (valueView (drop at (now (s .entry)))))) ⌝ }
-    ensures rest { λ r. ⌜ Accepting (r .verdict) (GoesOn (now (s .entry)) (r .next) (afterValue (drop at (now (s .entry))))) ⌝ }
+fn malformed_address(s: &[u8], at: usize) -> AddressRead
+    ensures { λ r. ⌜ resultOf (r .verdict) (r .parameter) ≡ read (malformedAs (noAddressParameter Disposition.Discarded) (addressRead (valueView (drop at (now (s .entry)))))) ⌝ }
+    ensures rest { λ r. ⌜ Accepting (r .verdict) (EndsAt (now (s .entry)) (r .next) (afterValue (drop at (now (s .entry))))) ⌝ }
 {
     let r = read_address(s, at);
     let verdict = r.verdict;
     match verdict {
         Verdict::Accepted => r,
         Verdict::Refused(_) => {
-            let bad = no_address(Report::Discarded);
+            let bad = no_address(Disposition::Discarded);
             let next = item_end(s, at);
             AddressRead {
                 verdict: Verdict::Accepted,
@@ -109,12 +109,12 @@ pub(crate) fn address_once(
     held: AddressParameter,
     version: Version,
 ) -> AddressRead
-    ensures { λ r. ⌜ said (r .verdict) (r .parameter) ≡ once (seen (held .report)) (following version (noAddressParameter Report.Discarded) (addressRead (valueView (drop at (now (s .entry)))))) ⌝ }
-    ensures rest { λ r. ⌜ Accepting (r .verdict) (GoesOn (now (s .entry)) (r .next) (afterValue (drop at (now (s .entry))))) ⌝ }
+    ensures { λ r. ⌜ resultOf (r .verdict) (r .parameter) ≡ once (seen (held .disposition)) (byVersionOf version (noAddressParameter Disposition.Discarded) (addressRead (valueView (drop at (now (s .entry)))))) ⌝ }
+    ensures rest { λ r. ⌜ Accepting (r .verdict) (EndsAt (now (s .entry)) (r .next) (afterValue (drop at (now (s .entry))))) ⌝ }
 {
-    let report = held.report;
+    let report = held.disposition;
     if is_seen(report) {
-        let none = no_address(Report::Absent);
+        let none = no_address(Disposition::Absent);
         return AddressRead {
             verdict: Verdict::Refused(Refusal::Twice),
             parameter: none,
@@ -123,6 +123,6 @@ pub(crate) fn address_once(
     }
     match version {
         Version::Draft => read_address(s, at),
-        Version::Published => forgiven_address(s, at),
+        Version::Published => malformed_address(s, at),
     }
 }

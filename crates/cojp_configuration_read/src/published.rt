@@ -1,9 +1,9 @@
 // What only the published form (RFC 9031) has: blacklist, join rate, and the labels that came.
-use cojp::Faults;
+use cojp::Disposition;
+use cojp::ErrorReports;
 use cojp::ListParameter;
 use cojp::Parameter;
 use cojp::RateParameter;
-use cojp::Report;
 use cojp::Version;
 use cojp::no_list;
 use cojp::no_rate;
@@ -17,12 +17,12 @@ use refusal::Refusal;
 use refusal::Verdict;
 ghost use mathlib.Core.Path.{_≡_};
 ghost use lib.ListN.{drop};
-ghost use Rattle.cojp.specs.Bytes.{valueView, afterValue, GoesOn};
+ghost use Rattle.cojp.specs.Bytes.{valueView, afterValue, EndsAt};
 ghost use Rattle.cojp.specs.Lists.{blacklistTaken};
 ghost use Rattle.cojp.specs.Rate.{rateTaken};
-ghost use Rattle.cojp.specs.Reading.{read, said, Accepting};
+ghost use Rattle.cojp.specs.Reading.{read, resultOf, Accepting};
 ghost use Rattle.cojp_map.specs.Pairs.{seen, once};
-ghost use Rattle.cojp_configuration_read.specs.Noted.{cameWith};
+ghost use Rattle.cojp_configuration_read.specs.Noted.{labelsSeenWith};
 
 // `next` is where the bytes go on after the value. Beside a refusal nothing else says anything.
 pub(crate) struct BlacklistRead {
@@ -40,12 +40,12 @@ pub(crate) struct RateRead {
 
 // The blacklist at a place: TWICE where its label came before, with what is held.
 pub(crate) fn blacklist_once(s: &[u8], at: usize, held: ListParameter) -> BlacklistRead
-    ensures { λ r. ⌜ said (r .verdict) (r .parameter) ≡ once (seen (held .report)) (read (blacklistTaken (valueView (drop at (now (s .entry)))))) ⌝ }
-    ensures rest { λ r. ⌜ Accepting (r .verdict) (GoesOn (now (s .entry)) (r .next) (afterValue (drop at (now (s .entry))))) ⌝ }
+    ensures { λ r. ⌜ resultOf (r .verdict) (r .parameter) ≡ once (seen (held .disposition)) (read (blacklistTaken (valueView (drop at (now (s .entry)))))) ⌝ }
+    ensures rest { λ r. ⌜ Accepting (r .verdict) (EndsAt (now (s .entry)) (r .next) (afterValue (drop at (now (s .entry))))) ⌝ }
 {
-    let report = held.report;
+    let report = held.disposition;
     if is_seen(report) {
-        let none = no_list(Report::Absent);
+        let none = no_list(Disposition::Absent);
         return BlacklistRead {
             verdict: Verdict::Refused(Refusal::Twice),
             parameter: none,
@@ -64,12 +64,12 @@ pub(crate) fn blacklist_once(s: &[u8], at: usize, held: ListParameter) -> Blackl
 
 // The join rate at a place: TWICE where its label came before, with what is held.
 pub(crate) fn rate_once(s: &[u8], at: usize, held: RateParameter) -> RateRead
-    ensures { λ r. ⌜ said (r .verdict) (r .parameter) ≡ once (seen (held .report)) (read (rateTaken (valueView (drop at (now (s .entry)))))) ⌝ }
-    ensures rest { λ r. ⌜ Accepting (r .verdict) (GoesOn (now (s .entry)) (r .next) (afterValue (drop at (now (s .entry))))) ⌝ }
+    ensures { λ r. ⌜ resultOf (r .verdict) (r .parameter) ≡ once (seen (held .disposition)) (read (rateTaken (valueView (drop at (now (s .entry)))))) ⌝ }
+    ensures rest { λ r. ⌜ Accepting (r .verdict) (EndsAt (now (s .entry)) (r .next) (afterValue (drop at (now (s .entry))))) ⌝ }
 {
-    let report = held.report;
+    let report = held.disposition;
     if is_seen(report) {
-        let none = no_rate(Report::Absent);
+        let none = no_rate(Disposition::Absent);
         return RateRead {
             verdict: Verdict::Refused(Refusal::Twice),
             parameter: none,
@@ -86,16 +86,16 @@ pub(crate) fn rate_once(s: &[u8], at: usize, held: RateParameter) -> RateRead
 }
 
 // The known labels that came, this one among them, each with the code of a malformed parameter (1), which is what a bad one is reported as.
-pub(crate) fn noted_label(came: Faults, version: Version, label: u64) -> Faults
-    ensures { λ r. ⌜ r ≡ cameWith version label came ⌝ }
+pub(crate) fn noted_label(met: ErrorReports, version: Version, label: u64) -> ErrorReports
+    ensures { λ r. ⌜ r ≡ labelsSeenWith version label met ⌝ }
 {
     match version {
-        Version::Draft => came,
+        Version::Draft => met,
         Version::Published => {
             let parameter = parameter_of(version, label);
             match parameter {
-                Parameter::Unknown => came,
-                _ => came.add(1, label as u8),
+                Parameter::Unknown => met,
+                _ => met.add(1, label as u8),
             }
         }
     }

@@ -38,9 +38,9 @@ module _ (a : ShortAddress) (m : ℕ) (e : m ≡ count (addressItems a)) where
   place-seam h w v = rw place-bytes (seam (omega (arith, length-append (shortest 0 3 ++ shortest 4 m) (encode (bytes (a .bytes))))) w v)
 
 -- ---- the parameter
-module _ (p : AddressParameter) (t : Bool) (e : t ≡ ifTaken (p .report) true false) (h : t ≡ true) where
+module _ (p : AddressParameter) (t : Bool) (e : t ≡ ifTaken (p .disposition) true false) (h : t ≡ true) where
   pub address-taken : addressPairs p ≡ labelled 3 (array (addressItems (p .value)))
-  address-taken = taken-is (p .report) (labelled 3 (array (addressItems (p .value)))) empty t e h
+  address-taken = taken-is (p .disposition) (labelled 3 (array (addressItems (p .value)))) empty t e h
 
   pub address-size : HeadLaws → {r : Size} → length (p .value .bytes) ≡ 2 → ItemsSize (leaseItems (p .value .leased) (p .value .lease)) 1 9 r
       → PairsSize (addressPairs p) 1 14 (record { members = 1; bytes = 5 + r .bytes })

@@ -15,10 +15,10 @@ use Rattle.cbor.specs.Item.{Items, unsigned, bytes, array, none, more, empty, c
 use Rattle.cbor.specs.Writing.{seam}
 use Rattle.link_key_set.specs.KeySet.{keysOf}
 use Rattle.link_key.specs.declared.Key.{Key}
-use Rattle.link_key.specs.declared.info.Info.the-variants.{Absent}
+use Rattle.link_key.specs.declared.additional_info.AdditionalInfo.the-variants.{Absent}
 use Rattle.link_key_set.specs.declared.key_set.KeySet.{KeySet}
 use Rattle.cojp.specs.Reading.{ifTaken}
-use Rattle.cojp.specs.Writing.{labelled, chain, leaseItems, usageItems, infoItems, groupItems, groupsItems, keysPairs}
+use Rattle.cojp.specs.Writing.{labelled, chain, leaseItems, usageItems, additionalInfoItems, groupItems, groupsItems, keysPairs}
 use Rattle.cojp.specs.declared.key_set.KeysParameter.{KeysParameter}
 use Rattle.cojp_configuration_write.specs.Room.{usedItems, keyLength, setLength}
 use Rattle.cojp_octets_write.specs.Size.{ItemsSize, PairsSize, Sum}
@@ -40,11 +40,11 @@ module _ (k : Key) where
   abbrev front : List ℕ
   front = (shortest 0 (k .identifier) ++ encodes (usedItems (k .usage))) ++ encode (bytes (k .value))
 
-  group-bytes : encodes (groupItems k) ≡ front ++ encodes (infoItems (k .info))
+  group-bytes : encodes (groupItems k) ≡ front ++ encodes (additionalInfoItems (k .info))
   group-bytes =
-      chain-bytes (more (unsigned (k .identifier)) (usageItems (k .usage))) (more (bytes (k .value)) (infoItems (k .info)))
+      chain-bytes (more (unsigned (k .identifier)) (usageItems (k .usage))) (more (bytes (k .value)) (additionalInfoItems (k .info)))
       ∙ rw (usage-items (k .usage))
-      (sym (append-assoc (shortest 0 (k .identifier) ++ encodes (usedItems (k .usage))) (encode (bytes (k .value))) (encodes (infoItems (k .info)))))
+      (sym (append-assoc (shortest 0 (k .identifier) ++ encodes (usedItems (k .usage))) (encode (bytes (k .value))) (encodes (additionalInfoItems (k .info)))))
 
   front-length : length front ≡ length (shortest 0 (k .identifier)) + (length (encodes (usedItems (k .usage))) + length (encode (bytes (k .value))))
   front-length =
@@ -55,20 +55,20 @@ module _ (k : Key) where
       )
 
   pub group-length : length (encodes (groupItems k)) ≡ keyLength k
-  group-length = ap length group-bytes ∙ omega (arith, length-append front (encodes (infoItems (k .info))), front-length)
+  group-length = ap length group-bytes ∙ omega (arith, length-append front (encodes (additionalInfoItems (k .info))), front-length)
 
-  group-count : count (groupItems k) ≡ 2 + count (usedItems (k .usage)) + count (infoItems (k .info))
+  group-count : count (groupItems k) ≡ 2 + count (usedItems (k .usage)) + count (additionalInfoItems (k .info))
   group-count =
-      chain-count (more (unsigned (k .identifier)) (usageItems (k .usage))) (more (bytes (k .value)) (infoItems (k .info)))
+      chain-count (more (unsigned (k .identifier)) (usageItems (k .usage))) (more (bytes (k .value)) (additionalInfoItems (k .info)))
       ∙ rw (usage-items (k .usage)) (omega arith)
 
   pub group-seam : {d d′ e : List ℕ} {n m : ℕ} → keyLength k ≤ length d → Wrote front d n d′
-      → Wrote (encodes (infoItems (k .info))) (take (length d′ - n) (drop n d′)) m e
+      → Wrote (encodes (additionalInfoItems (k .info))) (take (length d′ - n) (drop n d′)) m e
       → Wrote (encodes (groupItems k)) d (n + m) (take n d′ ++ (e ++ drop (length d′ - n) (drop n d′)))
   group-seam h w v = rw group-bytes (seam (omega (arith, front-length)) w v)
 
   pub group-size : HeadLaws → {n : ℕ} {r s : Size} → n ≡ extraOf (k .identifier) + 1 → k .identifier ≤ 255 → length (k .value) ≡ 16
-      → ItemsSize (usedItems (k .usage)) 1 9 r → ItemsSize (infoItems (k .info)) 1 9 s
+      → ItemsSize (usedItems (k .usage)) 1 9 r → ItemsSize (additionalInfoItems (k .info)) 1 9 s
       → ItemsSize (groupItems k) 4 37 (record { members = 2 + r .members + s .members; bytes = n + r .bytes + 17 + s .bytes })
   group-size heads e i v z y = record {
     members = omega (arith, group-count, z .members, y .members);
@@ -142,9 +142,9 @@ module _ (ks : List Key) (m : ℕ) (e : m ≡ count (groupsItems ks)) where
       → Wrote (encodePairs (labelled 2 (array (groupsItems ks)))) d (n + k) (take n d′ ++ (f ++ drop (length d′ - n) (drop n d′)))
   set-seam h w v = rw set-bytes (seam h w v)
 
-module _ (p : KeysParameter) (t : Bool) (e : t ≡ ifTaken (p .report) true false) (h : t ≡ true) where
+module _ (p : KeysParameter) (t : Bool) (e : t ≡ ifTaken (p .disposition) true false) (h : t ≡ true) where
   pub keys-taken : keysPairs p ≡ labelled 2 (array (groupsItems (keysOf (p .value))))
-  keys-taken = taken-is (p .report) (labelled 2 (array (groupsItems (keysOf (p .value))))) empty t e h
+  keys-taken = taken-is (p .disposition) (labelled 2 (array (groupsItems (keysOf (p .value))))) empty t e h
 
   pub keys-size : HeadLaws → {n : ℕ} {r : Size} → n ≡ extraOf (r .members) + 1 → ItemsSize (groupsItems (keysOf (p .value))) 32 296 r
       → PairsSize (keysPairs p) 1 299 (record { members = 1; bytes = 1 + n + r .bytes })

@@ -7,8 +7,8 @@ use Rattle.refusal.specs.declared.Refusal.the-variants.{Range}
 use Rattle.cbor.specs.Answer.{Did}
 use Rattle.cbor.specs.Encode.{encode}
 use Rattle.cbor.specs.Item.{map}
-use Rattle.cbor.specs.declared.write.Written.{Written}
-use Rattle.cbor.specs.declared.write.Written.the-variants.{Refused}
+use Rattle.cbor.specs.declared.write.WriteResult.{WriteResult}
+use Rattle.cbor.specs.declared.write.WriteResult.the-variants.{Refused}
 use Rattle.cbor.specs.Writing.{did-refuse}
 use Rattle.cojp.specs.Writing.{fits, configurationPairs, configurationInRange, configurationPlan}
 use Rattle.cojp.specs.declared.configuration.Configuration.{Configuration}
@@ -19,7 +19,7 @@ module _ (v : Version) (c : Configuration) where
   unfolding configurationPlan
   configuration-range d h = simp h (did-refuse Range d)
 
-  pub configuration-emit : {d d′ : List ℕ} {r : Written} → configurationInRange v c ≡ true → Did (fits (encode (map (configurationPairs c)))) d r d′
+  pub configuration-emit : {d d′ : List ℕ} {r : WriteResult} → configurationInRange v c ≡ true → Did (fits (encode (map (configurationPairs c)))) d r d′
       → Did (configurationPlan v c) d r d′
   unfolding configurationPlan
   configuration-emit h w = simp h w

@@ -16,9 +16,9 @@ use Rattle.cojp_octets_write.specs.Size.{PairsSize}
 use Rattle.cojp_octets_write.proofs.Joined.{labelled-bytes, labelled-length, same-room}
 use Rattle.cojp_range.proofs.Taken.{taken-is}
 
-module _ (p : RateParameter) (t : Bool) (e : t ≡ ifTaken (p .report) true false) (h : t ≡ true) where
+module _ (p : RateParameter) (t : Bool) (e : t ≡ ifTaken (p .disposition) true false) (h : t ≡ true) where
   rate-taken : ratePairs p ≡ labelled 7 (unsigned (p .value))
-  rate-taken = taken-is (p .report) (labelled 7 (unsigned (p .value))) empty t e h
+  rate-taken = taken-is (p .disposition) (labelled 7 (unsigned (p .value))) empty t e h
 
   pub rate-size : HeadLaws → {n : ℕ} → n ≡ extraOf (p .value) + 1 → PairsSize (ratePairs p) 1 10 (record { members = 1; bytes = 1 + n })
   rate-size heads f = rw rate-taken (record {

@@ -10,7 +10,7 @@ use Rattle.cbor.specs.Item.{Items, Pairs, bytes, more, countPairs}
 use Rattle.cojp.specs.Writing.{
   join,
   leaseItems,
-  infoItems,
+  additionalInfoItems,
   groupsItems,
   keysPairs,
   addressPairs,
@@ -45,7 +45,7 @@ usedItems usage = leaseItems (not (eqb usage 0)) usage
 abbrev pub keyLength : Key → ℕ
 keyLength k =
     length (shortest 0 (k .identifier))
-    + (length (encodes (usedItems (k .usage))) + (length (encode (bytes (k .value))) + length (encodes (infoItems (k .info)))))
+    + (length (encodes (usedItems (k .usage))) + (length (encode (bytes (k .value))) + length (encodes (additionalInfoItems (k .info)))))
 
 abbrev pub setLength : List Key → ℕ → ℕ
 setLength ks members = arrayLength 2 members + length (encodes (groupsItems ks))

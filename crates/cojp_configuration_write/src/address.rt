@@ -22,7 +22,7 @@ pub(crate) fn address_size(p: AddressParameter) -> Size
     ensures { λ r. ⌜ PairsSize (addressPairs p) 1 14 r ⌝ }
 {
     cbor::head_laws();
-    let report = p.report;
+    let report = p.disposition;
     if is_taken(report) {
         let lease = optional_size(p.value.leased, p.value.lease);
         return Size {
@@ -48,7 +48,7 @@ pub(crate) fn put_address(dst: &mut [u8], p: AddressParameter) -> usize
     requires { ⌜ length (encodePairs (addressPairs p)) ≤ length (now dst) ⌝ }
     ensures { λ r. ⌜ Wrote (encodePairs (addressPairs p)) (now (dst .entry)) r (now (dst .exit)) ⌝ }
 {
-    let report = p.report;
+    let report = p.disposition;
     if is_taken(report) {
         let lease = optional_size(p.value.leased, p.value.lease);
         let members = 1 + lease.members;

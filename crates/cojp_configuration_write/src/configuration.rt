@@ -5,7 +5,7 @@ use crate::key_set::keys_size;
 use crate::key_set::put_keys;
 use crate::rate::put_rate;
 use crate::rate::rate_size;
-use cbor::Written;
+use cbor::WriteResult;
 use cojp::Configuration;
 use cojp::ListParameter;
 use cojp::OctetsParameter;
@@ -110,7 +110,7 @@ fn put_configuration(dst: &mut [u8], c: Configuration, members: u64) -> usize
 }
 
 // What is in range: RANGE over 256 bytes, ROOM, or the length written.
-fn emit_configuration(dst: &mut [u8], c: Configuration) -> Written
+fn emit_configuration(dst: &mut [u8], c: Configuration) -> WriteResult
     requires { ⌜ ConfigurationFits c ⌝ }
     ensures { λ r. ⌜ Did (fits (encode (map (configurationPairs c)))) (now (dst .entry)) r (now (dst .exit)) ⌝ }
 {
@@ -120,26 +120,26 @@ fn emit_configuration(dst: &mut [u8], c: Configuration) -> Written
     let members = size.members;
     let whole = 1 + size.bytes;
     if 256 < whole {
-        return Written::Refused(Refusal::Range);
+        return WriteResult::Refused(Refusal::Range);
     }
     if dst.len() < whole {
-        return Written::Refused(Refusal::Room);
+        return WriteResult::Refused(Refusal::Room);
     }
-    Written::Length(put_configuration(dst, c, members as u64))
+    WriteResult::Length(put_configuration(dst, c, members as u64))
 }
 
 // Writes a configuration in a form: RANGE, ROOM, or the length written.
-pub fn write_configuration_as(dst: &mut [u8], c: Configuration, version: Version) -> Written
+pub fn write_configuration_as(dst: &mut [u8], c: Configuration, version: Version) -> WriteResult
     ensures { λ r. ⌜ Did (configurationPlan version c) (now (dst .entry)) r (now (dst .exit)) ⌝ }
 {
     if !configuration_in_range(version, c) {
-        return Written::Refused(Refusal::Range);
+        return WriteResult::Refused(Refusal::Range);
     }
     emit_configuration(dst, c)
 }
 
 // Writes a configuration of the draft: RANGE, ROOM, or the length written.
-pub fn write_configuration(dst: &mut [u8], c: Configuration) -> Written
+pub fn write_configuration(dst: &mut [u8], c: Configuration) -> WriteResult
     ensures { λ r. ⌜ Did (configurationPlan Draft c) (now (dst .entry)) r (now (dst .exit)) ⌝ }
 {
     write_configuration_as(dst, c, Version::Draft)

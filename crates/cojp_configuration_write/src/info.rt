@@ -2,20 +2,20 @@
 use crate::item::put_bytes;
 use cojp_octets_write::Size;
 use cojp_octets_write::no_size;
-use link_key::Info;
-use link_key::bytes_of;
+use link_key::AdditionalInfo;
+use link_key::additional_info_bytes;
 ghost use Prim.Native.Nat.{_≤_};
 ghost use lib.ListN.{length};
 ghost use Rattle.cbor.specs.Answer.{Wrote};
 ghost use Rattle.cbor.specs.Encode.{encodes};
-ghost use Rattle.cojp.specs.Writing.{infoItems};
+ghost use Rattle.cojp.specs.Writing.{additionalInfoItems};
 ghost use Rattle.cojp_octets_write.specs.Size.{ItemsSize};
 
-pub(crate) fn info_size(info: Info) -> Size
-    ensures { λ r. ⌜ ItemsSize (infoItems info) 1 9 r ⌝ }
+pub(crate) fn info_size(info: AdditionalInfo) -> Size
+    ensures { λ r. ⌜ ItemsSize (additionalInfoItems info) 1 9 r ⌝ }
 {
     cbor::head_laws();
-    let spread = bytes_of(info);
+    let spread = additional_info_bytes(info);
     let len = spread.len;
     if len == 0 {
         return no_size();
@@ -27,11 +27,11 @@ pub(crate) fn info_size(info: Info) -> Size
     }
 }
 
-pub(crate) fn put_info(dst: &mut [u8], info: Info) -> usize
-    requires { ⌜ length (encodes (infoItems info)) ≤ length (now dst) ⌝ }
-    ensures { λ r. ⌜ Wrote (encodes (infoItems info)) (now (dst .entry)) r (now (dst .exit)) ⌝ }
+pub(crate) fn put_info(dst: &mut [u8], info: AdditionalInfo) -> usize
+    requires { ⌜ length (encodes (additionalInfoItems info)) ≤ length (now dst) ⌝ }
+    ensures { λ r. ⌜ Wrote (encodes (additionalInfoItems info)) (now (dst .entry)) r (now (dst .exit)) ⌝ }
 {
-    let spread = bytes_of(info);
+    let spread = additional_info_bytes(info);
     let n = spread.len;
     let bytes = spread.bytes;
     if n == 0 {

@@ -1,5 +1,5 @@
 // Byte strings, numbers and labels, where there is room for them.
-use cbor::Written;
+use cbor::WriteResult;
 use cbor_write::write_bytes;
 use cojp_octets_write::put_head;
 ghost use mathlib.Core.List.{_++_};
@@ -17,8 +17,8 @@ pub(crate) fn put_bytes(dst: &mut [u8], s: &[u8]) -> usize
 {
     let w = write_bytes(dst, s);
     match w {
-        Written::Refused(_) => 0,
-        Written::Length(n) => n,
+        WriteResult::Refused(_) => 0,
+        WriteResult::Length(n) => n,
     }
 }
 

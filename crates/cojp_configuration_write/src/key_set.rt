@@ -61,7 +61,7 @@ pub(crate) fn keys_size(p: KeysParameter) -> Size
     ensures { λ r. ⌜ PairsSize (keysPairs p) 1 299 r ⌝ }
 {
     cbor::head_laws();
-    let report = p.report;
+    let report = p.disposition;
     if is_taken(report) {
         let groups = groups_size(p.value);
         let members = groups.members;
@@ -114,7 +114,7 @@ pub(crate) fn put_keys(dst: &mut [u8], p: KeysParameter) -> usize
     requires { ⌜ length (encodePairs (keysPairs p)) ≤ length (now dst) ⌝ }
     ensures { λ r. ⌜ Wrote (encodePairs (keysPairs p)) (now (dst .entry)) r (now (dst .exit)) ⌝ }
 {
-    let report = p.report;
+    let report = p.disposition;
     if is_taken(report) {
         let groups = groups_size(p.value);
         let members = groups.members;

@@ -16,7 +16,7 @@ pub(crate) fn rate_size(p: RateParameter) -> Size
     ensures { λ r. ⌜ PairsSize (ratePairs p) 1 10 r ⌝ }
 {
     cbor::head_laws();
-    let report = p.report;
+    let report = p.disposition;
     if is_taken(report) {
         let bytes = 1 + head_len(p.value);
         return Size {
@@ -31,7 +31,7 @@ pub(crate) fn put_rate(dst: &mut [u8], p: RateParameter) -> usize
     requires { ⌜ length (encodePairs (ratePairs p)) ≤ length (now dst) ⌝ }
     ensures { λ r. ⌜ Wrote (encodePairs (ratePairs p)) (now (dst .entry)) r (now (dst .exit)) ⌝ }
 {
-    let report = p.report;
+    let report = p.disposition;
     if is_taken(report) {
         return put_labelled(dst, 7, 0, p.value);
     }

@@ -8,15 +8,15 @@ use native.Mathlib.Omega.{arith}
 use lib.ListN.{length, take, drop}
 use types.Run.{OneOf}
 use denote.Enum.Declared.{tagOf}
-use Rattle.cbor.specs.View.{Plain, number, minus, string, other}
-use Rattle.link_key.specs.Info.{infoIn}
-use Rattle.link_key.specs.declared.info.Info.the-variants as info
-use Rattle.cojp_key_set_read.specs.Groups.{GroupAt, GroupRest, infoAnswer, infoBefore}
-use Rattle.cojp.specs.Bytes.{membersAt, afterMembers, Neither, MemberAt, MemberSays}
+use Rattle.cbor.specs.View.{Scalar, number, minus, string, other}
+use Rattle.link_key.specs.AdditionalInfo.{additionalInfoIn}
+use Rattle.link_key.specs.declared.additional_info.AdditionalInfo.the-variants as info
+use Rattle.cojp_key_set_read.specs.Groups.{GroupAt, GroupRest, additionalInfoAnswer, additionalInfoBefore}
+use Rattle.cojp.specs.Bytes.{membersAt, afterMembers, Neither, MemberAt, MemberSpec}
 use Rattle.cojp.specs.KeySet.{Groups, notGroups, group, groups, identified, used, valued}
 use Rattle.cojp_key_set_read.specs.declared.group.Group.{Group}
 use Rattle.cojp_key_set_read.specs.declared.group.Group.the-variants as gv
-use Rattle.cojp_key_set_read.specs.declared.info.InfoRead.{InfoRead}
+use Rattle.cojp_key_set_read.specs.declared.additional_info.AdditionalInfoRead.{AdditionalInfoRead}
 use Rattle.cojp.specs.declared.members.Member.{Member}
 use Rattle.cojp.specs.declared.members.Member.the-variants as mv
 use Rattle.cojp.proofs.Arrays.{members-some}
@@ -34,7 +34,7 @@ module _ (b : Bool) where
   regroup l m n gs hs (gv.Closed i u p a x q j) k e w = (w .0, w .1, w .2, omega (arith, w .3), e ∙ w .4)
 
   module _ (l : List ℕ) (n : ℕ) (v : Member) where
-    module _ (h : 0 < n) (e : MemberSays l 0 n v) where
+    module _ (h : 0 < n) (e : MemberSpec l 0 n v) where
       pub group-begun :
           (x p : ℕ) → v ≡ mv.Number x p → (r : Group) → GroupAt b l (n - 1) (identified b x (membersAt (n - 1) (drop p l))) r →
           GroupAt b l n (groups b (membersAt n l)) r
@@ -47,7 +47,7 @@ module _ (b : Bool) where
       unfolding groups
       group-headless o = go v (e .here) o
         where
-          none : (p : Plain) (ps : List Plain) → Neither (p ∷ ps) → groups b (p ∷ ps) ≡ notGroups
+          none : (p : Scalar) (ps : List Scalar) → Neither (p ∷ ps) → groups b (p ∷ ps) ≡ notGroups
           none (number x) ps w = absurd w
           none (minus x) ps w = refl
           none (string s) ps w = refl
@@ -58,7 +58,7 @@ module _ (b : Bool) where
           go (mv.Bytes p a) w o = rw (w .2)
           go mv.Neither w o = let (p, ps, f) = members-some n l h in rw f (none p ps (rw f at w))
 
-    module _ (at i : ℕ) (e : MemberSays l at n v) where
+    module _ (at i : ℕ) (e : MemberSpec l at n v) where
       pub group-used :
           (u p : ℕ) → v ≡ mv.Number u p → (r : Group) → GroupAt b l (n - 1) (used b i u (membersAt (n - 1) (drop p l))) r →
           GroupAt b l n (identified b i (membersAt n (drop at l))) r
@@ -80,7 +80,7 @@ module _ (b : Bool) where
       unfolding groups
       group-open g = go (membersAt n (drop at l)) (let w : MemberAt l at n mv.Neither = rw g at (e .here) in w)
         where
-          go : (ps : List Plain) → Neither ps → identified b i ps ≡ notGroups
+          go : (ps : List Scalar) → Neither ps → identified b i ps ≡ notGroups
           go [] w = refl
           go (number x ∷ ps) w = absurd w
           go (string s ∷ ps) w = absurd w
@@ -101,7 +101,7 @@ module _ (b : Bool) where
         unfolding groups
         group-valueless o = go v (e .here) o
           where
-            none : (ps : List Plain) → Neither ps → used b i u ps ≡ notGroups
+            none : (ps : List Scalar) → Neither ps → used b i u ps ≡ notGroups
             none [] w = refl
             none (number x ∷ ps) w = absurd w
             none (string s ∷ ps) w = absurd w
@@ -115,7 +115,7 @@ module _ (b : Bool) where
 
 -- ---- after a value, of a bytes from p on
 module _ (l : List ℕ) (i u p a n : ℕ) (h : p + a ≤ length l) where
-  abbrev left-over : List Plain
+  abbrev left-over : List Scalar
   left-over = membersAt n (drop (p + a) l)
 
   abbrev value-here : List ℕ
@@ -131,14 +131,14 @@ module _ (l : List ℕ) (i u p a n : ℕ) (h : p + a ≤ length l) where
   unfolding groups
   value-draft = value-ends false (go left-over)
     where
-      go : (ps : List Plain) → valued false i u value-here ps ≡ group i u value-here info.Absent (groups false ps)
+      go : (ps : List Scalar) → valued false i u value-here ps ≡ group i u value-here info.Absent (groups false ps)
       go [] = refl
       go (number x ∷ ps) = refl
       go (minus x ∷ ps) = refl
       go (string s ∷ ps) = refl
       go (other ∷ ps) = refl
 
-  module _ (v : Member) (e : MemberSays l (p + a) n v) where
+  module _ (v : Member) (e : MemberSpec l (p + a) n v) where
     -- where no byte string comes
     pub value-last :
         OneOf (0 ∷ 2 ∷ []) (tagOf member.the-type v) →
@@ -146,7 +146,7 @@ module _ (l : List ℕ) (i u p a n : ℕ) (h : p + a ≤ length l) where
     unfolding groups
     value-last o = value-ends true (go v (e .here) o)
       where
-        none : (ps : List Plain) → Neither ps → valued true i u value-here ps ≡ group i u value-here info.Absent (groups true ps)
+        none : (ps : List Scalar) → Neither ps → valued true i u value-here ps ≡ group i u value-here info.Absent (groups true ps)
         none [] w = refl
         none (number x ∷ ps) w = refl
         none (string s ∷ ps) w = absurd w
@@ -160,22 +160,22 @@ module _ (l : List ℕ) (i u p a n : ℕ) (h : p + a ≤ length l) where
         go mv.Neither w o = none left-over w
 
     -- where one comes, of k bytes from q on, it is additional information or breaks the pattern
-    module _ (q k : ℕ) (g : v ≡ mv.Bytes q k) (r : InfoRead) (f : r ≡ infoAnswer (infoIn (take k (drop q l)))) where
+    module _ (q k : ℕ) (g : v ≡ mv.Bytes q k) (r : AdditionalInfoRead) (f : r ≡ additionalInfoAnswer (additionalInfoIn (take k (drop q l)))) where
       info-here : MemberAt l (p + a) n (mv.Bytes q k)
       info-here = rw g at (e .here)
 
       pub value-broken : r .good ≡ false → valued true i u value-here left-over ≡ notGroups
       unfolding groups
-      value-broken z = rw (info-here .2, info-said r (infoIn (take k (drop q l))) f, z)
+      value-broken z = rw (info-here .2, info-said r (additionalInfoIn (take k (drop q l))) f, z)
 
       -- it stands right before the place where it ends
-      info-before : infoBefore l (q + k) k ≡ r .info
+      info-before : additionalInfoBefore l (q + k) k ≡ r .info
       info-before =
           let begin : q + k - k ≡ q = omega arith in
-          ap (λ (at : ℕ). infoAnswer (infoIn (take k (drop at l))) .info) begin ∙ ap (λ (x : InfoRead). x .info) (sym f)
+          ap (λ (at : ℕ). additionalInfoAnswer (additionalInfoIn (take k (drop at l))) .info) begin ∙ ap (λ (x : AdditionalInfoRead). x .info) (sym f)
 
-      pub value-informed :
+      pub value-allowed :
           r .good ≡ true → GroupAt true l (n + 1) (valued true i u value-here left-over) (gv.Closed i u p a k (q + k) (n - 1))
       unfolding groups
-      value-informed z =
-          (h, omega arith, info-here .1, omega arith, rw (info-before, info-here .2, info-said r (infoIn (take k (drop q l))) f, z))
+      value-allowed z =
+          (h, omega arith, info-here .1, omega arith, rw (info-before, info-here .2, info-said r (additionalInfoIn (take k (drop q l))) f, z))

@@ -7,10 +7,10 @@ use mathlib.Core.Option.{Option, none, some}
 use native.Mathlib.Omega.{arith}
 use lib.ListN.{length, take, drop, getD}
 use lib.Seq.{drop-cons}
-use Rattle.link_key.specs.Info.{infoIn}
-use Rattle.link_key.specs.declared.info.Info.{Info}
-use Rattle.cojp_key_set_read.specs.Groups.{infoAnswer}
-use Rattle.cojp_key_set_read.specs.declared.info.InfoRead.{InfoRead}
+use Rattle.link_key.specs.AdditionalInfo.{additionalInfoIn}
+use Rattle.link_key.specs.declared.additional_info.AdditionalInfo.{AdditionalInfo}
+use Rattle.cojp_key_set_read.specs.Groups.{additionalInfoAnswer}
+use Rattle.cojp_key_set_read.specs.declared.additional_info.AdditionalInfoRead.{AdditionalInfoRead}
 
 module _ (s : List ℕ) where
   step : (i j n : ℕ) → j ≡ suc i → i < length s → take (suc n) (drop i s) ≡ getD s i 0 ∷ take n (drop j s)
@@ -42,11 +42,11 @@ module _ (s : List ℕ) where
       rw (b0, b1, b2, b3, b4, b5, b6, b7)
 
 -- what an answer says
-pub info-said : (r : InfoRead) (o : Option Info) → r ≡ infoAnswer o → o ≡ cond (r .good) (some (r .info)) none
+pub info-said : (r : AdditionalInfoRead) (o : Option AdditionalInfo) → r ≡ additionalInfoAnswer o → o ≡ cond (r .good) (some (r .info)) none
 info-said r none e = rw e
 info-said r (some i) e = rw e
 
-pub info-none : (w : List ℕ) → ¬ (length w ≡ 4) → ¬ (length w ≡ 8) → none ≡ infoIn w
+pub info-none : (w : List ℕ) → ¬ (length w ≡ 4) → ¬ (length w ≡ 8) → none ≡ additionalInfoIn w
 info-none [] f e = refl
 info-none (a ∷ []) f e = refl
 info-none (a ∷ b ∷ []) f e = refl

@@ -11,25 +11,25 @@ use borrow.Author.Tests.{lt-leb, ltb-false, leb-true, leb-false, eqb-true}
 use types.Run.{OneOf}
 use denote.Enum.Declared.{tagOf}
 use Rattle.refusal.specs.declared.Refusal.the-variants as refusal
-use Rattle.cbor.specs.View.{ValueSays}
+use Rattle.cbor.specs.View.{ValueSpec}
 use Rattle.cbor.specs.declared.value.Value.{Value}
 use Rattle.cbor.specs.declared.value.Value.the-variants as vv
 use Rattle.cbor.proofs.value.Value as value
-use Rattle.link_key.specs.Info.{infoIn}
-use Rattle.link_key.specs.Key.{informedKey, noKey, validKey}
+use Rattle.link_key.specs.AdditionalInfo.{additionalInfoIn}
+use Rattle.link_key.specs.Key.{keyWithAdditionalInfo, noKey, validKey}
 use Rattle.link_key_set.specs.KeySet.{noKeys, allValid, noneTwice, eachOnce, validKeys}
 use Rattle.link_key_set.specs.Seen.{joins, Exactly, OneMore, WithOneMore}
 use Rattle.link_key.specs.declared.Key.{Key}
-use Rattle.link_key.specs.declared.info.Info.{Info}
+use Rattle.link_key.specs.declared.additional_info.AdditionalInfo.{AdditionalInfo}
 use Rattle.link_key_set.specs.declared.key_set.KeySet.{KeySet}
-use Rattle.cojp_key_set_read.specs.Groups.{GroupAt, GroupRest, infoAnswer, infoBefore, storable, someFew}
-use Rattle.cojp.specs.Bytes.{valueView, membersAt, afterMembers, GoesOn}
+use Rattle.cojp_key_set_read.specs.Groups.{GroupAt, GroupRest, additionalInfoAnswer, additionalInfoBefore, storable, someFew}
+use Rattle.cojp.specs.Bytes.{valueView, membersAt, afterMembers, EndsAt}
 use Rattle.cojp.specs.KeySet.{keySetOf, Groups, notGroups, groupsOf, group, groups, keysIn, keysConcluded, keysReadAs}
 use Rattle.cojp.specs.Octets.{padded, copiedFrom}
 use Rattle.cojp.specs.Reading.{Reading, refused, unfit, good}
 use Rattle.cojp_key_set_read.specs.declared.group.Group.{Group}
 use Rattle.cojp_key_set_read.specs.declared.group.Group.the-variants as gv
-use Rattle.cojp_key_set_read.specs.declared.info.InfoRead.{InfoRead}
+use Rattle.cojp_key_set_read.specs.declared.additional_info.AdditionalInfoRead.{AdditionalInfoRead}
 use Rattle.cojp.specs.declared.key_set.KeysParameter.{KeysParameter}
 use Rattle.logic_facts.specs.Tests.{both-left, both-right}
 use Rattle.cojp.proofs.Arrays.{nothing-left, members-none, array-here, no-array}
@@ -143,9 +143,9 @@ after-none notGroups = refl
 after-none (groupsOf js) = refl
 
 after-more :
-    (ks : List Key) (i u : ℕ) (v : List ℕ) (o : Info) (gs : Groups) → after ks (group i u v o gs) ≡ after (ks ++ (informedKey i u v o ∷ [])) gs
+    (ks : List Key) (i u : ℕ) (v : List ℕ) (o : AdditionalInfo) (gs : Groups) → after ks (group i u v o gs) ≡ after (ks ++ (keyWithAdditionalInfo i u v o ∷ [])) gs
 after-more ks i u v o notGroups = refl
-after-more ks i u v o (groupsOf js) = ap groupsOf (sym (append-snoc ks (informedKey i u v o) js))
+after-more ks i u v o (groupsOf js) = ap groupsOf (sym (append-snoc ks (keyWithAdditionalInfo i u v o) js))
 
 -- ---- the key that is added
 pub storable-parts : (i u n : ℕ) → storable i u n ≡ true → (i ≤ 255) × (u ≤ 255) × (n ≡ 16)
@@ -167,47 +167,47 @@ pub value-copied : (l : List ℕ) (p n : ℕ) (b : List ℕ) → p + n ≤ lengt
 value-copied l p n b h z e = e ∙ copied-inside l p n (omega arith) h ∙ unpadded (take n (drop p l)) (whole l p n h ∙ z)
 
 -- ---- the loop over the groups: the keys so far, the set that holds them, and the groups that are left
-pub record Gathering (informed : Bool) (s : List ℕ) (from count at left : ℕ) (k : KeySet) (seen : List ℕ) : Type 0 where
+pub record Gathering (allowed : Bool) (s : List ℕ) (from count at left : ℕ) (k : KeySet) (seen : List ℕ) : Type 0 where
   pub keys : List Key
   pub holds : Holds keys seen k
-  pub so-far : groups informed (membersAt count (drop from s)) ≡ after keys (groups informed (membersAt left (drop at s)))
+  pub so-far : groups allowed (membersAt count (drop from s)) ≡ after keys (groups allowed (membersAt left (drop at s)))
   pub inside : at ≤ length s
   pub rest : afterMembers count (drop from s) ≡ afterMembers left (drop at s)
 
-pub gathering-none : (informed : Bool) (s : List ℕ) (from count : ℕ) (k : KeySet) (seen : List ℕ) → from ≤ length s → k ≡ noKeys → Exactly seen []
-    → Gathering informed s from count from count k seen
-gathering-none informed s from count k seen h e clear =
+pub gathering-none : (allowed : Bool) (s : List ℕ) (from count : ℕ) (k : KeySet) (seen : List ℕ) → from ≤ length s → k ≡ noKeys → Exactly seen []
+    → Gathering allowed s from count from count k seen
+gathering-none allowed s from count k seen h e clear =
     record { keys = []; holds = holds-none seen k clear e; so-far = after-none _; inside = h; rest = refl }
 
-module _ (informed : Bool) (s : List ℕ) (from count at n : ℕ) (k : KeySet) (seen : List ℕ) (w : Gathering informed s from count at n k seen) where
+module _ (allowed : Bool) (s : List ℕ) (from count at n : ℕ) (k : KeySet) (seen : List ℕ) (w : Gathering allowed s from count at n k seen) where
   pub gathering-done : n ≤ 0 → (r : Reading KeysParameter) → r ≡ keysConcluded (cond (someFew k) (good k) unfit)
-      → r ≡ keysConcluded (keysIn (groups informed (membersAt count (drop from s))))
+      → r ≡ keysConcluded (keysIn (groups allowed (membersAt count (drop from s))))
   unfolding groups
   gathering-done h r e =
       let z : n ≡ 0 = omega arith in
-      let f : groups informed (membersAt count (drop from s)) ≡ groupsOf (w .keys) =
+      let f : groups allowed (membersAt count (drop from s)) ≡ groupsOf (w .keys) =
       w .so-far ∙ rw (members-none n (drop at s) z, append-nil) in
       e ∙ ap keysConcluded (holds-all (w .keys) seen k (w .holds) ∙ ap keysIn (sym f))
 
-  pub gathering-end : n ≤ 0 → GoesOn s at (afterMembers count (drop from s))
+  pub gathering-end : n ≤ 0 → EndsAt s at (afterMembers count (drop from s))
   gathering-end h = record { rest = sym (w .rest ∙ nothing-left n (drop at s) (omega arith)); inside = w .inside }
 
-  module _ (r : Group) (g : GroupAt informed (take (length s - at) (drop at s)) n (groups informed (membersAt n (take (length s - at) (drop at s)))) r) where
+  module _ (r : Group) (g : GroupAt allowed (take (length s - at) (drop at s)) n (groups allowed (membersAt n (take (length s - at) (drop at s)))) r) where
     part : take (length s - at) (drop at s) ≡ drop at s
     part = take-all (length s - at) (drop at s) (omega (arith, length-drop at s))
 
-    here-group : GroupAt informed (drop at s) n (groups informed (membersAt n (drop at s))) r
+    here-group : GroupAt allowed (drop at s) n (groups allowed (membersAt n (drop at s))) r
     here-group = rw part at g
 
     pub gathering-broken : r ≡ gv.Broken → (x : Reading KeysParameter) → x ≡ refused refusal.«Type»
-        → x ≡ keysConcluded (keysIn (groups informed (membersAt count (drop from s))))
+        → x ≡ keysConcluded (keysIn (groups allowed (membersAt count (drop from s))))
     gathering-broken e x f =
-        let b : groups informed (membersAt n (drop at s)) ≡ notGroups = rw e at here-group in
+        let b : groups allowed (membersAt n (drop at s)) ≡ notGroups = rw e at here-group in
         f ∙ rw (w .so-far, b)
 
     -- a closed group: a bytes of value from p on, o bytes of additional information right before its end q
     module _ (i u p a o q m : ℕ) (e : r ≡ gv.Closed i u p a o q m) where
-      closed : GroupAt informed (drop at s) n (groups informed (membersAt n (drop at s))) (gv.Closed i u p a o q m)
+      closed : GroupAt allowed (drop at s) n (groups allowed (membersAt n (drop at s))) (gv.Closed i u p a o q m)
       closed = rw e at here-group
 
       pub group-within : p + a ≤ length (take (length s - at) (drop at s))
@@ -222,30 +222,30 @@ module _ (informed : Bool) (s : List ℕ) (from count at n : ℕ) (k : KeySet) (
 
       module _ (y : GroupRest (take (length s - at) (drop at s)) 0 n r) where
         abbrev read : Key
-        read = informedKey i u (take a (drop p (take (length s - at) (drop at s)))) (infoBefore (take (length s - at) (drop at s)) q o)
+        read = keyWithAdditionalInfo i u (take a (drop p (take (length s - at) (drop at s)))) (additionalInfoBefore (take (length s - at) (drop at s)) q o)
 
         gathering-more : (x : KeySet) (seen' : List ℕ) → Holds (w .keys ++ (read ∷ [])) seen' x
-            → Gathering informed s from count (at + q) m x seen'
+            → Gathering allowed s from count (at + q) m x seen'
         gathering-more x seen' h =
             let v : List ℕ = take a (drop p (drop at s)) in
-            let f : Info = infoBefore (drop at s) q o in
+            let f : AdditionalInfo = additionalInfoBefore (drop at s) q o in
             let z : GroupRest (drop at s) 0 n (gv.Closed i u p a o q m) = rw e at (rw part at y) in
             record {
-              keys = w .keys ++ (informedKey i u v f ∷ []);
+              keys = w .keys ++ (keyWithAdditionalInfo i u v f ∷ []);
               holds = rw part at h;
               so-far =
                   w .so-far
-                  ∙ rw (closed .4, drop-drop q at s) (after-more (w .keys) i u v f (groups informed (membersAt m (drop (at + q) s))));
+                  ∙ rw (closed .4, drop-drop q at s) (after-more (w .keys) i u v f (groups allowed (membersAt m (drop (at + q) s))));
               inside = group-inside .0;
               rest = w .rest ∙ z ∙ ap (afterMembers m) (drop-drop q at s);
             }
 
         pub gathering-stored : k .count < 8
-            → (x : InfoRead) → x ≡ infoAnswer (infoIn (take o (drop (q - o) (take (length s - at) (drop at s)))))
-            → (j : Key) → j ≡ informedKey i u (take a (drop p (take (length s - at) (drop at s)))) (x .info)
+            → (x : AdditionalInfoRead) → x ≡ additionalInfoAnswer (additionalInfoIn (take o (drop (q - o) (take (length s - at) (drop at s)))))
+            → (j : Key) → j ≡ keyWithAdditionalInfo i u (take a (drop p (take (length s - at) (drop at s)))) (x .info)
             → (seen' : List ℕ) → WithOneMore seen j (joins seen j) seen'
             → (c : ℕ) → c ≡ cond (joins seen j) (k .count + 1) 9
-            → Gathering informed s from count (at + q) m (record { count = c; keys = set (k .keys) (k .count) j }) seen'
+            → Gathering allowed s from count (at + q) m (record { count = c; keys = set (k .keys) (k .count) j }) seen'
         gathering-stored h x told j made seen' more c z =
             let f : j ≡ read = made ∙ rw told in
             rw z
@@ -253,16 +253,16 @@ module _ (informed : Bool) (s : List ℕ) (from count at n : ℕ) (k : KeySet) (
             (rw (← f) (holds-stored (w .keys) j seen k (w .holds) h (joins seen j) seen' (more (w .keys)))))
 
         pub gathering-nine : (ltb (k .count) 8 && storable i u a) ≡ false
-            → Gathering informed s from count (at + q) m (record { count = 9; keys = k .keys }) seen
+            → Gathering allowed s from count (at + q) m (record { count = 9; keys = k .keys }) seen
         gathering-nine f =
             gathering-more (record { count = 9; keys = k .keys }) seen
             (holds-nine (w .keys) read seen k (w .holds) (rw (whole (take (length s - at) (drop at s)) p a group-within) f))
 
 -- ---- the value
-module _ (s : List ℕ) (at : ℕ) (v : Value) (e : ValueSays s at v) (r : Reading KeysParameter) (informed : Bool) where
-  pub keys-array : (p n : ℕ) → v ≡ vv.Array p n → r ≡ keysConcluded (keysIn (groups informed (membersAt n (drop p s))))
-      → r ≡ keysReadAs informed (valueView (drop at s))
+module _ (s : List ℕ) (at : ℕ) (v : Value) (e : ValueSpec s at v) (r : Reading KeysParameter) (allowed : Bool) where
+  pub keys-array : (p n : ℕ) → v ≡ vv.Array p n → r ≡ keysConcluded (keysIn (groups allowed (membersAt n (drop p s))))
+      → r ≡ keysReadAs allowed (valueView (drop at s))
   keys-array p n g f = f ∙ rw (array-here s at v e p n g .1)
 
-  pub keys-broken : OneOf (0 ∷ 1 ∷ 3 ∷ 4 ∷ []) (tagOf value.the-type v) → r ≡ refused refusal.«Type» → r ≡ keysReadAs informed (valueView (drop at s))
+  pub keys-broken : OneOf (0 ∷ 1 ∷ 3 ∷ 4 ∷ []) (tagOf value.the-type v) → r ≡ refused refusal.«Type» → r ≡ keysReadAs allowed (valueView (drop at s))
   keys-broken o f = f ∙ rw (no-array s at v e o .1)

@@ -6,31 +6,31 @@ use mathlib.Core.List.{List}
 use mathlib.Core.Option.{Option, none, some}
 use lib.Dec.{leb, eqb}
 use lib.ListN.{length, take, drop}
-use Rattle.link_key.specs.Info.{infoIn}
-use Rattle.link_key.specs.declared.info.Info.{Info}
-use Rattle.link_key.specs.declared.info.Info.the-variants as info
+use Rattle.link_key.specs.AdditionalInfo.{additionalInfoIn}
+use Rattle.link_key.specs.declared.additional_info.AdditionalInfo.{AdditionalInfo}
+use Rattle.link_key.specs.declared.additional_info.AdditionalInfo.the-variants as info
 use Rattle.link_key_set.specs.declared.key_set.KeySet.{KeySet}
 use Rattle.cojp.specs.Bytes.{membersAt, afterMembers}
 use Rattle.cojp.specs.KeySet.{Groups, notGroups, group, groups}
 use Rattle.cojp_key_set_read.specs.declared.group.Group.{Group}
 use Rattle.cojp_key_set_read.specs.declared.group.Group.the-variants as gv
-use Rattle.cojp_key_set_read.specs.declared.info.InfoRead.{InfoRead}
+use Rattle.cojp_key_set_read.specs.declared.additional_info.AdditionalInfoRead.{AdditionalInfoRead}
 
 -- the answer about a byte string that is additional information, and about one that is not
-abbrev pub infoAnswer : Option Info → InfoRead
-infoAnswer none = record { good = false; info = info.Absent }
-infoAnswer (some i) = record { good = true; info = i }
+abbrev pub additionalInfoAnswer : Option AdditionalInfo → AdditionalInfoRead
+additionalInfoAnswer none = record { good = false; info = info.Absent }
+additionalInfoAnswer (some i) = record { good = true; info = i }
 
 -- the additional information that stands right before a place q, k bytes of it; of no bytes it is absent
-abbrev pub infoBefore : List ℕ → ℕ → ℕ → Info
-infoBefore s q k = infoAnswer (infoIn (take k (drop (q - k) s))) .info
+abbrev pub additionalInfoBefore : List ℕ → ℕ → ℕ → AdditionalInfo
+additionalInfoBefore s q k = additionalInfoAnswer (additionalInfoIn (take k (drop (q - k) s))) .info
 
 -- what an answer of a group's reader says of these groups, n members being left
 abbrev pub GroupAt : Bool → List ℕ → ℕ → Groups → Group → Type 0
-GroupAt informed s n gs gv.Broken = gs ≡ notGroups
-GroupAt informed s n gs (gv.Closed i u p a k q m) =
+GroupAt allowed s n gs gv.Broken = gs ≡ notGroups
+GroupAt allowed s n gs (gv.Closed i u p a k q m) =
     (p + a ≤ length s) × (k ≤ q) × (q ≤ length s) × (m < n)
-    × (gs ≡ group i u (take a (drop p s)) (infoBefore s q k) (groups informed (membersAt m (drop q s))))
+    × (gs ≡ group i u (take a (drop p s)) (additionalInfoBefore s q k) (groups allowed (membersAt m (drop q s))))
 
 -- where the bytes go on after a group that begins at a place, n members being left
 abbrev pub GroupRest : List ℕ → ℕ → ℕ → Group → Type 0

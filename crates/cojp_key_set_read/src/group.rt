@@ -1,5 +1,5 @@
 // A group of a key set is read: an identifier, perhaps a usage, a value and perhaps, where keys may have it, additional information.
-use crate::info::info_at;
+use crate::additional_info::additional_info_at;
 use cojp::Member;
 use cojp::member_at;
 ghost use Prim.Native.Nat.{_+_, _≤_, _<_};
@@ -24,23 +24,23 @@ pub enum Group {
     },
 }
 
-// The group at the front of a part of the payload, where `left` members are left. `informed` tells whether keys may have additional
+// The group at the front of a part of the payload, where `left` members are left. `allowsAdditionalInfo` tells whether keys may have additional
 // information.
-pub fn read_group(part: &[u8], left: u64, informed: bool) -> Group
+pub fn read_group(part: &[u8], left: u64, allowed: bool) -> Group
     requires { ⌜ 0 < left ⌝ }
-    ensures { λ r. ⌜ GroupAt informed (now (part .entry)) left (groups informed (membersAt left (now (part .entry)))) r ⌝ }
+    ensures { λ r. ⌜ GroupAt allowed (now (part .entry)) left (groups allowed (membersAt left (now (part .entry)))) r ⌝ }
     ensures rest { λ r. ⌜ GroupRest (now (part .entry)) 0 left r ⌝ }
 {
     let first = member_at(part, 0, left);
     match first {
-        Member::Number { number, next } => after_identifier(part, next, left - 1, informed, number),
+        Member::Number { number, next } => after_identifier(part, next, left - 1, allowed, number),
         _ => Group::Broken,
     }
 }
 
 // The rest of a group after its identifier: a value, or a usage and a value.
-fn after_identifier(part: &[u8], at: usize, left: u64, informed: bool, identifier: u64) -> Group
-    ensures { λ r. ⌜ GroupAt informed (now (part .entry)) left (identified informed identifier (membersAt left (drop at (now (part .entry))))) r ⌝ }
+fn after_identifier(part: &[u8], at: usize, left: u64, allowed: bool, identifier: u64) -> Group
+    ensures { λ r. ⌜ GroupAt allowed (now (part .entry)) left (identified allowed identifier (membersAt left (drop at (now (part .entry))))) r ⌝ }
     ensures rest { λ r. ⌜ GroupRest (now (part .entry)) at left r ⌝ }
 {
     let second = member_at(part, at, left);
@@ -49,7 +49,7 @@ fn after_identifier(part: &[u8], at: usize, left: u64, informed: bool, identifie
             part,
             next,
             left - 1,
-            informed,
+            allowed,
             identifier,
             number,
         ),
@@ -58,7 +58,7 @@ fn after_identifier(part: &[u8], at: usize, left: u64, informed: bool, identifie
             start,
             len,
             left - 1,
-            informed,
+            allowed,
             identifier,
             0,
         ),
@@ -71,11 +71,11 @@ fn after_usage(
     part: &[u8],
     at: usize,
     left: u64,
-    informed: bool,
+    allowed: bool,
     identifier: u64,
     usage: u64,
 ) -> Group
-    ensures { λ r. ⌜ GroupAt informed (now (part .entry)) left (used informed identifier usage (membersAt left (drop at (now (part .entry))))) r ⌝ }
+    ensures { λ r. ⌜ GroupAt allowed (now (part .entry)) left (used allowed identifier usage (membersAt left (drop at (now (part .entry))))) r ⌝ }
     ensures rest { λ r. ⌜ GroupRest (now (part .entry)) at left r ⌝ }
 {
     let third = member_at(part, at, left);
@@ -85,7 +85,7 @@ fn after_usage(
             start,
             len,
             left - 1,
-            informed,
+            allowed,
             identifier,
             usage,
         ),
@@ -99,24 +99,24 @@ fn after_value(
     start: usize,
     len: usize,
     left: u64,
-    informed: bool,
+    allowed: bool,
     identifier: u64,
     usage: u64,
 ) -> Group
     requires { ⌜ start + len ≤ length (now part) ⌝ }
-    ensures { λ r. ⌜ GroupAt informed (now (part .entry)) (left + 1)
-        (valued informed identifier usage (take len (drop start (now (part .entry)))) (membersAt left (drop (start + len) (now (part .entry))))) r ⌝ }
+    ensures { λ r. ⌜ GroupAt allowed (now (part .entry)) (left + 1)
+        (valued allowed identifier usage (take len (drop start (now (part .entry)))) (membersAt left (drop (start + len) (now (part .entry))))) r ⌝ }
     ensures rest { λ r. ⌜ GroupRest (now (part .entry)) (start + len) left r ⌝ }
 {
     let end = start + len;
-    if informed {
+    if allowed {
         let further = member_at(part, end, left);
         match further {
             Member::Bytes {
                 start: from,
                 len: n,
             } => {
-                let read = info_at(part, from, n);
+                let read = additional_info_at(part, from, n);
                 if !read.good {
                     return Group::Broken;
                 }

@@ -1,19 +1,19 @@
 // Link-layer key sets are read: a flat array of groups, each an identifier, perhaps a usage, a value and perhaps, where keys may have it,
 // additional information.
+pub mod additional_info;
 pub mod group;
-pub mod info;
 
+use crate::additional_info::additional_info_at;
 use crate::group::Group;
 use crate::group::read_group;
-use crate::info::info_at;
 use cbor::Value;
 use cbor::value_at;
+use cojp::Disposition;
 use cojp::KeysParameter;
 use cojp::KeysRead;
-use cojp::Report;
 use cojp::copied;
 use cojp::no_key_set;
-use link_key::Info;
+use link_key::AdditionalInfo;
 use link_key::Key;
 use link_key::key_with;
 use link_key::no_key;
@@ -27,9 +27,9 @@ ghost use mathlib.Core.Bool.{true, cond, _&&_};
 ghost use lib.Dec.{ltb};
 ghost use Prim.Native.Nat.{_+_, _≤_, _<_};
 ghost use lib.ListN.{length, take, drop};
-ghost use Rattle.link_key.specs.Key.{informedKey};
+ghost use Rattle.link_key.specs.Key.{keyWithAdditionalInfo};
 ghost use Rattle.link_key_set.specs.Seen.{joins, WithOneMore};
-ghost use Rattle.cojp.specs.Bytes.{valueView, membersAt, afterValue, afterMembers, GoesOn};
+ghost use Rattle.cojp.specs.Bytes.{valueView, membersAt, afterValue, afterMembers, EndsAt};
 ghost use Rattle.cojp.specs.KeySet.{groups, keysIn, keysConcluded, keysReadAs, keysAnswer};
 ghost use Rattle.cojp.specs.Reading.{refused, unfit, good, Accepting};
 ghost use Rattle.cojp_key_set_read.specs.Groups.{storable, someFew};
@@ -37,7 +37,7 @@ ghost use Rattle.cojp_key_set_read.specs.Groups.{storable, someFew};
 fn refused_keys(why: Refusal) -> KeysRead
     ensures { λ r. ⌜ r ≡ keysAnswer (refused why) 0 ⌝ }
 {
-    let none = no_key_set(Report::Absent);
+    let none = no_key_set(Disposition::Absent);
     KeysRead {
         verdict: Verdict::Refused(why),
         parameter: none,
@@ -62,10 +62,17 @@ fn is_storable(n: usize, identifier: u64, usage: u64, len: usize) -> bool
 }
 
 // The key of a group that a place can hold.
-fn group_key(part: &[u8], identifier: u64, usage: u64, start: usize, len: usize, info: Info) -> Key
+fn group_key(
+    part: &[u8],
+    identifier: u64,
+    usage: u64,
+    start: usize,
+    len: usize,
+    info: AdditionalInfo,
+) -> Key
     requires { ⌜ storable identifier usage len ≡ true ⌝ }
     requires { ⌜ start + len ≤ length (now part) ⌝ }
-    ensures { λ r. ⌜ r ≡ informedKey identifier usage (take len (drop start (now (part .entry)))) info ⌝ }
+    ensures { λ r. ⌜ r ≡ keyWithAdditionalInfo identifier usage (take len (drop start (now (part .entry)))) info ⌝ }
 {
     let value = copied(part, start, len);
     key_with(identifier as u8, usage as u8, value, info)
@@ -92,7 +99,7 @@ fn close_set(set: KeySet, next: usize) -> KeysRead
         return refused_keys(Refusal::Keys);
     }
     let parameter = KeysParameter {
-        report: Report::Taken,
+        disposition: Disposition::Taken,
         value: set,
     };
     KeysRead {
@@ -103,10 +110,10 @@ fn close_set(set: KeySet, next: usize) -> KeysRead
 }
 
 // The key set whose `count` members begin at a place: the pattern to its end, and then the limits, which each key has met or not as it came.
-fn gather_keys(s: &[u8], from: usize, count: u64, informed: bool) -> KeysRead
+fn gather_keys(s: &[u8], from: usize, count: u64, allowed: bool) -> KeysRead
     requires { ⌜ from ≤ length (now s) ⌝ }
-    ensures { λ r. ⌜ r ≡ keysAnswer (keysConcluded (keysIn (groups informed (membersAt count (drop from (now (s .entry))))))) (r .next) ⌝ }
-    ensures rest { λ r. ⌜ Accepting (r .verdict) (GoesOn (now (s .entry)) (r .next) (afterMembers count (drop from (now (s .entry))))) ⌝ }
+    ensures { λ r. ⌜ r ≡ keysAnswer (keysConcluded (keysIn (groups allowed (membersAt count (drop from (now (s .entry))))))) (r .next) ⌝ }
+    ensures rest { λ r. ⌜ Accepting (r .verdict) (EndsAt (now (s .entry)) (r .next) (afterMembers count (drop from (now (s .entry))))) ⌝ }
 {
     let mut at = from;
     let mut remaining = count;
@@ -116,7 +123,7 @@ fn gather_keys(s: &[u8], from: usize, count: u64, informed: bool) -> KeysRead
     let mut seen = none_seen();
     while 0 < remaining {
         let part = &s[at..];
-        let g = read_group(part, remaining, informed);
+        let g = read_group(part, remaining, allowed);
         match g {
             Group::Broken => return refused_keys(Refusal::Type),
             Group::Closed {
@@ -130,7 +137,7 @@ fn gather_keys(s: &[u8], from: usize, count: u64, informed: bool) -> KeysRead
             } => {
                 if is_storable(n, identifier, usage, len) {
                     // the reader of the group has found it good; of no bytes it is absent
-                    let read = info_at(part, next - extra, extra);
+                    let read = additional_info_at(part, next - extra, extra);
                     let info = read.info;
                     let key = group_key(part, identifier, usage, start, len, info);
                     keys[n] = key;
@@ -147,14 +154,14 @@ fn gather_keys(s: &[u8], from: usize, count: u64, informed: bool) -> KeysRead
     close_set(set, at)
 }
 
-// The key set at a place. `informed` tells whether its keys may have additional information: in draft 004 they may not.
-pub fn read_keys(s: &[u8], at: usize, informed: bool) -> KeysRead
-    ensures { λ r. ⌜ r ≡ keysAnswer (keysReadAs informed (valueView (drop at (now (s .entry))))) (r .next) ⌝ }
-    ensures rest { λ r. ⌜ Accepting (r .verdict) (GoesOn (now (s .entry)) (r .next) (afterValue (drop at (now (s .entry))))) ⌝ }
+// The key set at a place. `allowsAdditionalInfo` tells whether its keys may have additional information: in draft 004 they may not.
+pub fn read_keys(s: &[u8], at: usize, allowed: bool) -> KeysRead
+    ensures { λ r. ⌜ r ≡ keysAnswer (keysReadAs allowed (valueView (drop at (now (s .entry))))) (r .next) ⌝ }
+    ensures rest { λ r. ⌜ Accepting (r .verdict) (EndsAt (now (s .entry)) (r .next) (afterValue (drop at (now (s .entry))))) ⌝ }
 {
     let v = value_at(s, at);
     match v {
-        Value::Array { start, count } => gather_keys(s, start, count, informed),
+        Value::Array { start, count } => gather_keys(s, start, count, allowed),
         _ => refused_keys(Refusal::Type),
     }
 }

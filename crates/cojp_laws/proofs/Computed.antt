@@ -2,24 +2,24 @@
 use mathlib.Core.Path.{refl}
 use Rattle.byte_lists.specs.Same.{same}
 use Rattle.cbor.specs.Decode.{payloadBy, decodeBy, heading, argument, next, digits, members, pairs, majorOf}
-use Rattle.cbor.specs.View.{plainAt}
+use Rattle.cbor.specs.View.{scalarAt}
 use Rattle.cbor.specs.Encode.{bytesOf, infoOf, extraOf, shortest}
-use Rattle.link_key.specs.Key.{validKey, plainKey}
+use Rattle.link_key.specs.Key.{validKey, hasNoAdditionalInfo}
 use Rattle.link_key_set.specs.KeySet.{validKeys, validSet}
 use Rattle.short_address.specs.Address.{isAddress}
 use Rattle.cojp.specs.Configuration.{configurationTaking}
-use Rattle.cojp.specs.Faults.{added}
-use Rattle.cojp.specs.Lists.{stringsIn, faultsIn, sameAs, kept}
+use Rattle.cojp.specs.ErrorReports.{added}
+use Rattle.cojp.specs.Lists.{stringsIn, errorReportsIn, sameAs, kept}
 use Rattle.cojp.specs.Octets.{padded}
 use Rattle.cojp.specs.Parameter.{laterParameter, parameterOf}
 use Rattle.cojp.specs.Request.{owing}
 use Rattle.cojp.specs.Walk.{payloadReadBy}
-use Rattle.cojp.specs.Writing.{requestInRange, requestPlan, ofForm, configurationInRange, configurationPlan}
+use Rattle.cojp.specs.Writing.{requestInRange, requestPlan, ofVersion, configurationInRange, configurationPlan}
 use Rattle.cojp_laws.specs.Largest.{LargestAttained, LongestRead}
 use Rattle.cojp_laws.specs.Written.{AllShown, writtenExamples, publishedExamples, longestExamples, WrittenExamples}
 
 pub largest-attained : LargestAttained
-unfolding configurationPlan configurationInRange ofForm validSet validKeys validKey plainKey isAddress padded bytesOf infoOf extraOf shortest
+unfolding configurationPlan configurationInRange ofVersion validSet validKeys validKey hasNoAdditionalInfo isAddress padded bytesOf infoOf extraOf shortest
 largest-attained = record { written = refl; no-less = refl }
 
 pub longest-read : LongestRead
@@ -28,13 +28,13 @@ unfolding payloadReadBy payloadBy decodeBy heading argument next digits members 
 longest-read = record { size = refl; accepted = refl; taken = refl; long = refl }
 
 marked : AllShown writtenExamples
-unfolding requestPlan requestInRange owing configurationPlan configurationInRange ofForm isAddress bytesOf infoOf extraOf shortest
+unfolding requestPlan requestInRange owing configurationPlan configurationInRange ofVersion isAddress bytesOf infoOf extraOf shortest
 marked =
     ((refl, refl), ((refl, refl), ((refl, refl), ((refl, refl), ((refl, refl), ((refl, refl), ((refl, refl), ((refl, refl), ((refl, refl), tt)))))))))
 
 published : AllShown publishedExamples
-unfolding requestPlan requestInRange owing configurationPlan configurationInRange ofForm validSet validKeys validKey plainKey padded bytesOf infoOf extraOf shortest
-    kept sameAs same stringsIn faultsIn plainAt decodeBy heading argument next digits majorOf
+unfolding requestPlan requestInRange owing configurationPlan configurationInRange ofVersion validSet validKeys validKey hasNoAdditionalInfo padded bytesOf infoOf extraOf shortest
+    kept sameAs same stringsIn errorReportsIn scalarAt decodeBy heading argument next digits majorOf
 published = (
   (refl, refl),
   (
@@ -65,7 +65,7 @@ published = (
 )
 
 longest : AllShown longestExamples
-unfolding configurationPlan configurationInRange ofForm validSet validKeys validKey padded bytesOf infoOf extraOf shortest
+unfolding configurationPlan configurationInRange ofVersion validSet validKeys validKey padded bytesOf infoOf extraOf shortest
 longest = ((refl, refl), ((refl, refl), ((refl, refl), tt)))
 
 pub written-examples : WrittenExamples

@@ -14,13 +14,13 @@ use Rattle.cbor.specs.Answer.{Plan, refuse, emit, answer}
 use Rattle.cbor.specs.Encode.{shortest, encode, encodePairs}
 use Rattle.cbor.specs.Item.{map}
 use Rattle.cbor.specs.Written.{writtenSays}
-use Rattle.cbor.specs.declared.write.Written.the-variants.{Refused, Length}
+use Rattle.cbor.specs.declared.write.WriteResult.the-variants.{Refused, Length}
 use Rattle.cojp.specs.Reading.{ifTaken}
 use Rattle.cojp.specs.Request.{owing}
 use Rattle.cojp.specs.Writing.{octetsPairs, owingPlan, fits, requestPairs, requestInRange, requestPlan, configurationPairs, configurationInRange, configurationPlan}
 use Rattle.cojp.specs.declared.list.ListParameter.{ListParameter}
-use Rattle.cojp.specs.declared.report.Report.{Report}
-use Rattle.cojp.specs.declared.report.Report.the-variants.{Absent, Taken, Discarded}
+use Rattle.cojp.specs.declared.disposition.Disposition.{Disposition}
+use Rattle.cojp.specs.declared.disposition.Disposition.the-variants.{Absent, Taken, Discarded}
 use Rattle.cojp_octets_write.specs.Plan.{stringInRange, octetsPlan, arrayBytes, listBytes, listFits, arrayPlan, listParameterPlan}
 use Rattle.cojp_laws.specs.Demand1.{numberSaid, noRoom, tooLong, Refusing, WritersDemand1}
 
@@ -77,9 +77,9 @@ module _ (p d : List ℕ) where
 list-said : (label : ℕ) (p : ListParameter) (d : List ℕ)
     → numberSaid (listParameterPlan label p) d ≡ inOrder (refusedIf (not (listFits p)) 13 ∷ refusedIf (noRoom (listBytes label p) d) 12 ∷ [])
 unfolding arrayPlan
-list-said label p d = go (p .report)
+list-said label p d = go (p .disposition)
   where
-    go : (r : Report)
+    go : (r : Disposition)
         → numberSaid (ifTaken r (arrayPlan label (p .value)) (emit [])) d
         ≡ inOrder (refusedIf (not (ifTaken r (leb (p .value .len) 253) true)) 13 ∷ refusedIf (noRoom (ifTaken r (arrayBytes label (p .value)) []) d) 12 ∷ [])
     go Absent = in-range-room [] d true
@@ -93,6 +93,6 @@ writers-demand1 = record {
   head-number = λ major n d. range-room (shortest major n) d (ltb 7 major);
   string-number = λ label p d. in-range-room (encodePairs (octetsPairs label p)) d (stringInRange label p);
   list-number = list-said;
-  request-number = λ v q d. let p = encode (map (requestPairs q)) in owed-room p d (not (requestInRange v q)) (tooLong p) (owing v (q .role) (q .network .report)) refl;
+  request-number = λ v q d. let p = encode (map (requestPairs q)) in owed-room p d (not (requestInRange v q)) (tooLong p) (owing v (q .role) (q .network .disposition)) refl;
   configuration-number = λ v c d. let p = encode (map (configurationPairs c)) in long-room p d (not (configurationInRange v c)) (tooLong p) refl;
 }

@@ -11,24 +11,24 @@ use Rattle.cbor.specs.Encode.{extraOf, shortest, encode, encodes, encodePairs}
 use Rattle.cbor.specs.HeadLaws.{HeadLaws}
 use Rattle.cbor.specs.Item.{Item, Items, Pairs, unsigned, bytes, array, none, more, empty, pair, count, countPairs, depth, depths, depthPairs}
 use Rattle.cbor.specs.Item.{Fit, Fits, FitPairs}
-use Rattle.link_key.specs.Info.{infoBytes}
+use Rattle.link_key.specs.AdditionalInfo.{additionalInfoBytes}
 use Rattle.link_key.specs.Key.{validKey}
 use Rattle.link_key_set.specs.KeyLaws.{KeyLaws}
 use Rattle.link_key_set.specs.KeySet.{keysOf}
 use Rattle.link_key.specs.declared.Key.{Key}
-use Rattle.link_key.specs.declared.info.Info.{Info}
-use Rattle.link_key.specs.declared.info.Info.the-variants as info
+use Rattle.link_key.specs.declared.additional_info.AdditionalInfo.{AdditionalInfo}
+use Rattle.link_key.specs.declared.additional_info.AdditionalInfo.the-variants as info
 use Rattle.cojp.specs.Octets.{bytesIn}
 use Rattle.cojp.specs.Reading.{ifTaken}
 use Rattle.cojp.specs.Version.{byVersion}
-use Rattle.cojp.specs.Writing.{join, chain, labelled, rolePairs, octetsPairs, leaseItems, addressPairs, usageItems, infoItems, groupItems, groupsItems, keysPairs, ratePairs}
+use Rattle.cojp.specs.Writing.{join, chain, labelled, rolePairs, octetsPairs, leaseItems, addressPairs, usageItems, additionalInfoItems, groupItems, groupsItems, keysPairs, ratePairs}
 use Rattle.cojp.specs.Writing.{octetsInRange, jrcInRange, keysInRange, missing}
 use Rattle.cojp.specs.declared.address.AddressParameter.{AddressParameter}
 use Rattle.cojp.specs.declared.key_set.KeysParameter.{KeysParameter}
 use Rattle.cojp.specs.declared.octets.OctetsParameter.{OctetsParameter}
 use Rattle.cojp.specs.declared.rate.RateParameter.{RateParameter}
-use Rattle.cojp.specs.declared.report.Report.{Report}
-use Rattle.cojp.specs.declared.report.Report.the-variants.{Absent, Taken, Discarded}
+use Rattle.cojp.specs.declared.disposition.Disposition.{Disposition}
+use Rattle.cojp.specs.declared.disposition.Disposition.the-variants.{Absent, Taken, Discarded}
 use Rattle.cojp.specs.declared.version.Version.{Version}
 use Rattle.cojp.specs.declared.version.Version.the-variants.{Draft, Published}
 use Rattle.cojp_octets_write.proofs.Joined.{join-count, join-length, chain-count, chain-length, labelled-length, array-length}
@@ -101,26 +101,26 @@ fine-missing : (m : ℕ) → FineItems none 1 m
 fine-missing m = record { few = omega arith; small = omega arith; level = omega arith; fit = tt }
 
 -- a parameter that may not be taken
-pub fine-if : (r : Report) (ps : Pairs) (m : ℕ) → (r ≡ Taken → Fine ps 1 m) → Fine (ifTaken r ps empty) 1 m
+pub fine-if : (r : Disposition) (ps : Pairs) (m : ℕ) → (r ≡ Taken → Fine ps 1 m) → Fine (ifTaken r ps empty) 1 m
 fine-if Absent ps m f = record { few = omega arith; small = omega arith; level = omega arith; fit = tt }
 fine-if Taken ps m f = f refl
 fine-if Discarded ps m f = record { few = omega arith; small = omega arith; level = omega arith; fit = tt }
 
 -- one of the other form is missing
-pub fine-none : (r : Report) (ps : Pairs) → missing r ≡ true → Fine (ifTaken r ps empty) 1 0
+pub fine-none : (r : Disposition) (ps : Pairs) → missing r ≡ true → Fine (ifTaken r ps empty) 1 0
 fine-none r ps h = fine-if r ps 0 (λ e. absurd (not-taken r h e))
 
 -- a taken one has as many bytes as it says, or fewer
-pub octets-few : (p : OctetsParameter) → octetsInRange p ≡ true → p .report ≡ Taken → p .value .len ≤ 16
+pub octets-few : (p : OctetsParameter) → octetsInRange p ≡ true → p .disposition ≡ Taken → p .value .len ≤ 16
 octets-few p h e = leb-true (p .value .len) 16 (simp e at h)
 
-jrc-octets : (r : Report) (n : ℕ) → ifTaken r (eqb n 16) true ≡ true → ifTaken r (leb n 16) true ≡ true
+jrc-octets : (r : Disposition) (n : ℕ) → ifTaken r (eqb n 16) true ≡ true → ifTaken r (leb n 16) true ≡ true
 jrc-octets Absent n h = refl
 jrc-octets Taken n h = rw (eqb-true n 16 h)
 jrc-octets Discarded n h = refl
 
 pub jrc-in-range : (p : OctetsParameter) → jrcInRange p ≡ true → octetsInRange p ≡ true
-jrc-in-range p h = jrc-octets (p .report) (p .value .len) h
+jrc-in-range p h = jrc-octets (p .disposition) (p .value .len) h
 
 module _ (heads : HeadLaws) where
   fine-labelled : (n : ℕ) (i : Item) (m : ℕ) → n ≤ 23 → length (encode i) ≤ m → depth i ≤ 2 → Fit i → Fine (labelled n i) 1 (1 + m)
@@ -133,7 +133,7 @@ module _ (heads : HeadLaws) where
 
   -- ---- byte strings
   pub fine-octets : (n : ℕ) (p : OctetsParameter) → n ≤ 23 → octetsInRange p ≡ true → Fine (octetsPairs n p) 1 18
-  fine-octets n p l h = fine-if (p .report) (labelled n (bytes (bytesIn (p .value)))) 18 (λ e.
+  fine-octets n p l h = fine-if (p .disposition) (labelled n (bytes (bytesIn (p .value)))) 18 (λ e.
       let s = bytesIn (p .value) in
       let k : length s ≤ 16 = omega (arith, octets-few p h e, length-take (p .value .len) (p .value .bytes)) in
       fine-labelled n (bytes s) 17 l (omega (arith, string-length heads s (omega arith))) (omega arith) (omega arith))
@@ -165,7 +165,7 @@ module _ (heads : HeadLaws) where
       let s = p .value .bytes in
       let lease = leaseItems (p .value .leased) (p .value .lease) in
       let is = more (bytes s) lease in
-      fine-if (p .report) (labelled 3 (array is)) 14 (λ e.
+      fine-if (p .disposition) (labelled 3 (array is)) 14 (λ e.
       let front = fine-item (bytes s) 3 (omega (arith, string-length heads s (omega arith))) (omega arith) (omega arith) in
       let f = fine-chain front (fine-lease (p .value .leased) (p .value .lease) l) in
       fine-array 3 is 2 12 1 (omega arith) (omega arith) (omega (arith, heads .short-head 4 (count is) (omega (arith, f .few)))) f)
@@ -178,20 +178,20 @@ module _ (heads : HeadLaws) where
       go true = fine-missing 1
       go false = fine-item (unsigned u) 1 (omega (arith, heads .short-head 0 u (omega arith))) (omega arith) (omega arith)
 
-  fine-info : (b : Bool) (n : Info) → Fitting b n → FineItems (infoItems n) 1 (cond b 9 0)
+  fine-info : (b : Bool) (n : AdditionalInfo) → Fitting b n → FineItems (additionalInfoItems n) 1 (cond b 9 0)
   fine-info b info.Absent f = fine-missing (cond b 9 0)
   fine-info true (info.Four p q r t) f =
-      let s = infoBytes (info.Four p q r t) in fine-item (bytes s) 9 (omega (arith, string-length heads s (omega arith))) (omega arith) (omega arith)
+      let s = additionalInfoBytes (info.Four p q r t) in fine-item (bytes s) 9 (omega (arith, string-length heads s (omega arith))) (omega arith) (omega arith)
   fine-info true (info.Eight p q r t u v w x) f =
-      let s = infoBytes (info.Eight p q r t u v w x) in fine-item (bytes s) 9 (omega (arith, string-length heads s (omega arith))) (omega arith) (omega arith)
+      let s = additionalInfoBytes (info.Eight p q r t u v w x) in fine-item (bytes s) 9 (omega (arith, string-length heads s (omega arith))) (omega arith) (omega arith)
   fine-info false (info.Four p q r t) f = absurd (let z : _≡_ {A = ℕ} 0 1 = cc in omega arith)
   fine-info false (info.Eight p q r t u v w x) f = absurd (let z : _≡_ {A = ℕ} 0 1 = cc in omega arith)
 
   -- ---- join rates
-  pub fine-rate : (v : Version) (p : RateParameter) → byVersion v (missing (p .report)) true ≡ true → p .value < 2 ^ 64
+  pub fine-rate : (v : Version) (p : RateParameter) → byVersion v (missing (p .disposition)) true ≡ true → p .value < 2 ^ 64
       → Fine (ratePairs p) 1 (byVersion v 0 10)
-  fine-rate Draft p h l = fine-none (p .report) (labelled 7 (unsigned (p .value))) h
-  fine-rate Published p h l = fine-if (p .report) (labelled 7 (unsigned (p .value))) 10 (λ e.
+  fine-rate Draft p h l = fine-none (p .disposition) (labelled 7 (unsigned (p .value))) h
+  fine-rate Published p h l = fine-if (p .disposition) (labelled 7 (unsigned (p .value))) 10 (λ e.
       fine-labelled 7 (unsigned (p .value)) 9 (omega arith) (omega (arith, heads .length-head 0 (p .value), heads .extra-most (p .value))) (omega arith) l)
 
   module _ (keys : KeyLaws) (b : Bool) where
@@ -213,13 +213,13 @@ module _ (heads : HeadLaws) where
         let small : length (encodes (groupsItems (k ∷ ks))) ≤ groupsRoom b (suc (length ks)) = omega (arith, f .small, one-more b (length ks)) in
         record { few = omega (arith, f .few); small = small; level = f .level; fit = f .fit }
 
-    pub fine-keys : (p : KeysParameter) → keysInRange p ≡ true → (p .report ≡ Taken → (k : Key) → List·Memᴰ k (keysOf (p .value)) → Fitting b (k .info))
+    pub fine-keys : (p : KeysParameter) → keysInRange p ≡ true → (p .disposition ≡ Taken → (k : Key) → List·Memᴰ k (keysOf (p .value)) → Fitting b (k .info))
         → Fine (keysPairs p) 1 (3 + groupsRoom b 8)
     fine-keys p h g =
         let ks = keysOf (p .value) in
         let is = groupsItems ks in
         let m = groupsRoom b 8 in
-        fine-if (p .report) (labelled 2 (array is)) (3 + m) (λ e.
+        fine-if (p .disposition) (labelled 2 (array is)) (3 + m) (λ e.
         let ok = keys .valid-set (p .value) (simp e at h) .1 in
         let f = fine-groups ks (keys .valid-each ks ok) (g e) in
         let eight = keys .valid-few ks ok in

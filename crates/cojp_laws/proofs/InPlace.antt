@@ -9,7 +9,7 @@ use lib.ListN.{length, take, drop}
 use lib.Seq.{take-at}
 use Rattle.refusal.specs.declared.Refusal.the-variants.{Room}
 use Rattle.cbor.specs.Answer.{Plan, refuse, emit, answer, after}
-use Rattle.cbor.specs.declared.write.Written.the-variants.{Refused, Length}
+use Rattle.cbor.specs.declared.write.WriteResult.the-variants.{Refused, Length}
 use Rattle.cojp.specs.Writing.{requestPlan, configurationPlan}
 use Rattle.cojp.specs.declared.configuration.Configuration.{Configuration}
 use Rattle.cojp.specs.declared.request.JoinRequest.{JoinRequest}

@@ -12,18 +12,18 @@ use Rattle.cbor.specs.Laws.{ItemLaws, Bytes}
 use Rattle.cbor.specs.Strict.{headBy}
 use Rattle.cbor.specs.View.{View, viewOf}
 use Rattle.cbor.specs.declared.value.Label.the-variants as label
-use Rattle.cojp.specs.Faults.{noFaults}
-use Rattle.cojp.specs.Lists.{faultsIn, some, noListParameter, unsupportedTaken, itemsIn}
+use Rattle.cojp.specs.ErrorReports.{noErrorReports}
+use Rattle.cojp.specs.Lists.{errorReportsIn, some, noListParameter, unsupportedTaken, itemsIn}
 use Rattle.cojp.specs.Octets.{bytesIn, noOctetsParameter, octetsRead}
 use Rattle.cojp.specs.Reading.{read, ifTaken}
-use Rattle.cojp.specs.Request.{roleJudged, gathered, nothingGathered, withNetwork, withUnsupported, requestStanding, requestTaking, requestForm, owing, acceptRequest, readRequestBy}
+use Rattle.cojp.specs.Request.{roleJudged, requestState, emptyRequestState, withNetwork, withUnsupported, requestLabelStatus, requestTaking, requestForm, owing, acceptRequest, readRequestBy}
 use Rattle.cojp.specs.Walk.{pairRead, pairsRead}
 use Rattle.cojp.specs.Writing.{join, rolePairs, octetsPairs, listPairs, fits, owingPlan, requestPairs, requestInRange, requestPlan}
 use Rattle.cojp.specs.declared.list.ListParameter.{ListParameter}
 use Rattle.cojp.specs.declared.octets.OctetsParameter.{OctetsParameter}
-use Rattle.cojp.specs.declared.report.Report.{Report}
-use Rattle.cojp.specs.declared.report.Report.the-variants.{Absent, Taken, Discarded}
-use Rattle.cojp.specs.declared.request.Gathered.{Gathered}
+use Rattle.cojp.specs.declared.disposition.Disposition.{Disposition}
+use Rattle.cojp.specs.declared.disposition.Disposition.the-variants.{Absent, Taken, Discarded}
+use Rattle.cojp.specs.declared.request.RequestState.{RequestState}
 use Rattle.cojp.specs.declared.request.JoinRequest.{JoinRequest}
 use Rattle.cojp.specs.declared.version.Version.{Version}
 use Rattle.cojp.specs.declared.version.Version.the-variants.{Draft, Published}
@@ -37,7 +37,7 @@ use Rattle.cojp_laws.proofs.ReadBack.{octetsGood, octetsBack, octets-ba
 use Rattle.cojp_laws.proofs.Sizes.{emits, in-range, fitted, owed-none, fine-request}
 
 abbrev requested : ℕ → OctetsParameter → ListParameter → JoinRequest
-requested role network unsupported = record { role = role; network = network; unsupported = unsupported; faults = noFaults; passed = 0 }
+requested role network unsupported = record { role = role; network = network; unsupported = unsupported; errors = noErrorReports; unknown = 0 }
 
 -- a role that was written was seen
 abbrev seen : ℕ → Bool
@@ -45,29 +45,29 @@ seen role = not (eqb role 0)
 
 -- ---- the parameters, each in its turn
 role-read : (v : Version) (n : ℕ) → n ≤ 1
-    → pairsRead (requestForm v) nothingGathered (rolePairs n) ≡ read (gathered (seen n) (requested n (noOctetsParameter Absent) (noListParameter Absent)))
-unfolding roleJudged requestStanding requestTaking
+    → pairsRead (requestForm v) emptyRequestState (rolePairs n) ≡ read (requestState (seen n) (requested n (noOctetsParameter Absent) (noListParameter Absent)))
+unfolding roleJudged requestLabelStatus requestTaking
 role-read v zero h = refl
 role-read Draft (suc zero) h = refl
 role-read Published (suc zero) h = refl
 role-read v (suc (suc n)) h = absurd (omega arith)
 
-network-step : (v : Version) (g : Gathered) (x : View) (p : OctetsParameter) → g .request .network .report ≡ Absent → octetsRead 0 x ≡ read p
+network-step : (v : Version) (g : RequestState) (x : View) (p : OctetsParameter) → g .request .network .disposition ≡ Absent → octetsRead 0 x ≡ read p
     → pairRead (requestForm v) g (label.Number 5) x ≡ read (withNetwork g p)
-unfolding requestStanding requestTaking
+unfolding requestLabelStatus requestTaking
 network-step v g x p a e = rw (a, following-good v (noOctetsParameter Discarded) p (octetsRead 0 x) e)
 
-unsupported-step : (v : Version) (g : Gathered) (x : View) (p : ListParameter) → v ≡ Published → g .request .unsupported .report ≡ Absent
-    → unsupportedTaken x ≡ p → p .report ≡ Taken → pairRead (requestForm v) g (label.Number 8) x ≡ read (withUnsupported g p)
-unfolding requestStanding requestTaking
+unsupported-step : (v : Version) (g : RequestState) (x : View) (p : ListParameter) → v ≡ Published → g .request .unsupported .disposition ≡ Absent
+    → unsupportedTaken x ≡ p → p .disposition ≡ Taken → pairRead (requestForm v) g (label.Number 8) x ≡ read (withUnsupported g p)
+unfolding requestLabelStatus requestTaking
 unsupported-step Draft g x p d a e t = absurd (let z : _≡_ {A = ℕ} 0 1 = cc in omega arith)
 unsupported-step Published g x p d a e t = rw (a, e, t)
 
 module _ (lists : ListLaws) (v : Version) (q : JoinRequest) (f : RequestFits q) (u : ReportsOf v (q .unsupported)) where
   abbrev back : JoinRequest
-  back = requested (q .role) (octetsBack (q .network)) (listBack (some faultsIn) (q .unsupported))
+  back = requested (q .role) (octetsBack (q .network)) (listBack (some errorReportsIn) (q .unsupported))
 
-  request-read : pairsRead (requestForm v) nothingGathered (requestPairs q) ≡ read (gathered (seen (q .role)) back)
+  request-read : pairsRead (requestForm v) emptyRequestState (requestPairs q) ≡ read (requestState (seen (q .role)) back)
   request-read =
       let F = requestForm v in
       let none = noOctetsParameter Absent in
@@ -75,23 +75,23 @@ module _ (lists : ListLaws) (v : Version) (q : JoinRequest) (f : RequestFits q) 
       let o = q .network in
       let l = q .unsupported in
       let n = octetsBack o in
-      let state : OctetsParameter → ListParameter → Gathered = λ n l. gathered (seen (q .role)) (requested (q .role) n l) in
+      let state : OctetsParameter → ListParameter → RequestState = λ n l. requestState (seen (q .role)) (requested (q .role) n l) in
       let e1 =
-      parameter-read F (state none no-list) 5 (o .report) (bytes (bytesIn (o .value))) (λ p (u : Unit {0}). state p no-list) (octetsGood o) none tt tt refl
+      parameter-read F (state none no-list) 5 (o .disposition) (bytes (bytesIn (o .value))) (λ p (u : Unit {0}). state p no-list) (octetsGood o) none tt tt refl
       (λ e. network-step v (state none no-list) (viewOf (bytes (bytesIn (o .value)))) (octetsGood o) refl (octets-back o (f .network) e)) in
       let e2 =
-      parameter-read F (state n no-list) 8 (l .report) (array (itemsIn (some faultsIn) (l .value))) (λ p (u : Unit {0}). state n p) (listGood (some faultsIn) l) no-list tt tt refl
+      parameter-read F (state n no-list) 8 (l .disposition) (array (itemsIn (some errorReportsIn) (l .value))) (λ p (u : Unit {0}). state n p) (listGood (some errorReportsIn) l) no-list tt tt refl
       (λ e.
-      let (p, k) = list-kept v (some faultsIn) l u e in
-      unsupported-step v (state n no-list) (viewOf (array (itemsIn (some faultsIn) (l .value)))) (listGood (some faultsIn) l) p refl
-      (list-back (some faultsIn) (lists .unsupported-back) l (λ t. k) e) refl) in
-      then F (join (rolePairs (q .role)) (octetsPairs 5 o)) (listPairs 8 (some faultsIn) l) nothingGathered (state n no-list) (gathered (seen (q .role)) back)
-      (then F (rolePairs (q .role)) (octetsPairs 5 o) nothingGathered (state none no-list) (state n no-list) (role-read v (q .role) (f .role)) e1)
+      let (p, k) = list-kept v (some errorReportsIn) l u e in
+      unsupported-step v (state n no-list) (viewOf (array (itemsIn (some errorReportsIn) (l .value)))) (listGood (some errorReportsIn) l) p refl
+      (list-back (some errorReportsIn) (lists .unsupported-back) l (λ t. k) e) refl) in
+      then F (join (rolePairs (q .role)) (octetsPairs 5 o)) (listPairs 8 (some errorReportsIn) l) emptyRequestState (state n no-list) (requestState (seen (q .role)) back)
+      (then F (rolePairs (q .role)) (octetsPairs 5 o) emptyRequestState (state none no-list) (state n no-list) (role-read v (q .role) (f .role)) e1)
       e2
 
 -- only a taken identifier serves, before and after
-owing-back : (v : Version) (role : ℕ) (r : Report) (p : OctetsParameter) → p .report ≡ Taken
-    → owing v role (ifTaken r p (noOctetsParameter Absent) .report) ≡ owing v role r
+owing-back : (v : Version) (role : ℕ) (r : Disposition) (p : OctetsParameter) → p .disposition ≡ Taken
+    → owing v role (ifTaken r p (noOctetsParameter Absent) .disposition) ≡ owing v role r
 unfolding owing
 owing-back v role Absent p e = refl
 owing-back v role Taken p e = rw e
@@ -101,18 +101,18 @@ pub request-round-trip : ItemLaws → HeadLaws → ListLaws → (q : JoinRequest
 unfolding requestPlan
 request-round-trip items heads lists q list v p e b =
     let s = encode (map (requestPairs q)) in
-    let owes = owing v (q .role) (q .network .report) in
+    let owes = owing v (q .role) (q .network .disposition) in
     let (a, f) = emits (not (requestInRange v q)) Range (owingPlan owes (fits s)) p e in
     let (o, x) = owed-none owes s p f in
     let (n, y) = fitted s p x in
     let h = in-range (requestInRange v q) a in
     let within = request-fits v q h in
     let reports = reports-of v q h in
-    let owed = owing-back v (q .role) (q .network .report) (octetsGood (q .network)) refl ∙ o in
+    let owed = owing-back v (q .role) (q .network .disposition) (octetsGood (q .network)) refl ∙ o in
     let back : readRequestBy v (headBy b) p ≡ acceptRequest (back lists v q within reports) =
     rw (
       ← y,
-      payload-read (requestForm v) items b (requestPairs q) nothingGathered (fine-request heads items lists v q within reports list) (omega arith) n,
+      payload-read (requestForm v) items b (requestPairs q) emptyRequestState (fine-request heads items lists v q within reports list) (omega arith) n,
       request-read lists v q within reports,
       owed,
     ) in
@@ -122,10 +122,10 @@ request-round-trip items heads lists q list v p e b =
       same = record {
         role = refl;
         network = octets-same (q .network);
-        unsupported = list-same (some faultsIn) (lists .unsupported-back) l (λ t. list-kept v (some faultsIn) l reports t .1);
+        unsupported = list-same (some errorReportsIn) (lists .unsupported-back) l (λ t. list-kept v (some errorReportsIn) l reports t .1);
       };
-      network-kept = kept-if (λ (o : OctetsParameter). o .report) (octetsGood (q .network)) (noOctetsParameter Absent) (q .network .report) refl refl;
-      unsupported-kept = kept-if (λ (l : ListParameter). l .report) (listGood (some faultsIn) l) (noListParameter Absent) (l .report) refl refl;
+      network-kept = kept-if (λ (o : OctetsParameter). o .disposition) (octetsGood (q .network)) (noOctetsParameter Absent) (q .network .disposition) refl refl;
+      unsupported-kept = kept-if (λ (l : ListParameter). l .disposition) (listGood (some errorReportsIn) l) (noListParameter Absent) (l .disposition) refl refl;
       unreported = refl;
       passed = refl;
     })

@@ -16,10 +16,10 @@ use Rattle.cojp.specs.Configuration.{emptyConfiguration, refuseConfiguration, r
 use Rattle.cojp.specs.InRange.{InRange, ReadsInRange}
 use Rattle.cojp.specs.Laws.{ReadersDemand1, StrictReaders, meetsLonger}
 use Rattle.cojp.specs.Reading.{ifTaken}
-use Rattle.cojp.specs.Writing.{keysInRange, addressInRange, jrcInRange, octetsInRange, ofForm, configurationInRange, configurationPlan}
+use Rattle.cojp.specs.Writing.{keysInRange, addressInRange, jrcInRange, octetsInRange, ofVersion, configurationInRange, configurationPlan}
 use Rattle.cojp.specs.declared.configuration.Configuration.{Configuration}
 use Rattle.cojp.specs.declared.configuration.ConfigurationRead.{ConfigurationRead}
-use Rattle.cojp.specs.declared.report.Report.{Report}
+use Rattle.cojp.specs.declared.disposition.Disposition.{Disposition}
 use Rattle.cojp.specs.declared.version.Version.{Version}
 use Rattle.cojp_laws.specs.Addresses.{HoldsReserved, ObjectAddresses}
 
@@ -34,13 +34,13 @@ module _ (A : AddressLaws) where
   out-of-range : (c : Configuration) → HoldsReserved c → addressInRange (c .address) ≡ false
   out-of-range c h =
       let no = A .reserved (c .address .value .bytes) (h .reserved) in
-      subst (λ (r : Report). ifTaken r (isAddress (c .address .value .bytes)) true ≡ false) (sym (h .taken)) no
+      subst (λ (r : Disposition). ifTaken r (isAddress (c .address .value .bytes)) true ≡ false) (sym (h .taken)) no
 
   range : (v : Version) (c : Configuration) → HoldsReserved c → configurationPlan v c ≡ refuse Range
   unfolding configurationPlan configurationInRange
   range v c h =
       let out = second-false (keysInRange (c .keys)) (addressInRange (c .address)) (jrcInRange (c .jrc)) (octetsInRange (c .network))
-      (octetsInRange (c .prefix)) (ofForm v c) (out-of-range c h) in
+      (octetsInRange (c .prefix)) (ofVersion v c) (out-of-range c h) in
       rw out
 
   none-written : (v : Version) (c : Configuration) (p : List ℕ) → configurationPlan v c ≡ emit p → HoldsReserved c → ⊥

@@ -15,9 +15,9 @@ use Rattle.cbor.specs.HeadLaws.{HeadLaws}
 use Rattle.cbor.specs.Item.{map}
 use Rattle.cbor.specs.Laws.{ItemLaws, Bytes}
 use Rattle.link_key_set.specs.KeyLaws.{KeyLaws}
-use Rattle.cojp.specs.Lists.{stringsIn, faultsIn, some}
+use Rattle.cojp.specs.Lists.{stringsIn, errorReportsIn, some}
 use Rattle.cojp.specs.Request.{owing}
-use Rattle.cojp.specs.Version.{byVersion, informed}
+use Rattle.cojp.specs.Version.{byVersion, allowsAdditionalInfo}
 use Rattle.cojp.specs.Writing.{fits, requestPairs, requestInRange, owingPlan, requestPlan}
 use Rattle.cojp.specs.Writing.{configurationPairs, configurationInRange, configurationPlan}
 use Rattle.cojp.specs.declared.configuration.Configuration.{Configuration}
@@ -67,7 +67,7 @@ payloads-fit = record { request = request; configuration = configuration }
     request : (v : Version) (q : JoinRequest) (p : List ℕ) → requestPlan v q ≡ emit p → length p ≤ 256
     request v q p e =
         let s = encode (map (requestPairs q)) in
-        let owes = owing v (q .role) (q .network .report) in
+        let owes = owing v (q .role) (q .network .disposition) in
         let (a, f) = emits (not (requestInRange v q)) Range (owingPlan owes (fits s)) p e in
         let (n, y) = fitted s p (owed-none owes s p f .1) in
         rw (← y) n
@@ -86,15 +86,15 @@ module _ (heads : HeadLaws) (items : ItemLaws) (lists : ListLaws) where
       let role = fine-role heads (q .role) (f .role) in
       let network = fine-octets heads 5 (q .network) (omega arith) (f .network) in
       fine-join (fine-join role network)
-      (fine-list heads items (some faultsIn) some-fit (lists .unsupported-written) v 8 (q .unsupported) (omega arith) u b)
+      (fine-list heads items (some errorReportsIn) some-fit (lists .unsupported-written) v 8 (q .unsupported) (omega arith) u b)
 
   module _ (keys : KeyLaws) (c : Configuration) (typed : TypedConfiguration c) where
     -- ---- the configuration
     pub fine-configuration : (v : Version) → Judged v c
-        → Fine (configurationPairs c) 7 (3 + groupsRoom (informed v) 8 + 14 + 18 + 18 + 18 + byVersion v 0 272 + byVersion v 0 10)
+        → Fine (configurationPairs c) 7 (3 + groupsRoom (allowsAdditionalInfo v) 8 + 14 + 18 + 18 + 18 + byVersion v 0 272 + byVersion v 0 10)
     fine-configuration v f =
         let o = of-form v c (f .form) in
-        let k = fine-keys heads keys (informed v) (c .keys) (f .keys) (keys-fitting keys v (c .keys) (o .keys)) in
+        let k = fine-keys heads keys (allowsAdditionalInfo v) (c .keys) (f .keys) (keys-fitting keys v (c .keys) (o .keys)) in
         let a = fine-address heads (c .address) (typed .two) (typed .lease) in
         let j = fine-octets heads 4 (c .jrc) (omega arith) (jrc-in-range (c .jrc) (f .jrc)) in
         let n = fine-octets heads 5 (c .network) (omega arith) (f .network) in

@@ -10,12 +10,12 @@ use Rattle.cbor.specs.Strict.{headBy}
 use Rattle.cojp.specs.Configuration.{readConfigurationBy}
 use Rattle.cojp.specs.Writing.{configurationPlan}
 use Rattle.cojp.specs.declared.configuration.Configuration.{Configuration}
-use Rattle.cojp.specs.declared.report.Report.the-variants.{Taken}
+use Rattle.cojp.specs.declared.disposition.Disposition.the-variants.{Taken}
 use Rattle.cojp.specs.declared.version.Version.{Version}
 
 -- the configuration holds one of the two
 pub record HoldsReserved (c : Configuration) : Type 0 where
-  pub taken : c .address .report ≡ Taken
+  pub taken : c .address .disposition ≡ Taken
   pub reserved : Reserved (c .address .value .bytes)
 
 pub record ObjectAddresses : Type 0 where

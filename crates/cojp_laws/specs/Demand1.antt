@@ -12,7 +12,7 @@ use Rattle.cbor.specs.Answer.{Plan, answer, after, headPlan}
 use Rattle.cbor.specs.Encode.{shortest, encode, encodePairs}
 use Rattle.cbor.specs.Item.{map}
 use Rattle.cbor.specs.Written.{writtenSays}
-use Rattle.cbor.specs.declared.write.Written.the-variants.{Refused}
+use Rattle.cbor.specs.declared.write.WriteResult.the-variants.{Refused}
 use Rattle.cojp.specs.Request.{owing}
 use Rattle.cojp.specs.Writing.{octetsPairs, requestPairs, requestInRange, requestPlan, configurationPairs, configurationInRange, configurationPlan}
 use Rattle.cojp.specs.declared.configuration.Configuration.{Configuration}
@@ -59,7 +59,7 @@ pub record WritersDemand1 : Type 0 where
       ≡ inOrder
       (refusedIf (not (requestInRange v q)) 13
       ∷ refusedIf (tooLong (encode (map (requestPairs q)))) 13
-      ∷ refusedIf (owing v (q .role) (q .network .report)) 9
+      ∷ refusedIf (owing v (q .role) (q .network .disposition)) 9
       ∷ refusedIf (noRoom (encode (map (requestPairs q))) d) 12
       ∷ [])
   pub configuration-number :

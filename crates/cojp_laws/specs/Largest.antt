@@ -16,7 +16,7 @@ use Rattle.link_key.specs.Key.{keyOf}
 use Rattle.link_key.specs.declared.Key.{Key}
 use Rattle.cojp.specs.Address.{addressOf, addressParameter}
 use Rattle.cojp.specs.KeySet.{keySetOf, keysParameter}
-use Rattle.cojp.specs.Faults.{noFaults}
+use Rattle.cojp.specs.ErrorReports.{noErrorReports}
 use Rattle.cojp.specs.Lists.{listParameter, noListParameter}
 use Rattle.cojp.specs.Octets.{octetsOf, octetsParameter}
 use Rattle.cojp.specs.Rate.{noRateParameter}
@@ -24,7 +24,7 @@ use Rattle.cojp.specs.Configuration.{refuseConfiguration, readConfigurationAs}
 use Rattle.cojp.specs.Writing.{requestPlan, configurationPairs, configurationInRange, configurationPlan}
 use Rattle.cojp.specs.declared.configuration.Configuration.{Configuration}
 use Rattle.cojp.specs.declared.octets.OctetsParameter.{OctetsParameter}
-use Rattle.cojp.specs.declared.report.Report.the-variants.{Absent, Taken}
+use Rattle.cojp.specs.declared.disposition.Disposition.the-variants.{Absent, Taken}
 use Rattle.cojp.specs.declared.request.JoinRequest.{JoinRequest}
 use Rattle.cojp.specs.declared.version.Version.{Version}
 use Rattle.cojp.specs.declared.version.Version.the-variants.{Draft, Published}
@@ -61,8 +61,8 @@ fullConfiguration = record {
   prefix = longString;
   blacklist = noListParameter Absent;
   rate = noRateParameter Absent;
-  came = noFaults;
-  passed = 0;
+  labels = noErrorReports;
+  unknown = 0;
 }
 
 -- 232 bytes are written where there is room for them, and one byte less has no ROOM (12)

@@ -8,45 +8,45 @@ use lib.ListN.{take}
 use Rattle.refusal.specs.declared.Verdict.the-variants.{Accepted}
 use Rattle.cbor.specs.Strict.{headBy}
 use Rattle.cbor.specs.Answer.{emit, answer, after}
-use Rattle.cbor.specs.declared.write.Written.the-variants.{Length}
-use Rattle.cojp.specs.Faults.{noFaults}
+use Rattle.cbor.specs.declared.write.WriteResult.the-variants.{Length}
+use Rattle.cojp.specs.ErrorReports.{noErrorReports}
 use Rattle.cojp.specs.Request.{readRequestBy}
 use Rattle.cojp.specs.Configuration.{readConfigurationBy}
-use Rattle.cojp.specs.Reported.{faultsOf}
+use Rattle.cojp.specs.Reported.{errorReportsOf}
 use Rattle.cojp.specs.Writing.{requestPlan, configurationPlan}
 use Rattle.cojp.specs.Same.{SameRequest, SameConfiguration}
 use Rattle.cojp.specs.declared.configuration.Configuration.{Configuration}
 use Rattle.cojp.specs.declared.configuration.ConfigurationRead.{ConfigurationRead}
-use Rattle.cojp.specs.declared.report.Report.{Report}
-use Rattle.cojp.specs.declared.report.Report.the-variants.{Discarded}
+use Rattle.cojp.specs.declared.disposition.Disposition.{Disposition}
+use Rattle.cojp.specs.declared.disposition.Disposition.the-variants.{Discarded}
 use Rattle.cojp.specs.declared.request.JoinRequest.{JoinRequest}
 use Rattle.cojp.specs.declared.request.RequestRead.{RequestRead}
 use Rattle.cojp.specs.declared.version.Version.{Version}
 
-abbrev pub Kept : Report → Type 0
+abbrev pub Kept : Disposition → Type 0
 Kept r = r ≡ Discarded → ⊥
 
 -- ---- what reading answers, the object being the one that was written
 pub record RequestBack (q : JoinRequest) (r : RequestRead) : Type 0 where
   pub accepted : r .verdict ≡ Accepted
   pub same : SameRequest (r .request) q
-  pub network-kept : Kept (r .request .network .report)
-  pub unsupported-kept : Kept (r .request .unsupported .report)
-  pub unreported : r .request .faults ≡ noFaults
-  pub passed : r .request .passed ≡ 0
+  pub network-kept : Kept (r .request .network .disposition)
+  pub unsupported-kept : Kept (r .request .unsupported .disposition)
+  pub unreported : r .request .errors ≡ noErrorReports
+  pub passed : r .request .unknown ≡ 0
 
 pub record ConfigurationBack (c : Configuration) (r : ConfigurationRead) : Type 0 where
   pub accepted : r .verdict ≡ Accepted
   pub same : SameConfiguration (r .configuration) c
-  pub keys-kept : Kept (r .configuration .keys .report)
-  pub address-kept : Kept (r .configuration .address .report)
-  pub jrc-kept : Kept (r .configuration .jrc .report)
-  pub network-kept : Kept (r .configuration .network .report)
-  pub prefix-kept : Kept (r .configuration .prefix .report)
-  pub blacklist-kept : Kept (r .configuration .blacklist .report)
-  pub rate-kept : Kept (r .configuration .rate .report)
-  pub unreported : faultsOf (r .configuration) ≡ noFaults
-  pub passed : r .configuration .passed ≡ 0
+  pub keys-kept : Kept (r .configuration .keys .disposition)
+  pub address-kept : Kept (r .configuration .address .disposition)
+  pub jrc-kept : Kept (r .configuration .jrc .disposition)
+  pub network-kept : Kept (r .configuration .network .disposition)
+  pub prefix-kept : Kept (r .configuration .prefix .disposition)
+  pub blacklist-kept : Kept (r .configuration .blacklist .disposition)
+  pub rate-kept : Kept (r .configuration .rate .disposition)
+  pub unreported : errorReportsOf (r .configuration) ≡ noErrorReports
+  pub passed : r .configuration .unknown ≡ 0
 
 -- ---- the bytes of the plan
 abbrev pub RequestRoundTrip : JoinRequest → Type 0

@@ -7,13 +7,13 @@ use mathlib.Core.List.{List, [], _∷_, _++_}
 use lib.ListN.{length, drop, replicate}
 use Rattle.cbor.specs.Answer.{Plan, answer, after}
 use Rattle.cbor.specs.Written.{writtenSays}
-use Rattle.link_key.specs.Key.{informedKey}
+use Rattle.link_key.specs.Key.{keyWithAdditionalInfo}
 use Rattle.link_key.specs.declared.Key.{Key}
-use Rattle.link_key.specs.declared.info.Info.the-variants as info
+use Rattle.link_key.specs.declared.additional_info.AdditionalInfo.the-variants as info
 use Rattle.cojp.specs.Address.{addressOf, addressParameter, noAddressParameter}
-use Rattle.cojp.specs.Configuration.{emptyConfiguration, withKeys, withAddress, withJrc, withPrefix, withBlacklist, withRate, withPassed}
+use Rattle.cojp.specs.Configuration.{emptyConfiguration, withKeys, withAddress, withJrc, withPrefix, withBlacklist, withRate, withUnknownCount}
 use Rattle.cojp.specs.Examples.{cafe}
-use Rattle.cojp.specs.Faults.{noFaults}
+use Rattle.cojp.specs.ErrorReports.{noErrorReports}
 use Rattle.cojp.specs.KeySet.{keySetOf, keysParameter}
 use Rattle.cojp.specs.Lists.{listParameter, noListParameter}
 use Rattle.cojp.specs.Octets.{octetsOf, octetsParameter, noOctetsParameter, padded}
@@ -22,7 +22,7 @@ use Rattle.cojp.specs.Writing.{requestPlan, configurationPlan}
 use Rattle.cojp.specs.declared.configuration.Configuration.{Configuration}
 use Rattle.cojp.specs.declared.list.ListParameter.{ListParameter}
 use Rattle.cojp.specs.declared.octets.OctetsParameter.{OctetsParameter}
-use Rattle.cojp.specs.declared.report.Report.the-variants.{Absent, Taken, Discarded}
+use Rattle.cojp.specs.declared.disposition.Disposition.the-variants.{Absent, Taken, Discarded}
 use Rattle.cojp.specs.declared.version.Version.{Version}
 use Rattle.cojp.specs.declared.version.Version.the-variants.{Draft, Published}
 
@@ -45,7 +45,7 @@ AllShown (e ∷ es) = Shown e × AllShown es
 
 abbrev reporting : Version → ℕ → OctetsParameter → ListParameter → Plan
 reporting v role network unsupported =
-    requestPlan v (record { role = role; network = network; unsupported = unsupported; faults = noFaults; passed = 0 })
+    requestPlan v (record { role = role; network = network; unsupported = unsupported; errors = noErrorReports; unknown = 0 })
 
 abbrev asking : ℕ → OctetsParameter → Plan
 asking role network = reporting Draft role network (noListParameter Absent)
@@ -71,7 +71,7 @@ writtenExamples =
     ∷ writes (configurationPlan Draft (withAddress emptyConfiguration (addressParameter Taken (addressOf (0x12 ∷ 0x34 ∷ []) true 3600))))
     (0xA1 ∷ 0x03 ∷ 0x82 ∷ 0x42 ∷ 0x12 ∷ 0x34 ∷ 0x19 ∷ 0x0E ∷ 0x10 ∷ [])  -- M8
     ∷ writes (configurationPlan Draft (withAddress emptyConfiguration (noAddressParameter Discarded))) (0xA0 ∷ [])  -- M9
-    ∷ writes (configurationPlan Draft (withPassed emptyConfiguration 1)) (0xA0 ∷ [])  -- M12
+    ∷ writes (configurationPlan Draft (withUnknownCount emptyConfiguration 1)) (0xA0 ∷ [])  -- M12
     ∷ []
 
 -- ---- objects of the published form
@@ -88,7 +88,7 @@ blacklisting l = withBlacklist emptyConfiguration l
 
 abbrev sourced : Configuration
 sourced =
-    withKeys emptyConfiguration (keysParameter Taken (keySetOf (informedKey 1 0 (replicate 16 0x50) (info.Four 0xD0 0xD1 0xD2 0xD3) ∷ [])))
+    withKeys emptyConfiguration (keysParameter Taken (keySetOf (keyWithAdditionalInfo 1 0 (replicate 16 0x50) (info.Four 0xD0 0xD1 0xD2 0xD3) ∷ [])))
 
 abbrev reports : ListParameter
 reports = listed 3 (0x01 ∷ 0x06 ∷ 0xF6 ∷ [])
@@ -112,7 +112,7 @@ publishedExamples =
 -- ---- the longest payload, 256 bytes: eight keys of 29, each with an identifier of two bytes, a usage and a key source of eight bytes, a
 -- JRC address of 18, and join rate 23, which takes two; rate 24 takes one more
 abbrev farKey : ℕ → Key
-farKey identifier = informedKey identifier 14 (replicate 16 0x50) (info.Eight 0xD0 0xD1 0xD2 0xD3 0xD4 0xD5 0xD6 0xD7)
+farKey identifier = keyWithAdditionalInfo identifier 14 (replicate 16 0x50) (info.Eight 0xD0 0xD1 0xD2 0xD3 0xD4 0xD5 0xD6 0xD7)
 
 abbrev farKeys : List Key
 farKeys = farKey 248 ∷ farKey 249 ∷ farKey 250 ∷ farKey 251 ∷ farKey 252 ∷ farKey 253 ∷ farKey 254 ∷ farKey 255 ∷ []

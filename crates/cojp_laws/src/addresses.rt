@@ -2,11 +2,11 @@
 ghost use Rattle.cojp_laws.specs.Addresses.{ObjectAddresses};
 
 // No configuration that is read or written holds FFFE or FFFF as its address.
-pub fn addresses_alone()
+pub fn addresses_law()
     ensures { λ r. ⌜ ObjectAddresses ⌝ }
 {
     short_address::laws();
-    cojp::reads_in_range();
-    cojp::readers_demand1();
-    cojp::strict_readers();
+    cojp::reads_in_range_law();
+    cojp::readers_demand1_law();
+    cojp::strict_readers_law();
 }

@@ -23,16 +23,16 @@ pub fn draft_written(c: Configuration)
 }
 
 // And one takes as many.
-pub fn largest_attained()
+pub fn largest_attained_law()
     ensures { λ r. ⌜ LargestAttained ⌝ }
 {}
 
 // In either form what is written has at most 256 bytes.
-pub fn payloads_fit()
+pub fn payload_size_law()
     ensures { λ r. ⌜ PayloadsFit ⌝ }
 {}
 
 // 256 bytes are read, and 257 are LONG.
-pub fn longest_read()
+pub fn longest_read_law()
     ensures { λ r. ⌜ LongestRead ⌝ }
 {}

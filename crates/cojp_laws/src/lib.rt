@@ -4,12 +4,12 @@ pub mod largest;
 pub mod round_trip;
 pub mod writers;
 
-pub use addresses::addresses_alone;
+pub use addresses::addresses_law;
 pub use largest::draft_written;
-pub use largest::largest_attained;
+pub use largest::largest_attained_law;
 pub use largest::largest_configuration;
-pub use largest::longest_read;
-pub use largest::payloads_fit;
+pub use largest::longest_read_law;
+pub use largest::payload_size_law;
 pub use round_trip::configuration_in_place;
 pub use round_trip::configuration_round_trip;
 pub use round_trip::request_in_place;

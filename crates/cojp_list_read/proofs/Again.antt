@@ -9,7 +9,7 @@ use lib.Dec.{leb, eqb}
 use lib.ListN.{length, getD, drop, drop-of-length-le}
 use lib.Seq.{drop-cons}
 use borrow.Author.Tests.{le-leb, lt-leb, eq-eqb, ne-eqb, leb-true}
-use Rattle.cbor.specs.View.{Plain}
+use Rattle.cbor.specs.View.{Scalar}
 use Rattle.byte_lists.specs.Same.{same}
 use Rattle.cojp.specs.Bytes.{membersAt}
 use Rattle.cojp.specs.Lists.{Picked, nothing, picked, fitting, written, listAnswer, bytesIn, sameAs, kept}
@@ -62,7 +62,7 @@ list-small (picked ps) r e = rw e (go (leb (length (written ps)) 253) refl)
     go true f = leb-true (length (written ps)) 253 f
     go false f = omega arith
 
-module _ (f : List Plain → Picked) (l : ItemList) where
+module _ (f : List Scalar → Picked) (l : ItemList) where
   pub kept-long : 253 < l .len → false ≡ kept f l
   unfolding kept
   kept-long h = rw (lt-leb (l .len) 253 h)

@@ -10,40 +10,40 @@ use lib.Seq.{take-append-seam}
 use borrow.Author.Tests.{le-leb, leb-true, eqb-true}
 use Rattle.cbor.specs.Encode.{encode, shortest}
 use Rattle.cbor.specs.Item.{array, count}
-use Rattle.cbor.specs.View.{Plain, number, minus, string, other, plainOf, plainsOf, viewOf}
+use Rattle.cbor.specs.View.{Scalar, number, minus, string, other, scalarOf, scalarsOf, viewOf}
 use Rattle.byte_lists.specs.Same.{same}
 use Rattle.byte_lists.specs.Same.{same-equal}
 use Rattle.logic_facts.specs.Tests.{both-left, both-right}
 use Rattle.cojp.specs.Bytes.{membersAt}
 use Rattle.cojp.specs.Octets.{padded}
-use Rattle.cojp.specs.Lists.{Picked, nothing, picked, before, fitting, plainItem, itemsOf, written, isInteger, stringsIn, faultsIn, some}
+use Rattle.cojp.specs.Lists.{Picked, nothing, picked, before, fitting, scalarItem, itemsOf, written, isInteger, stringsIn, errorReportsIn, some}
 use Rattle.cojp.specs.Lists.{inArray, listOf, listAnswer, bytesIn, sameAs, kept, itemsIn, pickedItems}
 use Rattle.cojp.specs.declared.list.ItemList.{ItemList}
 
 -- ---- members as items, and back
-plain-back : (p : Plain) → plainOf (plainItem p) ≡ p
+plain-back : (p : Scalar) → scalarOf (scalarItem p) ≡ p
 plain-back (number n) = refl
 plain-back (minus n) = refl
 plain-back (string s) = refl
 plain-back other = refl
 
-plains-back : (ps : List Plain) → plainsOf (itemsOf ps) ≡ ps
+plains-back : (ps : List Scalar) → scalarsOf (itemsOf ps) ≡ ps
 plains-back [] = refl
 plains-back (p ∷ ps) = rw (plain-back p, plains-back ps)
 
-items-count : (ps : List Plain) → count (itemsOf ps) ≡ length ps
+items-count : (ps : List Scalar) → count (itemsOf ps) ≡ length ps
 items-count [] = refl
 items-count (p ∷ ps) = ap suc (items-count ps)
 
 -- ---- what is kept is kept again
-abbrev pub Again : (List Plain → Picked) → Type 0
-Again f = (ms ps : List Plain) → f ms ≡ picked ps → f ps ≡ picked ps
+abbrev pub Again : (List Scalar → Picked) → Type 0
+Again f = (ms ps : List Scalar) → f ms ≡ picked ps → f ps ≡ picked ps
 
-never : {A : Type 0} (ps : List Plain) → nothing ≡ picked ps → A
+never : {A : Type 0} (ps : List Scalar) → nothing ≡ picked ps → A
 never ps e = absurd (let z : _≡_ {A = ℕ} 0 1 = cc in omega arith)
 
-again-before : (f : List Plain → Picked) (xs : List Plain) (q : Picked) (ps : List Plain)
-    → ((qs : List Plain) → q ≡ picked qs → f (xs ++ qs) ≡ picked (xs ++ qs)) → before xs q ≡ picked ps → f ps ≡ picked ps
+again-before : (f : List Scalar → Picked) (xs : List Scalar) (q : Picked) (ps : List Scalar)
+    → ((qs : List Scalar) → q ≡ picked qs → f (xs ++ qs) ≡ picked (xs ++ qs)) → before xs q ≡ picked ps → f ps ≡ picked ps
 again-before f xs nothing ps h e = never ps e
 again-before f xs (picked qs) ps h e = let g : xs ++ qs ≡ ps = cc in rw g at (h qs refl)
 
@@ -56,52 +56,52 @@ strings-again (string s ∷ r) ps e =
     again-before stringsIn (string s ∷ []) (stringsIn r) ps (λ qs g. rw (strings-again r qs g)) e
 strings-again (other ∷ r) ps e = never ps e
 
-faults-again : Again faultsIn
-unfolding faultsIn
+faults-again : Again errorReportsIn
+unfolding errorReportsIn
 faults-again [] ps e = let g : [] ≡ ps = cc in rw (← g)
 faults-again (p ∷ []) ps e = never ps e
 faults-again (p ∷ q ∷ []) ps e = never ps e
 faults-again (p ∷ q ∷ x ∷ r) ps e = go (λ qs g. faults-again r qs g) (isInteger p && isInteger q) refl e
   where
-    go : ((qs : List Plain) → faultsIn r ≡ picked qs → faultsIn qs ≡ picked qs) → (b : Bool) → (isInteger p && isInteger q) ≡ b
-        → cond b (before (p ∷ q ∷ other ∷ []) (faultsIn r)) nothing ≡ picked ps → faultsIn ps ≡ picked ps
+    go : ((qs : List Scalar) → errorReportsIn r ≡ picked qs → errorReportsIn qs ≡ picked qs) → (b : Bool) → (isInteger p && isInteger q) ≡ b
+        → cond b (before (p ∷ q ∷ other ∷ []) (errorReportsIn r)) nothing ≡ picked ps → errorReportsIn ps ≡ picked ps
     go h false f e = never ps e
-    go h true f e = again-before faultsIn (p ∷ q ∷ other ∷ []) (faultsIn r) ps (λ qs g. rw (f, h qs g)) e
+    go h true f e = again-before errorReportsIn (p ∷ q ∷ other ∷ []) (errorReportsIn r) ps (λ qs g. rw (f, h qs g)) e
 
-pub some-again : Again (some faultsIn)
-unfolding faultsIn
+pub some-again : Again (some errorReportsIn)
+unfolding errorReportsIn
 some-again [] ps e = never ps e
 some-again (p ∷ ms) ps e = go ps (faults-again (p ∷ ms) ps e) (first p ms ps e)
   where
-    first : (p : Plain) (ms ps : List Plain) → faultsIn (p ∷ ms) ≡ picked ps → ps ≡ [] → ⊥
+    first : (p : Scalar) (ms ps : List Scalar) → errorReportsIn (p ∷ ms) ≡ picked ps → ps ≡ [] → ⊥
     first p [] ps e = never ps e
     first p (q ∷ []) ps e = never ps e
-    first p (q ∷ x ∷ r) ps e = by (isInteger p && isInteger q) (faultsIn r) e
+    first p (q ∷ x ∷ r) ps e = by (isInteger p && isInteger q) (errorReportsIn r) e
       where
         by : (b : Bool) (k : Picked) → cond b (before (p ∷ q ∷ other ∷ []) k) nothing ≡ picked ps → ps ≡ [] → ⊥
         by false k e = never ps e
         by true nothing e = never ps e
         by true (picked qs) e = λ g. let z : _≡_ {A = ℕ} 0 1 = cc in omega arith
 
-    go : (ps : List Plain) → faultsIn ps ≡ picked ps → (ps ≡ [] → ⊥) → some faultsIn ps ≡ picked ps
+    go : (ps : List Scalar) → errorReportsIn ps ≡ picked ps → (ps ≡ [] → ⊥) → some errorReportsIn ps ≡ picked ps
     go [] e h = absurd (h refl)
     go (q ∷ ps) e h = e
 
 -- ---- a list that is kept
-pub record Parts (f : List Plain → Picked) (l : ItemList) : Type 0 where
-  pub members : List Plain
+pub record Parts (f : List Scalar → Picked) (l : ItemList) : Type 0 where
+  pub members : List Scalar
   pub picks : f (membersAt (l .count) (bytesIn l)) ≡ picked members
   pub small : length (written members) ≤ 253
   pub many : length members ≡ l .count
   pub bytes : written members ≡ bytesIn l
 
-pub kept-parts : (f : List Plain → Picked) (l : ItemList) → kept f l ≡ true → Parts f l
+pub kept-parts : (f : List Scalar → Picked) (l : ItemList) → kept f l ≡ true → Parts f l
 unfolding kept sameAs padded
 kept-parts f l e =
     go (f (membersAt (l .count) (bytesIn l))) refl
     (both-right (leb (l .len) 253) (sameAs (listAnswer (fitting 253 (f (membersAt (l .count) (bytesIn l))))) l) e)
   where
-    by : (ps : List Plain) → f (membersAt (l .count) (bytesIn l)) ≡ picked ps → (b : Bool) → leb (length (written ps)) 253 ≡ b
+    by : (ps : List Scalar) → f (membersAt (l .count) (bytesIn l)) ≡ picked ps → (b : Bool) → leb (length (written ps)) 253 ≡ b
         → sameAs (listAnswer (cond b (picked ps) nothing)) l ≡ true → Parts f l
     by ps g false k h = absurd (let z : _≡_ {A = ℕ} 0 1 = cc in omega arith)
     by ps g true k h =
@@ -119,7 +119,7 @@ kept-parts f l e =
     go nothing g h = absurd (let z : _≡_ {A = ℕ} 0 1 = cc in omega arith)
     go (picked ps) g h = by ps g (leb (length (written ps)) 253) refl h
 
-module _ (f : List Plain → Picked) (l : ItemList) (p : Parts f l) where
+module _ (f : List Scalar → Picked) (l : ItemList) (p : Parts f l) where
   items-are : itemsIn f l ≡ itemsOf (p .members)
   items-are = ap pickedItems (p .picks)
 

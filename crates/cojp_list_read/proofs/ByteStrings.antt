@@ -10,23 +10,23 @@ use denote.Enum.Declared.{tagOf}
 use Rattle.cbor.specs.Answer.{Did, emit}
 use Rattle.cbor.specs.Encode.{encode}
 use Rattle.cbor.specs.Item.{bytes}
-use Rattle.cbor.specs.View.{Plain, number, minus, string, other, ValueSays}
-use Rattle.cbor.specs.declared.write.Written.{Written}
+use Rattle.cbor.specs.View.{Scalar, number, minus, string, other, ValueSpec}
+use Rattle.cbor.specs.declared.write.WriteResult.{WriteResult}
 use Rattle.cbor.specs.declared.value.Value.{Value}
 use Rattle.cbor.specs.declared.value.Value.the-variants as vv
 use Rattle.cbor.proofs.value.Value as value
-use Rattle.cojp.specs.Bytes.{membersAt, valueView, Neither, MemberAt, MemberSays}
+use Rattle.cojp.specs.Bytes.{membersAt, valueView, Neither, MemberAt, MemberSpec}
 use Rattle.cojp.specs.declared.members.Member.{Member}
 use Rattle.cojp.specs.declared.members.Member.the-variants as mv
 use Rattle.cojp.proofs.Arrays.{members-some, array-here, no-array}
 use Rattle.cojp.proofs.members.Member as member
 use Rattle.cojp.specs.Lists.{Picked, nothing, picked, before, stringsIn, written, fitting, inArray, listAnswer}
 use Rattle.cojp_list_read.specs.Gathered.{GatheredAs}
-use Rattle.cojp_list_read.specs.declared.list.Gathered.the-variants as gv
+use Rattle.cojp_list_read.specs.declared.list.GatherResult.the-variants as gv
 use Rattle.cojp_list_read.proofs.Gathering.{Gathering, gathering-bad, Turn}
 
 -- ---- the next member is a byte string, or the pattern is broken
-module _ {s : List ℕ} {at left : ℕ} {v : Member} (e : MemberSays s at left v) where
+module _ {s : List ℕ} {at left : ℕ} {v : Member} (e : MemberSpec s at left v) where
   module _ {p a : ℕ} (g : v ≡ mv.Bytes p a) where
     here : MemberAt s at left (mv.Bytes p a)
     here = rw g at (e .here)
@@ -42,7 +42,7 @@ module _ {s : List ℕ} {at left : ℕ} {v : Member} (e : MemberSays s at left v
   unfolding stringsIn
   string-broken h o = go v (e .here) o
     where
-      none : (p : Plain) (ps : List Plain) → Neither (p ∷ ps) → stringsIn (p ∷ ps) ≡ nothing
+      none : (p : Scalar) (ps : List Scalar) → Neither (p ∷ ps) → stringsIn (p ∷ ps) ≡ nothing
       none (number x) ps w = absurd w
       none (minus x) ps w = refl
       none (string x) ps w = absurd w
@@ -63,11 +63,11 @@ string-written b = append-nil (encode (bytes b))
 
 -- ---- one turn: the byte string at p, of a bytes, was written to the lent part
 module _ {whole : Picked} {s d : List ℕ} {at left len members : ℕ} {d′ : List ℕ}
-    (g : Gathering whole d (stringsIn (membersAt left (drop at s))) len members d′) {v : Member} (e : MemberSays s at left v) where
+    (g : Gathering whole d (stringsIn (membersAt left (drop at s))) len members d′) {v : Member} (e : MemberSpec s at left v) where
   pub strings-broken : 0 < left → OneOf (0 ∷ 2 ∷ []) (tagOf member.the-type v) → GatheredAs whole d gv.Bad d′
   strings-broken h o = gathering-bad g (string-broken e h o)
 
-  pub strings-turn : {p a : ℕ} → v ≡ mv.Bytes p a → (n : ℕ) → n ≡ a → {r : Written} {q : List ℕ}
+  pub strings-turn : {p a : ℕ} → v ≡ mv.Bytes p a → (n : ℕ) → n ≡ a → {r : WriteResult} {q : List ℕ}
       → Did (emit (encode (bytes (take n (drop p s))))) (take (length d′ - len) (drop len d′)) r q
       → Turn whole d (stringsIn (membersAt left (drop at s))) len members d′ (string (take a (drop p s)) ∷ [])
       (stringsIn (membersAt (left - 1) (drop (p + a) s))) r q
@@ -78,7 +78,7 @@ module _ {whole : Picked} {s d : List ℕ} {at left len members : ℕ} {d′ : L
   }
 
 -- ---- an array, and anything else
-module _ {s : List ℕ} {at : ℕ} {v : Value} (e : ValueSays s at v) (f : List Plain → Picked) where
+module _ {s : List ℕ} {at : ℕ} {v : Value} (e : ValueSpec s at v) (f : List Scalar → Picked) where
   pub list-array : {p n : ℕ} → v ≡ vv.Array p n
       → listAnswer (fitting 253 (f (membersAt n (drop p s)))) ≡ listAnswer (fitting 253 (inArray f (valueView (drop at s))))
   list-array {p} {n} g = rw (array-here s at v e p n g .1)

@@ -9,23 +9,23 @@ use borrow.Author.Tests.{le-leb, lt-leb}
 use native.Mathlib.Decide.{decLe}
 use Rattle.refusal.specs.declared.Refusal.{Refusal}
 use Rattle.cbor.specs.Answer.{Did, Wrote, emit}
-use Rattle.cbor.specs.declared.write.Written.{Written}
-use Rattle.cbor.specs.declared.write.Written.the-variants as wv
+use Rattle.cbor.specs.declared.write.WriteResult.{WriteResult}
+use Rattle.cbor.specs.declared.write.WriteResult.the-variants as wv
 use Rattle.cbor.specs.Encode.{encode, shortest}
-use Rattle.cbor.specs.View.{Plain, number, minus, string, other}
+use Rattle.cbor.specs.View.{Scalar, number, minus, string, other}
 use Rattle.cbor.specs.HeadLaws.{HeadLaws}
 use Rattle.cbor.specs.Writing.{seam, wrote-none, wrote-length, did-done, did-kept, did-never}
 use Rattle.cojp.specs.Bytes.{membersAt}
 use Rattle.cojp.proofs.Arrays.{members-none}
-use Rattle.cojp.specs.Lists.{Picked, nothing, picked, before, fitting, plainItem, written, listAnswer}
+use Rattle.cojp.specs.Lists.{Picked, nothing, picked, before, fitting, scalarItem, written, listAnswer}
 use Rattle.cojp.specs.Octets.{padded}
 use Rattle.cojp.specs.declared.list.ListRead.{ListRead}
 use Rattle.cojp_list_read.specs.Gathered.{GatheredAs}
-use Rattle.cojp_list_read.specs.declared.list.Gathered.{Gathered}
-use Rattle.cojp_list_read.specs.declared.list.Gathered.the-variants as gv
+use Rattle.cojp_list_read.specs.declared.list.GatherResult.{GatherResult}
+use Rattle.cojp_list_read.specs.declared.list.GatherResult.the-variants as gv
 
 -- ---- a writer's answer tells whether there was room
-module _ {p d d′ : List ℕ} {r : Written} (w : Did (emit p) d r d′) where
+module _ {p d d′ : List ℕ} {r : WriteResult} (w : Did (emit p) d r d′) where
   pub did-lacks : (k : Refusal) → r ≡ wv.Refused k → length d < length p
   did-lacks k e = go (decLe (length p) (length d))
     where
@@ -54,29 +54,29 @@ module _ {p d d′ : List ℕ} {r : Written} (w : Did (emit p) d r d′) where
           ap length (simp (lt-leb (length p) (length d) l) at (w .holds))
 
 -- ---- members one after the other
-pub before-before : (a b : List Plain) (q : Picked) → before a (before b q) ≡ before (a ++ b) q
+pub before-before : (a b : List Scalar) (q : Picked) → before a (before b q) ≡ before (a ++ b) q
 before-before a b nothing = refl
 before-before a b (picked ps) = rw (append-assoc a b ps)
 
-pub written-append : (a b : List Plain) → written (a ++ b) ≡ written a ++ written b
+pub written-append : (a b : List Scalar) → written (a ++ b) ≡ written a ++ written b
 written-append [] b = refl
-written-append (p ∷ a) b = rw (written-append a b, append-assoc (encode (plainItem p)))
+written-append (p ∷ a) b = rw (written-append a b, append-assoc (encode (scalarItem p)))
 
-pub written-length : (a b : List Plain) → length (written (a ++ b)) ≡ length (written a) + length (written b)
+pub written-length : (a b : List Scalar) → length (written (a ++ b)) ≡ length (written a) + length (written b)
 written-length a b = ap length (written-append a b) ∙ length-append (written a) (written b)
 
 -- each takes a byte at least
-one-byte : HeadLaws → (p : Plain) → 1 ≤ length (encode (plainItem p))
+one-byte : HeadLaws → (p : Scalar) → 1 ≤ length (encode (scalarItem p))
 one-byte H (number n) = omega (arith, H .length-head 0 n)
 one-byte H (minus n) = omega (arith, H .length-head 1 n)
 one-byte H (string s) = omega (arith, H .length-head 2 (length s), length-append (shortest 2 (length s)) s)
 one-byte H other = omega (arith, H .length-head 7 22)
 
-pub written-long : HeadLaws → (ps : List Plain) → length ps ≤ length (written ps)
+pub written-long : HeadLaws → (ps : List Scalar) → length ps ≤ length (written ps)
 written-long H [] = omega arith
-written-long H (p ∷ ps) = omega (arith, one-byte H p, written-long H ps, length-append (encode (plainItem p)) (written ps))
+written-long H (p ∷ ps) = omega (arith, one-byte H p, written-long H ps, length-append (encode (scalarItem p)) (written ps))
 
-fitting-over : (n : ℕ) (a : List Plain) (q : Picked) → n < length (written a) → fitting n (before a q) ≡ nothing
+fitting-over : (n : ℕ) (a : List Scalar) (q : Picked) → n < length (written a) → fitting n (before a q) ≡ nothing
 fitting-over n a nothing h = refl
 fitting-over n a (picked ps) h = let l : n < length (written (a ++ ps)) = omega (arith, written-length a ps) in rw (lt-leb (length (written (a ++ ps))) n l)
 
@@ -84,7 +84,7 @@ fitting-over n a (picked ps) h = let l : n < length (written (a ++ ps)) = omega 
 -- `whole` is what is to be kept, d the destination before; `rest` is to be kept yet, and d′ is the destination now
 module _ (whole : Picked) (d : List ℕ) where
   pub record Gathering (rest : Picked) (len members : ℕ) (d′ : List ℕ) : Type 0 where
-    pub so-far : List Plain
+    pub so-far : List Scalar
     pub pattern : whole ≡ before so-far rest
     pub room : length (written so-far) ≤ length d
     pub many : members ≡ length so-far
@@ -119,7 +119,7 @@ module _ {whole rest : Picked} {d : List ℕ} {len members : ℕ} {d′ : List �
       (g .so-far, rw (all, le-leb (length (written (g .so-far))) (length d) (g .room)), g .many, g .wrote)
 
   -- the next members, xs of them kept
-  module _ (xs : List Plain) (next : Picked) (e : rest ≡ before xs next) where
+  module _ (xs : List Scalar) (next : Picked) (e : rest ≡ before xs next) where
     further : whole ≡ before (g .so-far ++ xs) next
     further = g .pattern ∙ rw e (before-before (g .so-far) xs next)
 
@@ -147,17 +147,17 @@ module _ {whole rest : Picked} {d : List ℕ} {len members : ℕ} {d′ : List �
       }
 
 -- no member is left
-pub gathering-ended : (f : List Plain → Picked) (left : ℕ) (l : List ℕ) → f [] ≡ picked [] → left ≤ 0 → f (membersAt left l) ≡ picked []
+pub gathering-ended : (f : List Scalar → Picked) (left : ℕ) (l : List ℕ) → f [] ≡ picked [] → left ≤ 0 → f (membersAt left l) ≡ picked []
 gathering-ended f left l e h = let z : left ≡ 0 = omega arith in ap f (members-none left l z) ∙ e
 
 -- ---- one turn: r is the answer of writing xs to the lent part, which then is q
 module _ (whole : Picked) (d : List ℕ) where
-  pub record Turn (rest : Picked) (len members : ℕ) (d′ : List ℕ) (xs : List Plain) (next : Picked) (r : Written) (q : List ℕ) : Type 0 where
+  pub record Turn (rest : Picked) (len members : ℕ) (d′ : List ℕ) (xs : List Scalar) (next : Picked) (r : WriteResult) (q : List ℕ) : Type 0 where
     pub gathering : Gathering whole d rest len members d′
     pub step : rest ≡ before xs next
     pub put : Did (emit (written xs)) (take (length d′ - len) (drop len d′)) r q
 
-module _ {whole rest : Picked} {d : List ℕ} {len members : ℕ} {d′ : List ℕ} {xs : List Plain} {next : Picked} {r : Written} {q : List ℕ}
+module _ {whole rest : Picked} {d : List ℕ} {len members : ℕ} {d′ : List ℕ} {xs : List Scalar} {next : Picked} {r : WriteResult} {q : List ℕ}
     (t : Turn whole d rest len members d′ xs next r q) where
   lent : length (take (length d′ - len) (drop len d′)) ≡ length d′ - len
   lent = simp (length-take, length-drop) (omega arith)
@@ -193,7 +193,7 @@ module _ (q : Picked) (d : List ℕ) (z : d ≡ replicate 253 0) where
   many-zeros : length d ≡ 253
   many-zeros = ap length z ∙ length-replicate {A = ℕ} 253 0
 
-  kept-by : (ps : List Plain) (m n : ℕ) (d′ : List ℕ) → fitting (length d) q ≡ picked ps → m ≡ length ps → Wrote (written ps) d n d′
+  kept-by : (ps : List Scalar) (m n : ℕ) (d′ : List ℕ) → fitting (length d) q ≡ picked ps → m ≡ length ps → Wrote (written ps) d n d′
       → _≡_ {A = ListRead} (record { good = true; value = record { count = m; len = n; bytes = d′ } }) (listAnswer (fitting 253 q))
   unfolding padded
   kept-by ps m n d′ f many wrote =
@@ -201,7 +201,7 @@ module _ (q : Picked) (d : List ℕ) (z : d ≡ replicate 253 0) where
       let b : d′ ≡ written ps ++ replicate (253 - length (written ps)) 0 = wrote .holds ∙ rw (z, zeros-after (length (written ps)) 253) in
       rw (f′, many, wrote .many, b)
 
-  module _ (r : Gathered) (d′ : List ℕ) (w : GatheredAs q d r d′) where
+  module _ (r : GatherResult) (d′ : List ℕ) (w : GatheredAs q d r d′) where
     pub list-bad : r ≡ gv.Bad → fitting 253 q ≡ nothing
     list-bad e = let v : GatheredAs q d gv.Bad d′ = rw e at w in rw (← many-zeros) v
 

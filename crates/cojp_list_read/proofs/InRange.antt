@@ -10,17 +10,17 @@ use lib.Seq.{take-append-seam}
 use borrow.Author.Tests.{le-leb, leb-true, eqb-true, eq-eqb}
 use Rattle.cbor.specs.Decode.{decodeBy, heading, argument, next, digits, majorOf}
 use Rattle.cbor.specs.Encode.{shortest, infoOf, extraOf, bytesOf}
-use Rattle.cbor.specs.View.{Plain, plainAt}
+use Rattle.cbor.specs.View.{Scalar, scalarAt}
 use Rattle.byte_lists.specs.Same.{same-refl}
 use Rattle.link_key_set.specs.Lists.{allOf}
 use Rattle.logic_facts.specs.Tests.{both-left, both-right, both}
 use Rattle.cojp.specs.Bytes.{membersAt}
-use Rattle.cojp.specs.Faults.{faultList, isReportable, validFault, validFaults}
-use Rattle.cojp.specs.Lists.{Picked, picked, written, faultsIn, some, listOf, listAnswer, fitting, bytesIn, sameAs, kept}
+use Rattle.cojp.specs.ErrorReports.{errorReportList, isReportable, validErrorReport, validErrorReports}
+use Rattle.cojp.specs.Lists.{Picked, picked, written, errorReportsIn, some, listOf, listAnswer, fitting, bytesIn, sameAs, kept}
 use Rattle.cojp.specs.Octets.{padded}
 use Rattle.cojp.specs.Writing.{listInRange}
-use Rattle.cojp.specs.declared.fault.Fault.{Fault}
-use Rattle.cojp.specs.declared.fault.Faults.{Faults}
+use Rattle.cojp.specs.declared.error_report.ErrorReport.{ErrorReport}
+use Rattle.cojp.specs.declared.error_report.ErrorReports.{ErrorReports}
 use Rattle.cojp_list_read.specs.Listed.{membersOf, listing, listedIn}
 use Rattle.cojp_list_read.proofs.Gathering.{written-append}
 
@@ -49,7 +49,7 @@ each-code P a b (suc zero) h = b
 each-code P a b (suc (suc x)) h = absurd (omega (arith, leb-true (suc (suc x)) 1 h))
 
 report-read : (code label : ℕ) → leb code 1 ≡ true → isReportable label ≡ true → Read code label
-unfolding shortest infoOf extraOf bytesOf plainAt decodeBy heading argument next digits majorOf
+unfolding shortest infoOf extraOf bytesOf scalarAt decodeBy heading argument next digits majorOf
 report-read code label h k =
     each-code (λ (c : ℕ). Read c label)
     (each-label (λ (x : ℕ). Read 0 x) (λ n l. (refl, refl)) (λ n l. (refl, refl)) (λ n l. (refl, refl)) (λ n l. (refl, refl)) (λ n l. (refl, refl)) label k)
@@ -57,51 +57,51 @@ report-read code label h k =
     code h
 
 -- ---- all of them: three bytes each, read as they were written
-abbrev bytes-of : List Fault → List ℕ
+abbrev bytes-of : List ErrorReport → List ℕ
 bytes-of [] = []
 bytes-of (x ∷ xs) = x .code ∷ x .label ∷ 0xf6 ∷ bytes-of xs
 
-module _ (x : Fault) (h : validFault x ≡ true) where
+module _ (x : ErrorReport) (h : validErrorReport x ≡ true) where
   one : Read (x .code) (x .label)
   one = report-read (x .code) (x .label) (both-left (leb (x .code) 1) (isReportable (x .label)) h) (both-right (leb (x .code) 1) (isReportable (x .label)) h)
 
-module _ (x : Fault) (xs : List Fault) (h : allOf validFault (x ∷ xs) ≡ true) where
-  first : validFault x ≡ true
-  first = both-left (validFault x) (allOf validFault xs) h
+module _ (x : ErrorReport) (xs : List ErrorReport) (h : allOf validErrorReport (x ∷ xs) ≡ true) where
+  first : validErrorReport x ≡ true
+  first = both-left (validErrorReport x) (allOf validErrorReport xs) h
 
-  others : allOf validFault xs ≡ true
-  others = both-right (validFault x) (allOf validFault xs) h
+  others : allOf validErrorReport xs ≡ true
+  others = both-right (validErrorReport x) (allOf validErrorReport xs) h
 
-three-bytes : (xs : List Fault) → allOf validFault xs ≡ true → written (membersOf xs) ≡ bytes-of xs
+three-bytes : (xs : List ErrorReport) → allOf validErrorReport xs ≡ true → written (membersOf xs) ≡ bytes-of xs
 three-bytes [] h = refl
 three-bytes (x ∷ xs) h =
     written-append (membersOf (x ∷ [])) (membersOf xs) ∙ rw (one x (first x xs h) 0 [] .0, three-bytes xs (others x xs h))
 
-read-again : (xs : List Fault) → allOf validFault xs ≡ true → membersAt (length (membersOf xs)) (bytes-of xs) ≡ membersOf xs
+read-again : (xs : List ErrorReport) → allOf validErrorReport xs ≡ true → membersAt (length (membersOf xs)) (bytes-of xs) ≡ membersOf xs
 read-again [] h = refl
 read-again (x ∷ xs) h =
-    one x (first x xs h) (length (membersOf xs)) (bytes-of xs) .1 ∙ ap (λ (ps : List Plain). membersOf (x ∷ []) ++ ps) (read-again xs (others x xs h))
+    one x (first x xs h) (length (membersOf xs)) (bytes-of xs) .1 ∙ ap (λ (ps : List Scalar). membersOf (x ∷ []) ++ ps) (read-again xs (others x xs h))
 
-all-kept : (xs : List Fault) → faultsIn (membersOf xs) ≡ picked (membersOf xs)
-unfolding faultsIn
+all-kept : (xs : List ErrorReport) → errorReportsIn (membersOf xs) ≡ picked (membersOf xs)
+unfolding errorReportsIn
 all-kept [] = refl
 all-kept (x ∷ xs) = rw (all-kept xs)
 
-bytes-many : (xs : List Fault) → length (bytes-of xs) ≡ 3 * length xs
+bytes-many : (xs : List ErrorReport) → length (bytes-of xs) ≡ 3 * length xs
 bytes-many [] = refl
 bytes-many (x ∷ xs) = omega (arith, bytes-many xs)
 
-members-many : (xs : List Fault) → length (membersOf xs) ≡ 3 * length xs
+members-many : (xs : List ErrorReport) → length (membersOf xs) ≡ 3 * length xs
 members-many [] = refl
 members-many (x ∷ xs) = omega (arith, members-many xs)
 
 -- ---- the list
-few : (f : Faults) → validFaults f ≡ true → length (faultList f) ≤ 5
-unfolding validFaults
-few f h = omega (arith, leb-true (f .count) 5 (both-left (leb (f .count) 5) (allOf validFault (faultList f)) h), length-take (f .count) (f .faults))
+few : (f : ErrorReports) → validErrorReports f ≡ true → length (errorReportList f) ≤ 5
+unfolding validErrorReports
+few f h = omega (arith, leb-true (f .count) 5 (both-left (leb (f .count) 5) (allOf validErrorReport (errorReportList f)) h), length-take (f .count) (f .reports))
 
-module _ (x : Fault) (xs : List Fault) (h : allOf validFault (x ∷ xs) ≡ true) (n : length (x ∷ xs) ≤ 5) where
-  abbrev ms : List Plain
+module _ (x : ErrorReport) (xs : List ErrorReport) (h : allOf validErrorReport (x ∷ xs) ≡ true) (n : length (x ∷ xs) ≤ 5) where
+  abbrev ms : List Scalar
   ms = membersOf (x ∷ xs)
 
   long : length (written ms) ≡ 3 * length (x ∷ xs)
@@ -114,33 +114,33 @@ module _ (x : Fault) (xs : List Fault) (h : allOf validFault (x ∷ xs) ≡ true
   its-members : membersAt (length ms) (bytesIn (listOf ms)) ≡ ms
   its-members = rw (its-bytes, three-bytes (x ∷ xs) h) (read-again (x ∷ xs) h)
 
-  its-limits : kept (some faultsIn) (listOf ms) ≡ true
+  its-limits : kept (some errorReportsIn) (listOf ms) ≡ true
   unfolding kept sameAs
   its-limits = rw (small, its-members, all-kept (x ∷ xs), small, same-refl (bytesIn (listOf ms)), eq-eqb (length ms) (length ms) refl)
     where
       small : leb (length (written ms)) 253 ≡ true
       small = le-leb (length (written ms)) 253 (omega (arith, long))
 
-pub listed-in-range : (f : Faults) → validFaults f ≡ true → listInRange (some faultsIn) (listedIn f) ≡ true
-unfolding validFaults listedIn
-listed-in-range f h = go (faultList f) (both-right (leb (f .count) 5) (allOf validFault (faultList f)) h) (few f h)
+pub listed-in-range : (f : ErrorReports) → validErrorReports f ≡ true → listInRange (some errorReportsIn) (listedIn f) ≡ true
+unfolding validErrorReports listedIn
+listed-in-range f h = go (errorReportList f) (both-right (leb (f .count) 5) (allOf validErrorReport (errorReportList f)) h) (few f h)
   where
-    go : (xs : List Fault) → allOf validFault xs ≡ true → length xs ≤ 5 → listInRange (some faultsIn) (listing xs) ≡ true
+    go : (xs : List ErrorReport) → allOf validErrorReport xs ≡ true → length xs ≤ 5 → listInRange (some errorReportsIn) (listing xs) ≡ true
     go [] h n = refl
     go (x ∷ xs) h n = its-limits x xs h n
 
-pub listed-long : (f : Faults) → validFaults f ≡ true → listedIn f .value .len ≡ 3 * length (faultList f)
-unfolding validFaults listedIn
-listed-long f h = go (faultList f) (both-right (leb (f .count) 5) (allOf validFault (faultList f)) h) (few f h)
+pub listed-long : (f : ErrorReports) → validErrorReports f ≡ true → listedIn f .value .len ≡ 3 * length (errorReportList f)
+unfolding validErrorReports listedIn
+listed-long f h = go (errorReportList f) (both-right (leb (f .count) 5) (allOf validErrorReport (errorReportList f)) h) (few f h)
   where
-    go : (xs : List Fault) → allOf validFault xs ≡ true → length xs ≤ 5 → listing xs .value .len ≡ 3 * length xs
+    go : (xs : List ErrorReport) → allOf validErrorReport xs ≡ true → length xs ≤ 5 → listing xs .value .len ≡ 3 * length xs
     go [] h n = refl
     go (x ∷ xs) h n = long x xs h n
 
-pub listed-members : (f : Faults) → listedIn f .value .count ≡ 3 * length (faultList f)
+pub listed-members : (f : ErrorReports) → listedIn f .value .count ≡ 3 * length (errorReportList f)
 unfolding listedIn
-listed-members f = go (faultList f)
+listed-members f = go (errorReportList f)
   where
-    go : (xs : List Fault) → listing xs .value .count ≡ 3 * length xs
+    go : (xs : List ErrorReport) → listing xs .value .count ≡ 3 * length xs
     go [] = refl
     go (x ∷ xs) = members-many (x ∷ xs)

@@ -14,35 +14,35 @@ use Rattle.cbor.specs.Answer.{Did, Wrote, emit, headPlan}
 use Rattle.cbor.specs.Decode.{Outcome, refused, got, decode}
 use Rattle.cbor.specs.Encode.{encode, shortest, extraOf}
 use Rattle.cbor.specs.Item.{Item}
-use Rattle.cbor.specs.View.{Plain, string, other, plainAt, andOn, ValueAt, ValueSays}
-use Rattle.cbor.specs.declared.item.Skip.{Skip}
-use Rattle.cbor.specs.declared.item.Skip.the-variants as sv
+use Rattle.cbor.specs.View.{Scalar, string, other, scalarAt, andOn, ValueAt, ValueSpec}
+use Rattle.cbor.specs.declared.item.SkipResult.{SkipResult}
+use Rattle.cbor.specs.declared.item.SkipResult.the-variants as sv
 use Rattle.cbor.specs.declared.value.Value.{Value}
 use Rattle.cbor.specs.declared.value.Value.the-variants as vv
-use Rattle.cbor.specs.declared.write.Written.{Written}
-use Rattle.cbor.specs.declared.write.Written.the-variants as wv
+use Rattle.cbor.specs.declared.write.WriteResult.{WriteResult}
+use Rattle.cbor.specs.declared.write.WriteResult.the-variants as wv
 use Rattle.cbor.proofs.value.Value as value
 use Rattle.cbor.specs.HeadLaws.{HeadLaws}
-use Rattle.cbor.specs.Says.{SkipSays}
+use Rattle.cbor.specs.ReaderSpecs.{SkipSpec}
 use Rattle.cbor.specs.Writing.{seam, wrote-as, wrote-length, did-emit, did-kept, did-room, head-did}
 use Rattle.cojp.specs.Bytes.{membersAt}
 use Rattle.cojp.proofs.Arrays.{members-none, members-step, members-some}
-use Rattle.cojp.specs.Lists.{Picked, nothing, picked, plainItem, written, isInteger, integer, faultsIn, some}
-use Rattle.cojp_list_read.specs.Gathered.{NoNumber, IntegerAt, AnyAt, FaultAt}
-use Rattle.cojp_list_read.specs.declared.report.Integer.{Integer}
-use Rattle.cojp_list_read.specs.declared.report.Integer.the-variants as iv
-use Rattle.cojp_list_read.specs.declared.report.Fault.{Fault}
-use Rattle.cojp_list_read.specs.declared.report.Fault.the-variants as fv
-use Rattle.cojp_list_read.specs.declared.report.Place.{Place}
+use Rattle.cojp.specs.Lists.{Picked, nothing, picked, scalarItem, written, isInteger, integer, errorReportsIn, some}
+use Rattle.cojp_list_read.specs.Gathered.{NoNumber, IntegerAt, AnyAt, ErrorEntryAt}
+use Rattle.cojp_list_read.specs.declared.error_entry.Integer.{Integer}
+use Rattle.cojp_list_read.specs.declared.error_entry.Integer.the-variants as iv
+use Rattle.cojp_list_read.specs.declared.error_entry.ErrorEntry.{ErrorEntry}
+use Rattle.cojp_list_read.specs.declared.error_entry.ErrorEntry.the-variants as fv
+use Rattle.cojp_list_read.specs.declared.error_entry.Position.{Position}
 use Rattle.cojp_list_read.proofs.Gathering.{Gathering, Turn}
 
 -- ---- which outcome there was, by the answer to passing over an item
-refused-then : (s : List ℕ) (o : Outcome Item) (r : Skip) → SkipSays s o r → (j : Refusal) → r ≡ sv.Refused j → o ≡ refused j
+refused-then : (s : List ℕ) (o : Outcome Item) (r : SkipResult) → SkipSpec s o r → (j : Refusal) → r ≡ sv.Refused j → o ≡ refused j
 refused-then s (refused k) r e j g = let z : sv.Refused k ≡ sv.Refused j = sym (e .is) ∙ g in cc
 refused-then s (got i t) r e j g =
     absurd (let f : sv.Next (length s - length t) ≡ sv.Refused j = sym (e .is) ∙ g in let z : _≡_ {A = ℕ} 0 1 = cc in omega arith)
 
-next-then : (s : List ℕ) (o : Outcome Item) (r : Skip) → SkipSays s o r → (p : ℕ) → r ≡ sv.Next p → (i : Item) × (o ≡ got i (drop p s))
+next-then : (s : List ℕ) (o : Outcome Item) (r : SkipResult) → SkipSpec s o r → (p : ℕ) → r ≡ sv.Next p → (i : Item) × (o ≡ got i (drop p s))
 next-then s (refused k) r e p g =
     absurd (let f : sv.Refused k ≡ sv.Next p = sym (e .is) ∙ g in let z : _≡_ {A = ℕ} 0 1 = cc in omega arith)
 next-then s (got i t) r e p g = let f : t ≡ drop p s = rw g at (e .end) in (i, ap (got i) f)
@@ -52,7 +52,7 @@ module _ (s : List ℕ) (at n : ℕ) where
   pub integer-end : n ≡ 0 → NoNumber (membersAt n (drop at s))
   integer-end h = rw (members-none n (drop at s) h) tt
 
-  module _ (h : ¬ (n ≡ 0)) (v : Value) (e : ValueSays s at v) where
+  module _ (h : ¬ (n ≡ 0)) (v : Value) (e : ValueSpec s at v) where
     pub integer-number : (x p : ℕ) → v ≡ vv.Number x p → IntegerAt s at n (iv.At false x p)
     integer-number x p g =
         let w : ValueAt 5 s at (vv.Number x p) = rw g at (e .says 5) in
@@ -66,10 +66,10 @@ module _ (s : List ℕ) (at n : ℕ) where
     pub integer-none : OneOf (1 ∷ 2 ∷ 3 ∷ []) (tagOf value.the-type v) → NoNumber (membersAt n (drop at s))
     integer-none o = go v (e .says 5) o
       where
-        none : (p : Plain) → plainAt (drop at s) ≡ p → isInteger p ≡ false → NoNumber (membersAt n (drop at s))
+        none : (p : Scalar) → scalarAt (drop at s) ≡ p → isInteger p ≡ false → NoNumber (membersAt n (drop at s))
         none p m z = rw (members-step n (drop at s) (omega arith)) (by (decode 6 (drop at s)))
           where
-            by : (o : Outcome Item) → NoNumber (andOn (plainAt (drop at s)) o (λ t. membersAt (n - 1) t))
+            by : (o : Outcome Item) → NoNumber (andOn (scalarAt (drop at s)) o (λ t. membersAt (n - 1) t))
             by (refused k) = refl
             by (got i t) = rw m z
 
@@ -80,25 +80,25 @@ module _ (s : List ℕ) (at n : ℕ) where
         go vv.Other w o = none other (w .member) refl
         go (vv.Minus x p) w o = absurd (⊎-elim (λ e. omega arith) (λ o. ⊎-elim (λ e. omega arith) (λ e. omega arith) o) o)
 
-  module _ (h : 0 < n) (k : Skip) (e : SkipSays s (decode 6 (drop at s)) k) where
+  module _ (h : 0 < n) (k : SkipResult) (e : SkipSpec s (decode 6 (drop at s)) k) where
     pub any-refused : (j : Refusal) → k ≡ sv.Refused j → AnyAt s at n (record { next = at; left = 0 })
     any-refused j g = (other, h, members-step n (drop at s) h ∙ rw (refused-then s (decode 6 (drop at s)) k e j g, members-none 0 (drop at s) refl))
 
     pub any-next : (p : ℕ) → k ≡ sv.Next p → AnyAt s at n (record { next = p; left = n - 1 })
-    any-next p g = (plainAt (drop at s), omega arith, members-step n (drop at s) h ∙ rw (next-then s (decode 6 (drop at s)) k e p g .1))
+    any-next p g = (scalarAt (drop at s), omega arith, members-step n (drop at s) h ∙ rw (next-then s (decode 6 (drop at s)) k e p g .1))
 
--- ---- the returns of `after_code` and `fault_at`
+-- ---- the returns of `after_code` and `error_entry_at`
 integer-is : (b : Bool) (x : ℕ) → isInteger (integer b x) ≡ true
 integer-is true x = refl
 integer-is false x = refl
 
 module _ (s : List ℕ) (at n : ℕ) (i : Integer) (w : IntegerAt s at n i) where
   module _ (b : Bool) (c : ℕ) where
-    pub code-open : i ≡ iv.NoInteger → faultsIn (integer b c ∷ membersAt n (drop at s)) ≡ nothing
-    unfolding faultsIn
+    pub code-open : i ≡ iv.NoInteger → errorReportsIn (integer b c ∷ membersAt n (drop at s)) ≡ nothing
+    unfolding errorReportsIn
     code-open g = let v : IntegerAt s at n iv.NoInteger = rw g at w in go (membersAt n (drop at s)) v
       where
-        go : (ps : List Plain) → NoNumber ps → faultsIn (integer b c ∷ ps) ≡ nothing
+        go : (ps : List Scalar) → NoNumber ps → errorReportsIn (integer b c ∷ ps) ≡ nothing
         go [] v = refl
         go (q ∷ []) v = refl
         go (q ∷ x ∷ r) v = rw (integer-is b c, v)
@@ -107,40 +107,40 @@ module _ (s : List ℕ) (at n : ℕ) (i : Integer) (w : IntegerAt s at n i) wher
       label-here : IntegerAt s at n (iv.At m x p)
       label-here = rw g at w
 
-      pub code-short : n ≡ 1 → faultsIn (integer b c ∷ membersAt n (drop at s)) ≡ nothing
-      unfolding faultsIn
+      pub code-short : n ≡ 1 → errorReportsIn (integer b c ∷ membersAt n (drop at s)) ≡ nothing
+      unfolding errorReportsIn
       code-short h = let z : n - 1 ≡ 0 = omega arith in rw (label-here .1, members-none (n - 1) (drop p s) z)
 
       pub code-left : 1 ≤ n
       code-left = label-here .0
 
-      pub code-whole : (r : Place) → AnyAt s p (n - 1) r
-          → FaultAt s n (faultsIn (integer b c ∷ membersAt n (drop at s))) (fv.Group b c m x (r .next) (r .left))
-      unfolding faultsIn
+      pub code-whole : (r : Position) → AnyAt s p (n - 1) r
+          → ErrorEntryAt s n (errorReportsIn (integer b c ∷ membersAt n (drop at s))) (fv.Group b c m x (r .next) (r .left))
+      unfolding errorReportsIn
       code-whole r (y, l, f) = (omega arith, rw (label-here .1, f, integer-is b c, integer-is m x))
 
-  pub fault-headless : 0 < n → i ≡ iv.NoInteger → faultsIn (membersAt n (drop at s)) ≡ nothing
-  unfolding faultsIn
+  pub fault-headless : 0 < n → i ≡ iv.NoInteger → errorReportsIn (membersAt n (drop at s)) ≡ nothing
+  unfolding errorReportsIn
   fault-headless h g =
       let v : IntegerAt s at n iv.NoInteger = rw g at w in
       let (p, ps, f) = members-some n (drop at s) h in
       rw f (go p ps (rw f at v))
     where
-      go : (p : Plain) (ps : List Plain) → isInteger p ≡ false → faultsIn (p ∷ ps) ≡ nothing
+      go : (p : Scalar) (ps : List Scalar) → isInteger p ≡ false → errorReportsIn (p ∷ ps) ≡ nothing
       go p [] v = refl
       go p (q ∷ []) v = refl
       go p (q ∷ x ∷ r) v = rw v
 
-  pub fault-begun : {m : Bool} {x p : ℕ} → i ≡ iv.At m x p → (r : Fault)
-      → FaultAt s (n - 1) (faultsIn (integer m x ∷ membersAt (n - 1) (drop p s))) r → FaultAt s n (faultsIn (membersAt n (drop at s))) r
-  fault-begun {m} {x} {p} g r v = let l : IntegerAt s at n (iv.At m x p) = rw g at w in go r (ap faultsIn (l .1)) v
+  pub fault-begun : {m : Bool} {x p : ℕ} → i ≡ iv.At m x p → (r : ErrorEntry)
+      → ErrorEntryAt s (n - 1) (errorReportsIn (integer m x ∷ membersAt (n - 1) (drop p s))) r → ErrorEntryAt s n (errorReportsIn (membersAt n (drop at s))) r
+  fault-begun {m} {x} {p} g r v = let l : IntegerAt s at n (iv.At m x p) = rw g at w in go r (ap errorReportsIn (l .1)) v
     where
-      go : {q t : Picked} (r : Fault) → q ≡ t → FaultAt s (n - 1) t r → FaultAt s n q r
+      go : {q t : Picked} (r : ErrorEntry) → q ≡ t → ErrorEntryAt s (n - 1) t r → ErrorEntryAt s n q r
       go fv.Broken e v = e ∙ v
       go (fv.Group b c k l p r) e v = (omega (arith, v .0), e ∙ v .1)
 
 -- ---- a report is written: head after head
-integer-bytes : (b : Bool) (x : ℕ) → encode (plainItem (integer b x)) ≡ shortest (cond b 1 0) x
+integer-bytes : (b : Bool) (x : ℕ) → encode (scalarItem (integer b x)) ≡ shortest (cond b 1 0) x
 integer-bytes true x = refl
 integer-bytes false x = refl
 
@@ -150,7 +150,7 @@ major-most false = omega arith
 
 module _ (H : HeadLaws) where
   -- a head after what was written
-  head-next : {p d d′ q : List ℕ} {n k : ℕ} {r : Written} (j x : ℕ) → length p + length (shortest j x) ≤ length d → j ≤ 7 → k ≡ extraOf x + 1
+  head-next : {p d d′ q : List ℕ} {n k : ℕ} {r : WriteResult} (j x : ℕ) → length p + length (shortest j x) ≤ length d → j ≤ 7 → k ≡ extraOf x + 1
       → Wrote p d n d′ → Did (headPlan j x) (take (length d′ - n) (drop n d′)) r q
       → Wrote (p ++ shortest j x) d (n + k) (take n d′ ++ (q ++ drop (length d′ - n) (drop n d′)))
   head-next {p} {d} {d′} {q} {n} {k} {r} j x h m e w v =
@@ -160,7 +160,7 @@ module _ (H : HeadLaws) where
       seam h w (wrote-as k (omega (arith, H .length-head j x)) (did-kept (shortest j x) part r q room (head-did j x part r q m v)))
 
   module _ (b : Bool) (c : ℕ) (m : Bool) (l : ℕ) (d : List ℕ) {n k : ℕ} (e : n ≡ extraOf c + 1) (f : k ≡ extraOf l + 1) where
-    abbrev report : List Plain
+    abbrev report : List Scalar
     report = integer b c ∷ integer m l ∷ other ∷ []
 
     report-bytes : written report ≡ (shortest (cond b 1 0) c ++ shortest (cond m 1 0) l) ++ shortest 7 22
@@ -178,7 +178,7 @@ module _ (H : HeadLaws) where
     report-room h = did-room (written report) d (omega (arith, report-length))
 
     module _ (h : n + k + 1 ≤ length d) (i j : ℕ) (x : i ≡ cond b 1 0) (y : j ≡ cond m 1 0)
-        {r₁ r₂ : Written} {d₁ q₂ : List ℕ} (w₁ : Did (headPlan i c) d r₁ d₁) (w₂ : Did (headPlan j l) (take (length d₁ - n) (drop n d₁)) r₂ q₂) where
+        {r₁ r₂ : WriteResult} {d₁ q₂ : List ℕ} (w₁ : Did (headPlan i c) d r₁ d₁) (w₂ : Did (headPlan j l) (take (length d₁ - n) (drop n d₁)) r₂ q₂) where
       abbrev d₂ : List ℕ
       d₂ = take n d₁ ++ (q₂ ++ drop (length d₁ - n) (drop n d₁))
 
@@ -193,7 +193,7 @@ module _ (H : HeadLaws) where
           let v : Did (headPlan (cond m 1 0) l) (take (length d₁ - n) (drop n d₁)) r₂ q₂ = rw y at w₂ in
           head-next (cond m 1 0) l (omega (arith, H .length-head (cond b 1 0) c, H .length-head (cond m 1 0) l)) (major-most m) f first v
 
-      pub report-done : {r₃ : Written} {q₃ : List ℕ} → Did (headPlan 7 22) (take (length d₂ - (n + k)) (drop (n + k) d₂)) r₃ q₃
+      pub report-done : {r₃ : WriteResult} {q₃ : List ℕ} → Did (headPlan 7 22) (take (length d₂ - (n + k)) (drop (n + k) d₂)) r₃ q₃
           → Did (emit (written report)) d (wv.Length (n + k + 1)) (take (n + k) d₂ ++ (q₃ ++ drop (length d₂ - (n + k)) (drop (n + k) d₂)))
       report-done v =
           did-emit (omega (arith, report-length))
@@ -206,32 +206,32 @@ module _ (H : HeadLaws) where
           v))
 
 -- ---- gathering
-pub faults-none : faultsIn [] ≡ picked []
-unfolding faultsIn
+pub faults-none : errorReportsIn [] ≡ picked []
+unfolding errorReportsIn
 faults-none = refl
 
 module _ (s : List ℕ) (at left : ℕ) {whole : Picked} {d : List ℕ} {len members : ℕ} {d′ : List ℕ}
-    (g : Gathering whole d (faultsIn (membersAt left (drop at s))) len members d′)
-    (v : Fault) (e : FaultAt s left (faultsIn (membersAt left (drop at s))) v) where
-  pub faults-broken : v ≡ fv.Broken → faultsIn (membersAt left (drop at s)) ≡ nothing
-  faults-broken f = let w : FaultAt s left (faultsIn (membersAt left (drop at s))) fv.Broken = rw f at e in w
+    (g : Gathering whole d (errorReportsIn (membersAt left (drop at s))) len members d′)
+    (v : ErrorEntry) (e : ErrorEntryAt s left (errorReportsIn (membersAt left (drop at s))) v) where
+  pub faults-broken : v ≡ fv.Broken → errorReportsIn (membersAt left (drop at s)) ≡ nothing
+  faults-broken f = let w : ErrorEntryAt s left (errorReportsIn (membersAt left (drop at s))) fv.Broken = rw f at e in w
 
   module _ {b : Bool} {c : ℕ} {m : Bool} {l next rest : ℕ} (f : v ≡ fv.Group b c m l next rest) where
-    group-here : FaultAt s left (faultsIn (membersAt left (drop at s))) (fv.Group b c m l next rest)
+    group-here : ErrorEntryAt s left (errorReportsIn (membersAt left (drop at s))) (fv.Group b c m l next rest)
     group-here = rw f at e
 
     pub faults-less : rest < left
     faults-less = group-here .0
 
-    pub faults-turn : {r : Written} {q : List ℕ}
+    pub faults-turn : {r : WriteResult} {q : List ℕ}
         → Did (emit (written (integer b c ∷ integer m l ∷ other ∷ []))) (take (length d′ - len) (drop len d′)) r q
-        → Turn whole d (faultsIn (membersAt left (drop at s))) len members d′ (integer b c ∷ integer m l ∷ other ∷ [])
-        (faultsIn (membersAt rest (drop next s))) r q
+        → Turn whole d (errorReportsIn (membersAt left (drop at s))) len members d′ (integer b c ∷ integer m l ∷ other ∷ [])
+        (errorReportsIn (membersAt rest (drop next s))) r q
     faults-turn w = record { gathering = g; step = group-here .1; put = w }
 
 -- at least one
-pub some-more : (f : List Plain → Picked) (n : ℕ) (l : List ℕ) → ¬ (n ≡ 0) → some f (membersAt n l) ≡ f (membersAt n l)
+pub some-more : (f : List Scalar → Picked) (n : ℕ) (l : List ℕ) → ¬ (n ≡ 0) → some f (membersAt n l) ≡ f (membersAt n l)
 some-more f n l h = let (p, ps, e) = members-some n l (omega arith) in rw e
 
-pub some-none : (f : List Plain → Picked) (n : ℕ) (l : List ℕ) → n ≡ 0 → some f (membersAt n l) ≡ nothing
+pub some-none : (f : List Scalar → Picked) (n : ℕ) (l : List ℕ) → n ≡ 0 → some f (membersAt n l) ≡ nothing
 some-none f n l h = rw (members-none n l h)

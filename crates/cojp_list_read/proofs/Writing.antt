@@ -9,8 +9,8 @@ use borrow.Author.Tests.{le-leb, lt-leb}
 use Rattle.refusal.specs.declared.Refusal.the-variants.{Room, Range}
 use Rattle.cbor.specs.Answer.{Did, Wrote, emit, headPlan}
 use Rattle.cbor.specs.Encode.{shortest, extraOf}
-use Rattle.cbor.specs.declared.write.Written.{Written}
-use Rattle.cbor.specs.declared.write.Written.the-variants as wv
+use Rattle.cbor.specs.declared.write.WriteResult.{WriteResult}
+use Rattle.cbor.specs.declared.write.WriteResult.the-variants as wv
 use Rattle.cbor.specs.HeadLaws.{HeadLaws}
 use Rattle.cbor.specs.Writing.{seam, wrote-as, wrote-length, did-emit, did-kept, did-room, did-refuse, head-did}
 use Rattle.cojp.specs.Lists.{bytesIn, listPlan}
@@ -33,7 +33,7 @@ module _ (H : HeadLaws) (l : ItemList) (z : length (l .bytes) ≡ 253) (i : l .l
   whole : length (shortest 4 c ++ b) ≡ n + l .len
   whole = length-append (shortest 4 c) b ∙ omega (arith, H .length-head 4 c, many)
 
-  planned : {r : Written} {d′ : List ℕ} → Did (emit (shortest 4 c ++ b)) d r d′ → Did (listPlan l) d r d′
+  planned : {r : WriteResult} {d′ : List ℕ} → Did (emit (shortest 4 c ++ b)) d r d′ → Did (listPlan l) d r d′
   unfolding listPlan
   planned w = rw (le-leb (l .len) 253 i) w
 
@@ -43,7 +43,7 @@ module _ (H : HeadLaws) (l : ItemList) (z : length (l .bytes) ≡ 253) (i : l .l
   pub list-lacks : length d < n + l .len → Did (listPlan l) d (wv.Refused Room) d
   list-lacks h = planned (did-room (shortest 4 c ++ b) d (omega (arith, whole)))
 
-  module _ (h : n + l .len ≤ length d) {r : Written} {d′ : List ℕ} (w : Did (headPlan 4 c) d r d′) where
+  module _ (h : n + l .len ≤ length d) {r : WriteResult} {d′ : List ℕ} (w : Did (headPlan 4 c) d r d′) where
     head-wrote : Wrote (shortest 4 c) d n d′
     head-wrote =
         wrote-as n (omega (arith, H .length-head 4 c))

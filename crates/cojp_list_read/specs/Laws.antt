@@ -6,21 +6,21 @@ use mathlib.Core.List.{List, _++_}
 use lib.ListN.{length}
 use Rattle.cbor.specs.Encode.{encode, shortest}
 use Rattle.cbor.specs.Item.{array}
-use Rattle.cbor.specs.View.{Plain, viewOf}
-use Rattle.cojp.specs.Faults.{faultList, validFaults}
-use Rattle.cojp.specs.Lists.{Picked, fitting, stringsIn, faultsIn, some, inArray, listAnswer, bytesIn, kept, itemsIn}
+use Rattle.cbor.specs.View.{Scalar, viewOf}
+use Rattle.cojp.specs.ErrorReports.{errorReportList, validErrorReports}
+use Rattle.cojp.specs.Lists.{Picked, fitting, stringsIn, errorReportsIn, some, inArray, listAnswer, bytesIn, kept, itemsIn}
 use Rattle.cojp.specs.Writing.{listInRange}
-use Rattle.cojp.specs.declared.fault.Faults.{Faults}
+use Rattle.cojp.specs.declared.error_report.ErrorReports.{ErrorReports}
 use Rattle.cojp.specs.declared.list.ItemList.{ItemList}
 use Rattle.cojp.specs.declared.list.ListRead.{ListRead}
 use Rattle.cojp_list_read.specs.Listed.{listedIn}
 
 -- the array of a list is the head of its count and its bytes
-abbrev pub ListWritten : (List Plain → Picked) → Type 0
+abbrev pub ListWritten : (List Scalar → Picked) → Type 0
 ListWritten f = (l : ItemList) → kept f l ≡ true → encode (array (itemsIn f l)) ≡ shortest 4 (l .count) ++ bytesIn l
 
 -- a list reads back as one of the same count and bytes
-abbrev pub ListRoundTrip : (List Plain → Picked) → Type 0
+abbrev pub ListRoundTrip : (List Scalar → Picked) → Type 0
 ListRoundTrip f =
     (l : ItemList) → kept f l ≡ true →
     (r : ListRead) × (listAnswer (fitting 253 (inArray f (viewOf (array (itemsIn f l))))) ≡ r)
@@ -29,9 +29,9 @@ ListRoundTrip f =
 pub record ListLaws : Type 0 where
   pub blacklist-written : ListWritten stringsIn
   pub blacklist-back : ListRoundTrip stringsIn
-  pub unsupported-written : ListWritten (some faultsIn)
-  pub unsupported-back : ListRoundTrip (some faultsIn)
+  pub unsupported-written : ListWritten (some errorReportsIn)
+  pub unsupported-back : ListRoundTrip (some errorReportsIn)
   -- the reports that may be kept make a list that may be written, three bytes each
-  pub listed-in-range : (f : Faults) → validFaults f ≡ true → listInRange (some faultsIn) (listedIn f) ≡ true
-  pub listed-long : (f : Faults) → validFaults f ≡ true → listedIn f .value .len ≡ 3 * length (faultList f)
-  pub listed-members : (f : Faults) → listedIn f .value .count ≡ 3 * length (faultList f)
+  pub listed-in-range : (f : ErrorReports) → validErrorReports f ≡ true → listInRange (some errorReportsIn) (listedIn f) ≡ true
+  pub listed-long : (f : ErrorReports) → validErrorReports f ≡ true → listedIn f .value .len ≡ 3 * length (errorReportList f)
+  pub listed-members : (f : ErrorReports) → listedIn f .value .count ≡ 3 * length (errorReportList f)

@@ -1,12 +1,12 @@
 // A list that is handed in is within its limits if reading it again gives it.
-use crate::faults::read_faults;
+use crate::error_entries::read_entries;
 use crate::strings::read_strings;
 use cojp::ItemList;
 use cojp::ListRead;
 ghost use mathlib.Core.Path.{_≡_};
 ghost use Prim.Native.Nat.{_≤_};
 ghost use Rattle.byte_lists.specs.Same.{same};
-ghost use Rattle.cojp.specs.Lists.{stringsIn, faultsIn, some, sameAs, kept};
+ghost use Rattle.cojp.specs.Lists.{stringsIn, errorReportsIn, some, sameAs, kept};
 
 // Whether two parts agree byte by byte.
 fn same_bytes(a: &[u8], b: &[u8]) -> bool
@@ -60,13 +60,13 @@ pub fn is_blacklist(l: ItemList) -> bool
 
 // Whether a list that is handed in is one of reports.
 pub fn is_unsupported(l: ItemList) -> bool
-    ensures { λ r. ⌜ r ≡ kept (some faultsIn) l ⌝ }
+    ensures { λ r. ⌜ r ≡ kept (some errorReportsIn) l ⌝ }
 {
     let len = l.len;
     if 253 < len {
         return false;
     }
     let bytes = l.bytes;
-    let again = read_faults(&bytes[..len], 0, l.count);
+    let again = read_entries(&bytes[..len], 0, l.count);
     same_as(again, l)
 }

@@ -1,13 +1,13 @@
 // Arrays of a published configuration or request that are kept as they are written: read, judged, and written again.
-pub mod faults;
+pub mod error_entries;
+mod error_entry;
 pub mod kept;
 pub mod list;
 pub mod listed;
-mod report;
 pub mod strings;
 pub mod write;
 
-pub use faults::read_unsupported;
+pub use error_entries::read_unsupported;
 pub use kept::is_blacklist;
 pub use kept::is_unsupported;
 pub use list::taken_list;

@@ -1,14 +1,14 @@
 // What gathering members into a destination comes to, and the parameter that a list is.
+use cojp::Disposition;
 use cojp::ItemList;
 use cojp::ListParameter;
 use cojp::ListRead;
-use cojp::Report;
 use cojp::no_list;
 ghost use mathlib.Core.Path.{_≡_};
 ghost use Rattle.cojp.specs.Lists.{nothing, listAnswer, listTaken};
 
 // What gathering comes to: how many members and bytes, or a broken pattern or too little room.
-pub(crate) enum Gathered {
+pub(crate) enum GatherResult {
     Bad,
     Kept { members: u64, len: usize },
 }
@@ -35,8 +35,8 @@ pub fn taken_list(list: ListRead) -> ListParameter
         let value = list.value;
         return ListParameter {
             value: value,
-            report: Report::Taken,
+            disposition: Disposition::Taken,
         };
     }
-    no_list(Report::Discarded)
+    no_list(Disposition::Discarded)
 }

@@ -1,8 +1,8 @@
 // A blacklist (RFC 9031): an array of byte strings.
-use crate::list::Gathered;
+use crate::list::GatherResult;
 use crate::list::bad_list;
 use cbor::Value;
-use cbor::Written;
+use cbor::WriteResult;
 use cbor::value_at;
 use cbor_write::write_bytes;
 use cojp::ItemList;
@@ -16,7 +16,7 @@ ghost use Rattle.cojp.specs.Lists.{fitting, stringsIn, inArray, listAnswer};
 ghost use Rattle.cojp_list_read.specs.Gathered.{GatheredAs};
 
 // Writes the byte strings that `count` members from a place on are.
-fn gather_strings(s: &[u8], from: usize, count: u64, dst: &mut [u8]) -> Gathered
+fn gather_strings(s: &[u8], from: usize, count: u64, dst: &mut [u8]) -> GatherResult
     ensures { λ r. ⌜ GatheredAs (stringsIn (membersAt count (drop from (now (s .entry))))) (now (dst .entry)) r (now (dst .exit)) ⌝ }
 {
     cbor::head_laws();
@@ -31,8 +31,8 @@ fn gather_strings(s: &[u8], from: usize, count: u64, dst: &mut [u8]) -> Gathered
                 let end = start + n;
                 let w = write_bytes(&mut dst[len..], &s[start..end]);
                 match w {
-                    Written::Refused(_) => return Gathered::Bad,
-                    Written::Length(k) => {
+                    WriteResult::Refused(_) => return GatherResult::Bad,
+                    WriteResult::Length(k) => {
                         len += k;
                         at = end;
                         left -= 1;
@@ -40,10 +40,10 @@ fn gather_strings(s: &[u8], from: usize, count: u64, dst: &mut [u8]) -> Gathered
                     }
                 }
             }
-            _ => return Gathered::Bad,
+            _ => return GatherResult::Bad,
         }
     }
-    Gathered::Kept {
+    GatherResult::Kept {
         members: members,
         len: len,
     }
@@ -56,8 +56,8 @@ pub(crate) fn read_strings(s: &[u8], from: usize, count: u64) -> ListRead
     let mut bytes = [0u8; 253];
     let g = gather_strings(s, from, count, &mut bytes);
     match g {
-        Gathered::Bad => bad_list(),
-        Gathered::Kept { members, len } => {
+        GatherResult::Bad => bad_list(),
+        GatherResult::Kept { members, len } => {
             let value = ItemList {
                 count: members,
                 len: len,

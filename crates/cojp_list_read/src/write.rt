@@ -1,5 +1,5 @@
 // The array that a list is, written.
-use cbor::Written;
+use cbor::WriteResult;
 use cbor_write::head_len;
 use cbor_write::write_head;
 use cojp::ItemList;
@@ -8,22 +8,22 @@ ghost use Rattle.cbor.specs.Answer.{Did};
 ghost use Rattle.cojp.specs.Lists.{listPlan};
 
 // Writes the array that a list is, the head of its count and its bytes: RANGE where it has more than 253, ROOM, or the length written.
-pub fn write_list(dst: &mut [u8], l: ItemList) -> Written
+pub fn write_list(dst: &mut [u8], l: ItemList) -> WriteResult
     ensures { λ r. ⌜ Did (listPlan l) (now (dst .entry)) r (now (dst .exit)) ⌝ }
 {
     cbor::head_laws();
     let count = l.count;
     let len = l.len;
     if 253 < len {
-        return Written::Refused(Refusal::Range);
+        return WriteResult::Refused(Refusal::Range);
     }
     let held = l.bytes;
     let n = head_len(count);
     let whole = n + len;
     if dst.len() < whole {
-        return Written::Refused(Refusal::Room);
+        return WriteResult::Refused(Refusal::Room);
     }
     write_head(dst, 4, count);
     bytes::copy(&held[..len], &mut dst[n..]);
-    Written::Length(whole)
+    WriteResult::Length(whole)
 }

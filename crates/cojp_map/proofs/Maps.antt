@@ -16,33 +16,33 @@ use Rattle.cbor.specs.Answer.{headAnswer, skipAnswer}
 use Rattle.cbor.specs.Decode.{Outcome, Heading, heading, decode, payloadBy}
 use Rattle.cbor.specs.Decode as decode
 use Rattle.cbor.specs.Item.{Item, Pairs, unsigned, negative, bytes, text, array, map, tag, simple, float, empty, pair}
-use Rattle.cbor.specs.Says.{LabelSays, saysLabel, HeadSays, saysEnd, SkipSays, PairsAt, saysOpened, OpenSays}
+use Rattle.cbor.specs.ReaderSpecs.{LabelSpec, saysLabel, HeadSpec, saysEnd, SkipSpec, PairsAt, saysOpened, OpenSpec}
 use Rattle.cbor.specs.Strict.{headBy}
 use Rattle.cbor.specs.View.{View, labelOf, viewOf, ifMap, labelAt}
-use Rattle.cbor.specs.declared.item.Opened.{Opened}
-use Rattle.cbor.specs.declared.item.Opened.the-variants as ov
-use Rattle.cbor.specs.declared.item.Skip.{Skip}
-use Rattle.cbor.specs.declared.item.Skip.the-variants as sv
+use Rattle.cbor.specs.declared.item.OpenResult.{OpenResult}
+use Rattle.cbor.specs.declared.item.OpenResult.the-variants as ov
+use Rattle.cbor.specs.declared.item.SkipResult.{SkipResult}
+use Rattle.cbor.specs.declared.item.SkipResult.the-variants as sv
 use Rattle.cbor.specs.declared.value.Label.{Label}
 use Rattle.cbor.specs.declared.value.Label.the-variants as label
 use Rattle.cbor.specs.declared.head.Head.{Head}
-use Rattle.cbor.specs.declared.head.HeadRead.{HeadRead}
-use Rattle.cbor.specs.declared.head.HeadRead.the-variants as hv
-use Rattle.cojp.specs.Bytes.{valueView, afterValue, GoesOn}
-use Rattle.cojp.specs.Reading.{Reading, refused, read, onward, put, said, Accepting}
-use Rattle.cojp.specs.Walk.{Form, standingOf, knownRead, pairRead, pairsRead, mapRead, scannedRead, payloadReadBy}
-use Rattle.cojp.specs.declared.report.Report.{Report}
-use Rattle.cojp.specs.declared.report.Report.the-variants.{Absent, Taken, Discarded}
-use Rattle.cojp.specs.declared.walk.Standing.{Standing}
-use Rattle.cojp.specs.declared.walk.Standing.the-variants.{Unknown, Fresh, Again}
+use Rattle.cbor.specs.declared.head.HeadResult.{HeadResult}
+use Rattle.cbor.specs.declared.head.HeadResult.the-variants as hv
+use Rattle.cojp.specs.Bytes.{valueView, afterValue, EndsAt}
+use Rattle.cojp.specs.Reading.{Reading, refused, read, bind, mapReading, resultOf, Accepting}
+use Rattle.cojp.specs.Walk.{Form, labelStatusOf, knownRead, pairRead, pairsRead, mapRead, scannedRead, payloadReadBy}
+use Rattle.cojp.specs.declared.disposition.Disposition.{Disposition}
+use Rattle.cojp.specs.declared.disposition.Disposition.the-variants.{Absent, Taken, Discarded}
+use Rattle.cojp.specs.declared.walk.LabelStatus.{LabelStatus}
+use Rattle.cojp.specs.declared.walk.LabelStatus.the-variants.{Unknown, First, Repeated}
 use Rattle.cojp.proofs.Nexts.{on-with}
-use Rattle.cojp_map.specs.Pairs.{startOf, startAnswer, mapIn, pairsIn, saysStart, StartSays, labelledAnswer, Told, seen, once, walkAt}
-use Rattle.cojp_map.specs.declared.open.Start.{Start}
-use Rattle.cojp_map.specs.declared.open.Start.the-variants as start
-use Rattle.cojp_map.specs.declared.pair.Labelled.{Labelled}
+use Rattle.cojp_map.specs.Pairs.{startOf, startAnswer, mapIn, pairsIn, saysStart, StartSpec, labelledAnswer, PairLabelSpec, seen, once, walkAt}
+use Rattle.cojp_map.specs.declared.open.PayloadResult.{PayloadResult}
+use Rattle.cojp_map.specs.declared.open.PayloadResult.the-variants as start
+use Rattle.cojp_map.specs.declared.pair.LabelResult.{LabelResult}
 
 -- ---- the returns of `open_payload`
-pub start-long : (b : Bool) (s : List ℕ) → 256 < length s → StartSays b s (start.Refused refusal.Long)
+pub start-long : (b : Bool) (s : List ℕ) → 256 < length s → StartSpec b s (start.Refused refusal.Long)
 unfolding startAnswer pairsIn
 start-long b s h = let long = lt-ltb 256 (length s) h in record { is = rw long; says = rw long }
 
@@ -58,19 +58,19 @@ not-map f x (simple n) e = refl
 not-map f x (float w n) e = refl
 
 module _ (b : Bool) (s : List ℕ) (h : length s ≤ 256) where
-  start-says : (p : Opened) → saysOpened b s p → saysStart b s (startOf p)
+  start-says : (p : OpenResult) → saysOpened b s p → saysStart b s (startOf p)
   unfolding pairsIn
   start-says (ov.Refused k) w = rw (le-ltb 256 (length s) h, w)
   start-says ov.NoMap w = rw (le-ltb 256 (length s) h, w .read) (not-map read (refused refusal.«Type») (w .item) (w .other))
   start-says (ov.Map n p) w = (w .pairs-are, rw (le-ltb 256 (length s) h, w .read), w .stand)
 
-  pub start-opened : (o : Opened) → OpenSays b s o → (p : Opened) → o ≡ p → StartSays b s (startOf p)
+  pub start-opened : (o : OpenResult) → OpenSpec b s o → (p : OpenResult) → o ≡ p → StartSpec b s (startOf p)
   unfolding startAnswer
   start-opened o e p g =
       record { is = rw (le-ltb 256 (length s) h, ← e .is, g); says = start-says p (subst (saysOpened b s) g (e .says)) }
 
 -- ---- a place that is told after an item, or after a head, is in the payload or at its end
-abbrev skipPlace : Skip → ℕ
+abbrev skipPlace : SkipResult → ℕ
 skipPlace (sv.Refused k) = 0
 skipPlace (sv.Next p) = p
 
@@ -78,7 +78,7 @@ skip-inside : {A : Type 0} (n : ℕ) (o : Outcome A) → skipPlace (skipAnswer n
 skip-inside n (decode.refused k) = omega arith
 skip-inside n (decode.got a t) = omega arith
 
-abbrev headPlace : HeadRead → ℕ
+abbrev headPlace : HeadResult → ℕ
 headPlace (hv.Refused k) = 0
 headPlace (hv.Got h) = h .next
 
@@ -87,60 +87,60 @@ head-inside n (decode.refused k) = omega arith
 head-inside n (decode.got h t) = omega arith
 
 -- ---- the returns of `item_end`
-module _ (s : List ℕ) (at : ℕ) (k : Skip) (e : SkipSays s (decode 7 (drop at s)) k) where
-  pub end-refused : (j : Refusal) → k ≡ sv.Refused j → GoesOn s (length s) (afterValue (drop at s))
+module _ (s : List ℕ) (at : ℕ) (k : SkipResult) (e : SkipSpec s (decode 7 (drop at s)) k) where
+  pub end-refused : (j : Refusal) → k ≡ sv.Refused j → EndsAt s (length s) (afterValue (drop at s))
   end-refused j g = record { rest = drop-length s ∙ sym (subst (saysEnd s (decode 7 (drop at s))) g (e .end)); inside = omega arith }
 
-  pub end-next : (p : ℕ) → k ≡ sv.Next p → GoesOn s p (afterValue (drop at s))
+  pub end-next : (p : ℕ) → k ≡ sv.Next p → EndsAt s p (afterValue (drop at s))
   end-next p g = record {
     rest = sym (subst (saysEnd s (decode 7 (drop at s))) g (e .end));
     inside = omega (arith, ap skipPlace (sym g ∙ e .is), skip-inside (length s) (decode 7 (drop at s)));
   }
 
 -- ---- the returns of `labelled_at`
-told-none : (s l : List ℕ) (r : Labelled) → r ≡ record { verdict = verdict.Refused refusal.«Type»; label = 0; value = length s }
-    → labelAt l ≡ label.NoInteger → Told s l r
+told-none : (s l : List ℕ) (r : LabelResult) → r ≡ record { verdict = verdict.Refused refusal.«Type»; label = 0; value = length s }
+    → labelAt l ≡ label.NoInteger → PairLabelSpec s l r
 told-none s l r e f = rw e (record { is = rw f; rest = tt })
 
-module _ (s : List ℕ) (at : ℕ) (r : HeadRead) (e : HeadSays s at r) where
-  pub told-refused : (k : Refusal) → r ≡ hv.Refused k → (x : Labelled)
-      → x ≡ record { verdict = verdict.Refused refusal.«Type»; label = 0; value = length s } → Told s (drop at s) x
+module _ (s : List ℕ) (at : ℕ) (r : HeadResult) (e : HeadSpec s at r) where
+  pub told-refused : (k : Refusal) → r ≡ hv.Refused k → (x : LabelResult)
+      → x ≡ record { verdict = verdict.Refused refusal.«Type»; label = 0; value = length s } → PairLabelSpec s (drop at s) x
   told-refused k g x f = told-none s (drop at s) x f (subst (saysLabel s at) g (e .label))
 
   module _ (h : Head) (g : r ≡ hv.Got h) where
-    here : LabelSays s at h
+    here : LabelSpec s at h
     here = subst (saysLabel s at) g (e .label)
 
-    value-after : h .major ≤ 1 → GoesOn s (h .next) (afterValue (drop at s))
+    value-after : h .major ≤ 1 → EndsAt s (h .next) (afterValue (drop at s))
     value-after m = record {
       rest = sym (here .ends m 6);
       inside = omega (arith, ap headPlace (sym g ∙ e .is), head-inside (length s) (heading (drop at s)));
     }
 
-    pub told-number : h .major ≡ 0 → Told s (drop at s) (record { verdict = verdict.Accepted; label = h .argument; value = h .next })
+    pub told-number : h .major ≡ 0 → PairLabelSpec s (drop at s) (record { verdict = verdict.Accepted; label = h .argument; value = h .next })
     told-number m = record { is = rw (here .number m); rest = value-after (omega arith) }
 
-    pub told-negative : h .major ≡ 1 → Told s (drop at s) (record { verdict = verdict.Accepted; label = 0; value = h .next })
+    pub told-negative : h .major ≡ 1 → PairLabelSpec s (drop at s) (record { verdict = verdict.Accepted; label = 0; value = h .next })
     told-negative m = record { is = rw (here .negative m); rest = value-after (omega arith) }
 
-    pub told-other : 2 ≤ h .major → (x : Labelled)
-        → x ≡ record { verdict = verdict.Refused refusal.«Type»; label = 0; value = length s } → Told s (drop at s) x
+    pub told-other : 2 ≤ h .major → (x : LabelResult)
+        → x ≡ record { verdict = verdict.Refused refusal.«Type»; label = 0; value = length s } → PairLabelSpec s (drop at s) x
     told-other m x f = told-none s (drop at s) x f (here .none m)
 
 -- ---- what was read is put in its place
-pub put-said : {A B : Type 0} (f : A → B) (v : Verdict) (a : A) (x : Reading A) → said v a ≡ x → said v (f a) ≡ put f x
-put-said {A} f v a x e = go v ∙ ap (put f) e
+pub put-said : {A B : Type 0} (f : A → B) (v : Verdict) (a : A) (x : Reading A) → resultOf v a ≡ x → resultOf v (f a) ≡ mapReading f x
+put-said {A} f v a x e = go v ∙ ap (mapReading f) e
   where
-    go : (v : Verdict) → said v (f a) ≡ put f (said v a)
+    go : (v : Verdict) → resultOf v (f a) ≡ mapReading f (resultOf v a)
     go verdict.Accepted = refl
     go (verdict.Refused k) = refl
 
 -- ---- a known label: it comes again, or its value is read and put in its place
-abbrev pub ifAgain : Bool → Standing
-ifAgain true = Again
-ifAgain false = Fresh
+abbrev pub ifAgain : Bool → LabelStatus
+ifAgain true = Repeated
+ifAgain false = First
 
-pub standing-seen : (r : Report) → standingOf r ≡ ifAgain (seen r)
+pub standing-seen : (r : Disposition) → labelStatusOf r ≡ ifAgain (seen r)
 standing-seen Absent = refl
 standing-seen Taken = refl
 standing-seen Discarded = refl
@@ -148,28 +148,28 @@ standing-seen Discarded = refl
 -- ---- the walk
 module _ {S : Type 0} (F : Form S) where
   pub known-put : {P : Type 0} (c : S) (n : ℕ) (v : View) (again : Bool) (f : P → S) (x : Reading P)
-      → F .standing c n ≡ ifAgain again → F .taking c n v ≡ put f x → put f (once again x) ≡ knownRead F (F .standing c n) c n v
+      → F .standing c n ≡ ifAgain again → F .taking c n v ≡ mapReading f x → mapReading f (once again x) ≡ knownRead F (F .standing c n) c n v
   known-put c n v again f x g h = rw g (go again)
     where
-      go : (again : Bool) → put f (once again x) ≡ knownRead F (ifAgain again) c n v
+      go : (again : Bool) → mapReading f (once again x) ≡ knownRead F (ifAgain again) c n v
       go true = refl
       go false = sym h
 
   -- one turn: what a pair says of what was gathered, and where the next pair begins
   pub record Turned (c : S) (s l : List ℕ) (w : Verdict) (d : S) (next : ℕ) : Type 0 where
-    pub says : said w d ≡ pairRead F c (labelAt l) (valueView (afterValue l))
-    pub ends : Accepting w (GoesOn s next (afterValue (afterValue l)))
+    pub says : resultOf w d ≡ pairRead F c (labelAt l) (valueView (afterValue l))
+    pub ends : Accepting w (EndsAt s next (afterValue (afterValue l)))
 
-  module _ (c : S) (s l : List ℕ) (p : Labelled) (t : Told s l p) where
+  module _ (c : S) (s l : List ℕ) (p : LabelResult) (t : PairLabelSpec s l p) where
     fine-is : p .verdict ≡ labelledAnswer (length s) (labelAt l) (p .value) .verdict
-    fine-is = ap (λ (q : Labelled). q .verdict) (t .is)
+    fine-is = ap (λ (q : LabelResult). q .verdict) (t .is)
 
     label-is : p .label ≡ labelledAnswer (length s) (labelAt l) (p .value) .label
-    label-is = ap (λ (q : Labelled). q .label) (t .is)
+    label-is = ap (λ (q : LabelResult). q .label) (t .is)
 
     pub turned-known : 0 < p .label → (w : Verdict) (d : S) (next : ℕ)
-        → said w d ≡ knownRead F (F .standing c (p .label)) c (p .label) (valueView (drop (p .value) s))
-        → Accepting w (GoesOn s next (afterValue (drop (p .value) s))) → Turned c s l w d next
+        → resultOf w d ≡ knownRead F (F .standing c (p .label)) c (p .label) (valueView (drop (p .value) s))
+        → Accepting w (EndsAt s next (afterValue (drop (p .value) s))) → Turned c s l w d next
     turned-known h w d next e f = go (labelAt l) refl
       where
         go : (x : Label) → labelAt l ≡ x → Turned c s l w d next
@@ -178,11 +178,11 @@ module _ {S : Type 0} (F : Form S) where
         go (label.Number n) g =
             let n-is : p .label ≡ n = label-is ∙ rw g in
             let fine : p .verdict ≡ verdict.Accepted = fine-is ∙ rw g in
-            let place : GoesOn s (p .value) (afterValue l) = rw fine at (t .rest) in
+            let place : EndsAt s (p .value) (afterValue l) = rw fine at (t .rest) in
             let value = place .rest in
             record { says = e ∙ rw (g, n-is, value); ends = rw (← value) f }
 
-    pub turned-passed : F .standing c (p .label) ≡ Unknown → (next : ℕ) → GoesOn s next (afterValue (drop (p .value) s))
+    pub turned-passed : F .standing c (p .label) ≡ Unknown → (next : ℕ) → EndsAt s next (afterValue (drop (p .value) s))
         → Turned c s l (p .verdict) (F .passing c) next
     turned-passed h next f = go (labelAt l) refl
       where
@@ -192,13 +192,13 @@ module _ {S : Type 0} (F : Form S) where
             rw bad (record { says = rw g; ends = tt })
         go label.Negative g =
             let fine : p .verdict ≡ verdict.Accepted = fine-is ∙ rw g in
-            let place : GoesOn s (p .value) (afterValue l) = rw fine at (t .rest) in
+            let place : EndsAt s (p .value) (afterValue l) = rw fine at (t .rest) in
             let value = place .rest in
             rw fine (record { says = rw g; ends = on-with (ap afterValue value) f })
         go (label.Number n) g =
             let n-is : p .label ≡ n = label-is ∙ rw g in
             let fine : p .verdict ≡ verdict.Accepted = fine-is ∙ rw g in
-            let place : GoesOn s (p .value) (afterValue l) = rw fine at (t .rest) in
+            let place : EndsAt s (p .value) (afterValue l) = rw fine at (t .rest) in
             let value = place .rest in
             let unknown : F .standing c n ≡ Unknown = rw n-is at h in
             rw fine (record { says = rw (g, unknown); ends = on-with (ap afterValue value) f })
@@ -222,28 +222,28 @@ module _ {S : Type 0} (F : Form S) where
       step = let z : suc (n - 1) ≡ n = omega arith in ap (λ (m : ℕ). walkAt F m c l) z ∙ i .rest
 
       turn-on : (w : Verdict) (d : S) (next : ℕ) → Turned F c s l w d next
-          → onward (said w d) (λ d. walkAt F (n - 1) d (afterValue (afterValue l))) ≡ total
+          → bind (resultOf w d) (λ d. walkAt F (n - 1) d (afterValue (afterValue l))) ≡ total
       unfolding walkAt
-      turn-on w d next t = ap (λ (x : Reading S). onward x (λ d. walkAt F (n - 1) d (afterValue (afterValue l)))) (t .says) ∙ step
+      turn-on w d next t = ap (λ (x : Reading S). bind x (λ d. walkAt F (n - 1) d (afterValue (afterValue l)))) (t .says) ∙ step
 
       pub turn-stops : (w : Verdict) (d : S) (next : ℕ) → Turned F c s l w d next → (k : Refusal) → w ≡ verdict.Refused k → refused k ≡ total
       turn-stops w d next t k g =
-          ap (λ (w : Verdict). onward (said w d) (λ d. walkAt F (n - 1) d (afterValue (afterValue l)))) (sym g) ∙ turn-on w d next t
+          ap (λ (w : Verdict). bind (resultOf w d) (λ d. walkAt F (n - 1) d (afterValue (afterValue l)))) (sym g) ∙ turn-on w d next t
 
       pub turn-goes : (w : Verdict) (d : S) (next : ℕ) → Turned F c s l w d next → w ≡ verdict.Accepted → (q : ℕ) → q ≤ p + 1
           → Walking F total count q (n - 1) d (drop next s)
       turn-goes w d next t g q f =
-          let place : GoesOn s next (afterValue (afterValue l)) = rw g at (t .ends) in
+          let place : EndsAt s next (afterValue (afterValue l)) = rw g at (t .ends) in
           record {
             few = omega (arith, i .few);
             rest =
                 ap (walkAt F (n - 1) d) (place .rest)
-                ∙ ap (λ (w : Verdict). onward (said w d) (λ d. walkAt F (n - 1) d (afterValue (afterValue l)))) (sym g)
+                ∙ ap (λ (w : Verdict). bind (resultOf w d) (λ d. walkAt F (n - 1) d (afterValue (afterValue l)))) (sym g)
                 ∙ turn-on w d next t;
           }
 
   -- ---- the tree
-  onward-same : (r : Reading S) (f g : S → Reading S) → ((d : S) → f d ≡ g d) → onward r f ≡ onward r g
+  onward-same : (r : Reading S) (f g : S → Reading S) → ((d : S) → f d ≡ g d) → bind r f ≡ bind r g
   onward-same (refused k) f g h = refl
   onward-same (read d) f g h = h d
 
@@ -256,7 +256,7 @@ module _ {S : Type 0} (F : Form S) where
       (λ d. walk-tree ps m d (afterValue (afterValue l)) q))
 
   -- ---- a whole payload, read strictly or not
-  map-read : (c : S) (i : Item) → mapRead F c i ≡ onward (ifMap read (refused refusal.«Type») i) (pairsRead F c)
+  map-read : (c : S) (i : Item) → mapRead F c i ≡ bind (ifMap read (refused refusal.«Type») i) (pairsRead F c)
   map-read c (map ps) = refl
   map-read c (unsigned n) = refl
   map-read c (negative n) = refl
@@ -268,20 +268,20 @@ module _ {S : Type 0} (F : Form S) where
   map-read c (float w n) = refl
 
   module _ (b : Bool) (c : S) (s : List ℕ) where
-    read-in : payloadReadBy F (headBy b) c s ≡ onward (pairsIn b s) (pairsRead F c)
+    read-in : payloadReadBy F (headBy b) c s ≡ bind (pairsIn b s) (pairsRead F c)
     unfolding payloadReadBy pairsIn
     read-in = go (ltb 256 (length s)) (payloadBy (headBy b) s)
       where
         go : (l : Bool) (o : Outcome Item)
-            → cond l (refused refusal.Long) (scannedRead F c o) ≡ onward (cond l (refused refusal.Long) (mapIn o)) (pairsRead F c)
+            → cond l (refused refusal.Long) (scannedRead F c o) ≡ bind (cond l (refused refusal.Long) (mapIn o)) (pairsRead F c)
         go true o = refl
         go false (decode.refused k) = refl
         go false (decode.got i t) = map-read c i
 
-    read-by : (x : Reading Pairs) → pairsIn b s ≡ x → payloadReadBy F (headBy b) c s ≡ onward x (pairsRead F c)
-    read-by x e = read-in ∙ ap (λ (y : Reading Pairs). onward y (pairsRead F c)) e
+    read-by : (x : Reading Pairs) → pairsIn b s ≡ x → payloadReadBy F (headBy b) c s ≡ bind x (pairsRead F c)
+    read-by x e = read-in ∙ ap (λ (y : Reading Pairs). bind y (pairsRead F c)) e
 
-    module _ (r : Start) (e : StartSays b s r) where
+    module _ (r : PayloadResult) (e : StartSpec b s r) where
       pub read-refused : (k : Refusal) → r ≡ start.Refused k → payloadReadBy F (headBy b) c s ≡ refused k
       read-refused k g = read-by (refused k) (subst (saysStart b s) g (e .says))
 

@@ -12,29 +12,29 @@ use Rattle.cbor.specs.Answer.{openAnswer}
 use Rattle.cbor.specs.Decode.{Outcome, heading, payloadBy}
 use Rattle.cbor.specs.Decode as decode
 use Rattle.cbor.specs.Item.{Item, Pairs}
-use Rattle.cbor.specs.Says.{PairsAt}
+use Rattle.cbor.specs.ReaderSpecs.{PairsAt}
 use Rattle.cbor.specs.Strict.{headBy}
 use Rattle.cbor.specs.View.{ifMap, labelAt}
-use Rattle.cbor.specs.declared.item.Opened.{Opened}
-use Rattle.cbor.specs.declared.item.Opened.the-variants as ov
+use Rattle.cbor.specs.declared.item.OpenResult.{OpenResult}
+use Rattle.cbor.specs.declared.item.OpenResult.the-variants as ov
 use Rattle.cbor.specs.declared.value.Label.{Label}
 use Rattle.cbor.specs.declared.value.Label.the-variants as label
-use Rattle.cojp.specs.Bytes.{valueView, afterValue, GoesOn}
-use Rattle.cojp.specs.Reading.{Reading, refused, read, onward, Accepting}
+use Rattle.cojp.specs.Bytes.{valueView, afterValue, EndsAt}
+use Rattle.cojp.specs.Reading.{Reading, refused, read, bind, Accepting}
 use Rattle.cojp.specs.Walk.{Form, pairRead}
-use Rattle.cojp.specs.declared.report.Report.{Report}
-use Rattle.cojp.specs.declared.report.Report.the-variants.{Absent, Taken, Discarded}
-use Rattle.cojp_map.specs.declared.open.Start.{Start}
-use Rattle.cojp_map.specs.declared.open.Start.the-variants as start
-use Rattle.cojp_map.specs.declared.pair.Labelled.{Labelled}
+use Rattle.cojp.specs.declared.disposition.Disposition.{Disposition}
+use Rattle.cojp.specs.declared.disposition.Disposition.the-variants.{Absent, Taken, Discarded}
+use Rattle.cojp_map.specs.declared.open.PayloadResult.{PayloadResult}
+use Rattle.cojp_map.specs.declared.open.PayloadResult.the-variants as start
+use Rattle.cojp_map.specs.declared.pair.LabelResult.{LabelResult}
 
 -- ---- opening, strictly or not: LONG, then what the scan says, then TYPE
-abbrev pub startOf : Opened → Start
+abbrev pub startOf : OpenResult → PayloadResult
 startOf (ov.Refused k) = start.Refused k
 startOf ov.NoMap = start.Refused refusal.«Type»
 startOf (ov.Map n p) = start.Pairs n p
 
-unfoldable pub startAnswer : Bool → List ℕ → Start
+unfoldable pub startAnswer : Bool → List ℕ → PayloadResult
 startAnswer b s =
     cond (ltb 256 (length s)) (start.Refused refusal.Long) (startOf (openAnswer (length s) (payloadBy (headBy b) s) (heading s)))
 
@@ -47,27 +47,27 @@ unfoldable pub pairsIn : Bool → List ℕ → Reading Pairs
 pairsIn b s = cond (ltb 256 (length s)) (refused refusal.Long) (mapIn (payloadBy (headBy b) s))
 
 -- what the answer says of them: the refusal, or that they stand from a place on
-abbrev pub saysStart : Bool → List ℕ → Start → Type 0
+abbrev pub saysStart : Bool → List ℕ → PayloadResult → Type 0
 saysStart b s (start.Refused k) = pairsIn b s ≡ refused k
 saysStart b s (start.Pairs n p) = (ps : Pairs) × (pairsIn b s ≡ read ps) × PairsAt n (drop p s) ps
 
-pub record StartSays (b : Bool) (s : List ℕ) (r : Start) : Type 0 where
+pub record StartSpec (b : Bool) (s : List ℕ) (r : PayloadResult) : Type 0 where
   pub is : r ≡ startAnswer b s
   pub says : saysStart b s r
 
 -- ---- a label: TYPE where it is no integer, and the place is then the payload's end; a negative one has the number 0, which no object knows
-abbrev pub labelledAnswer : ℕ → Label → ℕ → Labelled
+abbrev pub labelledAnswer : ℕ → Label → ℕ → LabelResult
 labelledAnswer end label.NoInteger p = record { verdict = verdict.Refused refusal.«Type»; label = 0; value = end }
 labelledAnswer end label.Negative p = record { verdict = verdict.Accepted; label = 0; value = p }
 labelledAnswer end (label.Number n) p = record { verdict = verdict.Accepted; label = n; value = p }
 
 -- what an answer about a label says, s being the payload and l what is left of it from the label on
-pub record Told (s l : List ℕ) (r : Labelled) : Type 0 where
+pub record PairLabelSpec (s l : List ℕ) (r : LabelResult) : Type 0 where
   pub is : r ≡ labelledAnswer (length s) (labelAt l) (r .value)
-  pub rest : Accepting (r .verdict) (GoesOn s (r .value) (afterValue l))
+  pub rest : Accepting (r .verdict) (EndsAt s (r .value) (afterValue l))
 
 -- ---- a known label comes again if its parameter was taken or discarded
-abbrev pub seen : Report → Bool
+abbrev pub seen : Disposition → Bool
 seen Absent = false
 seen Taken = true
 seen Discarded = true
@@ -79,4 +79,4 @@ once again x = cond again (refused refusal.Twice) x
 unfoldable pub walkAt : {S : Type 0} → Form S → ℕ → S → List ℕ → Reading S
 walkAt F zero s l = read s
 walkAt F (suc n) s l =
-    onward (pairRead F s (labelAt l) (valueView (afterValue l))) (λ d. walkAt F n d (afterValue (afterValue l)))
+    bind (pairRead F s (labelAt l) (valueView (afterValue l))) (λ d. walkAt F n d (afterValue (afterValue l)))

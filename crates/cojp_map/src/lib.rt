@@ -5,8 +5,8 @@ pub mod pair;
 
 pub use once::is_seen;
 pub use once::octets_once;
-pub use open::Start;
+pub use open::PayloadResult;
 pub use open::open_payload;
-pub use pair::Labelled;
+pub use pair::LabelResult;
 pub use pair::item_end;
 pub use pair::labelled_at;

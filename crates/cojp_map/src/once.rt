@@ -1,7 +1,7 @@
 // A known label may come once.
 use crate::pair::item_end;
+use cojp::Disposition;
 use cojp::OctetsRead;
-use cojp::Report;
 use cojp::Version;
 use cojp::no_octets;
 use cojp::read_octets;
@@ -9,33 +9,33 @@ use refusal::Refusal;
 use refusal::Verdict;
 ghost use mathlib.Core.Path.{_≡_};
 ghost use lib.ListN.{drop};
-ghost use Rattle.cojp.specs.Bytes.{valueView, afterValue, GoesOn};
+ghost use Rattle.cojp.specs.Bytes.{valueView, afterValue, EndsAt};
 ghost use Rattle.cojp.specs.Octets.{noOctetsParameter, octetsRead, octetsAnswer};
-ghost use Rattle.cojp.specs.Reading.{read, forgiven, following, Accepting};
+ghost use Rattle.cojp.specs.Reading.{read, malformedAs, byVersionOf, Accepting};
 ghost use Rattle.cojp_map.specs.Pairs.{seen, once};
 
 // Whether a label came before: its parameter was taken or discarded.
-pub fn is_seen(report: Report) -> bool
+pub fn is_seen(report: Disposition) -> bool
     ensures { λ r. ⌜ r ≡ seen report ⌝ }
 {
     match report {
-        Report::Absent => false,
-        Report::Taken => true,
-        Report::Discarded => true,
+        Disposition::Absent => false,
+        Disposition::Taken => true,
+        Disposition::Discarded => true,
     }
 }
 
 // The byte string of `least` to 16 bytes at a place, in the published form: one that is bad is discarded, and the bytes go on after it.
-fn forgiven_octets(s: &[u8], at: usize, least: usize) -> OctetsRead
-    ensures { λ r. ⌜ r ≡ octetsAnswer (read (forgiven (noOctetsParameter Report.Discarded) (octetsRead least (valueView (drop at (now (s .entry))))))) (r .next) ⌝ }
-    ensures rest { λ r. ⌜ Accepting (r .verdict) (GoesOn (now (s .entry)) (r .next) (afterValue (drop at (now (s .entry))))) ⌝ }
+fn malformed_octets(s: &[u8], at: usize, least: usize) -> OctetsRead
+    ensures { λ r. ⌜ r ≡ octetsAnswer (read (malformedAs (noOctetsParameter Disposition.Discarded) (octetsRead least (valueView (drop at (now (s .entry))))))) (r .next) ⌝ }
+    ensures rest { λ r. ⌜ Accepting (r .verdict) (EndsAt (now (s .entry)) (r .next) (afterValue (drop at (now (s .entry))))) ⌝ }
 {
     let r = read_octets(s, at, least);
     let verdict = r.verdict;
     match verdict {
         Verdict::Accepted => r,
         Verdict::Refused(_) => {
-            let bad = no_octets(Report::Discarded);
+            let bad = no_octets(Disposition::Discarded);
             let next = item_end(s, at);
             OctetsRead {
                 verdict: Verdict::Accepted,
@@ -48,12 +48,18 @@ fn forgiven_octets(s: &[u8], at: usize, least: usize) -> OctetsRead
 
 // The byte string of `least` to 16 bytes at a place of a payload that passed the item scan: TWICE where its label came before, with what is
 // held; what follows from a bad one is the form's.
-pub fn octets_once(s: &[u8], at: usize, held: Report, least: usize, version: Version) -> OctetsRead
-    ensures { λ r. ⌜ r ≡ octetsAnswer (once (seen held) (following version (noOctetsParameter Report.Discarded) (octetsRead least (valueView (drop at (now (s .entry))))))) (r .next) ⌝ }
-    ensures rest { λ r. ⌜ Accepting (r .verdict) (GoesOn (now (s .entry)) (r .next) (afterValue (drop at (now (s .entry))))) ⌝ }
+pub fn octets_once(
+    s: &[u8],
+    at: usize,
+    held: Disposition,
+    least: usize,
+    version: Version,
+) -> OctetsRead
+    ensures { λ r. ⌜ r ≡ octetsAnswer (once (seen held) (byVersionOf version (noOctetsParameter Disposition.Discarded) (octetsRead least (valueView (drop at (now (s .entry))))))) (r .next) ⌝ }
+    ensures rest { λ r. ⌜ Accepting (r .verdict) (EndsAt (now (s .entry)) (r .next) (afterValue (drop at (now (s .entry))))) ⌝ }
 {
     if is_seen(held) {
-        let none = no_octets(Report::Absent);
+        let none = no_octets(Disposition::Absent);
         return OctetsRead {
             verdict: Verdict::Refused(Refusal::Twice),
             parameter: none,
@@ -62,6 +68,6 @@ pub fn octets_once(s: &[u8], at: usize, held: Report, least: usize, version: Ver
     }
     match version {
         Version::Draft => read_octets(s, at, least),
-        Version::Published => forgiven_octets(s, at, least),
+        Version::Published => malformed_octets(s, at, least),
     }
 }

@@ -1,21 +1,21 @@
 // The pairs of a map, one by one.
-use cbor::HeadRead;
-use cbor::Skip;
+use cbor::HeadResult;
+use cbor::SkipResult;
 use cbor::read_head;
 use cbor_scan::skip_item;
 use refusal::Refusal;
 use refusal::Verdict;
 ghost use mathlib.Core.Path.{_≡_};
 ghost use lib.ListN.{drop};
-ghost use Rattle.cojp.specs.Bytes.{afterValue, GoesOn};
-ghost use Rattle.cojp_map.specs.Pairs.{Told};
+ghost use Rattle.cojp.specs.Bytes.{afterValue, EndsAt};
+ghost use Rattle.cojp_map.specs.Pairs.{PairLabelSpec};
 
 // The levels that are left for the members of a payload's map.
 pub const MEMBER_LEVELS: u8 = 7;
 
 // A pair's label, and where its value begins; beside a refusal the number is 0 and the place the payload's end.
 // A negative label has the number 0, which no object knows either.
-pub struct Labelled {
+pub struct LabelResult {
     pub verdict: Verdict,
     pub label: u64,
     pub value: usize,
@@ -23,31 +23,31 @@ pub struct Labelled {
 
 // Where the bytes go on after the value at a place: the end where no item can be read there, which a payload that passed the scan does not have.
 pub fn item_end(s: &[u8], at: usize) -> usize
-    ensures { λ r. ⌜ GoesOn (now (s .entry)) r (afterValue (drop at (now (s .entry)))) ⌝ }
+    ensures { λ r. ⌜ EndsAt (now (s .entry)) r (afterValue (drop at (now (s .entry)))) ⌝ }
 {
     let passed = skip_item(s, at, MEMBER_LEVELS, false);
     match passed {
-        Skip::Refused(_) => s.len(),
-        Skip::Next(next) => next,
+        SkipResult::Refused(_) => s.len(),
+        SkipResult::Next(next) => next,
     }
 }
 
 // The label of the pair at a place: TYPE where it is no integer.
-pub fn labelled_at(s: &[u8], at: usize) -> Labelled
-    ensures { λ r. ⌜ Told (now (s .entry)) (drop at (now (s .entry))) r ⌝ }
+pub fn labelled_at(s: &[u8], at: usize) -> LabelResult
+    ensures { λ r. ⌜ PairLabelSpec (now (s .entry)) (drop at (now (s .entry))) r ⌝ }
 {
     let h = read_head(s, at);
     match h {
-        HeadRead::Refused(_) => no_integer(s.len()),
-        HeadRead::Got(head) => {
+        HeadResult::Refused(_) => no_integer(s.len()),
+        HeadResult::Got(head) => {
             let major = head.major;
             match major {
-                0 => Labelled {
+                0 => LabelResult {
                     verdict: Verdict::Accepted,
                     label: head.argument,
                     value: head.next,
                 },
-                1 => Labelled {
+                1 => LabelResult {
                     verdict: Verdict::Accepted,
                     label: 0,
                     value: head.next,
@@ -58,10 +58,10 @@ pub fn labelled_at(s: &[u8], at: usize) -> Labelled
     }
 }
 
-fn no_integer(end: usize) -> Labelled
+fn no_integer(end: usize) -> LabelResult
     ensures { λ r. ⌜ r ≡ record { verdict = Verdict.Refused Refusal.«Type»; label = 0; value = end } ⌝ }
 {
-    Labelled {
+    LabelResult {
         verdict: Verdict::Refused(Refusal::Type),
         label: 0,
         value: end,

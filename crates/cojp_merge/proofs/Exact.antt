@@ -8,18 +8,18 @@ use lib.Dec.{leb, eqb}
 use lib.ListN.{length, replicate}
 use lib.Seq.{take-at}
 use Rattle.cbor.specs.Decode.{heading}
-use Rattle.cbor.specs.View.{Plain, number, minus, string, other, View, plain, list}
+use Rattle.cbor.specs.View.{Scalar, number, minus, string, other, View, scalar, list}
 use Rattle.short_address.specs.Address.{isAddress}
 use Rattle.link_key.specs.Key.{noKey}
 use Rattle.link_key_set.specs.KeySet.{keysOf, validKeys}
 use Rattle.link_key.specs.declared.Key.{Key}
 use Rattle.cojp.specs.Address.{addressIn, addressOf, addressConcluded, addressRead}
-use Rattle.cojp.specs.Configuration.{emptyConfiguration, withKeys, withAddress, withJrc, withNetwork, withPrefix, withPassed}
+use Rattle.cojp.specs.Configuration.{emptyConfiguration, withKeys, withAddress, withJrc, withNetwork, withPrefix, withUnknownCount}
 use Rattle.cojp.specs.Configuration.{takingFor, noted, configurationTaking, configurationForm, configurationAnswer, readConfiguration}
 use Rattle.cojp.specs.KeySet.{Groups, notGroups, groupsOf, groups, keysIn, keySetOf, keysConcluded, keysRead}
 use Rattle.cojp.specs.Octets.{bytesIn, octetsOf, octetsJudged, octetsParameter, noOctetsParameter, octetsRead, padded}
 use Rattle.cojp.specs.Parameter.{parameterOf, laterParameter}
-use Rattle.cojp.specs.Reading.{Reading, refused, read, put, unfit, good, concluded, ifTaken}
+use Rattle.cojp.specs.Reading.{Reading, refused, read, mapReading, unfit, good, concluded, ifTaken}
 use Rattle.cojp.specs.Same.{leaseOf, SameConfiguration}
 use Rattle.cojp.specs.Walk.{payloadRead}
 use Rattle.cojp.specs.declared.address.AddressParameter.{AddressParameter}
@@ -29,8 +29,8 @@ use Rattle.cojp.specs.declared.key_set.KeysParameter.{KeysParameter}
 use Rattle.cojp.specs.declared.octets.OctetsParameter.{OctetsParameter}
 use Rattle.cojp.specs.declared.parameter.Parameter.{Parameter}
 use Rattle.cojp.specs.declared.parameter.Parameter.the-variants as name
-use Rattle.cojp.specs.declared.report.Report.{Report}
-use Rattle.cojp.specs.declared.report.Report.the-variants.{Absent, Taken, Discarded}
+use Rattle.cojp.specs.declared.disposition.Disposition.{Disposition}
+use Rattle.cojp.specs.declared.disposition.Disposition.the-variants.{Absent, Taken, Discarded}
 use Rattle.cojp.specs.declared.version.Version.the-variants.{Draft}
 use Rattle.cojp.proofs.Walks.{Gives, payload-gives}
 use Rattle.cojp_merge.specs.Laws.{TakesEqual, ReadsExactly}
@@ -57,12 +57,12 @@ record Told (c : Configuration) : Type 0 where
   jrc : OctetsTold (c .jrc)
   network : OctetsTold (c .network)
   prefix : OctetsTold (c .prefix)
-  blacklist : c .blacklist .report ≡ Absent
-  rate : c .rate .report ≡ Absent
+  blacklist : c .blacklist .disposition ≡ Absent
+  rate : c .rate .disposition ≡ Absent
 
 -- ---- what a reader makes of a value
 keys-told : (v : View) → Gives SetTold (keysRead v)
-keys-told (plain p) = tt
+keys-told (scalar p) = tt
 keys-told (list ps) = by-groups (groups false ps)
   where
     by-limits : (b : Bool) (ks : List Key) → Gives SetTold (keysConcluded (cond b (good (keySetOf ks)) unfit))
@@ -79,7 +79,7 @@ unfolding leased
 address-by true s l n e = e
 address-by false s l n e = refl
 
-address-in : (ps : List Plain) → Gives AddressTold (addressConcluded (addressIn ps))
+address-in : (ps : List Scalar) → Gives AddressTold (addressConcluded (addressIn ps))
 unfolding addressIn leased
 address-in [] = tt
 address-in (number n ∷ r) = tt
@@ -93,23 +93,23 @@ address-in (string s ∷ minus n ∷ r) = tt
 address-in (string s ∷ other ∷ r) = tt
 
 address-told : (v : View) → Gives AddressTold (addressRead v)
-address-told (plain p) = tt
+address-told (scalar p) = tt
 address-told (list ps) = address-in ps
 
 octets-told : (least : ℕ) (v : View) → Gives OctetsTold (octetsRead least v)
 unfolding octetsJudged padded
-octets-told least (plain (string s)) = by-length (leb least (length s) && leb (length s) 16)
+octets-told least (scalar (string s)) = by-length (leb least (length s) && leb (length s) 16)
   where
     by-length : (b : Bool) → Gives OctetsTold (concluded (read (noOctetsParameter Discarded)) (octetsParameter Taken) (cond b (good (octetsOf s)) unfit))
     by-length true = ap octetsOf (sym (take-at s (replicate (16 - length s) 0) (length s) refl))
     by-length false = refl
-octets-told least (plain (number n)) = tt
-octets-told least (plain (minus n)) = tt
-octets-told least (plain other) = tt
+octets-told least (scalar (number n)) = tt
+octets-told least (scalar (minus n)) = tt
+octets-told least (scalar other) = tt
 octets-told least (list ps) = tt
 
 -- ---- a configuration
-put-told : {A : Type 0} (P : A → Type 0) (f : A → Configuration) (r : Reading A) → Gives P r → ((a : A) → P a → Told (f a)) → Gives Told (put f r)
+put-told : {A : Type 0} (P : A → Type 0) (f : A → Configuration) (r : Reading A) → Gives P r → ((a : A) → P a → Told (f a)) → Gives Told (mapReading f r)
 put-told P f (refused k) g h = tt
 put-told P f (read a) g h = h a g
 
@@ -138,7 +138,7 @@ drafts n = go (eqb n 2) (eqb n 3) (eqb n 4) (eqb n 5) (eqb n 6)
     go false false false false false = tt
 
 module _ (c : Configuration) (h : Told c) where
-  passing-told : (m : ℕ) → Told (withPassed c m)
+  passing-told : (m : ℕ) → Told (withUnknownCount c m)
   passing-told m = record {
     keys = h .keys;
     address = h .address;
@@ -223,7 +223,7 @@ empty-told = record { keys = refl; address = refl; jrc = refl; network = refl; p
 read-told : (p : List ℕ) → Told (readConfiguration p .configuration)
 read-told p =
     go (payloadRead (configurationForm Draft) emptyConfiguration p)
-    (payload-gives (configurationForm Draft) Told (λ c h. passing-told c h (c .passed + 1)) (λ c h n fresh. taking-told c h n) heading emptyConfiguration empty-told p)
+    (payload-gives (configurationForm Draft) Told (λ c h. passing-told c h (c .unknown + 1)) (λ c h n fresh. taking-told c h n) heading emptyConfiguration empty-told p)
   where
     go : (r : Reading Configuration) → Gives Told r → Told (configurationAnswer r .configuration)
     go (refused k) h = empty-told
@@ -231,11 +231,11 @@ read-told p =
 
 merged-told : (a b : Configuration) → Told a → Told b → Told (merged a b)
 merged-told a b x y = record {
-  keys = of-both SetTold (a .keys) (b .keys) (b .keys .report) (x .keys) (y .keys);
-  address = of-both AddressTold (a .address) (b .address) (b .address .report) (x .address) (y .address);
-  jrc = of-both OctetsTold (a .jrc) (b .jrc) (b .jrc .report) (x .jrc) (y .jrc);
-  network = of-both OctetsTold (a .network) (b .network) (b .network .report) (x .network) (y .network);
-  prefix = of-both OctetsTold (a .prefix) (b .prefix) (b .prefix .report) (x .prefix) (y .prefix);
+  keys = of-both SetTold (a .keys) (b .keys) (b .keys .disposition) (x .keys) (y .keys);
+  address = of-both AddressTold (a .address) (b .address) (b .address .disposition) (x .address) (y .address);
+  jrc = of-both OctetsTold (a .jrc) (b .jrc) (b .jrc .disposition) (x .jrc) (y .jrc);
+  network = of-both OctetsTold (a .network) (b .network) (b .network .disposition) (x .network) (y .network);
+  prefix = of-both OctetsTold (a .prefix) (b .prefix) (b .prefix .disposition) (x .prefix) (y .prefix);
   blacklist = refl;
   rate = refl;
 }
@@ -246,13 +246,13 @@ module _ {A B : Type 0} (means : A → B) (back : B → A) where
   over none = none
   over (some b) = some (back b)
 
-  seen : (x : A) (r : Report) → x ≡ back (means x) → over (ifTaken r (some (means x)) none) ≡ ifTaken r (some x) none
+  seen : (x : A) (r : Disposition) → x ≡ back (means x) → over (ifTaken r (some (means x)) none) ≡ ifTaken r (some x) none
   unfolding over
   seen x Absent e = refl
   seen x Taken e = ap some (sym e)
   seen x Discarded e = refl
 
-  equal : (x y : A) (r s : Report) → x ≡ back (means x) → y ≡ back (means y) → ifTaken r (some (means x)) none ≡ ifTaken s (some (means y)) none
+  equal : (x y : A) (r s : Disposition) → x ≡ back (means x) → y ≡ back (means y) → ifTaken r (some (means x)) none ≡ ifTaken s (some (means y)) none
       → ifTaken r (some x) none ≡ ifTaken s (some y) none
   equal x y r s e f g = sym (seen x r e) ∙ ap over g ∙ seen y s f
 
@@ -263,18 +263,18 @@ abbrev addressBack : List ℕ × Option ℕ → ShortAddress
 addressBack m = leased (m .0) (m .1)
 
 octets-equal : (p q : OctetsParameter) → OctetsTold p → OctetsTold q
-    → ifTaken (p .report) (some (bytesIn (p .value))) none ≡ ifTaken (q .report) (some (bytesIn (q .value))) none
-    → ifTaken (p .report) (some (p .value)) none ≡ ifTaken (q .report) (some (q .value)) none
-octets-equal p q e f g = equal bytesIn octetsOf (p .value) (q .value) (p .report) (q .report) e f g
+    → ifTaken (p .disposition) (some (bytesIn (p .value))) none ≡ ifTaken (q .disposition) (some (bytesIn (q .value))) none
+    → ifTaken (p .disposition) (some (p .value)) none ≡ ifTaken (q .disposition) (some (q .value)) none
+octets-equal p q e f g = equal bytesIn octetsOf (p .value) (q .value) (p .disposition) (q .disposition) e f g
 
-both-absent : {A : Type 0} (x y : A) {r s : Report} → r ≡ Absent → s ≡ Absent → ifTaken r (some x) none ≡ ifTaken s (some y) none
+both-absent : {A : Type 0} (x y : A) {r s : Disposition} → r ≡ Absent → s ≡ Absent → ifTaken r (some x) none ≡ ifTaken s (some y) none
 both-absent x y e f = rw (e, f)
 
 exactly : (c d : Configuration) → Told c → Told d → SameConfiguration c d → TakesEqual c d
 exactly c d x y same = record {
-  keys = equal keysOf keySetOf (c .keys .value) (d .keys .value) (c .keys .report) (d .keys .report) (x .keys) (y .keys) (same .keys);
+  keys = equal keysOf keySetOf (c .keys .value) (d .keys .value) (c .keys .disposition) (d .keys .disposition) (x .keys) (y .keys) (same .keys);
   address =
-      equal addressMeans addressBack (c .address .value) (d .address .value) (c .address .report) (d .address .report) (x .address) (y .address)
+      equal addressMeans addressBack (c .address .value) (d .address .value) (c .address .disposition) (d .address .disposition) (x .address) (y .address)
       (same .address);
   jrc = octets-equal (c .jrc) (d .jrc) (x .jrc) (y .jrc) (same .jrc);
   network = octets-equal (c .network) (d .network) (x .network) (y .network) (same .network);

@@ -8,43 +8,43 @@ use Rattle.refusal.specs.declared.Refusal.{Refusal}
 use Rattle.refusal.specs.declared.Verdict.the-variants.{Accepted, Refused}
 use Rattle.cojp.specs.Configuration.{emptyConfiguration}
 use Rattle.link_key_set.specs.KeySet.{keysOf}
-use Rattle.cojp.specs.Faults.{noFaults}
+use Rattle.cojp.specs.ErrorReports.{noErrorReports}
 use Rattle.cojp.specs.Lists.{noListParameter, bytesIn as listBytes}
 use Rattle.cojp.specs.Octets.{bytesIn, noOctetsParameter}
 use Rattle.cojp.specs.Rate.{noRateParameter}
 use Rattle.cojp.specs.Reading.{ifTaken}
 use Rattle.cojp.specs.Same.{leaseOf, octetsTaken, SameConfiguration}
-use Rattle.cojp.specs.Writing.{keysInRange, addressInRange, jrcInRange, octetsInRange, keysPlain, missing, ofForm, configurationInRange}
+use Rattle.cojp.specs.Writing.{keysInRange, addressInRange, jrcInRange, octetsInRange, keysWithoutAdditionalInfo, missing, ofVersion, configurationInRange}
 use Rattle.cojp.specs.declared.address.AddressParameter.{AddressParameter}
 use Rattle.cojp.specs.declared.configuration.Configuration.{Configuration}
 use Rattle.cojp.specs.declared.key_set.KeysParameter.{KeysParameter}
 use Rattle.cojp.specs.declared.octets.OctetsParameter.{OctetsParameter}
-use Rattle.cojp.specs.declared.report.Report.{Report}
-use Rattle.cojp.specs.declared.report.Report.the-variants.{Absent, Taken, Discarded}
+use Rattle.cojp.specs.declared.disposition.Disposition.{Disposition}
+use Rattle.cojp.specs.declared.disposition.Disposition.the-variants.{Absent, Taken, Discarded}
 use Rattle.cojp.specs.declared.version.Version.the-variants.{Draft}
 use Rattle.cojp_octets_write.proofs.Limits.{configuration-fits}
 use Rattle.logic_facts.specs.Tests.{both-left, both-right}
 use Rattle.cojp_merge.specs.Laws.{Associative, NeutralFirst, NeutralSecond, StaysInRange, RefusedEmpty}
 use Rattle.cojp_merge.specs.Merge.{merged, mergeAnswer, outsideLimits}
-use Rattle.cojp_merge.specs.declared.Merged.{Merged}
+use Rattle.cojp_merge.specs.declared.MergeResult.{MergeResult}
 
 -- ---- one parameter, which tells its report
-module _ {A : Type 0} (report : A → Report) where
-  bracket : (x y z : A) (r : Report) → report z ≡ r
+module _ {A : Type 0} (report : A → Disposition) where
+  bracket : (x y z : A) (r : Disposition) → report z ≡ r
       → ifTaken (report z) z (ifTaken (report y) y x) ≡ ifTaken (report (ifTaken (report z) z y)) (ifTaken (report z) z y) x
   bracket x y z Absent e = rw e
   bracket x y z Taken e = rw (e, e)
   bracket x y z Discarded e = rw e
 
   -- after one that is absent, what is taken is seen as it is
-  seen-after : {B : Type 0} (value : A → B) (absent x : A) (r : Report) → report absent ≡ Absent → report x ≡ r
+  seen-after : {B : Type 0} (value : A → B) (absent x : A) (r : Disposition) → report absent ≡ Absent → report x ≡ r
       → ifTaken (report (ifTaken (report x) x absent)) (some (value (ifTaken (report x) x absent))) none ≡ ifTaken (report x) (some (value x)) none
   seen-after value absent x Absent n e = rw (e, n)
   seen-after value absent x Taken n e = rw (e, e)
   seen-after value absent x Discarded n e = rw (e, n)
 
 -- what holds of both holds of the later one
-pub of-both : {A : Type 0} (P : A → Type 0) (x y : A) (r : Report) → P x → P y → P (ifTaken r y x)
+pub of-both : {A : Type 0} (P : A → Type 0) (x y : A) (r : Disposition) → P x → P y → P (ifTaken r y x)
 of-both P x y Absent p q = p
 of-both P x y Taken p q = q
 of-both P x y Discarded p q = p
@@ -59,8 +59,8 @@ of-five keys address jrc network prefix = record {
   prefix = prefix;
   blacklist = noListParameter Absent;
   rate = noRateParameter Absent;
-  came = noFaults;
-  passed = 0;
+  labels = noErrorReports;
+  unknown = 0;
 }
 
 from-five : {k l : KeysParameter} {a b : AddressParameter} {j i n m p q : OctetsParameter} → k ≡ l → a ≡ b → j ≡ i → n ≡ m → p ≡ q
@@ -70,46 +70,46 @@ from-five e f g h o = rw (e, f, g, h, o)
 brackets : (a b c : Configuration) → merged (merged a b) c ≡ merged a (merged b c)
 brackets a b c =
     from-five
-    (bracket (λ (x : KeysParameter). x .report) (a .keys) (b .keys) (c .keys) (c .keys .report) refl)
-    (bracket (λ (x : AddressParameter). x .report) (a .address) (b .address) (c .address) (c .address .report) refl)
-    (bracket (λ (x : OctetsParameter). x .report) (a .jrc) (b .jrc) (c .jrc) (c .jrc .report) refl)
-    (bracket (λ (x : OctetsParameter). x .report) (a .network) (b .network) (c .network) (c .network .report) refl)
-    (bracket (λ (x : OctetsParameter). x .report) (a .prefix) (b .prefix) (c .prefix) (c .prefix .report) refl)
+    (bracket (λ (x : KeysParameter). x .disposition) (a .keys) (b .keys) (c .keys) (c .keys .disposition) refl)
+    (bracket (λ (x : AddressParameter). x .disposition) (a .address) (b .address) (c .address) (c .address .disposition) refl)
+    (bracket (λ (x : OctetsParameter). x .disposition) (a .jrc) (b .jrc) (c .jrc) (c .jrc .disposition) refl)
+    (bracket (λ (x : OctetsParameter). x .disposition) (a .network) (b .network) (c .network) (c .network .disposition) refl)
+    (bracket (λ (x : OctetsParameter). x .disposition) (a .prefix) (b .prefix) (c .prefix) (c .prefix .disposition) refl)
 
 -- what else the draft asks: plain keys, no blacklist, no join rate
 record Drafted (c : Configuration) : Type 0 where
-  keys : keysPlain (c .keys) ≡ true
-  blacklist : missing (c .blacklist .report) ≡ true
-  rate : missing (c .rate .report) ≡ true
+  keys : keysWithoutAdditionalInfo (c .keys) ≡ true
+  blacklist : missing (c .blacklist .disposition) ≡ true
+  rate : missing (c .rate .disposition) ≡ true
 
-drafted : (c : Configuration) → ofForm Draft c ≡ true → Drafted c
-unfolding ofForm
+drafted : (c : Configuration) → ofVersion Draft c ≡ true → Drafted c
+unfolding ofVersion
 drafted c e =
-    let k = keysPlain (c .keys) in
-    let b = missing (c .blacklist .report) in
-    let r = missing (c .rate .report) in
+    let k = keysWithoutAdditionalInfo (c .keys) in
+    let b = missing (c .blacklist .disposition) in
+    let r = missing (c .rate .disposition) in
     let f = both-left (k && b) r e in
     record { keys = both-left k b f; blacklist = both-right k b f; rate = both-right (k && b) r e }
 
 merged-in-range : (a b : Configuration) → configurationInRange Draft a ≡ true → configurationInRange Draft b ≡ true
     → configurationInRange Draft (merged a b) ≡ true
-unfolding configurationInRange ofForm
+unfolding configurationInRange ofVersion
 merged-in-range a b e f =
     let x = configuration-fits Draft a e in
     let y = configuration-fits Draft b f in
-    let k = of-both (λ (p : KeysParameter). keysInRange p ≡ true) (a .keys) (b .keys) (b .keys .report) (x .keys) (y .keys) in
-    let l = of-both (λ (p : AddressParameter). addressInRange p ≡ true) (a .address) (b .address) (b .address .report) (x .address) (y .address) in
-    let j = of-both (λ (p : OctetsParameter). jrcInRange p ≡ true) (a .jrc) (b .jrc) (b .jrc .report) (x .jrc) (y .jrc) in
-    let n = of-both (λ (p : OctetsParameter). octetsInRange p ≡ true) (a .network) (b .network) (b .network .report) (x .network) (y .network) in
-    let p = of-both (λ (q : OctetsParameter). octetsInRange q ≡ true) (a .prefix) (b .prefix) (b .prefix .report) (x .prefix) (y .prefix) in
-    let o = of-both (λ (q : KeysParameter). keysPlain q ≡ true) (a .keys) (b .keys) (b .keys .report) (drafted a (x .form) .keys) (drafted b (y .form) .keys) in
+    let k = of-both (λ (p : KeysParameter). keysInRange p ≡ true) (a .keys) (b .keys) (b .keys .disposition) (x .keys) (y .keys) in
+    let l = of-both (λ (p : AddressParameter). addressInRange p ≡ true) (a .address) (b .address) (b .address .disposition) (x .address) (y .address) in
+    let j = of-both (λ (p : OctetsParameter). jrcInRange p ≡ true) (a .jrc) (b .jrc) (b .jrc .disposition) (x .jrc) (y .jrc) in
+    let n = of-both (λ (p : OctetsParameter). octetsInRange p ≡ true) (a .network) (b .network) (b .network .disposition) (x .network) (y .network) in
+    let p = of-both (λ (q : OctetsParameter). octetsInRange q ≡ true) (a .prefix) (b .prefix) (b .prefix .disposition) (x .prefix) (y .prefix) in
+    let o = of-both (λ (q : KeysParameter). keysWithoutAdditionalInfo q ≡ true) (a .keys) (b .keys) (b .keys .disposition) (drafted a (x .form) .keys) (drafted b (y .form) .keys) in
     six k l j n p o
   where
     six : {k l j n p o : Bool} → k ≡ true → l ≡ true → j ≡ true → n ≡ true → p ≡ true → o ≡ true → (k && l && j && n && p && (o && true && true)) ≡ true
     six e f g h i o = rw (e, f, g, h, i, o)
 
 -- what is missing is seen as none
-none-seen : {A : Type 0} (x : A) (r : Report) → missing r ≡ true → none ≡ ifTaken r (some x) none
+none-seen : {A : Type 0} (x : A) (r : Disposition) → missing r ≡ true → none ≡ ifTaken r (some x) none
 none-seen x Absent e = refl
 none-seen x Taken e = absurd (let z : _≡_ {A = ℕ} 0 1 = cc in omega arith)
 none-seen x Discarded e = refl
@@ -119,7 +119,7 @@ both-true : (a b : Bool) → (a && b) ≡ true → (a ≡ true) × (b ≡ true)
 both-true false b e = absurd (let z : _≡_ {A = ℕ} 0 1 = cc in omega arith)
 both-true true b e = (refl, e)
 
-abbrev pub answered : Configuration → Merged
+abbrev pub answered : Configuration → MergeResult
 answered c = record { verdict = Accepted; configuration = c }
 
 pub merge-answered : (a b : Configuration) → configurationInRange Draft a ≡ true → configurationInRange Draft b ≡ true → answered (merged a b) ≡ mergeAnswer a b
@@ -147,7 +147,7 @@ accepted-in-range a b e =
 accepted-is : (a b : Configuration) → mergeAnswer a b .verdict ≡ Accepted → mergeAnswer a b .configuration ≡ merged a b
 accepted-is a b e =
     let r = accepted-in-range a b e in
-    ap (λ (m : Merged). m .configuration) (sym (merge-answered a b (r .0) (r .1)))
+    ap (λ (m : MergeResult). m .configuration) (sym (merge-answered a b (r .0) (r .1)))
 
 pub associative : Associative
 associative a b c e f =
@@ -164,19 +164,19 @@ neutral-first c e =
   where
     same : Drafted c → SameConfiguration (merged emptyConfiguration c) c
     same d = record {
-      keys = seen-after (λ (x : KeysParameter). x .report) (λ (x : KeysParameter). keysOf (x .value)) (emptyConfiguration .keys) (c .keys) (c .keys .report) refl refl;
+      keys = seen-after (λ (x : KeysParameter). x .disposition) (λ (x : KeysParameter). keysOf (x .value)) (emptyConfiguration .keys) (c .keys) (c .keys .disposition) refl refl;
       address =
-          seen-after (λ (x : AddressParameter). x .report) (λ (x : AddressParameter). (x .value .bytes, leaseOf (x .value)))
-          (emptyConfiguration .address) (c .address) (c .address .report) refl refl;
+          seen-after (λ (x : AddressParameter). x .disposition) (λ (x : AddressParameter). (x .value .bytes, leaseOf (x .value)))
+          (emptyConfiguration .address) (c .address) (c .address .disposition) refl refl;
       jrc = octets (c .jrc);
       network = octets (c .network);
       prefix = octets (c .prefix);
-      blacklist = none-seen (c .blacklist .value .count, listBytes (c .blacklist .value)) (c .blacklist .report) (d .blacklist);
-      rate = none-seen (c .rate .value) (c .rate .report) (d .rate);
+      blacklist = none-seen (c .blacklist .value .count, listBytes (c .blacklist .value)) (c .blacklist .disposition) (d .blacklist);
+      rate = none-seen (c .rate .value) (c .rate .disposition) (d .rate);
     }
       where
-        octets : (p : OctetsParameter) → octetsTaken (ifTaken (p .report) p (noOctetsParameter Absent)) ≡ octetsTaken p
-        octets p = seen-after (λ (x : OctetsParameter). x .report) (λ (x : OctetsParameter). bytesIn (x .value)) (noOctetsParameter Absent) p (p .report) refl refl
+        octets : (p : OctetsParameter) → octetsTaken (ifTaken (p .disposition) p (noOctetsParameter Absent)) ≡ octetsTaken p
+        octets p = seen-after (λ (x : OctetsParameter). x .disposition) (λ (x : OctetsParameter). bytesIn (x .value)) (noOctetsParameter Absent) p (p .disposition) refl refl
 
 pub neutral-second : NeutralSecond
 neutral-second c e =
@@ -187,14 +187,14 @@ neutral-second c e =
       jrc = refl;
       network = refl;
       prefix = refl;
-      blacklist = none-seen (c .blacklist .value .count, listBytes (c .blacklist .value)) (c .blacklist .report) (d .blacklist);
-      rate = none-seen (c .rate .value) (c .rate .report) (d .rate);
+      blacklist = none-seen (c .blacklist .value .count, listBytes (c .blacklist .value)) (c .blacklist .disposition) (d .blacklist);
+      rate = none-seen (c .rate .value) (c .rate .disposition) (d .rate);
     })
 
 pub in-range : StaysInRange
 in-range a b e f =
     let answer = sym (merge-answered a b e f) in
-    (ap (λ (m : Merged). m .verdict) answer, rw answer (merged-in-range a b e f))
+    (ap (λ (m : MergeResult). m .verdict) answer, rw answer (merged-in-range a b e f))
 
 refused-test : (t : Bool) (c : Configuration) (k : Refusal) → cond t (answered c) outsideLimits .verdict ≡ Refused k
     → cond t (answered c) outsideLimits .configuration ≡ emptyConfiguration

@@ -42,13 +42,13 @@ RefusedEmpty = (a b : Configuration) (k : Refusal) → mergeAnswer a b .verdict 
 
 -- ---- what is taken is equal, also in the places that are not looked at
 pub record TakesEqual (c d : Configuration) : Type 0 where
-  pub keys : ifTaken (c .keys .report) (some (c .keys .value)) none ≡ ifTaken (d .keys .report) (some (d .keys .value)) none
-  pub address : ifTaken (c .address .report) (some (c .address .value)) none ≡ ifTaken (d .address .report) (some (d .address .value)) none
-  pub jrc : ifTaken (c .jrc .report) (some (c .jrc .value)) none ≡ ifTaken (d .jrc .report) (some (d .jrc .value)) none
-  pub network : ifTaken (c .network .report) (some (c .network .value)) none ≡ ifTaken (d .network .report) (some (d .network .value)) none
-  pub prefix : ifTaken (c .prefix .report) (some (c .prefix .value)) none ≡ ifTaken (d .prefix .report) (some (d .prefix .value)) none
-  pub blacklist : ifTaken (c .blacklist .report) (some (c .blacklist .value)) none ≡ ifTaken (d .blacklist .report) (some (d .blacklist .value)) none
-  pub rate : ifTaken (c .rate .report) (some (c .rate .value)) none ≡ ifTaken (d .rate .report) (some (d .rate .value)) none
+  pub keys : ifTaken (c .keys .disposition) (some (c .keys .value)) none ≡ ifTaken (d .keys .disposition) (some (d .keys .value)) none
+  pub address : ifTaken (c .address .disposition) (some (c .address .value)) none ≡ ifTaken (d .address .disposition) (some (d .address .value)) none
+  pub jrc : ifTaken (c .jrc .disposition) (some (c .jrc .value)) none ≡ ifTaken (d .jrc .disposition) (some (d .jrc .value)) none
+  pub network : ifTaken (c .network .disposition) (some (c .network .value)) none ≡ ifTaken (d .network .disposition) (some (d .network .value)) none
+  pub prefix : ifTaken (c .prefix .disposition) (some (c .prefix .value)) none ≡ ifTaken (d .prefix .disposition) (some (d .prefix .value)) none
+  pub blacklist : ifTaken (c .blacklist .disposition) (some (c .blacklist .value)) none ≡ ifTaken (d .blacklist .disposition) (some (d .blacklist .value)) none
+  pub rate : ifTaken (c .rate .disposition) (some (c .rate .value)) none ≡ ifTaken (d .rate .disposition) (some (d .rate .value)) none
 
 -- ---- readings leave nothing in those places: a payload w that says what two others say, merged, reads as exactly that
 abbrev pub ReadsExactly : Type 0

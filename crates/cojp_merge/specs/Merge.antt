@@ -3,36 +3,36 @@ use mathlib.Core.Bool.{cond, _&&_}
 use Rattle.refusal.specs.declared.Refusal.the-variants.{Range}
 use Rattle.refusal.specs.declared.Verdict.the-variants.{Accepted, Refused}
 use Rattle.cojp.specs.Configuration.{emptyConfiguration}
-use Rattle.cojp.specs.Faults.{noFaults}
+use Rattle.cojp.specs.ErrorReports.{noErrorReports}
 use Rattle.cojp.specs.Lists.{noListParameter}
 use Rattle.cojp.specs.Rate.{noRateParameter}
 use Rattle.cojp.specs.Reading.{ifTaken}
 use Rattle.cojp.specs.Writing.{configurationInRange}
 use Rattle.cojp.specs.declared.configuration.Configuration.{Configuration}
-use Rattle.cojp.specs.declared.report.Report.the-variants.{Absent}
+use Rattle.cojp.specs.declared.disposition.Disposition.the-variants.{Absent}
 use Rattle.cojp.specs.declared.version.Version.the-variants.{Draft}
-use Rattle.cojp_merge.specs.declared.Merged.{Merged}
+use Rattle.cojp_merge.specs.declared.MergeResult.{MergeResult}
 
 -- each parameter with its report from the second where that is taken, else from the first; a key set whole, a lease with its address. What is
 -- merged is ours to write, so no label came or was passed over, and the draft has no blacklist and no join rate
 abbrev pub merged : Configuration → Configuration → Configuration
 merged first second = record {
-  keys = ifTaken (second .keys .report) (second .keys) (first .keys);
-  address = ifTaken (second .address .report) (second .address) (first .address);
-  jrc = ifTaken (second .jrc .report) (second .jrc) (first .jrc);
-  network = ifTaken (second .network .report) (second .network) (first .network);
-  prefix = ifTaken (second .prefix .report) (second .prefix) (first .prefix);
+  keys = ifTaken (second .keys .disposition) (second .keys) (first .keys);
+  address = ifTaken (second .address .disposition) (second .address) (first .address);
+  jrc = ifTaken (second .jrc .disposition) (second .jrc) (first .jrc);
+  network = ifTaken (second .network .disposition) (second .network) (first .network);
+  prefix = ifTaken (second .prefix .disposition) (second .prefix) (first .prefix);
   blacklist = noListParameter Absent;
   rate = noRateParameter Absent;
-  came = noFaults;
-  passed = 0;
+  labels = noErrorReports;
+  unknown = 0;
 }
 
 -- ---- the answer: RANGE where either is outside its limits, and the empty configuration beside it
-abbrev pub outsideLimits : Merged
+abbrev pub outsideLimits : MergeResult
 outsideLimits = record { verdict = Refused Range; configuration = emptyConfiguration }
 
-unfoldable pub mergeAnswer : Configuration → Configuration → Merged
+unfoldable pub mergeAnswer : Configuration → Configuration → MergeResult
 mergeAnswer first second =
     cond (configurationInRange Draft first && configurationInRange Draft second)
     (record { verdict = Accepted; configuration = merged first second })

@@ -1,16 +1,16 @@
 // A short address goes over with its lease: one without a lease ends the lease of the first.
 use cojp::AddressParameter;
-use cojp::Report;
+use cojp::Disposition;
 ghost use mathlib.Core.Path.{_≡_};
 ghost use Rattle.cojp.specs.Reading.{ifTaken};
 
 pub fn later_address(first: AddressParameter, second: AddressParameter) -> AddressParameter
-    ensures { λ r. ⌜ r ≡ ifTaken (second .report) second first ⌝ }
+    ensures { λ r. ⌜ r ≡ ifTaken (second .disposition) second first ⌝ }
 {
-    let report = second.report;
+    let report = second.disposition;
     match report {
-        Report::Taken => second,
-        Report::Absent => first,
-        Report::Discarded => first,
+        Disposition::Taken => second,
+        Disposition::Absent => first,
+        Disposition::Discarded => first,
     }
 }

@@ -6,10 +6,10 @@ mod octets;
 
 use address::later_address;
 use cojp::Configuration;
-use cojp::Report;
+use cojp::Disposition;
 use cojp::Version;
 use cojp::empty_configuration;
-use cojp::no_faults;
+use cojp::no_error_reports;
 use cojp::no_list;
 use cojp::no_rate;
 use cojp_range::configuration_in_range;
@@ -23,16 +23,16 @@ ghost use Rattle.cojp_merge.specs.Merge.{merged, mergeAnswer, outsideLim
 ghost use Rattle.cojp_merge.specs.Laws.{MergeLaws};
 
 // Beside a refusal stands the empty configuration.
-pub struct Merged {
+pub struct MergeResult {
     pub verdict: Verdict,
     pub configuration: Configuration,
 }
 
-fn outside_limits() -> Merged
+fn outside_limits() -> MergeResult
     ensures { λ r. ⌜ r ≡ outsideLimits ⌝ }
 {
     let none = empty_configuration();
-    Merged {
+    MergeResult {
         verdict: Verdict::Refused(Refusal::Range),
         configuration: none,
     }
@@ -46,9 +46,9 @@ fn merge_parameters(first: Configuration, second: Configuration) -> Configuratio
     let jrc = later_octets(first.jrc, second.jrc);
     let network = later_octets(first.network, second.network);
     let prefix = later_octets(first.prefix, second.prefix);
-    let blacklist = no_list(Report::Absent);
-    let rate = no_rate(Report::Absent);
-    let came = no_faults();
+    let blacklist = no_list(Disposition::Absent);
+    let rate = no_rate(Disposition::Absent);
+    let met = no_error_reports();
     Configuration {
         keys: keys,
         address: address,
@@ -57,14 +57,14 @@ fn merge_parameters(first: Configuration, second: Configuration) -> Configuratio
         prefix: prefix,
         blacklist: blacklist,
         rate: rate,
-        came: came,
-        passed: 0,
+        labels: met,
+        unknown: 0,
     }
 }
 
 // Joins two configurations. RANGE where either holds a taken parameter outside its limits, even one that the other overrides; what only the
 // published form has is outside them.
-pub fn merge(first: Configuration, second: Configuration) -> Merged
+pub fn merge(first: Configuration, second: Configuration) -> MergeResult
     ensures { λ r. ⌜ r ≡ mergeAnswer first second ⌝ }
 {
     if !configuration_in_range(Version::Draft, first) {
@@ -74,7 +74,7 @@ pub fn merge(first: Configuration, second: Configuration) -> Merged
         return outside_limits();
     }
     let configuration = merge_parameters(first, second);
-    Merged {
+    MergeResult {
         verdict: Verdict::Accepted,
         configuration: configuration,
     }

@@ -1,16 +1,16 @@
 // A byte string: the JRC address, the network identifier or the prefix.
+use cojp::Disposition;
 use cojp::OctetsParameter;
-use cojp::Report;
 ghost use mathlib.Core.Path.{_≡_};
 ghost use Rattle.cojp.specs.Reading.{ifTaken};
 
 pub fn later_octets(first: OctetsParameter, second: OctetsParameter) -> OctetsParameter
-    ensures { λ r. ⌜ r ≡ ifTaken (second .report) second first ⌝ }
+    ensures { λ r. ⌜ r ≡ ifTaken (second .disposition) second first ⌝ }
 {
-    let report = second.report;
+    let report = second.disposition;
     match report {
-        Report::Taken => second,
-        Report::Absent => first,
-        Report::Discarded => first,
+        Disposition::Taken => second,
+        Disposition::Absent => first,
+        Disposition::Discarded => first,
     }
 }

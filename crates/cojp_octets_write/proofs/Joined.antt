@@ -6,7 +6,7 @@ use native.Mathlib.Omega.{arith}
 use native.Mathlib.Nat.{suc-add, zero-add}
 use lib.ListN.{length, take, drop, length-append}
 use Rattle.cbor.specs.Answer.{Did, Wrote, emit}
-use Rattle.cbor.specs.declared.write.Written.{Written}
+use Rattle.cbor.specs.declared.write.WriteResult.{WriteResult}
 use Rattle.cbor.specs.Encode.{shortest, encode, encodes, encodePairs}
 use Rattle.cbor.specs.Item.{Item, Items, Pairs, none, more, empty, pair, array, count, countPairs}
 use Rattle.cbor.specs.Writing.{seam}
@@ -67,7 +67,7 @@ array-length n is = ap length (array-bytes n is) ∙ length-append (shortest 0 n
 pub wrote-same : {ps qs : Pairs} {d d′ : List ℕ} {n : ℕ} → ps ≡ qs → Wrote (encodePairs qs) d n d′ → Wrote (encodePairs ps) d n d′
 wrote-same e w = rw e w
 
-pub did-same : {ps qs : Pairs} {d d′ : List ℕ} {r : Written} → ps ≡ qs → Did (emit (encodePairs qs)) d r d′ → Did (emit (encodePairs ps)) d r d′
+pub did-same : {ps qs : Pairs} {d d′ : List ℕ} {r : WriteResult} → ps ≡ qs → Did (emit (encodePairs qs)) d r d′ → Did (emit (encodePairs ps)) d r d′
 did-same e w = rw e w
 
 pub same-room : {ps qs : Pairs} (n : ℕ) → ps ≡ qs → length (encodePairs ps) ≤ n → length (encodePairs qs) ≤ n

@@ -14,18 +14,18 @@ use Rattle.cbor.specs.Answer.{Did, Wrote, emit, headPlan}
 use Rattle.cbor.specs.Encode.{shortest, encodePairs, extraOf}
 use Rattle.cbor.specs.HeadLaws.{HeadLaws}
 use Rattle.cbor.specs.Item.{array, empty, countPairs}
-use Rattle.cbor.specs.View.{Plain}
+use Rattle.cbor.specs.View.{Scalar}
 use Rattle.cbor.specs.Writing.{did-emit, did-kept, did-room, did-refuse, head-did, seam, wrote-as, wrote-length}
-use Rattle.cbor.specs.declared.write.Written.{Written}
-use Rattle.cbor.specs.declared.write.Written.the-variants as wv
+use Rattle.cbor.specs.declared.write.WriteResult.{WriteResult}
+use Rattle.cbor.specs.declared.write.WriteResult.the-variants as wv
 use Rattle.cojp.specs.Lists.{Picked, bytesIn, itemsIn, kept, sameAs, listAnswer, fitting, listPlan}
 use Rattle.cojp.specs.Bytes.{membersAt}
 use Rattle.cojp.specs.Reading.{ifTaken}
 use Rattle.cojp.specs.Writing.{labelled, listPairs, listInRange}
 use Rattle.cojp.specs.declared.list.ItemList.{ItemList}
 use Rattle.cojp.specs.declared.list.ListParameter.{ListParameter}
-use Rattle.cojp.specs.declared.report.Report.{Report}
-use Rattle.cojp.specs.declared.report.Report.the-variants.{Absent, Taken, Discarded}
+use Rattle.cojp.specs.declared.disposition.Disposition.{Disposition}
+use Rattle.cojp.specs.declared.disposition.Disposition.the-variants.{Absent, Taken, Discarded}
 use Rattle.cojp_list_read.specs.Laws.{ListWritten}
 use Rattle.cojp_octets_write.specs.Plan.{arrayBytes, listBytes, listCount, listFits, arrayPlan, listParameterPlan}
 use Rattle.cojp_octets_write.specs.Size.{Sizes}
@@ -46,7 +46,7 @@ module _ (heads : HeadLaws) (label : ℕ) (l : ItemList) {n m : ℕ} (e : n ≡ 
     whole : length (arrayBytes label l) ≡ n + m + l .len
     whole = omega (arith, array-length, length-take-le (l .len) (l .bytes) (omega arith))
 
-    planned : {r : Written} {d′ : List ℕ} → Did (emit (arrayBytes label l)) d r d′ → Did (arrayPlan label l) d r d′
+    planned : {r : WriteResult} {d′ : List ℕ} → Did (emit (arrayBytes label l)) d r d′ → Did (arrayPlan label l) d r d′
     unfolding arrayPlan
     planned w = rw (le-leb (l .len) 253 i) w
 
@@ -54,7 +54,7 @@ module _ (heads : HeadLaws) (label : ℕ) (l : ItemList) {n m : ℕ} (e : n ≡ 
     array-room h = planned (did-room (arrayBytes label l) d (omega (arith, whole)))
 
     -- there is room; the label was written, and the destination is d′
-    module _ (h : n + m + l .len ≤ length d) {r : Written} {d′ : List ℕ} (w : Did (headPlan 0 label) d r d′) where
+    module _ (h : n + m + l .len ≤ length d) {r : WriteResult} {d′ : List ℕ} (w : Did (headPlan 0 label) d r d′) where
       label-wrote : Wrote (shortest 0 label) d n d′
       label-wrote =
           let k = did-kept (shortest 0 label) d r d′ (omega (arith, heads .length-head 0 label)) (head-did 0 label d r d′ (omega arith) w) in
@@ -63,12 +63,12 @@ module _ (heads : HeadLaws) (label : ℕ) (l : ItemList) {n m : ℕ} (e : n ≡ 
       label-kept : length d′ ≡ length d
       label-kept = wrote-length label-wrote (omega (arith, heads .length-head 0 label))
 
-      listed : {p e : List ℕ} {q : Written} → Did (listPlan l) p q e → Did (emit (shortest 4 (l .count) ++ bytesIn l)) p q e
+      listed : {p e : List ℕ} {q : WriteResult} → Did (listPlan l) p q e → Did (emit (shortest 4 (l .count) ++ bytesIn l)) p q e
       unfolding listPlan
       listed v = rw (le-leb (l .len) 253 i) at v
 
       -- the array was written to the part after the label, which now is p
-      pub array-done : (p : List ℕ) {q : Written} → Did (listPlan l) (take (length d′ - n) (drop n d′)) q p
+      pub array-done : (p : List ℕ) {q : WriteResult} → Did (listPlan l) (take (length d′ - n) (drop n d′)) q p
           → Did (arrayPlan label l) d (wv.Length (n + m + l .len)) (take n d′ ++ (p ++ drop (length d′ - n) (drop n d′)))
       array-done p {q} v =
           let part = take (length d′ - n) (drop n d′) in
@@ -83,44 +83,44 @@ unfolding arrayPlan
 array-range label l d h = rw (lt-leb (l .len) 253 h) (did-refuse Range d)
 
 -- ---- the parameter
-module _ (p : ListParameter) (t : Bool) (e : t ≡ ifTaken (p .report) true false) (h : t ≡ true) where
+module _ (p : ListParameter) (t : Bool) (e : t ≡ ifTaken (p .disposition) true false) (h : t ≡ true) where
   pub list-size : HeadLaws → (label : ℕ) {n m k : ℕ} → n ≡ extraOf label + 1 → m ≡ extraOf (p .value .count) + 1 → k ≡ length (bytesIn (p .value)) → k ≤ 253
       → Sizes (listCount p) (listBytes label p) 1 271 (record { members = 1; bytes = n + m + k })
   list-size heads label {n} {m} {k} f g i j =
-      rw (taken-is {A = ℕ} (p .report) 1 0 t e h, taken-is (p .report) (arrayBytes label (p .value)) [] t e h) (record {
+      rw (taken-is {A = ℕ} (p .disposition) 1 0 t e h, taken-is (p .disposition) (arrayBytes label (p .value)) [] t e h) (record {
         members = refl;
         bytes = omega (arith, array-length heads label (p .value) f g);
         few = omega arith;
         small = omega (arith, array-heads heads label (p .value) f g);
       })
 
-module _ (p : ListParameter) (t : Bool) (e : t ≡ ifTaken (p .report) true false) (h : t ≡ false) where
+module _ (p : ListParameter) (t : Bool) (e : t ≡ ifTaken (p .disposition) true false) (h : t ≡ false) where
   pub list-none : (label : ℕ) {s : Size} → Sizes 0 [] 0 0 s → Sizes (listCount p) (listBytes label p) 1 271 s
   list-none label z =
-      rw (taken-not {A = ℕ} (p .report) 1 0 t e h, taken-not (p .report) (arrayBytes label (p .value)) [] t e h) (sizes-most 1 271 (omega arith) (omega arith) z)
+      rw (taken-not {A = ℕ} (p .disposition) 1 0 t e h, taken-not (p .disposition) (arrayBytes label (p .value)) [] t e h) (sizes-most 1 271 (omega arith) (omega arith) z)
 
 -- ---- in range, a list's pair is its label, the head of its count and its bytes
-module _ (f : List Plain → Picked) (law : ListWritten f) (label : ℕ) (p : ListParameter) (h : listInRange f p ≡ true) where
-  go : (r : Report) → ifTaken r (kept f (p .value)) true ≡ true
+module _ (f : List Scalar → Picked) (law : ListWritten f) (label : ℕ) (p : ListParameter) (h : listInRange f p ≡ true) where
+  go : (r : Disposition) → ifTaken r (kept f (p .value)) true ≡ true
       → encodePairs (ifTaken r (labelled label (array (itemsIn f (p .value)))) empty) ≡ ifTaken r (arrayBytes label (p .value)) []
   go Absent k = refl
   go Taken k = labelled-bytes label (array (itemsIn f (p .value))) ∙ ap (λ (s : List ℕ). shortest 0 label ++ s) (law (p .value) k)
   go Discarded k = refl
 
   pub list-bytes : encodePairs (listPairs label f p) ≡ listBytes label p
-  list-bytes = go (p .report) h
+  list-bytes = go (p .disposition) h
 
-pub list-count : (f : List Plain → Picked) (label : ℕ) (p : ListParameter) → countPairs (listPairs label f p) ≡ listCount p
-list-count f label p = go (p .report)
+pub list-count : (f : List Scalar → Picked) (label : ℕ) (p : ListParameter) → countPairs (listPairs label f p) ≡ listCount p
+list-count f label p = go (p .disposition)
   where
-    go : (r : Report) → countPairs (ifTaken r (labelled label (array (itemsIn f (p .value)))) empty) ≡ ifTaken r 1 0
+    go : (r : Disposition) → countPairs (ifTaken r (labelled label (array (itemsIn f (p .value)))) empty) ≡ ifTaken r 1 0
     go Absent = refl
     go Taken = refl
     go Discarded = refl
 
 -- what a caller that has judged the list learns
-module _ (f : List Plain → Picked) (p : ListParameter) where
-  kept-fits : (r : Report) → ifTaken r (kept f (p .value)) true ≡ true → ifTaken r (leb (p .value .len) 253) true ≡ true
+module _ (f : List Scalar → Picked) (p : ListParameter) where
+  kept-fits : (r : Disposition) → ifTaken r (kept f (p .value)) true ≡ true → ifTaken r (leb (p .value .len) 253) true ≡ true
   unfolding kept
   kept-fits Absent k = refl
   kept-fits Taken k =
@@ -128,15 +128,15 @@ module _ (f : List Plain → Picked) (p : ListParameter) where
   kept-fits Discarded k = refl
 
   pub list-fits : listInRange f p ≡ true → listFits p ≡ true
-  list-fits h = kept-fits (p .report) h
+  list-fits h = kept-fits (p .disposition) h
 
 module _ (label : ℕ) (p : ListParameter) (h : listFits p ≡ true) where
-  plan : (r : Report) → ifTaken r (leb (p .value .len) 253) true ≡ true
+  plan : (r : Disposition) → ifTaken r (leb (p .value .len) 253) true ≡ true
       → ifTaken r (arrayPlan label (p .value)) (emit []) ≡ emit (ifTaken r (arrayBytes label (p .value)) [])
   unfolding arrayPlan
   plan Absent k = refl
   plan Taken k = simp k
   plan Discarded k = refl
 
-  pub list-did : {d d′ : List ℕ} {r : Written} → Did (listParameterPlan label p) d r d′ → Did (emit (listBytes label p)) d r d′
-  list-did w = rw (plan (p .report) h) at w
+  pub list-did : {d d′ : List ℕ} {r : WriteResult} → Did (listParameterPlan label p) d r d′ → Did (emit (listBytes label p)) d r d′
+  list-did w = rw (plan (p .disposition) h) at w

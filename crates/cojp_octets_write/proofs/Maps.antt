@@ -10,8 +10,8 @@ use Rattle.cbor.specs.Answer.{Did, Wrote, emit, refuse, headPlan}
 use Rattle.cbor.specs.Encode.{shortest, encode, encodePairs}
 use Rattle.cbor.specs.HeadLaws.{HeadLaws}
 use Rattle.cbor.specs.Item.{Pairs, map, countPairs}
-use Rattle.cbor.specs.declared.write.Written.{Written}
-use Rattle.cbor.specs.declared.write.Written.the-variants as written
+use Rattle.cbor.specs.declared.write.WriteResult.{WriteResult}
+use Rattle.cbor.specs.declared.write.WriteResult.the-variants as written
 use Rattle.cbor.specs.Writing.{did-room, did-emit, did-kept, head-did, wrote-as}
 use Rattle.cojp.specs.Writing.{fits}
 use Rattle.cojp_octets_write.specs.Size.{PairsSize}
@@ -19,7 +19,7 @@ use Rattle.cojp_octets_write.specs.declared.size.Size.{Size}
 
 module _ (heads : HeadLaws) where
   -- a head of one byte that has room
-  pub short-wrote : (m n : ℕ) {d d′ : List ℕ} {r : Written} → m ≤ 7 → n ≤ 23 → 1 ≤ length d → Did (headPlan m n) d r d′ → Wrote (shortest m n) d 1 d′
+  pub short-wrote : (m n : ℕ) {d d′ : List ℕ} {r : WriteResult} → m ≤ 7 → n ≤ 23 → 1 ≤ length d → Did (headPlan m n) d r d′ → Wrote (shortest m n) d 1 d′
   short-wrote m n {d} {d′} {r} h l f w =
       let one = heads .short-head m n l in
       wrote-as 1 (sym one) (did-kept (shortest m n) d r d′ (omega arith) (head-did m n d r d′ h w))

@@ -6,8 +6,8 @@ use Prim.Native.Nat.{ℕ}
 use Rattle.refusal.specs.declared.Refusal.the-variants.{Range}
 use Rattle.cbor.specs.Answer.{Plan, Did, emit}
 use Rattle.cbor.specs.Encode.{encodePairs}
-use Rattle.cbor.specs.declared.write.Written.{Written}
-use Rattle.cbor.specs.declared.write.Written.the-variants.{Refused}
+use Rattle.cbor.specs.declared.write.WriteResult.{WriteResult}
+use Rattle.cbor.specs.declared.write.WriteResult.the-variants.{Refused}
 use Rattle.cbor.specs.Writing.{did-refuse}
 use Rattle.cojp.specs.Writing.{octetsPairs}
 use Rattle.cojp.specs.declared.octets.OctetsParameter.{OctetsParameter}
@@ -18,7 +18,7 @@ module _ (label : ℕ) (p : OctetsParameter) where
   unfolding octetsPlan
   string-range d h = rw h (did-refuse Range d)
 
-  module _ (h : stringInRange label p ≡ true) {d d′ : List ℕ} {r : Written} where
+  module _ (h : stringInRange label p ≡ true) {d d′ : List ℕ} {r : WriteResult} where
     pub string-emit : Did (emit (encodePairs (octetsPairs label p))) d r d′ → Did (octetsPlan label p) d r d′
     unfolding octetsPlan
     string-emit w = rw h w
@@ -29,5 +29,5 @@ module _ (label : ℕ) (p : OctetsParameter) where
     string-did w = rw h at w
 
 -- the same plan, otherwise put
-pub planned-as : {p q : Plan} {d d′ : List ℕ} {r : Written} → p ≡ q → Did q d r d′ → Did p d r d′
+pub planned-as : {p q : Plan} {d d′ : List ℕ} {r : WriteResult} → p ≡ q → Did q d r d′ → Did p d r d′
 planned-as e w = rw e w

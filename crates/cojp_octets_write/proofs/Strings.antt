@@ -10,8 +10,8 @@ use Rattle.cbor.specs.Answer.{Did, Wrote, emit, headPlan}
 use Rattle.cbor.specs.Encode.{shortest, encode, encodePairs, extraOf}
 use Rattle.cbor.specs.HeadLaws.{HeadLaws}
 use Rattle.cbor.specs.Item.{bytes, empty}
-use Rattle.cbor.specs.declared.write.Written.{Written}
-use Rattle.cbor.specs.declared.write.Written.the-variants as wv
+use Rattle.cbor.specs.declared.write.WriteResult.{WriteResult}
+use Rattle.cbor.specs.declared.write.WriteResult.the-variants as wv
 use Rattle.cbor.specs.Writing.{did-emit, did-kept, did-room, head-did, wrote-as, wrote-length}
 use Rattle.cojp.specs.Octets.{bytesIn}
 use Rattle.cojp.specs.Reading.{ifTaken}
@@ -47,7 +47,7 @@ module _ (heads : HeadLaws) where
     string-refused g = did-room (encodePairs (labelled label (bytes s))) d (omega (arith, whole))
 
     -- there is room; the label was written, and the destination is d′
-    module _ (g : l + h + length s ≤ length d) {r : Written} {d′ : List ℕ} (w : Did (headPlan 0 label) d r d′) where
+    module _ (g : l + h + length s ≤ length d) {r : WriteResult} {d′ : List ℕ} (w : Did (headPlan 0 label) d r d′) where
       label-wrote : Wrote (shortest 0 label) d l d′
       label-wrote =
           let k = did-kept (shortest 0 label) d r d′ (omega (arith, heads .length-head 0 label)) (head-did 0 label d r d′ (omega arith) w) in
@@ -57,7 +57,7 @@ module _ (heads : HeadLaws) where
       label-kept = wrote-length label-wrote (omega (arith, heads .length-head 0 label))
 
       -- the byte string was written to the part after the label, which now is p
-      pub string-done : (p : List ℕ) {q : Written} → Did (emit (encode (bytes s))) (take (length d′ - l) (drop l d′)) q p
+      pub string-done : (p : List ℕ) {q : WriteResult} → Did (emit (encode (bytes s))) (take (length d′ - l) (drop l d′)) q p
           → Did (emit (encodePairs (labelled label (bytes s)))) d (wv.Length (l + h + length s)) (take l d′ ++ (p ++ drop (length d′ - l) (drop l d′)))
       string-done p {q} v =
           let part = take (length d′ - l) (drop l d′) in
@@ -66,9 +66,9 @@ module _ (heads : HeadLaws) where
           did-emit (omega (arith, whole)) (wrote-as (l + h + length s) (sym whole) w)
 
 -- ---- the parameter
-module _ (p : OctetsParameter) (t : Bool) (e : t ≡ ifTaken (p .report) true false) (h : t ≡ true) where
+module _ (p : OctetsParameter) (t : Bool) (e : t ≡ ifTaken (p .disposition) true false) (h : t ≡ true) where
   octets-taken : (n : ℕ) → octetsPairs n p ≡ labelled n (bytes (bytesIn (p .value)))
-  octets-taken n = taken-is (p .report) (labelled n (bytes (bytesIn (p .value)))) empty t e h
+  octets-taken n = taken-is (p .disposition) (labelled n (bytes (bytesIn (p .value)))) empty t e h
 
   pub octets-known : (n : ℕ) {k : ℕ} → k ≡ length (bytesIn (p .value)) → octetsPairs n p ≡ labelled n (bytes (take k (p .value .bytes)))
   octets-known n f = octets-taken n ∙ rw (f, take-known (p .value .len) (p .value .bytes))

@@ -29,18 +29,18 @@ arrayBytes label l = shortest 0 label ++ (shortest 4 (l .count) ++ bytesIn l)
 
 -- the same of a parameter: nothing where it is not taken
 abbrev pub listBytes : ℕ → ListParameter → List ℕ
-listBytes label p = ifTaken (p .report) (arrayBytes label (p .value)) []
+listBytes label p = ifTaken (p .disposition) (arrayBytes label (p .value)) []
 
 abbrev pub listCount : ListParameter → ℕ
-listCount p = ifTaken (p .report) 1 0
+listCount p = ifTaken (p .disposition) 1 0
 
 -- it has no more bytes than its array
 abbrev pub listFits : ListParameter → Bool
-listFits p = ifTaken (p .report) (leb (p .value .len) 253) true
+listFits p = ifTaken (p .disposition) (leb (p .value .len) 253) true
 
 -- RANGE where it has more
 unfoldable pub arrayPlan : ℕ → ItemList → Plan
 arrayPlan label l = cond (leb (l .len) 253) (emit (arrayBytes label l)) (refuse Range)
 
 abbrev pub listParameterPlan : ℕ → ListParameter → Plan
-listParameterPlan label p = ifTaken (p .report) (arrayPlan label (p .value)) (emit [])
+listParameterPlan label p = ifTaken (p .disposition) (arrayPlan label (p .value)) (emit [])

@@ -1,7 +1,7 @@
 // Parameters that are arrays kept as they are written (RFC 9031): the blacklist, the unsupported configuration.
 use crate::size::Size;
 use crate::size::no_size;
-use cbor::Written;
+use cbor::WriteResult;
 use cbor_write::head_len;
 use cbor_write::write_head;
 use cojp::ItemList;
@@ -33,7 +33,7 @@ pub fn list_size(label: u64, p: ListParameter) -> Size
     ensures { λ r. ⌜ Sizes (listCount p) (listBytes label p) 1 271 r ⌝ }
 {
     cbor::head_laws();
-    let report = p.report;
+    let report = p.disposition;
     if is_taken(report) {
         return Size {
             members: 1,
@@ -44,31 +44,31 @@ pub fn list_size(label: u64, p: ListParameter) -> Size
 }
 
 // Writes a label and the array that a list is: RANGE, ROOM, or the length written.
-fn write_array(dst: &mut [u8], label: u64, l: ItemList) -> Written
+fn write_array(dst: &mut [u8], label: u64, l: ItemList) -> WriteResult
     ensures { λ r. ⌜ Did (arrayPlan label l) (now (dst .entry)) r (now (dst .exit)) ⌝ }
 {
     cbor::head_laws();
     let len = l.len;
     if 253 < len {
-        return Written::Refused(Refusal::Range);
+        return WriteResult::Refused(Refusal::Range);
     }
     let n = head_len(label);
     let whole = n + head_len(l.count) + len;
     if dst.len() < whole {
-        return Written::Refused(Refusal::Room);
+        return WriteResult::Refused(Refusal::Room);
     }
     write_head(dst, 0, label);
     write_list(&mut dst[n..], l);
-    Written::Length(whole)
+    WriteResult::Length(whole)
 }
 
 // Writes a parameter under a label, where it is taken: RANGE, ROOM, or the length written.
-pub fn write_list_parameter(dst: &mut [u8], label: u64, p: ListParameter) -> Written
+pub fn write_list_parameter(dst: &mut [u8], label: u64, p: ListParameter) -> WriteResult
     ensures { λ r. ⌜ Did (listParameterPlan label p) (now (dst .entry)) r (now (dst .exit)) ⌝ }
 {
-    let report = p.report;
+    let report = p.disposition;
     if is_taken(report) {
         return write_array(dst, label, p.value);
     }
-    Written::Length(0)
+    WriteResult::Length(0)
 }

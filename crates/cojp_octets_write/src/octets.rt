@@ -1,7 +1,7 @@
 // Parameters that are byte strings: the network identifier, the prefix, the JRC address.
 use crate::size::Size;
 use crate::size::no_size;
-use cbor::Written;
+use cbor::WriteResult;
 use cbor_write::head_len;
 use cbor_write::write_bytes;
 use cbor_write::write_head;
@@ -38,7 +38,7 @@ pub fn octets_size(label: u64, p: OctetsParameter) -> Size
     ensures { λ r. ⌜ PairsSize (octetsPairs label p) 1 26 r ⌝ }
 {
     cbor::head_laws();
-    let report = p.report;
+    let report = p.disposition;
     if is_taken(report) {
         return Size {
             members: 1,
@@ -49,7 +49,7 @@ pub fn octets_size(label: u64, p: OctetsParameter) -> Size
 }
 
 // Writes a label and a byte string: ROOM, or the length written.
-fn write_string(dst: &mut [u8], label: u64, s: &[u8]) -> Written
+fn write_string(dst: &mut [u8], label: u64, s: &[u8]) -> WriteResult
     ensures { λ r. ⌜ Did (emit (encodePairs (labelled label (bytes (now (s .entry)))))) (now (dst .entry)) r (now (dst .exit)) ⌝ }
 {
     cbor::head_laws();
@@ -57,24 +57,24 @@ fn write_string(dst: &mut [u8], label: u64, s: &[u8]) -> Written
     let l = head_len(label);
     let whole = l + head_len(n as u64) + n;
     if dst.len() < whole {
-        return Written::Refused(Refusal::Room);
+        return WriteResult::Refused(Refusal::Room);
     }
     write_head(dst, 0, label);
     write_bytes(&mut dst[l..], s);
-    Written::Length(whole)
+    WriteResult::Length(whole)
 }
 
 // What is in range, where it is taken: ROOM, or the length written.
-fn emit_octets(dst: &mut [u8], label: u64, p: OctetsParameter) -> Written
+fn emit_octets(dst: &mut [u8], label: u64, p: OctetsParameter) -> WriteResult
     ensures { λ r. ⌜ Did (emit (encodePairs (octetsPairs label p))) (now (dst .entry)) r (now (dst .exit)) ⌝ }
 {
     let len = known_len(p.value);
     let bytes = p.value.bytes;
-    let report = p.report;
+    let report = p.disposition;
     if is_taken(report) {
         return write_string(dst, label, &bytes[..len]);
     }
-    Written::Length(0)
+    WriteResult::Length(0)
 }
 
 // A JRC address, label 4, has 16 bytes; any other byte string at most 16.
@@ -88,11 +88,11 @@ fn string_in_range(label: u64, p: OctetsParameter) -> bool
 }
 
 // Writes a parameter under a label, where it is taken: RANGE, ROOM, or the length written.
-pub fn write_octets(dst: &mut [u8], label: u64, p: OctetsParameter) -> Written
+pub fn write_octets(dst: &mut [u8], label: u64, p: OctetsParameter) -> WriteResult
     ensures { λ r. ⌜ Did (octetsPlan label p) (now (dst .entry)) r (now (dst .exit)) ⌝ }
 {
     if string_in_range(label, p) {
         return emit_octets(dst, label, p);
     }
-    Written::Refused(Refusal::Range)
+    WriteResult::Refused(Refusal::Range)
 }

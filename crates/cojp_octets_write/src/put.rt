@@ -1,7 +1,7 @@
 // Writers for which there is room: they answer the length written.
 use crate::list::write_list_parameter;
 use crate::octets::write_octets;
-use cbor::Written;
+use cbor::WriteResult;
 use cbor_write::write_head;
 use cojp::ListParameter;
 use cojp::OctetsParameter;
@@ -21,8 +21,8 @@ pub fn put_head(dst: &mut [u8], major: u8, argument: u64) -> usize
 {
     let w = write_head(dst, major, argument);
     match w {
-        Written::Refused(_) => 0,
-        Written::Length(n) => n,
+        WriteResult::Refused(_) => 0,
+        WriteResult::Length(n) => n,
     }
 }
 
@@ -33,8 +33,8 @@ pub fn put_octets(dst: &mut [u8], label: u64, p: OctetsParameter) -> usize
 {
     let w = write_octets(dst, label, p);
     match w {
-        Written::Refused(_) => 0,
-        Written::Length(n) => n,
+        WriteResult::Refused(_) => 0,
+        WriteResult::Length(n) => n,
     }
 }
 
@@ -45,7 +45,7 @@ pub fn put_list(dst: &mut [u8], label: u64, p: ListParameter) -> usize
 {
     let w = write_list_parameter(dst, label, p);
     match w {
-        Written::Refused(_) => 0,
-        Written::Length(n) => n,
+        WriteResult::Refused(_) => 0,
+        WriteResult::Length(n) => n,
     }
 }

@@ -1,7 +1,7 @@
 -- A configuration's parameters are judged in turn, and then what its form asks besides.
 use mathlib.Core.Path.{_≡_}
 use mathlib.Core.Bool.{true, false}
-use Rattle.cojp.specs.Writing.{keysInRange, addressInRange, jrcInRange, octetsInRange, ofForm, configurationInRange}
+use Rattle.cojp.specs.Writing.{keysInRange, addressInRange, jrcInRange, octetsInRange, ofVersion, configurationInRange}
 use Rattle.cojp.specs.declared.configuration.Configuration.{Configuration}
 use Rattle.cojp.specs.declared.version.Version.{Version}
 
@@ -10,7 +10,7 @@ module _ (v : Version) (c : Configuration) where
     module _ (d : addressInRange (c .address) ≡ true) where
       module _ (e : jrcInRange (c .jrc) ≡ true) where
         module _ (f : octetsInRange (c .network) ≡ true) where
-          pub in-range-6 : octetsInRange (c .prefix) ≡ true → ofForm v c ≡ configurationInRange v c
+          pub in-range-6 : octetsInRange (c .prefix) ≡ true → ofVersion v c ≡ configurationInRange v c
           unfolding configurationInRange
           in-range-6 g = simp (b, d, e, f, g)
 

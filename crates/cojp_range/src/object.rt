@@ -13,15 +13,15 @@ use cojp::ListParameter;
 use cojp::Version;
 ghost use mathlib.Core.Bool.{_&&_};
 ghost use mathlib.Core.Path.{_≡_};
-ghost use Rattle.cojp.specs.Lists.{stringsIn, faultsIn, some};
+ghost use Rattle.cojp.specs.Lists.{stringsIn, errorReportsIn, some};
 ghost use Rattle.cojp.specs.Version.{byVersion};
-ghost use Rattle.cojp.specs.Writing.{missing, listInRange, keysPlain, ofForm, requestInRange, configurationInRange};
+ghost use Rattle.cojp.specs.Writing.{missing, listInRange, keysWithoutAdditionalInfo, ofVersion, requestInRange, configurationInRange};
 
 // The draft has no reports of what a node could not act on.
 fn reports_in_range(version: Version, p: ListParameter) -> bool
-    ensures { λ r. ⌜ r ≡ byVersion version (missing (p .report)) (listInRange (some faultsIn) p) ⌝ }
+    ensures { λ r. ⌜ r ≡ byVersion version (missing (p .disposition)) (listInRange (some errorReportsIn) p) ⌝ }
 {
-    let report = p.report;
+    let report = p.disposition;
     match version {
         Version::Draft => is_missing(report),
         Version::Published => unsupported_in_range(p),
@@ -42,12 +42,12 @@ pub fn request_in_range(version: Version, q: JoinRequest) -> bool
 
 // The draft's keys have no additional information, and it has no blacklist and no join rate.
 fn draft_form(c: Configuration) -> bool
-    ensures { λ r. ⌜ r ≡ (keysPlain (c .keys) && missing (c .blacklist .report) && missing (c .rate .report)) ⌝ }
+    ensures { λ r. ⌜ r ≡ (keysWithoutAdditionalInfo (c .keys) && missing (c .blacklist .disposition) && missing (c .rate .disposition)) ⌝ }
 {
     let blacklist = c.blacklist;
-    let listed = blacklist.report;
+    let listed = blacklist.disposition;
     let rate = c.rate;
-    let rated = rate.report;
+    let rated = rate.disposition;
     if !keys_plain(c.keys) {
         return false;
     }
@@ -59,12 +59,12 @@ fn draft_form(c: Configuration) -> bool
 
 // The published form has no network identifier and no prefix in a configuration.
 fn published_form(c: Configuration) -> bool
-    ensures { λ r. ⌜ r ≡ (missing (c .network .report) && missing (c .prefix .report) && listInRange stringsIn (c .blacklist)) ⌝ }
+    ensures { λ r. ⌜ r ≡ (missing (c .network .disposition) && missing (c .prefix .disposition) && listInRange stringsIn (c .blacklist)) ⌝ }
 {
     let network = c.network;
-    let named = network.report;
+    let named = network.disposition;
     let prefix = c.prefix;
-    let prefixed = prefix.report;
+    let prefixed = prefix.disposition;
     if !is_missing(named) {
         return false;
     }
@@ -75,7 +75,7 @@ fn published_form(c: Configuration) -> bool
 }
 
 fn of_form(version: Version, c: Configuration) -> bool
-    ensures { λ r. ⌜ r ≡ ofForm version c ⌝ }
+    ensures { λ r. ⌜ r ≡ ofVersion version c ⌝ }
 {
     match version {
         Version::Draft => draft_form(c),

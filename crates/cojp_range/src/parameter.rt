@@ -8,14 +8,14 @@ use cojp_list_read::is_blacklist;
 use cojp_list_read::is_unsupported;
 use short_address::is_address;
 ghost use mathlib.Core.Path.{_≡_};
-ghost use Rattle.cojp.specs.Lists.{stringsIn, faultsIn, some};
-ghost use Rattle.cojp.specs.Writing.{octetsInRange, jrcInRange, addressInRange, keysInRange, keysPlain, listInRange};
+ghost use Rattle.cojp.specs.Lists.{stringsIn, errorReportsIn, some};
+ghost use Rattle.cojp.specs.Writing.{octetsInRange, jrcInRange, addressInRange, keysInRange, keysWithoutAdditionalInfo, listInRange};
 
 // An identifier or a prefix has at most 16 bytes.
 pub fn octets_in_range(p: OctetsParameter) -> bool
     ensures { λ r. ⌜ r ≡ octetsInRange p ⌝ }
 {
-    let report = p.report;
+    let report = p.disposition;
     if is_taken(report) {
         return p.value.len <= 16;
     }
@@ -26,7 +26,7 @@ pub fn octets_in_range(p: OctetsParameter) -> bool
 pub fn jrc_in_range(p: OctetsParameter) -> bool
     ensures { λ r. ⌜ r ≡ jrcInRange p ⌝ }
 {
-    let report = p.report;
+    let report = p.disposition;
     if is_taken(report) {
         return p.value.len == 16;
     }
@@ -36,7 +36,7 @@ pub fn jrc_in_range(p: OctetsParameter) -> bool
 pub fn address_in_range(p: AddressParameter) -> bool
     ensures { λ r. ⌜ r ≡ addressInRange p ⌝ }
 {
-    let report = p.report;
+    let report = p.disposition;
     if is_taken(report) {
         let bytes = p.value.bytes;
         return is_address(bytes);
@@ -47,7 +47,7 @@ pub fn address_in_range(p: AddressParameter) -> bool
 pub fn keys_in_range(p: KeysParameter) -> bool
     ensures { λ r. ⌜ r ≡ keysInRange p ⌝ }
 {
-    let report = p.report;
+    let report = p.disposition;
     if is_taken(report) {
         return p.value.valid();
     }
@@ -56,11 +56,11 @@ pub fn keys_in_range(p: KeysParameter) -> bool
 
 // The draft's keys have no additional information.
 pub fn keys_plain(p: KeysParameter) -> bool
-    ensures { λ r. ⌜ r ≡ keysPlain p ⌝ }
+    ensures { λ r. ⌜ r ≡ keysWithoutAdditionalInfo p ⌝ }
 {
-    let report = p.report;
+    let report = p.disposition;
     if is_taken(report) {
-        return p.value.is_plain();
+        return p.value.has_no_additional_info();
     }
     true
 }
@@ -69,7 +69,7 @@ pub fn keys_plain(p: KeysParameter) -> bool
 pub fn blacklist_in_range(p: ListParameter) -> bool
     ensures { λ r. ⌜ r ≡ listInRange stringsIn p ⌝ }
 {
-    let report = p.report;
+    let report = p.disposition;
     if is_taken(report) {
         return is_blacklist(p.value);
     }
@@ -78,9 +78,9 @@ pub fn blacklist_in_range(p: ListParameter) -> bool
 
 // An unsupported configuration is an array of reports.
 pub fn unsupported_in_range(p: ListParameter) -> bool
-    ensures { λ r. ⌜ r ≡ listInRange (some faultsIn) p ⌝ }
+    ensures { λ r. ⌜ r ≡ listInRange (some errorReportsIn) p ⌝ }
 {
-    let report = p.report;
+    let report = p.disposition;
     if is_taken(report) {
         return is_unsupported(p.value);
     }

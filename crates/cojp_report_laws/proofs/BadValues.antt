@@ -7,21 +7,21 @@ use Rattle.link_key_set.specs.KeySet.{validKeys}
 use Rattle.short_address.specs.Address.{isAddress}
 use Rattle.cojp.specs.Address.{addressIn}
 use Rattle.cojp.specs.Configuration.{configurationTaking}
-use Rattle.cojp.specs.Faults.{added}
+use Rattle.cojp.specs.ErrorReports.{added}
 use Rattle.cojp.specs.KeySet.{groups, identified, used, valued}
-use Rattle.cojp.specs.Lists.{stringsIn, faultsIn}
+use Rattle.cojp.specs.Lists.{stringsIn, errorReportsIn}
 use Rattle.cojp.specs.Octets.{padded, octetsJudged}
 use Rattle.cojp.specs.Parameter.{parameterOf, laterParameter}
 use Rattle.cojp.specs.Rate.{rateTaken}
-use Rattle.cojp.specs.Reported.{faultsOf}
-use Rattle.cojp.specs.Request.{roleJudged, requestStanding, requestTaking, owing}
+use Rattle.cojp.specs.Reported.{errorReportsOf}
+use Rattle.cojp.specs.Request.{roleJudged, requestLabelStatus, requestTaking, owing}
 use Rattle.cojp.specs.Walk.{payloadReadBy}
 use Rattle.cojp_report_laws.specs.BadValues.{BadValues}
 
 pub bad-values : BadValues
 unfolding payloadBy infoOf decodeBy heading argument next digits members pairs majorOf shortest extraOf bytesOf validKey validKeys isAddress
-    addressIn configurationTaking added groups identified used valued stringsIn faultsIn padded octetsJudged parameterOf laterParameter
-    rateTaken faultsOf roleJudged requestStanding requestTaking owing payloadReadBy
+    addressIn configurationTaking added groups identified used valued stringsIn errorReportsIn padded octetsJudged parameterOf laterParameter
+    rateTaken errorReportsOf roleJudged requestLabelStatus requestTaking owing payloadReadBy
 bad-values = record {
   rows = (refl, (refl, (refl, (refl, (refl, (refl, (refl, (refl, tt))))))));
   no-hours = refl;

@@ -17,10 +17,10 @@ use Rattle.cbor.specs.View.{View, labelOf, viewOf}
 use Rattle.cbor.specs.declared.value.Label.{Label}
 use Rattle.cbor.specs.declared.value.Label.the-variants as label
 use Rattle.cojp.proofs.Walks.{Gives}
-use Rattle.cojp.specs.Reading.{Reading, refused, read, onward}
+use Rattle.cojp.specs.Reading.{Reading, refused, read, bind}
 use Rattle.cojp.specs.Walk.{Form, knownRead, pairRead, pairsRead, scannedRead, payloadReadBy}
-use Rattle.cojp.specs.declared.walk.Standing.{Standing}
-use Rattle.cojp.specs.declared.walk.Standing.the-variants.{Unknown, Fresh, Again}
+use Rattle.cojp.specs.declared.walk.LabelStatus.{LabelStatus}
+use Rattle.cojp.specs.declared.walk.LabelStatus.the-variants.{Unknown, First, Repeated}
 use Rattle.cojp_report_laws.proofs.Items.{viewSize, pairsSize, ViewFits, ValuesFit, Whole, payload-map}
 
 -- what holds of a payload's object, `used` bytes after the map's head being enough for it
@@ -33,13 +33,13 @@ pub record Within {S : Type 0} (R : ℕ → S → Type 0) (p : List ℕ) (s : S)
 module _ {S : Type 0} (F : Form S) (R : ℕ → S → Type 0)
     (wider : (m n : ℕ) (s : S) → m ≤ n → R m s → R n s)
     (passing : (m : ℕ) (s : S) → R m s → R m (F .passing s))
-    (taking : (m : ℕ) (s : S) → R m s → (n : ℕ) → F .standing s n ≡ Fresh → (v : View) → ViewFits v →
+    (taking : (m : ℕ) (s : S) → R m s → (n : ℕ) → F .standing s n ≡ First → (v : View) → ViewFits v →
     Gives (R (m + (1 + viewSize v))) (F .taking s n v)) where
-  known-bound : (m : ℕ) (s : S) → R m s → (x : Standing) (n : ℕ) → F .standing s n ≡ x → (v : View) → ViewFits v →
+  known-bound : (m : ℕ) (s : S) → R m s → (x : LabelStatus) (n : ℕ) → F .standing s n ≡ x → (v : View) → ViewFits v →
       Gives (R (m + (1 + viewSize v))) (knownRead F x s n v)
   known-bound m s h Unknown n e v f = wider m (m + (1 + viewSize v)) (F .passing s) (omega arith) (passing m s h)
-  known-bound m s h Fresh n e v f = taking m s h n e v f
-  known-bound m s h Again n e v f = tt
+  known-bound m s h First n e v f = taking m s h n e v f
+  known-bound m s h Repeated n e v f = tt
 
   pair-bound : (m : ℕ) (s : S) → R m s → (l : Label) (v : View) → ViewFits v → Gives (R (m + (1 + viewSize v))) (pairRead F s l v)
   pair-bound m s h label.NoInteger v f = tt
@@ -57,7 +57,7 @@ module _ {S : Type 0} (F : Form S) (R : ℕ → S → Type 0)
 
       by : (r : Reading S) → Gives (R (m + (1 + viewSize (viewOf v)))) r →
           ((n : ℕ) (t : S) → R n t → Gives (R (n + pairsSize ps)) (pairsRead F t ps)) →
-          Gives (R (m + pairsSize (pair k v ps))) (onward r (λ t. pairsRead F t ps))
+          Gives (R (m + pairsSize (pair k v ps))) (bind r (λ t. pairsRead F t ps))
       by (refused x) g rest = tt
       by (read t) g rest = wide (pairsRead F t ps) (rest (m + (1 + viewSize (viewOf v))) t g)
 

@@ -23,22 +23,22 @@ took-both P Q (refused k) p q = absurd p
 took-both P Q (read s) p q = (p, q)
 
 module _ {P : Type 0} (Told : View → P → Type 0) (absent : P) (n : ℕ) (p : P) where
-  pub came-others : (ks : List Known) (k : Known) → eqb n (k .label) ≡ false → CameAs Told absent n ks p →
+  pub met-others : (ks : List Known) (k : Known) → eqb n (k .label) ≡ false → CameAs Told absent n ks p →
       CameAs Told absent n (ks ++ (k ∷ [])) p
-  came-others [] k e h = rw e h
-  came-others (j ∷ ks) k e h = by (eqb n (j .label)) (came-others ks k e) h
+  met-others [] k e h = rw e h
+  met-others (j ∷ ks) k e h = by (eqb n (j .label)) (met-others ks k e) h
     where
       by : (b : Bool) → (CameAs Told absent n ks p → CameAs Told absent n (ks ++ (k ∷ [])) p) →
           Chosen b (Told (j .value) p) (CameAs Told absent n ks p) → Chosen b (Told (j .value) p) (CameAs Told absent n (ks ++ (k ∷ [])) p)
       by true f g = g
       by false f g = f g
 
-  pub came-first : (ks : List Known) (v : View) → isIn n (labelsOf ks) ≡ false → Told v p →
+  pub met-first : (ks : List Known) (v : View) → isIn n (labelsOf ks) ≡ false → Told v p →
       CameAs Told absent n (ks ++ (knownOf n v ∷ [])) p
-  came-first [] v e t = rw (eq-eqb n n refl) t
-  came-first (j ∷ ks) v e t =
+  met-first [] v e t = rw (eq-eqb n n refl) t
+  met-first (j ∷ ks) v e t =
       rw (neither-left (eqb n (j .label)) (isIn n (labelsOf ks)) e)
-      (came-first ks v (neither-right (eqb n (j .label)) (isIn n (labelsOf ks)) e) t)
+      (met-first ks v (neither-right (eqb n (j .label)) (isIn n (labelsOf ks)) e) t)
 
 -- ---- every known value is small in a small payload
 abbrev pub Small : List Known → Type 0

@@ -10,25 +10,25 @@ use borrow.Author.Tests.{eqb-true}
 use Rattle.cbor.specs.Strict.{headBy}
 use Rattle.cbor.specs.View.{View}
 use Rattle.cojp.specs.Address.{noAddressParameter, addressJudged, addressRead}
-use Rattle.cojp.specs.Configuration.{emptyConfiguration, withKeys, withAddress, withJrc, withBlacklist, withRate, withPassed, standingFor, noted, configurationTaking, configurationForm}
-use Rattle.cojp.specs.Faults.{faultOf}
+use Rattle.cojp.specs.Configuration.{emptyConfiguration, withKeys, withAddress, withJrc, withBlacklist, withRate, withUnknownCount, labelStatusFor, noted, configurationTaking, configurationForm}
+use Rattle.cojp.specs.ErrorReports.{errorReportOf}
 use Rattle.cojp.specs.KeySet.{noKeysParameter, keysJudgedAs, keysReadAs}
 use Rattle.cojp.specs.Lists.{listAnswer, fitting, inArray, stringsIn, blacklistTaken}
 use Rattle.cojp.specs.Octets.{noOctetsParameter, octetsJudged, octetsRead}
 use Rattle.cojp.specs.Parameter.{parameterOf, laterParameter}
 use Rattle.cojp.specs.Rate.{rateTaken}
-use Rattle.cojp.specs.Reading.{forgiven}
-use Rattle.cojp.specs.Walk.{standingOf, payloadReadBy}
+use Rattle.cojp.specs.Reading.{malformedAs}
+use Rattle.cojp.specs.Walk.{labelStatusOf, payloadReadBy}
 use Rattle.cojp.specs.declared.configuration.Configuration.{Configuration}
-use Rattle.cojp.specs.declared.fault.Fault.{Fault}
-use Rattle.cojp.specs.declared.report.Report.the-variants.{Discarded}
+use Rattle.cojp.specs.declared.error_report.ErrorReport.{ErrorReport}
+use Rattle.cojp.specs.declared.disposition.Disposition.the-variants.{Discarded}
 use Rattle.cojp.specs.declared.version.Version.the-variants.{Published}
 use Rattle.logic_facts.specs.Tests.{never}
 use Rattle.cojp_report_laws.specs.InOrder.{malformed, timesIn}
 use Rattle.cojp_report_laws.specs.Labels.{configurationLabels, isIn, Known, knownOf, labelsOf, knownIn, pairsIn, labelsVerdict, payloadVerdict}
 use Rattle.cojp_report_laws.proofs.Labels.{in-snoc, stood, standsBy, stays, comes, flag, flag-most, each-label}
 use Rattle.cojp_report_laws.proofs.Noting.{Holds, none-held, added-held}
-use Rattle.cojp_report_laws.proofs.Values.{keys-came, address-came, octets-came, list-came, rate-came}
+use Rattle.cojp_report_laws.proofs.Values.{keys-met, address-met, octets-met, list-met, rate-met}
 use Rattle.cojp_report_laws.proofs.Walk.{Took, Agrees, payload-agrees}
 
 -- ---- what came
@@ -40,11 +40,11 @@ pub five-most : (ls : List ℕ) → many ls ≤ 5
 five-most ls =
     omega (arith, flag-most (isIn 2 ls), flag-most (isIn 3 ls), flag-most (isIn 4 ls), flag-most (isIn 6 ls), flag-most (isIn 7 ls))
 
-malformed-snoc : (ks : List Known) (k : Known) → malformed (ks ++ (k ∷ [])) ≡ malformed ks ++ (faultOf 1 (k .label) ∷ [])
+malformed-snoc : (ks : List Known) (k : Known) → malformed (ks ++ (k ∷ [])) ≡ malformed ks ++ (errorReportOf 1 (k .label) ∷ [])
 malformed-snoc [] k = refl
-malformed-snoc (j ∷ ks) k = ap (λ (l : List Fault). faultOf 1 (j .label) ∷ l) (malformed-snoc ks k)
+malformed-snoc (j ∷ ks) k = ap (λ (l : List ErrorReport). errorReportOf 1 (j .label) ∷ l) (malformed-snoc ks k)
 
-times-snoc : (n : ℕ) (xs : List Fault) (x : Fault) → timesIn n (xs ++ (x ∷ [])) ≡ cond (eqb n (x .label)) (timesIn n xs + 1) (timesIn n xs)
+times-snoc : (n : ℕ) (xs : List ErrorReport) (x : ErrorReport) → timesIn n (xs ++ (x ∷ [])) ≡ cond (eqb n (x .label)) (timesIn n xs + 1) (timesIn n xs)
 times-snoc n [] x = refl
 times-snoc n (y ∷ xs) x =
     ap (λ (m : ℕ). cond (eqb n (y .label)) (m + 1) m) (times-snoc n xs x) ∙ by (eqb n (x .label)) (eqb n (y .label)) (timesIn n xs)
@@ -60,14 +60,14 @@ malformed-long [] = refl
 malformed-long (k ∷ ks) = ap suc (malformed-long ks)
 
 pub record Seen (ks : List Known) (c : Configuration) : Type 0 where
-  pub keys : standingOf (c .keys .report) ≡ stood (isIn 2 (labelsOf ks))
-  pub address : standingOf (c .address .report) ≡ stood (isIn 3 (labelsOf ks))
-  pub jrc : standingOf (c .jrc .report) ≡ stood (isIn 4 (labelsOf ks))
-  pub blacklist : standingOf (c .blacklist .report) ≡ stood (isIn 6 (labelsOf ks))
-  pub rate : standingOf (c .rate .report) ≡ stood (isIn 7 (labelsOf ks))
-  pub many-came : length ks ≡ many (labelsOf ks)
+  pub keys : labelStatusOf (c .keys .disposition) ≡ stood (isIn 2 (labelsOf ks))
+  pub address : labelStatusOf (c .address .disposition) ≡ stood (isIn 3 (labelsOf ks))
+  pub jrc : labelStatusOf (c .jrc .disposition) ≡ stood (isIn 4 (labelsOf ks))
+  pub blacklist : labelStatusOf (c .blacklist .disposition) ≡ stood (isIn 6 (labelsOf ks))
+  pub rate : labelStatusOf (c .rate .disposition) ≡ stood (isIn 7 (labelsOf ks))
+  pub many-met : length ks ≡ many (labelsOf ks)
   pub alone : (n : ℕ) → timesIn n (malformed ks) ≡ flag (isIn n (labelsOf ks))
-  pub came : Holds (c .came) (malformed ks)
+  pub met : Holds (c .labels) (malformed ks)
 
 pub none-seen : Seen [] emptyConfiguration
 none-seen = record {
@@ -76,29 +76,29 @@ none-seen = record {
   jrc = refl;
   blacklist = refl;
   rate = refl;
-  many-came = refl;
+  many-met = refl;
   alone = λ n. refl;
-  came = none-held;
+  met = none-held;
 }
 
-pub pass-seen : (ks : List Known) (c : Configuration) → Seen ks c → Seen ks (withPassed c (c .passed + 1))
+pub pass-seen : (ks : List Known) (c : Configuration) → Seen ks c → Seen ks (withUnknownCount c (c .unknown + 1))
 pass-seen ks c h = record {
   keys = h .keys;
   address = h .address;
   jrc = h .jrc;
   blacklist = h .blacklist;
   rate = h .rate;
-  many-came = h .many-came;
+  many-met = h .many-met;
   alone = h .alone;
-  came = h .came;
+  met = h .met;
 }
 
 -- ---- the standing of a label
 pub stands : (ks : List Known) (c : Configuration) → Seen ks c → (n : ℕ) →
-    standingFor c (parameterOf Published n) ≡ standsBy configurationLabels (labelsOf ks) n
+    labelStatusFor c (parameterOf Published n) ≡ standsBy configurationLabels (labelsOf ks) n
 unfolding parameterOf laterParameter
 stands ks c h n =
-    each-label (λ (m : ℕ). standingFor c (parameterOf Published m) ≡ standsBy configurationLabels (labelsOf ks) m) n
+    each-label (λ (m : ℕ). labelStatusFor c (parameterOf Published m) ≡ standsBy configurationLabels (labelsOf ks) m) n
     (h .keys) (h .address) (h .jrc) (h .blacklist) (h .rate) (λ a b d f g. rw (a, b, d, f, g))
 
 -- ---- one label more
@@ -108,18 +108,18 @@ module _ (ks : List Known) (c : Configuration) (h : Seen ks c) (v : View) where
   OneMore n = many (labelsOf (ks ++ (knownOf n v ∷ []))) ≡ many (labelsOf ks) + 1
 
   counted : (n : ℕ) → OneMore n → length (ks ++ (knownOf n v ∷ [])) ≡ many (labelsOf (ks ++ (knownOf n v ∷ [])))
-  counted n one = length-append ks (knownOf n v ∷ []) ∙ omega (arith, one, h .many-came)
+  counted n one = length-append ks (knownOf n v ∷ []) ∙ omega (arith, one, h .many-met)
 
-  noted-held : (n : ℕ) → OneMore n → Holds (noted Published n c .came) (malformed (ks ++ (knownOf n v ∷ [])))
+  noted-held : (n : ℕ) → OneMore n → Holds (noted Published n c .labels) (malformed (ks ++ (knownOf n v ∷ [])))
   noted-held n one =
       rw (malformed-snoc ks (knownOf n v))
-      (added-held (c .came) (malformed ks) 1 n (h .came)
-      (omega (arith, malformed-long ks, one, h .many-came, five-most (labelsOf (ks ++ (knownOf n v ∷ []))))))
+      (added-held (c .labels) (malformed ks) 1 n (h .met)
+      (omega (arith, malformed-long ks, one, h .many-met, five-most (labelsOf (ks ++ (knownOf n v ∷ []))))))
 
   alone-still : (m : ℕ) → isIn m (labelsOf ks) ≡ false → (n : ℕ) →
       timesIn n (malformed (ks ++ (knownOf m v ∷ []))) ≡ flag (isIn n (labelsOf (ks ++ (knownOf m v ∷ []))))
   alone-still m e n =
-      ap (timesIn n) (malformed-snoc ks (knownOf m v)) ∙ times-snoc n (malformed ks) (faultOf 1 m) ∙ by (eqb n m) refl
+      ap (timesIn n) (malformed-snoc ks (knownOf m v)) ∙ times-snoc n (malformed ks) (errorReportOf 1 m) ∙ by (eqb n m) refl
       ∙ ap flag (sym (in-snoc n ks (knownOf m v)))
     where
       by : (b : Bool) → eqb n m ≡ b → cond b (timesIn n (malformed ks) + 1) (timesIn n (malformed ks)) ≡ flag (b || isIn n (labelsOf ks))
@@ -130,51 +130,51 @@ module _ (ks : List Known) (c : Configuration) (h : Seen ks c) (v : View) where
       by false q = h .alone n
 
   take-keys : isIn 2 (labelsOf ks) ≡ false →
-      Seen (ks ++ (knownOf 2 v ∷ [])) (noted Published 2 (withKeys c (forgiven (noKeysParameter Discarded) (keysReadAs true v))))
+      Seen (ks ++ (knownOf 2 v ∷ [])) (noted Published 2 (withKeys c (malformedAs (noKeysParameter Discarded) (keysReadAs true v))))
   take-keys e =
       let k = knownOf 2 v in
       let one : OneMore 2 = rw (in-snoc 2 ks k, in-snoc 3 ks k, in-snoc 4 ks k, in-snoc 6 ks k, in-snoc 7 ks k, e) (omega arith) in
       record {
-        keys = comes 2 ks k _ refl (keys-came (keysJudgedAs true v));
+        keys = comes 2 ks k _ refl (keys-met (keysJudgedAs true v));
         address = stays 3 ks k _ refl (h .address);
         jrc = stays 4 ks k _ refl (h .jrc);
         blacklist = stays 6 ks k _ refl (h .blacklist);
         rate = stays 7 ks k _ refl (h .rate);
-        many-came = counted 2 one;
+        many-met = counted 2 one;
         alone = alone-still 2 e;
-        came = noted-held 2 one;
+        met = noted-held 2 one;
       }
 
   take-address : isIn 3 (labelsOf ks) ≡ false →
-      Seen (ks ++ (knownOf 3 v ∷ [])) (noted Published 3 (withAddress c (forgiven (noAddressParameter Discarded) (addressRead v))))
+      Seen (ks ++ (knownOf 3 v ∷ [])) (noted Published 3 (withAddress c (malformedAs (noAddressParameter Discarded) (addressRead v))))
   take-address e =
       let k = knownOf 3 v in
       let one : OneMore 3 = rw (in-snoc 2 ks k, in-snoc 3 ks k, in-snoc 4 ks k, in-snoc 6 ks k, in-snoc 7 ks k, e) (omega arith) in
       record {
         keys = stays 2 ks k _ refl (h .keys);
-        address = comes 3 ks k _ refl (address-came (addressJudged v));
+        address = comes 3 ks k _ refl (address-met (addressJudged v));
         jrc = stays 4 ks k _ refl (h .jrc);
         blacklist = stays 6 ks k _ refl (h .blacklist);
         rate = stays 7 ks k _ refl (h .rate);
-        many-came = counted 3 one;
+        many-met = counted 3 one;
         alone = alone-still 3 e;
-        came = noted-held 3 one;
+        met = noted-held 3 one;
       }
 
   take-jrc : isIn 4 (labelsOf ks) ≡ false →
-      Seen (ks ++ (knownOf 4 v ∷ [])) (noted Published 4 (withJrc c (forgiven (noOctetsParameter Discarded) (octetsRead 16 v))))
+      Seen (ks ++ (knownOf 4 v ∷ [])) (noted Published 4 (withJrc c (malformedAs (noOctetsParameter Discarded) (octetsRead 16 v))))
   take-jrc e =
       let k = knownOf 4 v in
       let one : OneMore 4 = rw (in-snoc 2 ks k, in-snoc 3 ks k, in-snoc 4 ks k, in-snoc 6 ks k, in-snoc 7 ks k, e) (omega arith) in
       record {
         keys = stays 2 ks k _ refl (h .keys);
         address = stays 3 ks k _ refl (h .address);
-        jrc = comes 4 ks k _ refl (octets-came (octetsJudged 16 v));
+        jrc = comes 4 ks k _ refl (octets-met (octetsJudged 16 v));
         blacklist = stays 6 ks k _ refl (h .blacklist);
         rate = stays 7 ks k _ refl (h .rate);
-        many-came = counted 4 one;
+        many-met = counted 4 one;
         alone = alone-still 4 e;
-        came = noted-held 4 one;
+        met = noted-held 4 one;
       }
 
   take-blacklist : isIn 6 (labelsOf ks) ≡ false → Seen (ks ++ (knownOf 6 v ∷ [])) (noted Published 6 (withBlacklist c (blacklistTaken v)))
@@ -185,11 +185,11 @@ module _ (ks : List Known) (c : Configuration) (h : Seen ks c) (v : View) where
         keys = stays 2 ks k _ refl (h .keys);
         address = stays 3 ks k _ refl (h .address);
         jrc = stays 4 ks k _ refl (h .jrc);
-        blacklist = comes 6 ks k _ refl (list-came (listAnswer (fitting 253 (inArray stringsIn v))));
+        blacklist = comes 6 ks k _ refl (list-met (listAnswer (fitting 253 (inArray stringsIn v))));
         rate = stays 7 ks k _ refl (h .rate);
-        many-came = counted 6 one;
+        many-met = counted 6 one;
         alone = alone-still 6 e;
-        came = noted-held 6 one;
+        met = noted-held 6 one;
       }
 
   take-rate : isIn 7 (labelsOf ks) ≡ false → Seen (ks ++ (knownOf 7 v ∷ [])) (noted Published 7 (withRate c (rateTaken v)))
@@ -201,10 +201,10 @@ module _ (ks : List Known) (c : Configuration) (h : Seen ks c) (v : View) where
         address = stays 3 ks k _ refl (h .address);
         jrc = stays 4 ks k _ refl (h .jrc);
         blacklist = stays 6 ks k _ refl (h .blacklist);
-        rate = comes 7 ks k _ refl (rate-came v);
-        many-came = counted 7 one;
+        rate = comes 7 ks k _ refl (rate-met v);
+        many-met = counted 7 one;
         alone = alone-still 7 e;
-        came = noted-held 7 one;
+        met = noted-held 7 one;
       }
 
   pub takes : (n : ℕ) → isIn n configurationLabels ≡ true → isIn n (labelsOf ks) ≡ false →

@@ -8,13 +8,13 @@ use Rattle.cbor.specs.HeadLaws.{HeadLaws}
 use Rattle.cbor.specs.Strict.{headBy}
 use Rattle.cbor.specs.View.{View}
 use Rattle.cojp.specs.Address.{noAddressParameter, addressRead}
-use Rattle.cojp.specs.Configuration.{emptyConfiguration, withPassed, configurationTaking, configurationForm}
+use Rattle.cojp.specs.Configuration.{emptyConfiguration, withUnknownCount, configurationTaking, configurationForm}
 use Rattle.cojp.specs.KeySet.{noKeysParameter, keysReadAs}
 use Rattle.cojp.specs.Lists.{blacklistTaken}
 use Rattle.cojp.specs.Octets.{noOctetsParameter, octetsRead}
 use Rattle.cojp.specs.Parameter.{parameterOf, laterParameter}
 use Rattle.cojp.specs.Rate.{rateTaken}
-use Rattle.cojp.specs.Reading.{forgiven}
+use Rattle.cojp.specs.Reading.{malformedAs}
 use Rattle.cojp.specs.Walk.{payloadReadBy}
 use Rattle.cojp.specs.declared.address.AddressParameter.{AddressParameter}
 use Rattle.cojp.specs.declared.configuration.Configuration.{Configuration}
@@ -22,13 +22,13 @@ use Rattle.cojp.specs.declared.key_set.KeysParameter.{KeysParameter}
 use Rattle.cojp.specs.declared.list.ListParameter.{ListParameter}
 use Rattle.cojp.specs.declared.octets.OctetsParameter.{OctetsParameter}
 use Rattle.cojp.specs.declared.rate.RateParameter.{RateParameter}
-use Rattle.cojp.specs.declared.report.Report.the-variants.{Absent, Discarded}
+use Rattle.cojp.specs.declared.disposition.Disposition.the-variants.{Absent, Discarded}
 use Rattle.cojp.specs.declared.version.Version.the-variants.{Published}
 use Rattle.logic_facts.specs.Tests.{never}
 use Rattle.cojp_report_laws.specs.Good.{keysAs, KeysJudged, noAddressAs, AddressJudged, octetsAs, JrcJudged, listAs, BlacklistJudged, rateAs, RateJudged}
 use Rattle.cojp_report_laws.specs.GoodValues.{CameAs, Configured}
 use Rattle.cojp_report_laws.specs.Labels.{configurationLabels, isIn, Known, knownOf, labelsOf, knownIn, pairsIn, labelsVerdict, payloadVerdict}
-use Rattle.cojp_report_laws.proofs.CameAs.{took-both, came-others, came-first, Small, told-so}
+use Rattle.cojp_report_laws.proofs.CameAs.{took-both, met-others, met-first, Small, told-so}
 use Rattle.cojp_report_laws.proofs.Configurations.{Seen, none-seen, pass-seen, stands, takes}
 use Rattle.cojp_report_laws.proofs.GoodKeys.{keys-judged}
 use Rattle.cojp_report_laws.proofs.GoodLists.{blacklist-judged}
@@ -38,13 +38,13 @@ use Rattle.cojp_report_laws.proofs.Walk.{Took, Agrees, payload-agrees}
 
 -- ---- what each reader makes of a value
 abbrev KeysOf : View → KeysParameter → Type 0
-KeysOf x p = p ≡ forgiven (noKeysParameter Discarded) (keysReadAs true x)
+KeysOf x p = p ≡ malformedAs (noKeysParameter Discarded) (keysReadAs true x)
 
 abbrev AddressOf : View → AddressParameter → Type 0
-AddressOf x p = p ≡ forgiven (noAddressParameter Discarded) (addressRead x)
+AddressOf x p = p ≡ malformedAs (noAddressParameter Discarded) (addressRead x)
 
 abbrev JrcOf : View → OctetsParameter → Type 0
-JrcOf x p = p ≡ forgiven (noOctetsParameter Discarded) (octetsRead 16 x)
+JrcOf x p = p ≡ malformedAs (noOctetsParameter Discarded) (octetsRead 16 x)
 
 abbrev BlacklistOf : View → ListParameter → Type 0
 BlacklistOf x p = p ≡ blacklistTaken x
@@ -64,7 +64,7 @@ pub record Kept (ks : List Known) (c : Configuration) : Type 0 where
 none-kept : Kept [] emptyConfiguration
 none-kept = record { keys = refl; address = refl; jrc = refl; blacklist = refl; rate = refl; network = refl; prefix = refl }
 
-pass-kept : (ks : List Known) (c : Configuration) → Kept ks c → Kept ks (withPassed c (c .passed + 1))
+pass-kept : (ks : List Known) (c : Configuration) → Kept ks c → Kept ks (withUnknownCount c (c .unknown + 1))
 pass-kept ks c h = record {
   keys = h .keys;
   address = h .address;
@@ -78,19 +78,19 @@ pass-kept ks c h = record {
 -- ---- one label more
 module _ (ks : List Known) (c : Configuration) (h : Kept ks c) (v : View) where
   keys-stay : (n : ℕ) → eqb 2 n ≡ false → CameAs KeysOf (keysAs Absent []) 2 (ks ++ (knownOf n v ∷ [])) (c .keys)
-  keys-stay n e = came-others KeysOf (keysAs Absent []) 2 (c .keys) ks (knownOf n v) e (h .keys)
+  keys-stay n e = met-others KeysOf (keysAs Absent []) 2 (c .keys) ks (knownOf n v) e (h .keys)
 
   address-stays : (n : ℕ) → eqb 3 n ≡ false → CameAs AddressOf (noAddressAs Absent) 3 (ks ++ (knownOf n v ∷ [])) (c .address)
-  address-stays n e = came-others AddressOf (noAddressAs Absent) 3 (c .address) ks (knownOf n v) e (h .address)
+  address-stays n e = met-others AddressOf (noAddressAs Absent) 3 (c .address) ks (knownOf n v) e (h .address)
 
   jrc-stays : (n : ℕ) → eqb 4 n ≡ false → CameAs JrcOf (octetsAs Absent []) 4 (ks ++ (knownOf n v ∷ [])) (c .jrc)
-  jrc-stays n e = came-others JrcOf (octetsAs Absent []) 4 (c .jrc) ks (knownOf n v) e (h .jrc)
+  jrc-stays n e = met-others JrcOf (octetsAs Absent []) 4 (c .jrc) ks (knownOf n v) e (h .jrc)
 
   blacklist-stays : (n : ℕ) → eqb 6 n ≡ false → CameAs BlacklistOf (listAs Absent 0 []) 6 (ks ++ (knownOf n v ∷ [])) (c .blacklist)
-  blacklist-stays n e = came-others BlacklistOf (listAs Absent 0 []) 6 (c .blacklist) ks (knownOf n v) e (h .blacklist)
+  blacklist-stays n e = met-others BlacklistOf (listAs Absent 0 []) 6 (c .blacklist) ks (knownOf n v) e (h .blacklist)
 
   rate-stays : (n : ℕ) → eqb 7 n ≡ false → CameAs RateOf (rateAs Absent 0) 7 (ks ++ (knownOf n v ∷ [])) (c .rate)
-  rate-stays n e = came-others RateOf (rateAs Absent 0) 7 (c .rate) ks (knownOf n v) e (h .rate)
+  rate-stays n e = met-others RateOf (rateAs Absent 0) 7 (c .rate) ks (knownOf n v) e (h .rate)
 
   keeps : (n : ℕ) → isIn n configurationLabels ≡ true → isIn n (labelsOf ks) ≡ false →
       Took (Kept (ks ++ (knownOf n v ∷ []))) (configurationTaking Published c n v)
@@ -100,7 +100,7 @@ module _ (ks : List Known) (c : Configuration) (h : Kept ks c) (v : View) where
       (λ (m : ℕ). isIn m configurationLabels ≡ true → isIn m (labelsOf ks) ≡ false →
       Took (Kept (ks ++ (knownOf m v ∷ []))) (configurationTaking Published c m v)) n
       (λ e f. record {
-        keys = came-first KeysOf (keysAs Absent []) 2 _ ks v f refl;
+        keys = met-first KeysOf (keysAs Absent []) 2 _ ks v f refl;
         address = address-stays 2 refl;
         jrc = jrc-stays 2 refl;
         blacklist = blacklist-stays 2 refl;
@@ -110,7 +110,7 @@ module _ (ks : List Known) (c : Configuration) (h : Kept ks c) (v : View) where
       })
       (λ e f. record {
         keys = keys-stay 3 refl;
-        address = came-first AddressOf (noAddressAs Absent) 3 _ ks v f refl;
+        address = met-first AddressOf (noAddressAs Absent) 3 _ ks v f refl;
         jrc = jrc-stays 3 refl;
         blacklist = blacklist-stays 3 refl;
         rate = rate-stays 3 refl;
@@ -120,7 +120,7 @@ module _ (ks : List Known) (c : Configuration) (h : Kept ks c) (v : View) where
       (λ e f. record {
         keys = keys-stay 4 refl;
         address = address-stays 4 refl;
-        jrc = came-first JrcOf (octetsAs Absent []) 4 _ ks v f refl;
+        jrc = met-first JrcOf (octetsAs Absent []) 4 _ ks v f refl;
         blacklist = blacklist-stays 4 refl;
         rate = rate-stays 4 refl;
         network = h .network;
@@ -130,7 +130,7 @@ module _ (ks : List Known) (c : Configuration) (h : Kept ks c) (v : View) where
         keys = keys-stay 6 refl;
         address = address-stays 6 refl;
         jrc = jrc-stays 6 refl;
-        blacklist = came-first BlacklistOf (listAs Absent 0 []) 6 _ ks v f refl;
+        blacklist = met-first BlacklistOf (listAs Absent 0 []) 6 _ ks v f refl;
         rate = rate-stays 6 refl;
         network = h .network;
         prefix = h .prefix;
@@ -140,7 +140,7 @@ module _ (ks : List Known) (c : Configuration) (h : Kept ks c) (v : View) where
         address = address-stays 7 refl;
         jrc = jrc-stays 7 refl;
         blacklist = blacklist-stays 7 refl;
-        rate = came-first RateOf (rateAs Absent 0) 7 _ ks v f refl;
+        rate = met-first RateOf (rateAs Absent 0) 7 _ ks v f refl;
         network = h .network;
         prefix = h .prefix;
       })

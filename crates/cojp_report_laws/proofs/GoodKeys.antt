@@ -9,21 +9,21 @@ use mathlib.Core.Option.{Option, none, some}
 use lib.Dec.{leb, eqb}
 use lib.ListN.{length}
 use borrow.Author.Tests.{le-leb, leb-true, eq-eqb, ne-eqb, eqb-true, eqb-false, not-true}
-use Rattle.cbor.specs.View.{Plain, number, minus, string, other, View, plain, list}
-use Rattle.link_key.specs.Info.{infoIn}
+use Rattle.cbor.specs.View.{Scalar, number, minus, string, other, View, scalar, list}
+use Rattle.link_key.specs.AdditionalInfo.{additionalInfoIn}
 use Rattle.link_key.specs.Key.{validKey}
 use Rattle.link_key.specs.declared.Key.{Key}
-use Rattle.link_key.specs.declared.info.Info.{Info}
-use Rattle.link_key.specs.declared.info.Info.the-variants as info
+use Rattle.link_key.specs.declared.additional_info.AdditionalInfo.{AdditionalInfo}
+use Rattle.link_key.specs.declared.additional_info.AdditionalInfo.the-variants as info
 use Rattle.link_key_set.specs.KeySet.{has, noneTwice, allValid, validKeys}
 use Rattle.cojp.specs.KeySet.{Groups, notGroups, groupsOf, group, further, groups, identified, used, valued, keysConcluded, keysReadAs, keySetOf, keysParameter, noKeysParameter}
-use Rattle.cojp.specs.Reading.{forgiven, good, unfit}
+use Rattle.cojp.specs.Reading.{malformedAs, good, unfit}
 use Rattle.cojp.specs.declared.key_set.KeysParameter.{KeysParameter}
-use Rattle.cojp.specs.declared.report.Report.the-variants.{Taken, Discarded}
+use Rattle.cojp.specs.declared.disposition.Disposition.the-variants.{Taken, Discarded}
 use Rattle.logic_facts.specs.Tests.{both, both-left, both-right, neither-left, neither-right, first, second, third, fourth, all-four}
 use Rattle.cojp_report_laws.specs.Good.{perhaps, Group, sourceMember, setMembers, usageIn, keyIn, keysIn, GoodGroup, EachGood, NotAmong, NoneTwice, GoodKeys, keysAs, KeysJudged}
 
-abbrev groupWith : ℕ → Option ℕ → List ℕ → Info → Group
+abbrev groupWith : ℕ → Option ℕ → List ℕ → AdditionalInfo → Group
 groupWith i u v w = record { identifier = i; usage = u; value = v; source = w }
 
 -- ---- groups that are written read back
@@ -33,7 +33,7 @@ unfolding groups identified used valued
 next-group i u v [] = refl
 next-group i u v (g ∷ gs) = refl
 
-group-read : (i : ℕ) (u : Option ℕ) (v : List ℕ) (w : Info) (gs : List Group) →
+group-read : (i : ℕ) (u : Option ℕ) (v : List ℕ) (w : AdditionalInfo) (gs : List Group) →
     groups true (setMembers (groupWith i u v w ∷ gs)) ≡ group i (usageIn u) v w (groups true (setMembers gs))
 unfolding groups identified used valued
 group-read i none v info.Absent gs = next-group i 0 v gs
@@ -51,13 +51,13 @@ set-read (g ∷ gs) =
     ∙ ap (group (g .identifier) (usageIn (g .usage)) (g .value) (g .source)) (set-read gs)
 
 -- ---- what reads as groups is written so
-abbrev Found : List Plain → Groups → Type 0
+abbrev Found : List Scalar → Groups → Type 0
 Found ps r = ((gs : List Group) × (ps ≡ setMembers gs)) ⊎ (r ≡ notGroups)
 
-abbrev inFront : ℕ → Option ℕ → List ℕ → List Plain → List Plain
+abbrev inFront : ℕ → Option ℕ → List ℕ → List Scalar → List Scalar
 inFront i u v ps = number i ∷ (perhaps u ++ (string v ∷ ps))
 
-front-group : (i : ℕ) (u : Option ℕ) (v : List ℕ) (w : Info) (gs : List Group) →
+front-group : (i : ℕ) (u : Option ℕ) (v : List ℕ) (w : AdditionalInfo) (gs : List Group) →
     inFront i u v (sourceMember w ++ setMembers gs) ≡ setMembers (groupWith i u v w ∷ gs)
 front-group i none v info.Absent gs = refl
 front-group i none v (info.Four a b c d) gs = refl
@@ -67,10 +67,10 @@ front-group i (some u) v (info.Four a b c d) gs = refl
 front-group i (some u) v (info.Eight a b c d e f g h) gs = refl
 
 -- a byte string is additional information or it is not
-abbrev SourceFound : List ℕ → Option Info → Type 0
-SourceFound w o = ((s : Info) × (string w ∷ [] ≡ sourceMember s) × (o ≡ some s)) ⊎ (o ≡ none)
+abbrev SourceFound : List ℕ → Option AdditionalInfo → Type 0
+SourceFound w o = ((s : AdditionalInfo) × (string w ∷ [] ≡ sourceMember s) × (o ≡ some s)) ⊎ (o ≡ none)
 
-source-found : (w : List ℕ) → SourceFound w (infoIn w)
+source-found : (w : List ℕ) → SourceFound w (additionalInfoIn w)
 source-found (a ∷ b ∷ c ∷ d ∷ []) = inl (info.Four a b c d, refl, refl)
 source-found (a ∷ b ∷ c ∷ d ∷ e ∷ f ∷ g ∷ h ∷ []) = inl (info.Eight a b c d e f g h, refl, refl)
 source-found [] = inr refl
@@ -84,19 +84,19 @@ source-found (a ∷ b ∷ c ∷ d ∷ e ∷ f ∷ g ∷ h ∷ i ∷ r) = inr ref
 
 module _ (i : ℕ) (u : Option ℕ) (v : List ℕ) where
   -- a group without additional information, and those after it
-  bare-found : (ps : List Plain) (r : Groups) → Found ps r → Found (inFront i u v ps) (group i (usageIn u) v info.Absent r)
+  bare-found : (ps : List Scalar) (r : Groups) → Found ps r → Found (inFront i u v ps) (group i (usageIn u) v info.Absent r)
   bare-found ps r (inl g) =
       inl (groupWith i u v info.Absent ∷ g .0, ap (inFront i u v) (g .1) ∙ front-group i u v info.Absent (g .0))
   bare-found ps r (inr e) = inr (ap (group i (usageIn u) v info.Absent) e)
 
   -- and one with it
-  further-found : (w : List ℕ) (ps : List Plain) (r : Groups) → SourceFound w (infoIn w) → Found ps r →
-      Found (inFront i u v (string w ∷ ps)) (further true i (usageIn u) v (infoIn w) r)
+  further-found : (w : List ℕ) (ps : List Scalar) (r : Groups) → SourceFound w (additionalInfoIn w) → Found ps r →
+      Found (inFront i u v (string w ∷ ps)) (further true i (usageIn u) v (additionalInfoIn w) r)
   further-found w ps r (inl s) (inl g) =
       inl (
         groupWith i u v (s .0) ∷ g .0,
-        ap (λ (l : List Plain). inFront i u v (string w ∷ l)) (g .1)
-            ∙ ap (λ (l : List Plain). inFront i u v (l ++ setMembers (g .0))) (s .1)
+        ap (λ (l : List Scalar). inFront i u v (string w ∷ l)) (g .1)
+            ∙ ap (λ (l : List Scalar). inFront i u v (l ++ setMembers (g .0))) (s .1)
             ∙ front-group i u v (s .0) (g .0),
       )
   further-found w ps r (inl s) (inr e) = inr (rw (s .2, e))
@@ -105,28 +105,28 @@ module _ (i : ℕ) (u : Option ℕ) (v : List ℕ) where
 mutual
   unfolding groups identified used valued
 
-  groups-found : (ps : List Plain) → Found ps (groups true ps)
+  groups-found : (ps : List Scalar) → Found ps (groups true ps)
   groups-found [] = inl ([], refl)
   groups-found (number i ∷ r) = identified-found r i
   groups-found (minus n ∷ r) = inr refl
   groups-found (string v ∷ r) = inr refl
   groups-found (other ∷ r) = inr refl
 
-  identified-found : (ps : List Plain) (i : ℕ) → Found (number i ∷ ps) (identified true i ps)
+  identified-found : (ps : List Scalar) (i : ℕ) → Found (number i ∷ ps) (identified true i ps)
   identified-found [] i = inr refl
   identified-found (number u ∷ r) i = used-found r i u
   identified-found (minus n ∷ r) i = inr refl
   identified-found (string v ∷ r) i = valued-found r i none v
   identified-found (other ∷ r) i = inr refl
 
-  used-found : (ps : List Plain) (i u : ℕ) → Found (number i ∷ number u ∷ ps) (used true i u ps)
+  used-found : (ps : List Scalar) (i u : ℕ) → Found (number i ∷ number u ∷ ps) (used true i u ps)
   used-found [] i u = inr refl
   used-found (number n ∷ r) i u = inr refl
   used-found (minus n ∷ r) i u = inr refl
   used-found (string v ∷ r) i u = valued-found r i (some u) v
   used-found (other ∷ r) i u = inr refl
 
-  valued-found : (ps : List Plain) (i : ℕ) (u : Option ℕ) (v : List ℕ) → Found (inFront i u v ps) (valued true i (usageIn u) v ps)
+  valued-found : (ps : List Scalar) (i : ℕ) (u : Option ℕ) (v : List ℕ) → Found (inFront i u v ps) (valued true i (usageIn u) v ps)
   valued-found [] i u v = bare-found i u v [] (groupsOf []) (inl ([], refl))
   valued-found (number n ∷ r) i u v = bare-found i u v (number n ∷ r) (identified true n r) (identified-found r n)
   valued-found (minus n ∷ r) i u v = inr refl
@@ -195,13 +195,13 @@ none-twice (g ∷ gs) h = rw (has-not (g .identifier) gs (h .0)) (none-twice gs 
 
 -- ---- the parameter
 abbrev keysOr : Bool → List Key → KeysParameter
-keysOr b ks = forgiven (noKeysParameter Discarded) (keysConcluded (cond b (good (keySetOf ks)) unfit))
+keysOr b ks = malformedAs (noKeysParameter Discarded) (keysConcluded (cond b (good (keySetOf ks)) unfit))
 
 set-kept : (gs : List Group) → keysParameter Taken (keySetOf (keysIn gs)) ≡ keysAs Taken gs
 set-kept gs = rw (keys-many gs)
 
 keys-good : (x : View) (gs : List Group) → GoodKeys x gs →
-    forgiven (noKeysParameter Discarded) (keysReadAs true x) ≡ keysAs Taken gs
+    malformedAs (noKeysParameter Discarded) (keysReadAs true x) ≡ keysAs Taken gs
 unfolding validKeys
 keys-good x gs g =
     let ks = keysIn gs in
@@ -211,12 +211,12 @@ keys-good x gs g =
     (all-valid gs (g .each)) (none-twice gs (g .once)) in
     rw (g .is, set-read gs) (ap (λ (b : Bool). keysOr b ks) few ∙ set-kept gs)
 
-abbrev KeysOr : List Plain → Type 0
+abbrev KeysOr : List Scalar → Type 0
 KeysOr ps =
     ((gs : List Group) × GoodKeys (list ps) gs)
-    ⊎ (forgiven (noKeysParameter Discarded) (keysReadAs true (list ps)) ≡ keysAs Discarded [])
+    ⊎ (malformedAs (noKeysParameter Discarded) (keysReadAs true (list ps)) ≡ keysAs Discarded [])
 
-keys-fit : (ps : List Plain) (gs : List Group) → ps ≡ setMembers gs → (b : Bool) → validKeys (keysIn gs) ≡ b → KeysOr ps
+keys-fit : (ps : List Scalar) (gs : List Group) → ps ≡ setMembers gs → (b : Bool) → validKeys (keysIn gs) ≡ b → KeysOr ps
 unfolding validKeys
 keys-fit ps gs e true v =
     let ks = keysIn gs in
@@ -234,14 +234,14 @@ keys-fit ps gs e true v =
     )
 keys-fit ps gs e false v = inr (rw (e, set-read gs) (ap (λ (b : Bool). keysOr b (keysIn gs)) v))
 
-keys-or : (ps : List Plain) → Found ps (groups true ps) → KeysOr ps
+keys-or : (ps : List Scalar) → Found ps (groups true ps) → KeysOr ps
 keys-or ps (inl g) = keys-fit ps (g .0) (g .1) (validKeys (keysIn (g .0))) refl
 keys-or ps (inr e) = inr (rw e)
 
-pub keys-judged : (x : View) → KeysJudged x (forgiven (noKeysParameter Discarded) (keysReadAs true x))
+pub keys-judged : (x : View) → KeysJudged x (malformedAs (noKeysParameter Discarded) (keysReadAs true x))
 keys-judged x = record { good = keys-good x; other = by x }
   where
     by : (x : View) → ((gs : List Group) × GoodKeys x gs) ⊎
-        (forgiven (noKeysParameter Discarded) (keysReadAs true x) ≡ keysAs Discarded [])
-    by (plain p) = inr refl
+        (malformedAs (noKeysParameter Discarded) (keysReadAs true x) ≡ keysAs Discarded [])
+    by (scalar p) = inr refl
     by (list ps) = keys-or ps (groups-found ps)

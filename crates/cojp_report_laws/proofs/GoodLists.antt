@@ -9,11 +9,11 @@ use lib.ListN.{length}
 use borrow.Author.Tests.{le-leb}
 use Rattle.cbor.specs.Encode.{encode, shortest, infoOf, extraOf, bytesOf}
 use Rattle.cbor.specs.HeadLaws.{HeadLaws}
-use Rattle.cbor.specs.View.{Plain, number, minus, string, other, View, plain, list}
-use Rattle.cojp.specs.Lists.{Picked, nothing, picked, before, plainItem, isInteger, stringsIn, faultsIn, some, listAnswer, listTaken, written, blacklistTaken, unsupportedTaken}
+use Rattle.cbor.specs.View.{Scalar, number, minus, string, other, View, scalar, list}
+use Rattle.cojp.specs.Lists.{Picked, nothing, picked, before, scalarItem, isInteger, stringsIn, errorReportsIn, some, listAnswer, listTaken, written, blacklistTaken, unsupportedTaken}
 use Rattle.cojp.specs.Octets.{padded}
 use Rattle.cojp.specs.declared.list.ListParameter.{ListParameter}
-use Rattle.cojp.specs.declared.report.Report.the-variants.{Taken, Discarded}
+use Rattle.cojp.specs.declared.disposition.Disposition.the-variants.{Taken, Discarded}
 use Rattle.cojp_report_laws.specs.Good.{listAs, strings, stringsBytes, GoodBlacklist, BlacklistJudged}
 use Rattle.cojp_report_laws.specs.Good.{Integer, from0, below0, integer, integerBytes, Entry, entries, entriesBytes, GoodEntries, EntriesJudged}
 use Rattle.cojp_report_laws.proofs.Items.{plainsSize, viewSize, plain-least}
@@ -34,18 +34,18 @@ strings-many [] = refl
 strings-many (s ∷ ss) = ap suc (strings-many ss)
 
 -- a list that was picked, if there is room
-abbrev listOr : Bool → List Plain → ListParameter
+abbrev listOr : Bool → List Scalar → ListParameter
 listOr b ps = listTaken (listAnswer (cond b (picked ps) nothing))
 
-listed-as : (ps : List Plain) (n : ℕ) (bytes : List ℕ) → length ps ≡ n → written ps ≡ bytes →
+listed-as : (ps : List Scalar) (n : ℕ) (bytes : List ℕ) → length ps ≡ n → written ps ≡ bytes →
     listOr true ps ≡ listAs Taken n bytes
 unfolding padded
 listed-as ps n bytes e f = rw (e, f)
 
-abbrev StringsFound : List Plain → Picked → Type 0
+abbrev StringsFound : List Scalar → Picked → Type 0
 StringsFound ps q = ((ss : List (List ℕ)) × (ps ≡ strings ss)) ⊎ (q ≡ nothing)
 
-strings-found : (ps : List Plain) → StringsFound ps (stringsIn ps)
+strings-found : (ps : List Scalar) → StringsFound ps (stringsIn ps)
 unfolding stringsIn
 strings-found [] = inl ([], refl)
 strings-found (number n ∷ r) = inr refl
@@ -53,7 +53,7 @@ strings-found (minus n ∷ r) = inr refl
 strings-found (string s ∷ r) = by (strings-found r)
   where
     by : StringsFound r (stringsIn r) → StringsFound (string s ∷ r) (before (string s ∷ []) (stringsIn r))
-    by (inl g) = inl (s ∷ g .0, ap (λ (l : List Plain). string s ∷ l) (g .1))
+    by (inl g) = inl (s ∷ g .0, ap (λ (l : List Scalar). string s ∷ l) (g .1))
     by (inr e) = inr (ap (before (string s ∷ [])) e)
 strings-found (other ∷ r) = inr refl
 
@@ -70,18 +70,18 @@ module _ (H : HeadLaws) (x : View) (small : viewSize x ≤ 254) where
   pub blacklist-judged : BlacklistJudged x (blacklistTaken x)
   blacklist-judged = record { good = blacklist-good; other = by x }
     where
-      found : (ps : List Plain) → StringsFound ps (stringsIn ps) →
+      found : (ps : List Scalar) → StringsFound ps (stringsIn ps) →
           ((ss : List (List ℕ)) × GoodBlacklist (list ps) ss) ⊎ (blacklistTaken (list ps) ≡ listAs Discarded 0 [])
       found ps (inl g) = inl (g .0, ap list (g .1))
       found ps (inr e) = inr (rw e)
 
       by : (y : View) → ((ss : List (List ℕ)) × GoodBlacklist y ss) ⊎ (blacklistTaken y ≡ listAs Discarded 0 [])
-      by (plain p) = inr refl
+      by (scalar p) = inr refl
       by (list ps) = found ps (strings-found ps)
 
 -- ---- lists of reports
 -- as they are kept: the third of each is null
-abbrev keptEntries : List Entry → List Plain
+abbrev keptEntries : List Entry → List Scalar
 keptEntries [] = []
 keptEntries (e ∷ es) = integer (e .code) ∷ integer (e .label) ∷ other ∷ keptEntries es
 
@@ -89,8 +89,8 @@ is-integer : (i : Integer) → isInteger (integer i) ≡ true
 is-integer (from0 n) = refl
 is-integer (below0 n) = refl
 
-entries-picked : (es : List Entry) → faultsIn (entries es) ≡ picked (keptEntries es)
-unfolding faultsIn
+entries-picked : (es : List Entry) → errorReportsIn (entries es) ≡ picked (keptEntries es)
+unfolding errorReportsIn
 entries-picked [] = refl
 entries-picked (e ∷ es) = rw (is-integer (e .code), is-integer (e .label), entries-picked es)
 
@@ -98,7 +98,7 @@ null-written : shortest 7 22 ≡ 0xF6 ∷ []
 unfolding shortest infoOf extraOf bytesOf
 null-written = refl
 
-integer-written : (i : Integer) → encode (plainItem (integer i)) ≡ integerBytes i
+integer-written : (i : Integer) → encode (scalarItem (integer i)) ≡ integerBytes i
 integer-written (from0 n) = refl
 integer-written (below0 n) = refl
 
@@ -111,7 +111,7 @@ entries-many [] = refl
 entries-many (e ∷ es) = ap (λ (n : ℕ). suc (suc (suc n))) (entries-many es)
 
 -- at least one
-some-picked : (es : List Entry) → 1 ≤ length es → some faultsIn (entries es) ≡ picked (keptEntries es)
+some-picked : (es : List Entry) → 1 ≤ length es → some errorReportsIn (entries es) ≡ picked (keptEntries es)
 some-picked [] l = absurd (omega (arith, l))
 some-picked (e ∷ es) l = entries-picked (e ∷ es)
 
@@ -119,13 +119,13 @@ kept-smaller : (es : List Entry) → plainsSize (keptEntries es) ≤ plainsSize 
 kept-smaller [] = omega arith
 kept-smaller (e ∷ es) = omega (arith, kept-smaller es, plain-least (e .third))
 
-abbrev EntriesFound : List Plain → Picked → Type 0
+abbrev EntriesFound : List Scalar → Picked → Type 0
 EntriesFound ps q = ((es : List Entry) × (ps ≡ entries es)) ⊎ (q ≡ nothing)
 
-abbrev IntegerFound : Plain → Type 0
+abbrev IntegerFound : Scalar → Type 0
 IntegerFound p = ((i : Integer) × (p ≡ integer i)) ⊎ (isInteger p ≡ false)
 
-integer-found : (p : Plain) → IntegerFound p
+integer-found : (p : Scalar) → IntegerFound p
 integer-found (number n) = inl (from0 n, refl)
 integer-found (minus n) = inl (below0 n, refl)
 integer-found (string s) = inr refl
@@ -135,16 +135,16 @@ none-after : (a : Bool) → (a && false) ≡ false
 none-after true = refl
 none-after false = refl
 
-entry-found : (p q x : Plain) (r : List Plain) → IntegerFound p → IntegerFound q → EntriesFound r (faultsIn r) →
-    EntriesFound (p ∷ q ∷ x ∷ r) (cond (isInteger p && isInteger q) (before (p ∷ q ∷ other ∷ []) (faultsIn r)) nothing)
+entry-found : (p q x : Scalar) (r : List Scalar) → IntegerFound p → IntegerFound q → EntriesFound r (errorReportsIn r) →
+    EntriesFound (p ∷ q ∷ x ∷ r) (cond (isInteger p && isInteger q) (before (p ∷ q ∷ other ∷ []) (errorReportsIn r)) nothing)
 entry-found p q x r (inl i) (inl j) (inl g) =
     inl (record { code = i .0; label = j .0; third = x } ∷ g .0, rw (i .1, j .1, g .1))
 entry-found p q x r (inl i) (inl j) (inr e) = inr (rw (i .1, j .1, is-integer (i .0), is-integer (j .0), e))
 entry-found p q x r (inl i) (inr e) g = inr (rw (e, none-after (isInteger p)))
 entry-found p q x r (inr e) j g = inr (rw e)
 
-entries-found : (ps : List Plain) → EntriesFound ps (faultsIn ps)
-unfolding faultsIn
+entries-found : (ps : List Scalar) → EntriesFound ps (errorReportsIn ps)
+unfolding errorReportsIn
 entries-found [] = inl ([], refl)
 entries-found (p ∷ []) = inr refl
 entries-found (p ∷ q ∷ []) = inr refl
@@ -153,7 +153,7 @@ entries-found (p ∷ q ∷ x ∷ r) = entry-found p q x r (integer-found p) (int
 abbrev EntriesOr : View → Type 0
 EntriesOr x = ((es : List Entry) × GoodEntries x es) ⊎ (unsupportedTaken x ≡ listAs Discarded 0 [])
 
-entries-or : (p : Plain) (ps : List Plain) → EntriesFound (p ∷ ps) (faultsIn (p ∷ ps)) → EntriesOr (list (p ∷ ps))
+entries-or : (p : Scalar) (ps : List Scalar) → EntriesFound (p ∷ ps) (errorReportsIn (p ∷ ps)) → EntriesOr (list (p ∷ ps))
 entries-or p ps (inl g) = by (g .0) (g .1)
   where
     by : (es : List Entry) → p ∷ ps ≡ entries es → EntriesOr (list (p ∷ ps))
@@ -175,6 +175,6 @@ module _ (H : HeadLaws) (x : View) (small : viewSize x ≤ 254) where
   entries-judged = record { good = entries-good; other = by x }
     where
       by : (y : View) → EntriesOr y
-      by (plain p) = inr refl
+      by (scalar p) = inr refl
       by (list []) = inr refl
       by (list (p ∷ ps)) = entries-or p ps (entries-found (p ∷ ps))

@@ -18,11 +18,11 @@ use Rattle.cbor.specs.Item.{Item, unsigned, negative, bytes, text, array, map, 
 use Rattle.cbor.specs.Laws.{Bytes, ItemLaws}
 use Rattle.cbor.specs.Strict.{headBy, loosePayload}
 use Rattle.cojp.specs.Configuration.{configurationAnswer, configurationForm, emptyConfiguration}
-use Rattle.cojp.specs.Reading.{Reading, refused, read, onward}
-use Rattle.cojp.specs.Request.{nothingGathered, owing, requestAnswer, requestForm, settled}
+use Rattle.cojp.specs.Reading.{Reading, refused, read, bind}
+use Rattle.cojp.specs.Request.{emptyRequestState, owing, requestAnswer, requestForm, settled}
 use Rattle.cojp.specs.Walk.{Form, payloadReadBy}
 use Rattle.cojp.specs.declared.configuration.Configuration.{Configuration}
-use Rattle.cojp.specs.declared.request.Gathered.{Gathered}
+use Rattle.cojp.specs.declared.request.RequestState.{RequestState}
 use Rattle.cojp.specs.declared.version.Version.the-variants.{Published}
 use Rattle.cojp_report_laws.specs.GoodValues.{Configured, Requested, GoodValues}
 use Rattle.cojp_report_laws.specs.Labels.{configurationLabels, requestLabels, Known, knownIn, labelsVerdict, payloadVerdict, mapPairs, pairsIn}
@@ -77,10 +77,10 @@ module _ (H : HeadLaws) (w : Verdict) (ks : List Known) (small : Small ks) where
   configuration-of (refused k) a e = refused-not k e
   configuration-of (read c) a e = configurations.configured H ks c small (a .1 .1)
 
-  request-of : (r : Reading Gathered) → Agrees w (requests.Both ks) r → requestAnswer (onward r (settled Published)) .verdict ≡ Accepted →
-      Requested ks (requestAnswer (onward r (settled Published)) .request)
+  request-of : (r : Reading RequestState) → Agrees w (requests.Both ks) r → requestAnswer (bind r (settled Published)) .verdict ≡ Accepted →
+      Requested ks (requestAnswer (bind r (settled Published)) .request)
   request-of (refused k) a e = refused-not k e
-  request-of (read g) a e = by (owing Published (g .request .role) (g .request .network .report)) e
+  request-of (read g) a e = by (owing Published (g .request .role) (g .request .network .disposition)) e
     where
       by : (b : Bool) → requestAnswer (cond b (refused refusal.Owed) (read (g .request))) .verdict ≡ Accepted →
           Requested ks (requestAnswer (cond b (refused refusal.Owed) (read (g .request))) .request)
@@ -102,11 +102,11 @@ module _ (laws : ItemLaws) (H : HeadLaws) where
       Requested (knownIn requestLabels (pairsIn strict p)) (requestOf strict p .request)
   request strict p b e =
       let short =
-      short-payload (requestForm Published) (headBy strict) nothingGathered p
-      (λ r. requestAnswer (onward r (settled Published)) .verdict) (λ q. refused-not refusal.Long q) e in
+      short-payload (requestForm Published) (headBy strict) emptyRequestState p
+      (λ r. requestAnswer (bind r (settled Published)) .verdict) (λ q. refused-not refusal.Long q) e in
       request-of H (payloadVerdict (labelsVerdict requestLabels []) strict p) (knownIn requestLabels (pairsIn strict p))
       (small-known requestLabels (pairsIn strict p) (pairs-small laws H p b short strict))
-      (payloadReadBy (requestForm Published) (headBy strict) nothingGathered p) (requests.request-kept strict p) e
+      (payloadReadBy (requestForm Published) (headBy strict) emptyRequestState p) (requests.request-kept strict p) e
 
   pub good-values : GoodValues
   good-values = record { configuration = configuration; request = request }

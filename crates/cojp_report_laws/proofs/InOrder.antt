@@ -17,24 +17,24 @@ use Rattle.cbor.specs.Decode.{payloadBy, decodeBy, heading, argument, next, dig
 use Rattle.cbor.specs.Encode.{infoOf}
 use Rattle.cbor.specs.Strict.{headBy}
 use Rattle.cojp.specs.Configuration.{configurationAnswer, configurationForm, emptyConfiguration, configurationTaking}
-use Rattle.cojp.specs.Faults.{noFaults, faultList, added}
-use Rattle.cojp.specs.Lists.{faultsIn}
+use Rattle.cojp.specs.ErrorReports.{noErrorReports, errorReportList, added}
+use Rattle.cojp.specs.Lists.{errorReportsIn}
 use Rattle.cojp.specs.Octets.{octetsJudged, padded}
 use Rattle.cojp.specs.Parameter.{parameterOf, laterParameter}
 use Rattle.cojp.specs.Rate.{rateTaken}
-use Rattle.cojp.specs.Reading.{Reading, refused, read, onward}
-use Rattle.cojp.specs.Reported.{isBad, badIn, badAt, reportsOn, faultsOf}
-use Rattle.cojp.specs.Request.{nothingGathered, roleJudged, requestStanding, requestTaking, owing, requestAnswer, requestForm, settled}
-use Rattle.cojp.specs.Walk.{payloadReadBy, standingOf}
+use Rattle.cojp.specs.Reading.{Reading, refused, read, bind}
+use Rattle.cojp.specs.Reported.{isBad, badIn, badAt, reportsOn, errorReportsOf}
+use Rattle.cojp.specs.Request.{emptyRequestState, roleJudged, requestLabelStatus, requestTaking, owing, requestAnswer, requestForm, settled}
+use Rattle.cojp.specs.Walk.{payloadReadBy, labelStatusOf}
 use Rattle.cojp.specs.declared.configuration.Configuration.{Configuration}
-use Rattle.cojp.specs.declared.fault.Fault.{Fault}
-use Rattle.cojp.specs.declared.fault.Faults.{Faults}
-use Rattle.cojp.specs.declared.report.Report.{Report}
-use Rattle.cojp.specs.declared.report.Report.the-variants.{Absent, Taken, Discarded}
-use Rattle.cojp.specs.declared.request.Gathered.{Gathered}
+use Rattle.cojp.specs.declared.error_report.ErrorReport.{ErrorReport}
+use Rattle.cojp.specs.declared.error_report.ErrorReports.{ErrorReports}
+use Rattle.cojp.specs.declared.disposition.Disposition.{Disposition}
+use Rattle.cojp.specs.declared.disposition.Disposition.the-variants.{Absent, Taken, Discarded}
+use Rattle.cojp.specs.declared.request.RequestState.{RequestState}
 use Rattle.cojp.specs.declared.version.Version.the-variants.{Published}
 use Rattle.logic_facts.specs.Tests.{never}
-use Rattle.cojp_report_laws.specs.InOrder.{malformed, reportAt, isDiscarded, isAbsent, badAmong, timesIn, CameInOrder, requestReports, roleIn, RequestInOrder}
+use Rattle.cojp_report_laws.specs.InOrder.{malformed, reportAt, isDiscarded, isAbsent, badAmong, timesIn, ReportsInOrder, requestReports, roleIn, RequestInOrder}
 use Rattle.cojp_report_laws.specs.Labels.{configurationLabels, requestLabels, isIn, Known, labelsOf, knownIn, labelsVerdict, payloadVerdict, pairsIn}
 use Rattle.cojp_report_laws.proofs.Configurations.{Seen, five-most, malformed-long, configuration-agrees}
 use Rattle.cojp_report_laws.proofs.Labels.{stood, flag, each-label}
@@ -43,7 +43,7 @@ use Rattle.cojp_report_laws.proofs.Requests.{Asked, request-agrees}
 use Rattle.cojp_report_laws.proofs.Walk.{Agrees}
 
 -- ---- which labels are bad
-bad-discarded : (r : Report) → isBad r ≡ isDiscarded r
+bad-discarded : (r : Disposition) → isBad r ≡ isDiscarded r
 bad-discarded Absent = refl
 bad-discarded Taken = refl
 bad-discarded Discarded = refl
@@ -51,20 +51,20 @@ bad-discarded Discarded = refl
 bad-at : (c : Configuration) (n : ℕ) → badAt (badIn c) n ≡ isDiscarded (reportAt c n)
 unfolding parameterOf laterParameter
 bad-at c n =
-    each-label (λ (m : ℕ). badAt (badIn c) m ≡ isDiscarded (reportAt c m)) n (bad-discarded (c .keys .report))
-    (bad-discarded (c .address .report)) (bad-discarded (c .jrc .report)) (bad-discarded (c .blacklist .report))
-    (bad-discarded (c .rate .report))
+    each-label (λ (m : ℕ). badAt (badIn c) m ≡ isDiscarded (reportAt c m)) n (bad-discarded (c .keys .disposition))
+    (bad-discarded (c .address .disposition)) (bad-discarded (c .jrc .disposition)) (bad-discarded (c .blacklist .disposition))
+    (bad-discarded (c .rate .disposition))
     (λ x y z u w. rw (x, y, z, u, w))
 
 -- ---- the reports of a configuration
-reports-held : (c : Configuration) (xs : List Fault) (f : Faults) (ys : List Fault) → Holds f ys → length ys + length xs ≤ 5 →
+reports-held : (c : Configuration) (xs : List ErrorReport) (f : ErrorReports) (ys : List ErrorReport) → Holds f ys → length ys + length xs ≤ 5 →
     Holds (reportsOn (badIn c) f xs) (ys ++ badAmong c xs)
 reports-held c [] f ys h few = rw (append-nil ys) h
 reports-held c (x ∷ xs) f ys h few =
     rw (bad-at c (x .label))
     (by (isDiscarded (reportAt c (x .label))) (λ g z i k. reports-held c xs g z i k))
   where
-    by : (b : Bool) → ((g : Faults) (zs : List Fault) → Holds g zs → length zs + length xs ≤ 5 →
+    by : (b : Bool) → ((g : ErrorReports) (zs : List ErrorReport) → Holds g zs → length zs + length xs ≤ 5 →
         Holds (reportsOn (badIn c) g xs) (zs ++ badAmong c xs)) →
         Holds (reportsOn (badIn c) (cond b (added f (x .code) (x .label)) f) xs) (ys ++ cond b (x ∷ badAmong c xs) (badAmong c xs))
     by true more =
@@ -73,12 +73,12 @@ reports-held c (x ∷ xs) f ys h few =
         (omega (arith, length-append ys (x ∷ []))))
     by false more = more f ys h (omega arith)
 
-reports : (c : Configuration) → length (faultList (c .came)) ≤ 5 → faultList (faultsOf c) ≡ badAmong c (faultList (c .came))
-unfolding faultsOf
-reports c few = reports-held c (faultList (c .came)) noFaults [] none-held (omega arith) .reports
+reports : (c : Configuration) → length (errorReportList (c .labels)) ≤ 5 → errorReportList (errorReportsOf c) ≡ badAmong c (errorReportList (c .labels))
+unfolding errorReportsOf
+reports c few = reports-held c (errorReportList (c .labels)) noErrorReports [] none-held (omega arith) .reports
 
 -- ---- how often a label is reported
-times-bad : (c : Configuration) (n : ℕ) (xs : List Fault) → timesIn n (badAmong c xs) ≡ cond (isDiscarded (reportAt c n)) (timesIn n xs) 0
+times-bad : (c : Configuration) (n : ℕ) (xs : List ErrorReport) → timesIn n (badAmong c xs) ≡ cond (isDiscarded (reportAt c n)) (timesIn n xs) 0
 times-bad c n [] = by (isDiscarded (reportAt c n))
   where
     by : (b : Bool) → _≡_ {A = ℕ} 0 (cond b 0 0)
@@ -99,35 +99,35 @@ times-bad c n (x ∷ xs) =
     by false false e p q r t = t
 
 -- what is bad came
-bad-came : (r : Report) (b : Bool) → isDiscarded r ≡ true → standingOf r ≡ stood b → b ≡ true
-bad-came r true d s = refl
-bad-came Absent false d s = d
-bad-came Taken false d s = d
-bad-came Discarded false d s = cc
+bad-met : (r : Disposition) (b : Bool) → isDiscarded r ≡ true → labelStatusOf r ≡ stood b → b ≡ true
+bad-met r true d s = refl
+bad-met Absent false d s = d
+bad-met Taken false d s = d
+bad-met Discarded false d s = cc
 
 module _ (ks : List Known) (c : Configuration) (h : Seen ks c) where
-  came-if-bad : (n : ℕ) → isDiscarded (reportAt c n) ≡ true → isIn n (labelsOf ks) ≡ true
-  came-if-bad n =
-      let at : (m : ℕ) (r : Report) → standingOf r ≡ stood (isIn m (labelsOf ks)) → isDiscarded r ≡ true → isIn m (labelsOf ks) ≡ true =
-      λ m r s d. bad-came r (isIn m (labelsOf ks)) d s in
-      each-label (λ (m : ℕ). isDiscarded (reportAt c m) ≡ true → isIn m (labelsOf ks) ≡ true) n (at 2 (c .keys .report) (h .keys))
-      (at 3 (c .address .report) (h .address)) (at 4 (c .jrc .report) (h .jrc)) (at 6 (c .blacklist .report) (h .blacklist))
-      (at 7 (c .rate .report) (h .rate)) (λ x y z u w q. never false (rw (x, y, z, u, w) at q) refl)
+  met-if-bad : (n : ℕ) → isDiscarded (reportAt c n) ≡ true → isIn n (labelsOf ks) ≡ true
+  met-if-bad n =
+      let at : (m : ℕ) (r : Disposition) → labelStatusOf r ≡ stood (isIn m (labelsOf ks)) → isDiscarded r ≡ true → isIn m (labelsOf ks) ≡ true =
+      λ m r s d. bad-met r (isIn m (labelsOf ks)) d s in
+      each-label (λ (m : ℕ). isDiscarded (reportAt c m) ≡ true → isIn m (labelsOf ks) ≡ true) n (at 2 (c .keys .disposition) (h .keys))
+      (at 3 (c .address .disposition) (h .address)) (at 4 (c .jrc .disposition) (h .jrc)) (at 6 (c .blacklist .disposition) (h .blacklist))
+      (at 7 (c .rate .disposition) (h .rate)) (λ x y z u w q. never false (rw (x, y, z, u, w) at q) refl)
 
-  once : (n : ℕ) → timesIn n (faultList (faultsOf c)) ≡ cond (isDiscarded (reportAt c n)) 1 0
+  once : (n : ℕ) → timesIn n (errorReportList (errorReportsOf c)) ≡ cond (isDiscarded (reportAt c n)) 1 0
   once n =
-      let few : length (faultList (c .came)) ≤ 5 =
-      omega (arith, ap length (h .came .reports), malformed-long ks, h .many-came, five-most (labelsOf ks)) in
-      ap (timesIn n) (reports c few) ∙ times-bad c n (faultList (c .came))
-      ∙ by (isDiscarded (reportAt c n)) (came-if-bad n) (ap (timesIn n) (h .came .reports) ∙ h .alone n)
+      let few : length (errorReportList (c .labels)) ≤ 5 =
+      omega (arith, ap length (h .met .reports), malformed-long ks, h .many-met, five-most (labelsOf ks)) in
+      ap (timesIn n) (reports c few) ∙ times-bad c n (errorReportList (c .labels))
+      ∙ by (isDiscarded (reportAt c n)) (met-if-bad n) (ap (timesIn n) (h .met .reports) ∙ h .alone n)
     where
-      by : (b : Bool) → (b ≡ true → isIn n (labelsOf ks) ≡ true) → timesIn n (faultList (c .came)) ≡ flag (isIn n (labelsOf ks)) →
-          cond b (timesIn n (faultList (c .came))) 0 ≡ cond b 1 0
+      by : (b : Bool) → (b ≡ true → isIn n (labelsOf ks) ≡ true) → timesIn n (errorReportList (c .labels)) ≡ flag (isIn n (labelsOf ks)) →
+          cond b (timesIn n (errorReportList (c .labels))) 0 ≡ cond b 1 0
       by true f t = t ∙ ap flag (f refl)
       by false f t = refl
 
 -- what did not come is absent
-absent-by : (r : Report) (b : Bool) → standingOf r ≡ stood b → isAbsent r ≡ not b
+absent-by : (r : Disposition) (b : Bool) → labelStatusOf r ≡ stood b → isAbsent r ≡ not b
 absent-by Absent true s = cc
 absent-by Absent false s = refl
 absent-by Taken true s = refl
@@ -138,22 +138,22 @@ absent-by Discarded false s = cc
 absent : (ks : List Known) (c : Configuration) → Seen ks c → (n : ℕ) → isIn n configurationLabels ≡ true →
     isAbsent (reportAt c n) ≡ not (isIn n (labelsOf ks))
 absent ks c h n =
-    let at : (m : ℕ) (r : Report) → standingOf r ≡ stood (isIn m (labelsOf ks)) → isAbsent r ≡ not (isIn m (labelsOf ks)) =
+    let at : (m : ℕ) (r : Disposition) → labelStatusOf r ≡ stood (isIn m (labelsOf ks)) → isAbsent r ≡ not (isIn m (labelsOf ks)) =
     λ m r s. absent-by r (isIn m (labelsOf ks)) s in
     each-label (λ (m : ℕ). isIn m configurationLabels ≡ true → isAbsent (reportAt c m) ≡ not (isIn m (labelsOf ks))) n
-    (λ q. at 2 (c .keys .report) (h .keys)) (λ q. at 3 (c .address .report) (h .address)) (λ q. at 4 (c .jrc .report) (h .jrc))
-    (λ q. at 6 (c .blacklist .report) (h .blacklist)) (λ q. at 7 (c .rate .report) (h .rate))
+    (λ q. at 2 (c .keys .disposition) (h .keys)) (λ q. at 3 (c .address .disposition) (h .address)) (λ q. at 4 (c .jrc .disposition) (h .jrc))
+    (λ q. at 6 (c .blacklist .disposition) (h .blacklist)) (λ q. at 7 (c .rate .disposition) (h .rate))
     (λ x y z u w q. never (isIn n configurationLabels) q (rw (x, y, z, u, w)))
 
 -- ---- a payload that is accepted
 module _ (w : Verdict) (ks : List Known) where
-  came-of : (r : Reading Configuration) → Agrees w (Seen ks) r → configurationAnswer r .verdict ≡ Accepted →
-      faultList (configurationAnswer r .configuration .came) ≡ malformed ks
-  came-of (refused k) a e = refused-not k e
-  came-of (read c) a e = a .1 .came .reports
+  met-of : (r : Reading Configuration) → Agrees w (Seen ks) r → configurationAnswer r .verdict ≡ Accepted →
+      errorReportList (configurationAnswer r .configuration .labels) ≡ malformed ks
+  met-of (refused k) a e = refused-not k e
+  met-of (read c) a e = a .1 .met .reports
 
   once-of : (r : Reading Configuration) → Agrees w (Seen ks) r → configurationAnswer r .verdict ≡ Accepted → (n : ℕ) →
-      timesIn n (faultList (faultsOf (configurationAnswer r .configuration)))
+      timesIn n (errorReportList (errorReportsOf (configurationAnswer r .configuration)))
       ≡ cond (isDiscarded (reportAt (configurationAnswer r .configuration) n)) 1 0
   once-of (refused k) a e n = refused-not k e
   once-of (read c) a e n = once ks c (a .1) n
@@ -164,25 +164,25 @@ module _ (w : Verdict) (ks : List Known) where
   absent-of (read c) a e = absent ks c (a .1)
 
 module _ (w : Verdict) (ks : List Known) where
-  request-of : (r : Reading Gathered) → Agrees w (Asked ks) r → requestAnswer (onward r (settled Published)) .verdict ≡ Accepted →
-      (faultList (requestAnswer (onward r (settled Published)) .request .faults) ≡ requestReports ks)
-      × (requestAnswer (onward r (settled Published)) .request .role ≡ roleIn ks)
+  request-of : (r : Reading RequestState) → Agrees w (Asked ks) r → requestAnswer (bind r (settled Published)) .verdict ≡ Accepted →
+      (errorReportList (requestAnswer (bind r (settled Published)) .request .errors) ≡ requestReports ks)
+      × (requestAnswer (bind r (settled Published)) .request .role ≡ roleIn ks)
   request-of (refused k) a e = refused-not k e
-  request-of (read g) a e = by (owing Published (g .request .role) (g .request .network .report)) e
+  request-of (read g) a e = by (owing Published (g .request .role) (g .request .network .disposition)) e
     where
       by : (b : Bool) → requestAnswer (cond b (refused refusal.Owed) (read (g .request))) .verdict ≡ Accepted →
-          (faultList (requestAnswer (cond b (refused refusal.Owed) (read (g .request))) .request .faults) ≡ requestReports ks)
+          (errorReportList (requestAnswer (cond b (refused refusal.Owed) (read (g .request))) .request .errors) ≡ requestReports ks)
           × (requestAnswer (cond b (refused refusal.Owed) (read (g .request))) .request .role ≡ roleIn ks)
       by true q = refused-not refusal.Owed q
       by false q = (a .1 .faults .reports, a .1 .reads)
 
 -- ---- the examples are computed
-pub came-in-order : CameInOrder
+pub met-in-order : ReportsInOrder
 unfolding payloadBy infoOf decodeBy heading argument next digits members pairs majorOf octetsJudged payloadReadBy parameterOf laterParameter
-    configurationTaking added rateTaken faultsOf
-came-in-order = record {
-  came = λ strict p.
-      came-of (payloadVerdict (labelsVerdict configurationLabels []) strict p) (knownIn configurationLabels (pairsIn strict p))
+    configurationTaking added rateTaken errorReportsOf
+met-in-order = record {
+  met = λ strict p.
+      met-of (payloadVerdict (labelsVerdict configurationLabels []) strict p) (knownIn configurationLabels (pairsIn strict p))
       (payloadReadBy (configurationForm Published) (headBy strict) emptyConfiguration p) (configuration-agrees strict p);
   reports = reports;
   once = λ strict p.
@@ -196,13 +196,13 @@ came-in-order = record {
 
 pub request-in-order : RequestInOrder
 unfolding payloadBy infoOf decodeBy heading argument next digits members pairs majorOf octetsJudged padded payloadReadBy roleJudged
-    requestStanding requestTaking owing added faultsIn
+    requestLabelStatus requestTaking owing added errorReportsIn
 request-in-order = record {
   reports = λ strict p e.
       request-of (payloadVerdict (labelsVerdict requestLabels []) strict p) (knownIn requestLabels (pairsIn strict p))
-      (payloadReadBy (requestForm Published) (headBy strict) nothingGathered p) (request-agrees strict p) e .0;
+      (payloadReadBy (requestForm Published) (headBy strict) emptyRequestState p) (request-agrees strict p) e .0;
   role = λ strict p e.
       request-of (payloadVerdict (labelsVerdict requestLabels []) strict p) (knownIn requestLabels (pairsIn strict p))
-      (payloadReadBy (requestForm Published) (headBy strict) nothingGathered p) (request-agrees strict p) e .1;
+      (payloadReadBy (requestForm Published) (headBy strict) emptyRequestState p) (request-agrees strict p) e .1;
   example = refl;
 }

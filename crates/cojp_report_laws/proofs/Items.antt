@@ -14,24 +14,24 @@ use Rattle.cbor.specs.Encode.{extraOf}
 use Rattle.cbor.specs.HeadLaws.{HeadLaws}
 use Rattle.cbor.specs.Item.{half, single, double, Item, Items, Pairs, unsigned, negative, bytes, text, array, map, tag, simple, float, more, empty, pair}
 use Rattle.cbor.specs.Laws.{Suffix, Bytes, ItemLaws}
-use Rattle.cbor.specs.View.{Plain, number, minus, string, other, PlainFits, View, plain, list, plainOf, plainsOf, viewOf, stringOf, plainBy, plainHead, plainAt}
+use Rattle.cbor.specs.View.{Scalar, number, minus, string, other, ScalarValid, View, scalar, list, scalarOf, scalarsOf, viewOf, stringOf, scalarBy, scalarHead, scalarAt}
 
 -- ---- how many bytes they take with shortest heads
 abbrev pub headSize : ℕ → ℕ
 headSize n = extraOf n + 1
 
-abbrev pub plainSize : Plain → ℕ
+abbrev pub plainSize : Scalar → ℕ
 plainSize (number n) = headSize n
 plainSize (minus n) = headSize n
 plainSize (string s) = headSize (length s) + length s
 plainSize other = 1
 
-abbrev pub plainsSize : List Plain → ℕ
+abbrev pub plainsSize : List Scalar → ℕ
 plainsSize [] = 0
 plainsSize (p ∷ ps) = plainSize p + plainsSize ps
 
 abbrev pub viewSize : View → ℕ
-viewSize (plain p) = plainSize p
+viewSize (scalar p) = plainSize p
 viewSize (list ps) = headSize (length ps) + plainsSize ps
 
 -- the values of pairs, each with a label
@@ -39,19 +39,19 @@ abbrev pub pairsSize : Pairs → ℕ
 pairsSize empty = 0
 pairsSize (pair k v ps) = 1 + viewSize (viewOf v) + pairsSize ps
 
-pub plain-least : (p : Plain) → 1 ≤ plainSize p
+pub plain-least : (p : Scalar) → 1 ≤ plainSize p
 plain-least (number n) = omega arith
 plain-least (minus n) = omega arith
 plain-least (string s) = omega arith
 plain-least other = omega arith
 
 -- ---- what fits
-abbrev pub PlainsFit : List Plain → Type 0
+abbrev pub PlainsFit : List Scalar → Type 0
 PlainsFit [] = Unit {0}
-PlainsFit (p ∷ ps) = PlainFits p × PlainsFit ps
+PlainsFit (p ∷ ps) = ScalarValid p × PlainsFit ps
 
 abbrev pub ViewFits : View → Type 0
-ViewFits (plain p) = PlainFits p
+ViewFits (scalar p) = ScalarValid p
 ViewFits (list ps) = PlainsFit ps
 
 abbrev pub ValuesFit : Pairs → Type 0
@@ -96,14 +96,14 @@ mapSize (float w n) = 0
 pub record Read (s : List ℕ) (i : Item) (t : List ℕ) : Type 0 where
   pub fits : ViewFits (viewOf i)
   pub size : viewSize (viewOf i) + length t ≤ length s
-  pub member-fits : PlainFits (plainOf i)
-  pub member-size : plainSize (plainOf i) + length t ≤ length s
+  pub member-fits : ScalarValid (scalarOf i)
+  pub member-size : plainSize (scalarOf i) + length t ≤ length s
   pub pairs-fit : MapFits i
   pub pairs-size : mapSize i + length t ≤ length s
   pub left : Bytes t
 
 -- an item that is no number, string, array or map: a byte at least
-rest-read : (s : List ℕ) (i : Item) (t : List ℕ) → viewOf i ≡ plain other → plainOf i ≡ other → MapFits i → mapSize i ≡ 0 → Bytes t →
+rest-read : (s : List ℕ) (i : Item) (t : List ℕ) → viewOf i ≡ scalar other → scalarOf i ≡ other → MapFits i → mapSize i ≡ 0 → Bytes t →
     1 + length t ≤ length s → Read s i t
 rest-read s i t v p f z b l = record {
   fits = rw v tt;
@@ -126,9 +126,9 @@ special-read s info n t b l = by (ltb info 25) (eqb info 25) (eqb info 26)
 
 -- ---- members and pairs
 pub record MembersRead (n : ℕ) (s : List ℕ) (is : Items) (t : List ℕ) : Type 0 where
-  pub fit : PlainsFit (plainsOf is)
-  pub many : length (plainsOf is) ≡ n
-  pub size : plainsSize (plainsOf is) + length t ≤ length s
+  pub fit : PlainsFit (scalarsOf is)
+  pub many : length (scalarsOf is) ≡ n
+  pub size : plainsSize (scalarsOf is) + length t ≤ length s
   pub left : Bytes t
 
 pub record PairsRead (s : List ℕ) (ps : Pairs) (t : List ℕ) : Type 0 where
@@ -170,7 +170,7 @@ module _ (item : List ℕ → Outcome Item) (reads : (s : List ℕ) → Bytes s 
       (λ v u g. and-gets (PairsRead u) (PairsRead s) (pairs item n u) (λ ps w. got (pair k v ps) w) (pairs-read n u (g .left))
       (λ ps w f. record {
         fit = (g .fits, f .fit);
-        size = omega (arith, f .size, g .size, h .member-size, plain-least (plainOf k));
+        size = omega (arith, f .size, g .size, h .member-size, plain-least (scalarOf k));
         left = f .left;
       })))
 
@@ -186,11 +186,11 @@ record StringRead (n : ℕ) (s bs t : List ℕ) : Type 0 where
   left : Bytes t
   fits : length bs < 2 ^ 64
 
-next-read : (n : ℕ) (s : List ℕ) → Bytes s → PlainFits (stringOf (next n s)) → Gets (StringRead n s) (next n s)
+next-read : (n : ℕ) (s : List ℕ) → Bytes s → ScalarValid (stringOf (next n s)) → Gets (StringRead n s) (next n s)
 unfolding next
 next-read n s b = by (leb n (length s)) refl
   where
-    by : (x : Bool) → leb n (length s) ≡ x → PlainFits (stringOf (cond x (got (take n s) (drop n s)) (refused Cut))) →
+    by : (x : Bool) → leb n (length s) ≡ x → ScalarValid (stringOf (cond x (got (take n s) (drop n s)) (refused Cut))) →
         Gets (StringRead n s) (cond x (got (take n s) (drop n s)) (refused Cut))
     by false e f = tt
     by true e f =
@@ -212,7 +212,7 @@ text-read n s b = by (leb n (length s))
 
 -- ---- what follows a head
 module _ (item : List ℕ → Outcome Item) (reads : (s : List ℕ) → Bytes s → Gets (Read s) (item s)) where
-  content-read : (m : Major) (info n : ℕ) (whole s : List ℕ) → headSize n + length s ≤ length whole → PlainFits (plainBy m n s) → Bytes s →
+  content-read : (m : Major) (info n : ℕ) (whole s : List ℕ) → headSize n + length s ≤ length whole → ScalarValid (scalarBy m n s) → Bytes s →
       Gets (Read whole) (content item m info n s)
   content-read unsigneds info n whole s l f b =
       record { fits = f; size = l; member-fits = f; member-size = l; pairs-fit = tt; pairs-size = omega arith; left = b }
@@ -268,7 +268,7 @@ pub record Whole (p : List ℕ) (ps : Pairs) : Type 0 where
   pub size : 1 + pairsSize ps ≤ length p
 
 module _ (laws : ItemLaws) (H : HeadLaws) where
-  head-read : (s : List ℕ) → Bytes s → (o : Outcome Heading) → heading s ≡ o → PlainFits (plainHead o) → (d : ℕ) →
+  head-read : (s : List ℕ) → Bytes s → (o : Outcome Heading) → heading s ≡ o → ScalarValid (scalarHead o) → (d : ℕ) →
       ((u : List ℕ) → Bytes u → Gets (Read u) (decode d u)) →
       Gets (Read s) (andThen o (λ h t. content (λ u. decodeBy heading d u) (majorOf (h .major)) (h .info) (h .argument) t))
   head-read s b (refused k) e f d reads = tt
@@ -278,7 +278,7 @@ module _ (laws : ItemLaws) (H : HeadLaws) where
       (omega (arith, suffix-long t s after, H .length-head (h .major) (h .argument))) f (bytes-after t s after b)
 
   decode-read : (d : ℕ) (s : List ℕ) → Bytes s → Gets (Read s) (decode d s)
-  unfolding decodeBy plainAt
+  unfolding decodeBy scalarAt
   decode-read zero s b = tt
   decode-read (suc d) s b = head-read s b (heading s) refl (laws .plain-fits s b) d (decode-read d)
 

@@ -12,25 +12,25 @@ use Rattle.cbor.specs.Encode.{encode, encodes, shortest}
 use Rattle.cbor.specs.HeadLaws.{HeadLaws}
 use Rattle.cbor.specs.Item.{Fit, depth, array, count}
 use Rattle.cbor.specs.Laws.{ItemLaws}
-use Rattle.cbor.specs.View.{Plain, number, minus, string, other, PlainFits, plainOf}
+use Rattle.cbor.specs.View.{Scalar, number, minus, string, other, ScalarValid, scalarOf}
 use Rattle.cojp.specs.Bytes.{membersAt}
-use Rattle.cojp.specs.Lists.{Picked, nothing, picked, before, plainItem, itemsOf, written, isInteger, stringsIn, faultsIn, some, listOf, bytesIn, sameAs, kept, itemsIn}
+use Rattle.cojp.specs.Lists.{Picked, nothing, picked, before, scalarItem, itemsOf, written, isInteger, stringsIn, errorReportsIn, some, listOf, bytesIn, sameAs, kept, itemsIn}
 use Rattle.cojp.specs.Octets.{padded}
 use Rattle.cojp_report_laws.proofs.Items.{headSize, plainSize, plainsSize, plain-least, PlainsFit}
 
-plain-back : (p : Plain) → plainOf (plainItem p) ≡ p
+plain-back : (p : Scalar) → scalarOf (scalarItem p) ≡ p
 plain-back (number n) = refl
 plain-back (minus n) = refl
 plain-back (string s) = refl
 plain-back other = refl
 
-plain-fit : (p : Plain) → PlainFits p → Fit (plainItem p)
+plain-fit : (p : Scalar) → ScalarValid p → Fit (scalarItem p)
 plain-fit (number n) h = h
 plain-fit (minus n) h = h
 plain-fit (string s) h = h
 plain-fit other h = omega arith
 
-shallow : (p : Plain) → depth (plainItem p) ≤ 6
+shallow : (p : Scalar) → depth (scalarItem p) ≤ 6
 shallow (number n) = omega arith
 shallow (minus n) = omega arith
 shallow (string s) = omega arith
@@ -38,31 +38,31 @@ shallow other = omega arith
 
 -- ---- how many bytes are written
 module _ (H : HeadLaws) where
-  pub item-size : (p : Plain) → length (encode (plainItem p)) ≡ plainSize p
+  pub item-size : (p : Scalar) → length (encode (scalarItem p)) ≡ plainSize p
   item-size (number n) = H .length-head 0 n
   item-size (minus n) = H .length-head 1 n
   item-size (string s) = length-append (shortest 2 (length s)) s ∙ ap (λ (n : ℕ). n + length s) (H .length-head 2 (length s))
   item-size other = H .short-head 7 22 (omega arith)
 
-  pub written-size : (ps : List Plain) → length (written ps) ≡ plainsSize ps
+  pub written-size : (ps : List Scalar) → length (written ps) ≡ plainsSize ps
   written-size [] = refl
-  written-size (p ∷ ps) = length-append (encode (plainItem p)) (written ps) ∙ omega (arith, item-size p, written-size ps)
+  written-size (p ∷ ps) = length-append (encode (scalarItem p)) (written ps) ∙ omega (arith, item-size p, written-size ps)
 
-items-many : (ps : List Plain) → count (itemsOf ps) ≡ length ps
+items-many : (ps : List Scalar) → count (itemsOf ps) ≡ length ps
 items-many [] = refl
 items-many (p ∷ ps) = ap suc (items-many ps)
 
 -- ---- members that would be picked again
 module _ (laws : ItemLaws) (H : HeadLaws) where
-  members-back : (ps : List Plain) → PlainsFit ps → membersAt (length ps) (written ps) ≡ ps
+  members-back : (ps : List Scalar) → PlainsFit ps → membersAt (length ps) (written ps) ≡ ps
   members-back [] h = refl
   members-back (p ∷ ps) h =
       let rest = encodes (itemsOf ps) in
-      let got-it = laws .round-trip (plainItem p) 6 rest (shallow p) (plain-fit p (h .0)) in
-      let here = laws .item-plain 5 (encode (plainItem p) ++ rest) (plainItem p) rest got-it ∙ plain-back p in
+      let got-it = laws .round-trip (scalarItem p) 6 rest (shallow p) (plain-fit p (h .0)) in
+      let here = laws .item-plain 5 (encode (scalarItem p) ++ rest) (scalarItem p) rest got-it ∙ plain-back p in
       rw (got-it, here, members-back ps (h .1))
 
-  module _ (f : List Plain → Picked) (ps : List Plain) (fit : PlainsFit ps) (again : f ps ≡ picked ps) where
+  module _ (f : List Scalar → Picked) (ps : List Scalar) (fit : PlainsFit ps) (again : f ps ≡ picked ps) where
     read-bytes : bytesIn (listOf ps) ≡ written ps
     unfolding padded
     read-bytes = take-append-seam (written ps) (replicate (253 - length (written ps)) 0)
@@ -87,17 +87,17 @@ module _ (laws : ItemLaws) (H : HeadLaws) where
         )
 
 -- ---- what is picked: so many members, none larger, and they would be picked again
-pub record Picks (f : List Plain → Picked) (ms ps : List Plain) : Type 0 where
+pub record Picks (f : List Scalar → Picked) (ms ps : List Scalar) : Type 0 where
   pub again : f ps ≡ picked ps
   pub fit : PlainsFit ms → PlainsFit ps
   pub many : length ps ≡ length ms
   pub size : plainsSize ps ≤ plainsSize ms
 
-abbrev pub Picking : (List Plain → Picked) → List Plain → Picked → Type 0
+abbrev pub Picking : (List Scalar → Picked) → List Scalar → Picked → Type 0
 Picking f ms nothing = Unit {0}
 Picking f ms (picked ps) = Picks f ms ps
 
-string-more : (s : List ℕ) (ms : List Plain) (q : Picked) → Picking stringsIn ms q →
+string-more : (s : List ℕ) (ms : List Scalar) (q : Picked) → Picking stringsIn ms q →
     Picking stringsIn (string s ∷ ms) (before (string s ∷ []) q)
 unfolding stringsIn
 string-more s ms nothing h = tt
@@ -108,7 +108,7 @@ string-more s ms (picked ps) h = record {
   size = omega (arith, h .size);
 }
 
-pub strings-picked : (ms : List Plain) → Picking stringsIn ms (stringsIn ms)
+pub strings-picked : (ms : List Scalar) → Picking stringsIn ms (stringsIn ms)
 unfolding stringsIn
 strings-picked [] = record { again = refl; fit = λ g. tt; many = refl; size = omega arith }
 strings-picked (number n ∷ r) = tt
@@ -116,9 +116,9 @@ strings-picked (minus n ∷ r) = tt
 strings-picked (string s ∷ r) = string-more s r (stringsIn r) (strings-picked r)
 strings-picked (other ∷ r) = tt
 
-fault-more : (p q x : Plain) (ms : List Plain) (r : Picked) → (isInteger p && isInteger q) ≡ true → Picking faultsIn ms r →
-    Picking faultsIn (p ∷ q ∷ x ∷ ms) (before (p ∷ q ∷ other ∷ []) r)
-unfolding faultsIn
+fault-more : (p q x : Scalar) (ms : List Scalar) (r : Picked) → (isInteger p && isInteger q) ≡ true → Picking errorReportsIn ms r →
+    Picking errorReportsIn (p ∷ q ∷ x ∷ ms) (before (p ∷ q ∷ other ∷ []) r)
+unfolding errorReportsIn
 fault-more p q x ms nothing e h = tt
 fault-more p q x ms (picked ps) e h = record {
   again = rw (e, h .again);
@@ -127,27 +127,27 @@ fault-more p q x ms (picked ps) e h = record {
   size = omega (arith, h .size, plain-least x);
 }
 
-faults-picked : (ms : List Plain) → Picking faultsIn ms (faultsIn ms)
-unfolding faultsIn
+faults-picked : (ms : List Scalar) → Picking errorReportsIn ms (errorReportsIn ms)
+unfolding errorReportsIn
 faults-picked [] = record { again = refl; fit = λ g. tt; many = refl; size = omega arith }
 faults-picked (p ∷ []) = tt
 faults-picked (p ∷ q ∷ []) = tt
 faults-picked (p ∷ q ∷ x ∷ r) = by (isInteger p && isInteger q) refl (faults-picked r)
   where
-    by : (b : Bool) → (isInteger p && isInteger q) ≡ b → Picking faultsIn r (faultsIn r) →
-        Picking faultsIn (p ∷ q ∷ x ∷ r) (cond b (before (p ∷ q ∷ other ∷ []) (faultsIn r)) nothing)
-    by true e h = fault-more p q x r (faultsIn r) e h
+    by : (b : Bool) → (isInteger p && isInteger q) ≡ b → Picking errorReportsIn r (errorReportsIn r) →
+        Picking errorReportsIn (p ∷ q ∷ x ∷ r) (cond b (before (p ∷ q ∷ other ∷ []) (errorReportsIn r)) nothing)
+    by true e h = fault-more p q x r (errorReportsIn r) e h
     by false e h = tt
 
 -- one at least
-some-again : (ms ps : List Plain) → Picks faultsIn ms ps → 1 ≤ length ms → Picks (some faultsIn) ms ps
+some-again : (ms ps : List Scalar) → Picks errorReportsIn ms ps → 1 ≤ length ms → Picks (some errorReportsIn) ms ps
 some-again ms [] h l = absurd (omega (arith, h .many))
 some-again ms (p ∷ ps) h l = record { again = h .again; fit = h .fit; many = h .many; size = h .size }
 
-pub reports-picked : (ms : List Plain) → Picking (some faultsIn) ms (some faultsIn ms)
+pub reports-picked : (ms : List Scalar) → Picking (some errorReportsIn) ms (some errorReportsIn ms)
 reports-picked [] = tt
-reports-picked (m ∷ ms) = by (faultsIn (m ∷ ms)) (faults-picked (m ∷ ms))
+reports-picked (m ∷ ms) = by (errorReportsIn (m ∷ ms)) (faults-picked (m ∷ ms))
   where
-    by : (q : Picked) → Picking faultsIn (m ∷ ms) q → Picking (some faultsIn) (m ∷ ms) q
+    by : (q : Picked) → Picking errorReportsIn (m ∷ ms) q → Picking (some errorReportsIn) (m ∷ ms) q
     by nothing h = tt
     by (picked ps) h = some-again (m ∷ ms) ps h (omega arith)

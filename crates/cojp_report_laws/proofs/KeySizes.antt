@@ -13,17 +13,17 @@ use Rattle.cbor.specs.Encode.{encode, encodes, encodePairs, shortest, extraOf}
 use Rattle.cbor.specs.HeadLaws.{HeadLaws}
 use Rattle.cbor.specs.Item.{Items, unsigned, bytes, array, more, count}
 use Rattle.cbor.specs.Item as item
-use Rattle.cbor.specs.View.{Plain, number, minus, string, other, View, plain, list}
+use Rattle.cbor.specs.View.{Scalar, number, minus, string, other, View, scalar, list}
 use Rattle.cojp.proofs.Walks.{Gives}
 use Rattle.cojp.specs.KeySet.{Groups, notGroups, groupsOf, group, further, groups, identified, used, valued, keysIn, keySetOf, keysConcluded, keysReadAs}
 use Rattle.cojp.specs.Reading.{good, unfit}
-use Rattle.cojp.specs.Writing.{chain, usageItems, infoItems, groupItems, groupsItems, keysPairs}
+use Rattle.cojp.specs.Writing.{chain, usageItems, additionalInfoItems, groupItems, groupsItems, keysPairs}
 use Rattle.cojp.specs.declared.key_set.KeysParameter.{KeysParameter}
-use Rattle.link_key.specs.Info.{infoIn}
-use Rattle.link_key.specs.Key.{informedKey, noKey}
+use Rattle.link_key.specs.AdditionalInfo.{additionalInfoIn}
+use Rattle.link_key.specs.Key.{keyWithAdditionalInfo, noKey}
 use Rattle.link_key.specs.declared.Key.{Key}
-use Rattle.link_key.specs.declared.info.Info.{Info}
-use Rattle.link_key.specs.declared.info.Info.the-variants as info
+use Rattle.link_key.specs.declared.additional_info.AdditionalInfo.{AdditionalInfo}
+use Rattle.link_key.specs.declared.additional_info.AdditionalInfo.the-variants as info
 use Rattle.link_key_set.specs.KeySet.{validKeys}
 use Rattle.cojp_report_laws.proofs.Items.{headSize, plainsSize, viewSize}
 use Rattle.cojp_report_laws.proofs.Parameters.{labelled-size, string-size}
@@ -66,20 +66,20 @@ usageMany u = cond (eqb u 0) 0 1
 abbrev usageSize : ℕ → ℕ
 usageSize u = cond (eqb u 0) 0 (headSize u)
 
-abbrev infoMany : Info → ℕ
+abbrev infoMany : AdditionalInfo → ℕ
 infoMany info.Absent = 0
 infoMany (info.Four a b c d) = 1
 infoMany (info.Eight a b c d e f g h) = 1
 
-abbrev infoSize : Info → ℕ
+abbrev infoSize : AdditionalInfo → ℕ
 infoSize info.Absent = 0
 infoSize (info.Four a b c d) = headSize 4 + 4
 infoSize (info.Eight a b c d e f g h) = headSize 8 + 8
 
-abbrev keyMany : ℕ → Info → ℕ
+abbrev keyMany : ℕ → AdditionalInfo → ℕ
 keyMany u w = 2 + usageMany u + infoMany w
 
-abbrev keySize : ℕ → ℕ → List ℕ → Info → ℕ
+abbrev keySize : ℕ → ℕ → List ℕ → AdditionalInfo → ℕ
 keySize i u v w = headSize i + usageSize u + (headSize (length v) + length v) + infoSize w
 
 -- so many members and bytes at most
@@ -106,40 +106,40 @@ module _ (H : HeadLaws) where
       by true = refl
       by false = ap length (append-nil (shortest 0 u)) ∙ H .length-head 0 u
 
-  info-many : (w : Info) → count (infoItems w) ≡ infoMany w
+  info-many : (w : AdditionalInfo) → count (additionalInfoItems w) ≡ infoMany w
   info-many info.Absent = refl
   info-many (info.Four a b c d) = refl
   info-many (info.Eight a b c d e f g h) = refl
 
-  info-size : (w : Info) → length (encodes (infoItems w)) ≡ infoSize w
+  info-size : (w : AdditionalInfo) → length (encodes (additionalInfoItems w)) ≡ infoSize w
   info-size info.Absent = refl
   info-size (info.Four a b c d) = ap length (append-nil (encode (bytes (a ∷ b ∷ c ∷ d ∷ [])))) ∙ string-size H (a ∷ b ∷ c ∷ d ∷ [])
   info-size (info.Eight a b c d e f g h) =
       ap length (append-nil (encode (bytes (a ∷ b ∷ c ∷ d ∷ e ∷ f ∷ g ∷ h ∷ [])))) ∙ string-size H (a ∷ b ∷ c ∷ d ∷ e ∷ f ∷ g ∷ h ∷ [])
 
-  key-many : (i u : ℕ) (v : List ℕ) (w : Info) → count (groupItems (informedKey i u v w)) ≡ keyMany u w
+  key-many : (i u : ℕ) (v : List ℕ) (w : AdditionalInfo) → count (groupItems (keyWithAdditionalInfo i u v w)) ≡ keyMany u w
   key-many i u v w =
-      chain-many (more (unsigned i) (usageItems u)) (more (bytes v) (infoItems w)) ∙ omega (arith, usage-many u, info-many w)
+      chain-many (more (unsigned i) (usageItems u)) (more (bytes v) (additionalInfoItems w)) ∙ omega (arith, usage-many u, info-many w)
 
-  key-size : (i u : ℕ) (v : List ℕ) (w : Info) → length (encodes (groupItems (informedKey i u v w))) ≡ keySize i u v w
+  key-size : (i u : ℕ) (v : List ℕ) (w : AdditionalInfo) → length (encodes (groupItems (keyWithAdditionalInfo i u v w))) ≡ keySize i u v w
   key-size i u v w =
-      chain-size (more (unsigned i) (usageItems u)) (more (bytes v) (infoItems w))
+      chain-size (more (unsigned i) (usageItems u)) (more (bytes v) (additionalInfoItems w))
       ∙ omega (
         arith,
         length-append (shortest 0 i) (encodes (usageItems u)),
         H .length-head 0 i,
         usage-size u,
-        length-append (encode (bytes v)) (encodes (infoItems w)),
+        length-append (encode (bytes v)) (encodes (additionalInfoItems w)),
         string-size H v,
         info-size w,
       )
 
-  group-fine : (i u : ℕ) (v : List ℕ) (w : Info) (n size : ℕ) (g : Groups) → Fine n size g →
+  group-fine : (i u : ℕ) (v : List ℕ) (w : AdditionalInfo) (n size : ℕ) (g : Groups) → Fine n size g →
       Fine (keyMany u w + n) (keySize i u v w + size) (group i u v w g)
   group-fine i u v w n size notGroups h = tt
   group-fine i u v w n size (groupsOf ks) h = record {
-    many = omega (arith, chain-many (groupItems (informedKey i u v w)) (groupsItems ks), key-many i u v w, h .many);
-    bytes = omega (arith, chain-size (groupItems (informedKey i u v w)) (groupsItems ks), key-size i u v w, h .bytes);
+    many = omega (arith, chain-many (groupItems (keyWithAdditionalInfo i u v w)) (groupsItems ks), key-many i u v w, h .many);
+    bytes = omega (arith, chain-size (groupItems (keyWithAdditionalInfo i u v w)) (groupsItems ks), key-size i u v w, h .bytes);
   }
 
   wider : (n size m large : ℕ) (g : Groups) → n ≤ m → size ≤ large → Fine n size g → Fine m large g
@@ -147,9 +147,9 @@ module _ (H : HeadLaws) where
   wider n size m large (groupsOf ks) l k h = record { many = omega (arith, h .many); bytes = omega (arith, h .bytes) }
 
   -- additional information is the bytes of its string
-  further-fine : (informed : Bool) (i u : ℕ) (v s : List ℕ) (n size : ℕ) (g : Groups) → Fine n size g →
+  further-fine : (allowed : Bool) (i u : ℕ) (v s : List ℕ) (n size : ℕ) (g : Groups) → Fine n size g →
       Fine (keyMany u info.Absent + (1 + n)) (keySize i u v info.Absent + (headSize (length s) + length s + size))
-      (further informed i u v (infoIn s) g)
+      (further allowed i u v (additionalInfoIn s) g)
   further-fine false i u v s n size g h = tt
   further-fine true i u v [] n size g h = tt
   further-fine true i u v (a ∷ []) n size g h = tt
@@ -180,46 +180,46 @@ module _ (H : HeadLaws) where
       by true = omega arith
       by false = omega arith
 
-  module _ (informed : Bool) where
+  module _ (allowed : Bool) where
     mutual
       unfolding groups identified used valued
 
-      groups-fine : (ps : List Plain) → Fine (length ps) (plainsSize ps) (groups informed ps)
+      groups-fine : (ps : List Scalar) → Fine (length ps) (plainsSize ps) (groups allowed ps)
       groups-fine [] = record { many = omega arith; bytes = omega arith }
-      groups-fine (number i ∷ r) = wider _ _ _ _ (identified informed i r) (omega arith) (omega arith) (identified-fine r i)
+      groups-fine (number i ∷ r) = wider _ _ _ _ (identified allowed i r) (omega arith) (omega arith) (identified-fine r i)
       groups-fine (minus n ∷ r) = tt
       groups-fine (string v ∷ r) = tt
       groups-fine (other ∷ r) = tt
 
-      identified-fine : (ps : List Plain) (i : ℕ) → Fine (1 + length ps) (headSize i + plainsSize ps) (identified informed i ps)
+      identified-fine : (ps : List Scalar) (i : ℕ) → Fine (1 + length ps) (headSize i + plainsSize ps) (identified allowed i ps)
       identified-fine [] i = tt
-      identified-fine (number u ∷ r) i = wider _ _ _ _ (used informed i u r) (omega arith) (omega arith) (used-fine r i u)
+      identified-fine (number u ∷ r) i = wider _ _ _ _ (used allowed i u r) (omega arith) (omega arith) (used-fine r i u)
       identified-fine (minus n ∷ r) i = tt
-      identified-fine (string v ∷ r) i = wider _ _ _ _ (valued informed i 0 v r) (omega arith) (omega arith) (valued-fine r i 0 v)
+      identified-fine (string v ∷ r) i = wider _ _ _ _ (valued allowed i 0 v r) (omega arith) (omega arith) (valued-fine r i 0 v)
       identified-fine (other ∷ r) i = tt
 
-      used-fine : (ps : List Plain) (i u : ℕ) → Fine (2 + length ps) (headSize i + headSize u + plainsSize ps) (used informed i u ps)
+      used-fine : (ps : List Scalar) (i u : ℕ) → Fine (2 + length ps) (headSize i + headSize u + plainsSize ps) (used allowed i u ps)
       used-fine [] i u = tt
       used-fine (number n ∷ r) i u = tt
       used-fine (minus n ∷ r) i u = tt
       used-fine (string v ∷ r) i u =
-          wider _ _ _ _ (valued informed i u v r) (omega (arith, one-most u)) (omega (arith, usage-most u)) (valued-fine r i u v)
+          wider _ _ _ _ (valued allowed i u v r) (omega (arith, one-most u)) (omega (arith, usage-most u)) (valued-fine r i u v)
       used-fine (other ∷ r) i u = tt
 
-      valued-fine : (ps : List Plain) (i u : ℕ) (v : List ℕ) →
-          Fine (keyMany u info.Absent + length ps) (keySize i u v info.Absent + plainsSize ps) (valued informed i u v ps)
+      valued-fine : (ps : List Scalar) (i u : ℕ) (v : List ℕ) →
+          Fine (keyMany u info.Absent + length ps) (keySize i u v info.Absent + plainsSize ps) (valued allowed i u v ps)
       valued-fine [] i u v = group-fine i u v info.Absent 0 0 (groupsOf []) (record { many = omega arith; bytes = omega arith })
       valued-fine (number n ∷ r) i u v =
-          wider _ _ _ _ (group i u v info.Absent (identified informed n r)) (omega arith) (omega arith)
-          (group-fine i u v info.Absent (1 + length r) (headSize n + plainsSize r) (identified informed n r) (identified-fine r n))
+          wider _ _ _ _ (group i u v info.Absent (identified allowed n r)) (omega arith) (omega arith)
+          (group-fine i u v info.Absent (1 + length r) (headSize n + plainsSize r) (identified allowed n r) (identified-fine r n))
       valued-fine (minus n ∷ r) i u v = tt
       valued-fine (string w ∷ r) i u v =
-          wider _ _ _ _ (further informed i u v (infoIn w) (groups informed r)) (omega arith) (omega arith)
-          (further-fine informed i u v w (length r) (plainsSize r) (groups informed r) (groups-fine r))
+          wider _ _ _ _ (further allowed i u v (additionalInfoIn w) (groups allowed r)) (omega arith) (omega arith)
+          (further-fine allowed i u v w (length r) (plainsSize r) (groups allowed r) (groups-fine r))
       valued-fine (other ∷ r) i u v = tt
 
   -- ---- a set
-  set-size : (ps : List Plain) (g : Groups) → Fine (length ps) (plainsSize ps) g →
+  set-size : (ps : List Scalar) (g : Groups) → Fine (length ps) (plainsSize ps) g →
       Gives (λ (p : KeysParameter). length (encodePairs (keysPairs p)) ≤ 1 + viewSize (list ps)) (keysConcluded (keysIn g))
   set-size ps notGroups h = tt
   set-size ps (groupsOf ks) h = by (validKeys ks)
@@ -239,7 +239,7 @@ module _ (H : HeadLaws) where
             h .bytes,
           ))
 
-  pub keys-size : (informed : Bool) (x : View) →
-      Gives (λ (p : KeysParameter). length (encodePairs (keysPairs p)) ≤ 1 + viewSize x) (keysReadAs informed x)
-  keys-size informed (plain p) = tt
-  keys-size informed (list ps) = set-size ps (groups informed ps) (groups-fine informed ps)
+  pub keys-size : (allowed : Bool) (x : View) →
+      Gives (λ (p : KeysParameter). length (encodePairs (keysPairs p)) ≤ 1 + viewSize x) (keysReadAs allowed x)
+  keys-size allowed (scalar p) = tt
+  keys-size allowed (list ps) = set-size ps (groups allowed ps) (groups-fine allowed ps)

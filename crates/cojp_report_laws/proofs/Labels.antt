@@ -6,8 +6,8 @@ use mathlib.Core.Bool.{Bool, true, false, cond, _||_}
 use mathlib.Core.List.{List, [], _∷_, _++_}
 use lib.Dec.{eqb}
 use borrow.Author.Tests.{eqb-true}
-use Rattle.cojp.specs.declared.walk.Standing.{Standing}
-use Rattle.cojp.specs.declared.walk.Standing.the-variants.{Unknown, Fresh, Again}
+use Rattle.cojp.specs.declared.walk.LabelStatus.{LabelStatus}
+use Rattle.cojp.specs.declared.walk.LabelStatus.the-variants.{Unknown, First, Repeated}
 use Rattle.cojp_report_laws.specs.Labels.{isIn, Known, labelsOf}
 
 pub labels-snoc : (ks : List Known) (k : Known) → labelsOf (ks ++ (k ∷ [])) ≡ labelsOf ks ++ (k .label ∷ [])
@@ -26,11 +26,11 @@ in-snoc n (j ∷ ks) k =
     ap (λ (b : Bool). (eqb n (j .label) || b)) (in-snoc n ks k) ∙ or-swap (eqb n (j .label)) (eqb n (k .label)) (isIn n (labelsOf ks))
 
 -- ---- where a known label stands: it came before or it did not
-abbrev pub stood : Bool → Standing
-stood true = Again
-stood false = Fresh
+abbrev pub stood : Bool → LabelStatus
+stood true = Repeated
+stood false = First
 
-abbrev pub standsBy : List ℕ → List ℕ → ℕ → Standing
+abbrev pub standsBy : List ℕ → List ℕ → ℕ → LabelStatus
 standsBy known seen n = cond (isIn n known) (stood (isIn n seen)) Unknown
 
 -- how often a label that comes once came
@@ -43,10 +43,10 @@ flag-most false = omega arith
 
 -- after one label more another stands as before, and itself came before
 module _ (n : ℕ) (ks : List Known) (k : Known) where
-  pub stays : (s : Standing) → eqb n (k .label) ≡ false → s ≡ stood (isIn n (labelsOf ks)) → s ≡ stood (isIn n (labelsOf (ks ++ (k ∷ []))))
+  pub stays : (s : LabelStatus) → eqb n (k .label) ≡ false → s ≡ stood (isIn n (labelsOf ks)) → s ≡ stood (isIn n (labelsOf (ks ++ (k ∷ []))))
   stays s e h = h ∙ ap stood (sym (in-snoc n ks k ∙ ap (λ (b : Bool). (b || isIn n (labelsOf ks))) e))
 
-  pub comes : (s : Standing) → eqb n (k .label) ≡ true → s ≡ Again → s ≡ stood (isIn n (labelsOf (ks ++ (k ∷ []))))
+  pub comes : (s : LabelStatus) → eqb n (k .label) ≡ true → s ≡ Repeated → s ≡ stood (isIn n (labelsOf (ks ++ (k ∷ []))))
   comes s e h = h ∙ ap stood (sym (in-snoc n ks k ∙ ap (λ (b : Bool). (b || isIn n (labelsOf ks))) e))
 
 -- ---- what holds of the labels of an object, and of all others, holds of each

@@ -11,13 +11,13 @@ use borrow.Author.Tests.{leb-true, eqb-true, lt-ltb}
 use Rattle.cbor.specs.Decode.{decodeBy, heading, argument, next, digits, majorOf}
 use Rattle.cbor.specs.Encode.{encode, encodePairs, shortest, infoOf, extraOf, bytesOf}
 use Rattle.cbor.specs.Item.{array}
-use Rattle.cbor.specs.View.{plainAt}
-use Rattle.cojp.specs.Faults.{faultList, isReportable, validFault, validFaults}
-use Rattle.cojp.specs.Lists.{written, bytesIn, faultsIn, some, itemsIn}
+use Rattle.cbor.specs.View.{scalarAt}
+use Rattle.cojp.specs.ErrorReports.{errorReportList, isReportable, validErrorReport, validErrorReports}
+use Rattle.cojp.specs.Lists.{written, bytesIn, errorReportsIn, some, itemsIn}
 use Rattle.cojp.specs.Octets.{padded}
 use Rattle.cojp.specs.Writing.{listPairs}
-use Rattle.cojp.specs.declared.fault.Fault.{Fault}
-use Rattle.cojp.specs.declared.fault.Faults.{Faults}
+use Rattle.cojp.specs.declared.error_report.ErrorReport.{ErrorReport}
+use Rattle.cojp.specs.declared.error_report.ErrorReports.{ErrorReports}
 use Rattle.cojp_list_read.specs.Laws.{ListLaws}
 use Rattle.cojp_list_read.specs.Listed.{membersOf, listing, listedIn}
 use Rattle.link_key_set.specs.Lists.{allOf}
@@ -41,10 +41,10 @@ label-small n e = by (eqb n 2) (eqb n 3) (eqb n 4) (eqb n 6) (eqb n 7) refl refl
     by false false false false false a₁ b₁ c₁ d₁ f₁ q = never false q refl
 
 -- ---- the members
-members-written : (xs : List Fault) → allOf validFault xs ≡ true → written (membersOf xs) ≡ listedBytes xs
+members-written : (xs : List ErrorReport) → allOf validErrorReport xs ≡ true → written (membersOf xs) ≡ listedBytes xs
 members-written [] h = refl
 members-written (x ∷ xs) h =
-    let own = both-left (validFault x) (allOf validFault xs) h in
+    let own = both-left (validErrorReport x) (allOf validErrorReport xs) h in
     let low = leb-true (x .code) 1 (both-left (leb (x .code) 1) (isReportable (x .label)) own) in
     let named = label-small (x .label) (both-right (leb (x .code) 1) (isReportable (x .label)) own) in
     let zeros : (n : ℕ) → 0 * 32 + n ≡ n = λ n. omega arith in
@@ -54,36 +54,36 @@ members-written (x ∷ xs) h =
       one-byte 7 22 (omega arith),
       zeros (x .code),
       zeros (x .label),
-      members-written xs (both-right (validFault x) (allOf validFault xs) h),
+      members-written xs (both-right (validErrorReport x) (allOf validErrorReport xs) h),
     )
 
-each-valid : (f : Faults) → validFaults f ≡ true → allOf validFault (faultList f) ≡ true
-unfolding validFaults
-each-valid f e = both-right (leb (f .count) 5) (allOf validFault (faultList f)) e
+each-valid : (f : ErrorReports) → validErrorReports f ≡ true → allOf validErrorReport (errorReportList f) ≡ true
+unfolding validErrorReports
+each-valid f e = both-right (leb (f .count) 5) (allOf validErrorReport (errorReportList f)) e
 
-five-most : (f : Faults) → validFaults f ≡ true → length (faultList f) ≤ 5
-unfolding validFaults
+five-most : (f : ErrorReports) → validErrorReports f ≡ true → length (errorReportList f) ≤ 5
+unfolding validErrorReports
 five-most f e =
     omega (
       arith,
-      leb-true (f .count) 5 (both-left (leb (f .count) 5) (allOf validFault (faultList f)) e),
-      length-take (f .count) (f .faults),
+      leb-true (f .count) 5 (both-left (leb (f .count) 5) (allOf validErrorReport (errorReportList f)) e),
+      length-take (f .count) (f .reports),
     )
 
-listing-bytes : (xs : List Fault) → allOf validFault xs ≡ true → bytesIn (listing xs .value) ≡ listedBytes xs
+listing-bytes : (xs : List ErrorReport) → allOf validErrorReport xs ≡ true → bytesIn (listing xs .value) ≡ listedBytes xs
 unfolding padded
 listing-bytes [] h = refl
 listing-bytes (x ∷ xs) h =
     let w = written (membersOf (x ∷ xs)) in
     take-append-seam w (replicate (253 - length w) 0) ∙ members-written (x ∷ xs) h
 
-listing-taken : (xs : List Fault) → listing xs .report ≡ listedReport xs
+listing-taken : (xs : List ErrorReport) → listing xs .disposition ≡ listedReport xs
 listing-taken [] = refl
 listing-taken (x ∷ xs) = refl
 
 -- ---- the pair
-module _ (L : ListLaws) (f : Faults) (valid : validFaults f ≡ true) where
-  pair-written : (xs : List Fault) → faultList f ≡ xs → encodePairs (listPairs 8 (some faultsIn) (listing xs)) ≡ listedPair xs
+module _ (L : ListLaws) (f : ErrorReports) (valid : validErrorReports f ≡ true) where
+  pair-written : (xs : List ErrorReport) → errorReportList f ≡ xs → encodePairs (listPairs 8 (some errorReportsIn) (listing xs)) ≡ listedPair xs
   unfolding listedIn
   pair-written [] e = refl
   pair-written (x ∷ xs) e =
@@ -93,16 +93,16 @@ module _ (L : ListLaws) (f : Faults) (valid : validFaults f ≡ true) where
       let array-bytes = L .unsupported-written l (rw e at (L .listed-in-range f valid)) in
       let body = listing-bytes (x ∷ xs) (rw e at (each-valid f valid)) in
       let head = one-byte 4 (l .count) (omega arith) ∙ ap (λ (n : ℕ). (128 + n) ∷ []) members in
-      let text : encode (array (itemsIn (some faultsIn) l)) ≡ (128 + 3 * length (x ∷ xs)) ∷ listedBytes (x ∷ xs) =
+      let text : encode (array (itemsIn (some errorReportsIn) l)) ≡ (128 + 3 * length (x ∷ xs)) ∷ listedBytes (x ∷ xs) =
       array-bytes ∙ ap₂ (λ (a b : List ℕ). a ++ b) head body in
       ap₂ (λ (a b : List ℕ). a ++ (b ++ [])) (one-byte 0 8 (omega arith)) text
       ∙ ap (λ (b : List ℕ). 8 ∷ b) (append-nil ((128 + 3 * length (x ∷ xs)) ∷ listedBytes (x ∷ xs)))
 
 pub listed-as : ListLaws → ListedAs
-unfolding listedIn shortest infoOf extraOf bytesOf padded faultsIn plainAt decodeBy heading argument next digits majorOf
+unfolding listedIn shortest infoOf extraOf bytesOf padded errorReportsIn scalarAt decodeBy heading argument next digits majorOf
 listed-as L = record {
-  bytes = λ f valid. listing-bytes (faultList f) (each-valid f valid);
-  taken = λ f. listing-taken (faultList f);
-  written = λ f valid. pair-written L f valid (faultList f) refl;
+  bytes = λ f valid. listing-bytes (errorReportList f) (each-valid f valid);
+  taken = λ f. listing-taken (errorReportList f);
+  written = λ f valid. pair-written L f valid (errorReportList f) refl;
   example = refl;
 }

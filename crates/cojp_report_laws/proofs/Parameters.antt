@@ -12,19 +12,19 @@ use Rattle.cbor.specs.Encode.{encode, encodePairs, shortest}
 use Rattle.cbor.specs.HeadLaws.{HeadLaws}
 use Rattle.cbor.specs.Item.{Item, unsigned, bytes, array, more}
 use Rattle.cbor.specs.Laws.{ItemLaws}
-use Rattle.cbor.specs.View.{Plain, number, minus, string, other, View, plain, list}
+use Rattle.cbor.specs.View.{Scalar, number, minus, string, other, View, scalar, list}
 use Rattle.cojp.proofs.Walks.{Gives}
 use Rattle.cojp.specs.Address.{addressBy, addressIn, addressOf, addressConcluded, addressRead}
 use Rattle.cojp.specs.Lists.{Picked, nothing, picked, written, fitting, inArray, listAnswer, listTaken, noListParameter}
 use Rattle.cojp.specs.Octets.{octetsOf, octetsJudged, octetsParameter, noOctetsParameter, octetsRead, padded}
 use Rattle.cojp.specs.Rate.{rateTaken}
-use Rattle.cojp.specs.Reading.{Reading, refused, read, put, concluded, following, unfit, good}
+use Rattle.cojp.specs.Reading.{Reading, refused, read, mapReading, concluded, byVersionOf, unfit, good}
 use Rattle.cojp.specs.Writing.{labelled, leaseItems, rolePairs, octetsPairs, addressPairs, listPairs, ratePairs, octetsInRange, listInRange}
 use Rattle.cojp.specs.declared.address.AddressParameter.{AddressParameter}
 use Rattle.cojp.specs.declared.list.ListParameter.{ListParameter}
 use Rattle.cojp.specs.declared.octets.OctetsParameter.{OctetsParameter}
-use Rattle.cojp.specs.declared.report.Report.{Report}
-use Rattle.cojp.specs.declared.report.Report.the-variants.{Taken, Discarded}
+use Rattle.cojp.specs.declared.disposition.Disposition.{Disposition}
+use Rattle.cojp.specs.declared.disposition.Disposition.the-variants.{Taken, Discarded}
 use Rattle.cojp.specs.declared.version.Version.{Version}
 use Rattle.cojp.specs.declared.version.Version.the-variants.{Draft, Published}
 use Rattle.logic_facts.specs.Tests.{both-right}
@@ -34,12 +34,12 @@ use Rattle.cojp_report_laws.proofs.KeptLists.{list-kept, list-size, Pic
 
 -- ---- readings
 pub put-gives : {P S : Type 0} (Q : P → Type 0) (R : S → Type 0) (f : P → S) (r : Reading P) → Gives Q r → ((p : P) → Q p → R (f p)) →
-    Gives R (put f r)
+    Gives R (mapReading f r)
 put-gives Q R f (refused k) g h = tt
 put-gives Q R f (read p) g h = h p g
 
 pub following-gives : {P : Type 0} (Q : P → Type 0) (v : Version) (bad : P) (r : Reading P) → Q bad → Gives Q r →
-    Gives Q (following v bad r)
+    Gives Q (byVersionOf v bad r)
 following-gives Q Draft bad r b g = g
 following-gives Q Published bad (refused k) b g = b
 following-gives Q Published bad (read p) b g = g
@@ -62,19 +62,19 @@ module _ (H : HeadLaws) where
     pub range : octetsInRange p ≡ true
     pub size : length (encodePairs (octetsPairs n p)) ≤ 1 + viewSize x
 
-  pub octets-bad : (n : ℕ) (x : View) (r : Report) → octetsInRange (noOctetsParameter r) ≡ true →
+  pub octets-bad : (n : ℕ) (x : View) (r : Disposition) → octetsInRange (noOctetsParameter r) ≡ true →
       length (encodePairs (octetsPairs n (noOctetsParameter r))) ≡ 0 →
       OctetsFine n x (noOctetsParameter r)
   octets-bad n x r e z = record { range = e; size = omega arith }
 
   pub octets-fine : (n least : ℕ) → n ≤ 23 → (x : View) → Gives (OctetsFine n x) (octetsRead least x)
   unfolding octetsJudged padded
-  octets-fine n least l (plain (string s)) = by (leb least (length s) && leb (length s) 16) refl
+  octets-fine n least l (scalar (string s)) = by (leb least (length s) && leb (length s) 16) refl
     where
       by : (b : Bool) → (leb least (length s) && leb (length s) 16) ≡ b →
-          Gives (OctetsFine n (plain (string s)))
+          Gives (OctetsFine n (scalar (string s)))
           (concluded (read (noOctetsParameter Discarded)) (octetsParameter Taken) (cond b (good (octetsOf s)) unfit))
-      by false e = octets-bad n (plain (string s)) Discarded refl refl
+      by false e = octets-bad n (scalar (string s)) Discarded refl refl
       by true e =
           let own = take-at s (replicate (16 - length s) 0) (length s) refl in
           record {
@@ -83,13 +83,13 @@ module _ (H : HeadLaws) where
                 rw own
                 (omega (arith, labelled-size n (bytes s) l, length-append (shortest 2 (length s)) s, H .length-head 2 (length s)));
           }
-  octets-fine n least l (plain (number m)) = tt
-  octets-fine n least l (plain (minus m)) = tt
-  octets-fine n least l (plain other) = tt
+  octets-fine n least l (scalar (number m)) = tt
+  octets-fine n least l (scalar (minus m)) = tt
+  octets-fine n least l (scalar other) = tt
   octets-fine n least l (list ps) = tt
 
   -- ---- addresses
-  address-by : (ps : List Plain) (s : List ℕ) (leased : Bool) (n : ℕ) →
+  address-by : (ps : List Scalar) (s : List ℕ) (leased : Bool) (n : ℕ) →
       length (encode (array (more (bytes s) (leaseItems leased n)))) ≤ viewSize (list ps) →
       Gives (λ (p : AddressParameter). length (encodePairs (addressPairs p)) ≤ 1 + viewSize (list ps))
       (addressConcluded (addressBy s leased n))
@@ -104,7 +104,7 @@ module _ (H : HeadLaws) where
   pub string-size : (s : List ℕ) → length (encode (bytes s)) ≡ headSize (length s) + length s
   string-size s = length-append (shortest 2 (length s)) s ∙ ap (λ (n : ℕ). n + length s) (H .length-head 2 (length s))
 
-  address-in : (ps : List Plain) →
+  address-in : (ps : List Scalar) →
       Gives (λ (p : AddressParameter). length (encodePairs (addressPairs p)) ≤ 1 + viewSize (list ps)) (addressConcluded (addressIn ps))
   unfolding addressIn
   address-in [] = tt
@@ -137,33 +137,33 @@ module _ (H : HeadLaws) where
   address-in (string s ∷ other ∷ r) = tt
 
   pub address-size : (x : View) → Gives (λ (p : AddressParameter). length (encodePairs (addressPairs p)) ≤ 1 + viewSize x) (addressRead x)
-  address-size (plain p) = tt
+  address-size (scalar p) = tt
   address-size (list ps) = address-in ps
 
   -- ---- rates
   pub rate-size : (x : View) → length (encodePairs (ratePairs (rateTaken x))) ≤ 1 + viewSize x
   unfolding rateTaken
-  rate-size (plain (number n)) = omega (arith, labelled-size 7 (unsigned n) (omega arith), H .length-head 0 n)
-  rate-size (plain (minus n)) = omega arith
-  rate-size (plain (string s)) = omega arith
-  rate-size (plain other) = omega arith
+  rate-size (scalar (number n)) = omega (arith, labelled-size 7 (unsigned n) (omega arith), H .length-head 0 n)
+  rate-size (scalar (minus n)) = omega arith
+  rate-size (scalar (string s)) = omega arith
+  rate-size (scalar other) = omega arith
   rate-size (list ps) = omega arith
 
 -- ---- lists
-pub record ListFine (f : List Plain → Picked) (n : ℕ) (x : View) (p : ListParameter) : Type 0 where
+pub record ListFine (f : List Scalar → Picked) (n : ℕ) (x : View) (p : ListParameter) : Type 0 where
   pub range : listInRange f p ≡ true
   pub size : length (encodePairs (listPairs n f p)) ≤ 1 + viewSize x
 
-module _ (laws : ItemLaws) (H : HeadLaws) (f : List Plain → Picked) (picks : (ms : List Plain) → Picking f ms (f ms))
+module _ (laws : ItemLaws) (H : HeadLaws) (f : List Scalar → Picked) (picks : (ms : List Scalar) → Picking f ms (f ms))
     (n : ℕ) (low : n ≤ 23) where
   list-bad : (x : View) → ListFine f n x (noListParameter Discarded)
   list-bad x = record { range = refl; size = omega arith }
 
   pub list-fine : (x : View) → ViewFits x → ListFine f n x (listTaken (listAnswer (fitting 253 (inArray f x))))
-  list-fine (plain p) g = list-bad (plain p)
+  list-fine (scalar p) g = list-bad (scalar p)
   list-fine (list ms) g = by (f ms) (picks ms)
     where
-      sized : (ps : List Plain) → Picks f ms ps → (b : Bool) → leb (length (written ps)) 253 ≡ b →
+      sized : (ps : List Scalar) → Picks f ms ps → (b : Bool) → leb (length (written ps)) 253 ≡ b →
           ListFine f n (list ms) (listTaken (listAnswer (cond b (picked ps) nothing)))
       sized ps h false e = list-bad (list ms)
       sized ps h true e =

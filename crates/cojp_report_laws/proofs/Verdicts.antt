@@ -16,13 +16,13 @@ use Rattle.cbor.specs.Strict.{headBy}
 use Rattle.cojp.specs.Configuration.{configurationAnswer, configurationForm, emptyConfiguration, configurationTaking}
 use Rattle.cojp.specs.Octets.{octetsJudged}
 use Rattle.cojp.specs.Parameter.{parameterOf, laterParameter}
-use Rattle.cojp.specs.Reading.{Reading, refused, read, onward, ifTaken}
-use Rattle.cojp.specs.Request.{nothingGathered, owing, requestAnswer, requestForm, settled}
+use Rattle.cojp.specs.Reading.{Reading, refused, read, bind, ifTaken}
+use Rattle.cojp.specs.Request.{emptyRequestState, owing, requestAnswer, requestForm, settled}
 use Rattle.cojp.specs.Walk.{payloadReadBy}
 use Rattle.cojp.specs.declared.configuration.Configuration.{Configuration}
-use Rattle.cojp.specs.declared.report.Report.{Report}
-use Rattle.cojp.specs.declared.report.Report.the-variants.{Absent, Taken, Discarded}
-use Rattle.cojp.specs.declared.request.Gathered.{Gathered}
+use Rattle.cojp.specs.declared.disposition.Disposition.{Disposition}
+use Rattle.cojp.specs.declared.disposition.Disposition.the-variants.{Absent, Taken, Discarded}
+use Rattle.cojp.specs.declared.request.RequestState.{RequestState}
 use Rattle.cojp.specs.declared.version.Version.the-variants.{Published}
 use Rattle.cojp_report_laws.specs.Labels.{configurationLabels, requestLabels, Known, knownIn, labelsVerdict, scanVerdict, payloadVerdict, mapPairs, pairsIn}
 use Rattle.cojp_report_laws.specs.Verdicts.{identified, orOwed, configurationVerdict, requestVerdict, BadNeverRefuses}
@@ -36,17 +36,17 @@ answered ks w (refused k) a = sym a
 answered ks w (read c) a = sym (a .0)
 
 -- ---- requests: OWED comes last
-owed-last : (good : Bool) (r : Report) (role : ℕ) → ifTaken r true false ≡ good → owing Published role r ≡ cond good false true
+owed-last : (good : Bool) (r : Disposition) (role : ℕ) → ifTaken r true false ≡ good → owing Published role r ≡ cond good false true
 unfolding owing
 owed-last good Absent role e = ap (λ (b : Bool). cond b false true) e
 owed-last good Taken role e = ap (λ (b : Bool). cond b false true) e
 owed-last good Discarded role e = ap (λ (b : Bool). cond b false true) e
 
-settled-by : (ks : List Known) (w : Verdict) (r : Reading Gathered) → Agrees w (Asked ks) r →
-    requestAnswer (onward r (settled Published)) .verdict ≡ orOwed (identified ks) w
+settled-by : (ks : List Known) (w : Verdict) (r : Reading RequestState) → Agrees w (Asked ks) r →
+    requestAnswer (bind r (settled Published)) .verdict ≡ orOwed (identified ks) w
 settled-by ks w (refused k) a = ap (orOwed (identified ks)) (sym a)
 settled-by ks w (read g) a =
-    rw (owed-last (identified ks) (g .request .network .report) (g .request .role) (a .1 .due)) (by (identified ks))
+    rw (owed-last (identified ks) (g .request .network .disposition) (g .request .role) (a .1 .due)) (by (identified ks))
     ∙ ap (orOwed (identified ks)) (sym (a .0))
   where
     by : (b : Bool) → requestAnswer (cond (cond b false true) (refused refusal.Owed) (read (g .request))) .verdict
@@ -88,7 +88,7 @@ bad-never-refuses = record {
       (payloadReadBy (configurationForm Published) (headBy strict) emptyConfiguration p) (configuration-agrees strict p);
   request = λ strict p.
       settled-by (knownIn requestLabels (pairsIn strict p)) (payloadVerdict (labelsVerdict requestLabels []) strict p)
-      (payloadReadBy (requestForm Published) (headBy strict) nothingGathered p) (request-agrees strict p)
+      (payloadReadBy (requestForm Published) (headBy strict) emptyRequestState p) (request-agrees strict p)
       ∙ owed-payload strict p;
   example = refl;
 }

@@ -17,10 +17,10 @@ use Rattle.cbor.specs.Strict.{headBy}
 use Rattle.cbor.specs.View.{View, labelOf, viewOf}
 use Rattle.cbor.specs.declared.value.Label.{Label}
 use Rattle.cbor.specs.declared.value.Label.the-variants as label
-use Rattle.cojp.specs.Reading.{Reading, refused, read, onward}
+use Rattle.cojp.specs.Reading.{Reading, refused, read, bind}
 use Rattle.cojp.specs.Walk.{Form, knownRead, pairRead, pairsRead, scannedRead, payloadReadBy}
-use Rattle.cojp.specs.declared.walk.Standing.{Standing}
-use Rattle.cojp.specs.declared.walk.Standing.the-variants.{Unknown}
+use Rattle.cojp.specs.declared.walk.LabelStatus.{LabelStatus}
+use Rattle.cojp.specs.declared.walk.LabelStatus.the-variants.{Unknown}
 use Rattle.cojp_report_laws.specs.Labels.{isIn, Known, knownOf, labelsOf, knownFirst, knownIn, labelVerdict, labelsVerdict, scanVerdict, payloadVerdict, mapPairs, pairsIn}
 use Rattle.cojp_report_laws.proofs.Labels.{labels-snoc, stood, standsBy}
 
@@ -46,7 +46,7 @@ module _ {S : Type 0} (F : Form S) (known : List ℕ) (R : List Known → S → 
       Agrees (labelsVerdict known (labelsOf ks) ps) (R (ks ++ knownIn known ps)) (pairsRead F s ps)
 
   taken-agrees : (ps : Pairs) → Rest ps → (ks : List Known) (k : Known) (r : Reading S) → Took (R (ks ++ (k ∷ []))) r →
-      Agrees (labelsVerdict known (labelsOf ks ++ (k .label ∷ [])) ps) (R (ks ++ (k ∷ knownIn known ps))) (onward r (λ t. pairsRead F t ps))
+      Agrees (labelsVerdict known (labelsOf ks ++ (k .label ∷ [])) ps) (R (ks ++ (k ∷ knownIn known ps))) (bind r (λ t. pairsRead F t ps))
   taken-agrees ps rest ks k (refused x) g = absurd g
   taken-agrees ps rest ks k (read t) g =
       subst (λ (l : List ℕ). Agrees (labelsVerdict known l ps) (R (ks ++ (k ∷ knownIn known ps))) (pairsRead F t ps)) (labels-snoc ks k)
@@ -55,14 +55,14 @@ module _ {S : Type 0} (F : Form S) (known : List ℕ) (R : List Known → S → 
 
   pair-agrees : (l : Label) (v : View) (ps : Pairs) → Rest ps → (ks : List Known) (s : S) → R ks s →
       Agrees (labelVerdict known (labelsOf ks) l (λ x. labelsVerdict known x ps)) (R (ks ++ knownFirst known l v (knownIn known ps)))
-      (onward (pairRead F s l v) (λ t. pairsRead F t ps))
+      (bind (pairRead F s l v) (λ t. pairsRead F t ps))
   pair-agrees label.NoInteger v ps rest ks s h = refl
   pair-agrees label.Negative v ps rest ks s h = rest ks (F .passing s) (passes ks s h)
   pair-agrees (label.Number n) v ps rest ks s h =
       subst
-      (λ (x : Standing).
+      (λ (x : LabelStatus).
       Agrees (labelVerdict known (labelsOf ks) (label.Number n) (λ l. labelsVerdict known l ps))
-      (R (ks ++ knownFirst known (label.Number n) v (knownIn known ps))) (onward (knownRead F x s n v) (λ t. pairsRead F t ps)))
+      (R (ks ++ knownFirst known (label.Number n) v (knownIn known ps))) (bind (knownRead F x s n v) (λ t. pairsRead F t ps)))
       (sym (stands ks s h n)) (by (isIn n known) (isIn n (labelsOf ks)) refl refl)
     where
       by : (a b : Bool) → isIn n known ≡ a → isIn n (labelsOf ks) ≡ b →
@@ -70,7 +70,7 @@ module _ {S : Type 0} (F : Form S) (known : List ℕ) (R : List Known → S → 
           (cond a (cond b (verdict.Refused refusal.Twice) (labelsVerdict known (labelsOf ks ++ (n ∷ [])) ps))
           (labelsVerdict known (labelsOf ks) ps))
           (R (ks ++ cond a (knownOf n v ∷ knownIn known ps) (knownIn known ps)))
-          (onward (knownRead F (cond a (stood b) Unknown) s n v) (λ t. pairsRead F t ps))
+          (bind (knownRead F (cond a (stood b) Unknown) s n v) (λ t. pairsRead F t ps))
       by true true e f = refl
       by true false e f = taken-agrees ps rest ks (knownOf n v) (F .taking s n v) (takes ks s h n v e f)
       by false b e f = rest ks (F .passing s) (passes ks s h)

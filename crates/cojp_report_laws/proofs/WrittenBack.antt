@@ -16,15 +16,15 @@ use Rattle.cbor.specs.HeadLaws.{HeadLaws}
 use Rattle.cbor.specs.Item.{Item, Pairs, unsigned, array, bytes, map, more, empty, pair, countPairs}
 use Rattle.cbor.specs.Laws.{Bytes, ItemLaws}
 use Rattle.cbor.specs.Strict.{headBy}
-use Rattle.cbor.specs.View.{Plain}
+use Rattle.cbor.specs.View.{Scalar}
 use Rattle.cojp.proofs.Walks.{Gives}
 use Rattle.cojp.specs.Configuration.{emptyConfiguration, configurationForm, configurationAnswer, refuseConfiguration, readConfigurationBy, readConfigurationAs}
 use Rattle.cojp.specs.InRange.{InRange, ReadsInRange}
 use Rattle.cojp.specs.Laws.{StrictReaders, meetsLonger}
-use Rattle.cojp.specs.Lists.{Picked, faultsIn, some, stringsIn, itemsIn}
+use Rattle.cojp.specs.Lists.{Picked, errorReportsIn, some, stringsIn, itemsIn}
 use Rattle.cojp.specs.Octets.{bytesIn, padded, octetsJudged}
 use Rattle.cojp.specs.Reading.{Reading, refused, read, ifTaken}
-use Rattle.cojp.specs.Request.{requestStanding, requestTaking, owing, readRequestBy}
+use Rattle.cojp.specs.Request.{requestLabelStatus, requestTaking, owing, readRequestBy}
 use Rattle.cojp.specs.Walk.{payloadReadBy}
 use Rattle.cojp.specs.Writing.{join, labelled, leaseItems, groupsItems, rolePairs, octetsPairs, addressPairs, keysPairs, listPairs, ratePairs, requestPairs, requestPlan}
 use Rattle.cojp.specs.Writing.{requestInRange, configurationPairs, configurationInRange, configurationPlan}
@@ -35,8 +35,8 @@ use Rattle.cojp.specs.declared.key_set.KeysParameter.{KeysParameter}
 use Rattle.cojp.specs.declared.list.ListParameter.{ListParameter}
 use Rattle.cojp.specs.declared.octets.OctetsParameter.{OctetsParameter}
 use Rattle.cojp.specs.declared.rate.RateParameter.{RateParameter}
-use Rattle.cojp.specs.declared.report.Report.{Report}
-use Rattle.cojp.specs.declared.report.Report.the-variants.{Absent, Taken, Discarded}
+use Rattle.cojp.specs.declared.disposition.Disposition.{Disposition}
+use Rattle.cojp.specs.declared.disposition.Disposition.the-variants.{Absent, Taken, Discarded}
 use Rattle.cojp.specs.declared.request.JoinRequest.{JoinRequest}
 use Rattle.cojp.specs.declared.version.Version.{Version}
 use Rattle.link_key_set.specs.KeySet.{keysOf}
@@ -63,25 +63,25 @@ join-size (pair k v a) b =
     )
 
 -- a parameter is one pair at most
-one-most : (r : Report) (n : ℕ) (i : Item) → countPairs (ifTaken r (labelled n i) empty) ≤ 1
+one-most : (r : Disposition) (n : ℕ) (i : Item) → countPairs (ifTaken r (labelled n i) empty) ≤ 1
 one-most Absent n i = omega arith
 one-most Taken n i = omega arith
 one-most Discarded n i = omega arith
 
 keys-one : (p : KeysParameter) → countPairs (keysPairs p) ≤ 1
-keys-one p = one-most (p .report) 2 (array (groupsItems (keysOf (p .value))))
+keys-one p = one-most (p .disposition) 2 (array (groupsItems (keysOf (p .value))))
 
 address-one : (p : AddressParameter) → countPairs (addressPairs p) ≤ 1
-address-one p = one-most (p .report) 3 (array (more (bytes (p .value .bytes)) (leaseItems (p .value .leased) (p .value .lease))))
+address-one p = one-most (p .disposition) 3 (array (more (bytes (p .value .bytes)) (leaseItems (p .value .leased) (p .value .lease))))
 
 octets-one : (n : ℕ) (p : OctetsParameter) → countPairs (octetsPairs n p) ≤ 1
-octets-one n p = one-most (p .report) n (bytes (bytesIn (p .value)))
+octets-one n p = one-most (p .disposition) n (bytes (bytesIn (p .value)))
 
-list-one : (n : ℕ) (f : List Plain → Picked) (p : ListParameter) → countPairs (listPairs n f p) ≤ 1
-list-one n f p = one-most (p .report) n (array (itemsIn f (p .value)))
+list-one : (n : ℕ) (f : List Scalar → Picked) (p : ListParameter) → countPairs (listPairs n f p) ≤ 1
+list-one n f p = one-most (p .disposition) n (array (itemsIn f (p .value)))
 
 rate-one : (p : RateParameter) → countPairs (ratePairs p) ≤ 1
-rate-one p = one-most (p .report) 7 (unsigned (p .value))
+rate-one p = one-most (p .disposition) 7 (unsigned (p .value))
 
 role-one : (n : ℕ) → countPairs (rolePairs n) ≤ 1
 role-one n = by (eqb n 0)
@@ -98,7 +98,7 @@ module _ (H : HeadLaws) where
   request-size q =
       let r = rolePairs (q .role) in
       let n = octetsPairs 5 (q .network) in
-      let u = listPairs 8 (some faultsIn) (q .unsupported) in
+      let u = listPairs 8 (some errorReportsIn) (q .unsupported) in
       map-size (requestPairs q)
       (omega (
         arith,
@@ -106,7 +106,7 @@ module _ (H : HeadLaws) where
         join-many r n,
         role-one (q .role),
         octets-one 5 (q .network),
-        list-one 8 (some faultsIn) (q .unsupported),
+        list-one 8 (some errorReportsIn) (q .unsupported),
       ))
       ∙ omega (arith, join-size (join r n) u, join-size r n)
 
@@ -209,7 +209,7 @@ module _ (laws : ItemLaws) (H : HeadLaws) where
         (ordinary v p b (ap (λ (r : ConfigurationRead). r .verdict) (sym same) ∙ e))
 
     pub written-back : WrittenBack
-    unfolding payloadBy infoOf decodeBy heading argument next digits members pairs majorOf padded octetsJudged payloadReadBy requestStanding
+    unfolding payloadBy infoOf decodeBy heading argument next digits members pairs majorOf padded octetsJudged payloadReadBy requestLabelStatus
         requestTaking owing requestPlan requestInRange shortest extraOf bytesOf
     written-back = record {
       request = λ v strict p b e. request-writes H v p (readRequestBy v (headBy strict) p .request) (accepts laws H S v strict p b e);

@@ -9,15 +9,15 @@ use Rattle.refusal.specs.declared.Refusal.{Refusal}
 use Rattle.refusal.specs.declared.Refusal.the-variants as refusal
 use Rattle.refusal.specs.declared.Verdict.{Verdict}
 use Rattle.refusal.specs.declared.Verdict.the-variants as verdict
-use Rattle.link_key.specs.Key.{informedKey}
-use Rattle.link_key.specs.declared.info.Info.the-variants.{Absent}
+use Rattle.link_key.specs.Key.{keyWithAdditionalInfo}
+use Rattle.link_key.specs.declared.additional_info.AdditionalInfo.the-variants.{Absent}
 use Rattle.cojp.specs.Address.{addressOf, addressParameter}
-use Rattle.cojp.specs.Faults.{faultOf, faultList}
+use Rattle.cojp.specs.ErrorReports.{errorReportOf, errorReportList}
 use Rattle.cojp.specs.KeySet.{keySetOf, keysParameter}
-use Rattle.cojp.specs.Reported.{faultsOf}
+use Rattle.cojp.specs.Reported.{errorReportsOf}
 use Rattle.cojp.specs.declared.configuration.ConfigurationRead.{ConfigurationRead}
-use Rattle.cojp.specs.declared.fault.Fault.{Fault}
-use Rattle.cojp.specs.declared.report.Report.the-variants.{Taken}
+use Rattle.cojp.specs.declared.error_report.ErrorReport.{ErrorReport}
+use Rattle.cojp.specs.declared.disposition.Disposition.the-variants.{Taken}
 use Rattle.cojp.specs.declared.request.RequestRead.{RequestRead}
 use Rattle.cojp_report_laws.specs.Verdicts.{configurationOf, requestOf}
 
@@ -27,7 +27,7 @@ pub data Payload : Type 0 where
   request : List ℕ → Payload
 
 pub data Answered : Type 0 where
-  reports : List Fault → Answered
+  reports : List ErrorReport → Answered
   refused : Refusal → Answered
 
 pub record Row : Type 0 where
@@ -35,15 +35,15 @@ pub record Row : Type 0 where
   pub answer : Answered
 
 -- the reports beside the verdict
-abbrev pub said : Verdict → List Fault → Answered
+abbrev pub said : Verdict → List ErrorReport → Answered
 said verdict.Accepted f = reports f
 said (verdict.Refused k) f = refused k
 
 abbrev pub saidOfConfiguration : ConfigurationRead → Answered
-saidOfConfiguration r = said (r .verdict) (faultList (faultsOf (r .configuration)))
+saidOfConfiguration r = said (r .verdict) (errorReportList (errorReportsOf (r .configuration)))
 
 abbrev pub saidOfRequest : RequestRead → Answered
-saidOfRequest r = said (r .verdict) (faultList (r .request .faults))
+saidOfRequest r = said (r .verdict) (errorReportList (r .request .errors))
 
 abbrev pub answerTo : Payload → Answered
 answerTo (configuration p) = saidOfConfiguration (configurationOf false p)
@@ -51,7 +51,7 @@ answerTo (request p) = saidOfRequest (requestOf false p)
 
 -- ---- a configuration with this label alone: its value is bad, and reported as malformed, or it is good
 abbrev pub bad : ℕ → List ℕ → Row
-bad label value = record { payload = configuration (0xA1 ∷ label ∷ value); answer = reports (faultOf 1 label ∷ []) }
+bad label value = record { payload = configuration (0xA1 ∷ label ∷ value); answer = reports (errorReportOf 1 label ∷ []) }
 
 abbrev pub good : ℕ → List ℕ → Row
 good label value = record { payload = configuration (0xA1 ∷ label ∷ value); answer = reports [] }
@@ -60,7 +60,7 @@ good label value = record { payload = configuration (0xA1 ∷ label ∷ value); 
 abbrev pub badAsked : ℕ → ℕ → List ℕ → Row
 badAsked code label value = record {
   payload = request (0xA2 ∷ 0x05 ∷ 0x41 ∷ 0x00 ∷ label ∷ value);
-  answer = reports (faultOf code label ∷ []);
+  answer = reports (errorReportOf code label ∷ []);
 }
 
 abbrev pub goodAsked : ℕ → List ℕ → Row
@@ -227,4 +227,4 @@ pub record BadValues : Type 0 where
   pub no-hours : configurationOf false (0xA1 ∷ 0x03 ∷ 0x82 ∷ 0x42 ∷ 0x12 ∷ 0x34 ∷ 0x00 ∷ []) .configuration .address
       ≡ addressParameter Taken (addressOf (0x12 ∷ 0x34 ∷ []) true 0)
   pub usage-0 : configurationOf false (0xA1 ∷ 0x02 ∷ 0x83 ∷ 0x01 ∷ 0x00 ∷ value16) .configuration .keys
-      ≡ keysParameter Taken (keySetOf (informedKey 1 0 (replicate 16 7) Absent ∷ []))
+      ≡ keysParameter Taken (keySetOf (keyWithAdditionalInfo 1 0 (replicate 16 7) Absent ∷ []))

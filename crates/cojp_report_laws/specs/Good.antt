@@ -8,17 +8,17 @@ use mathlib.Core.Logic.{_⊎_}
 use mathlib.Core.Option.{Option, none, some}
 use lib.ListN.{length, replicate}
 use Rattle.cbor.specs.Encode.{shortest}
-use Rattle.cbor.specs.View.{Plain, number, minus, string, View, plain, list}
+use Rattle.cbor.specs.View.{Scalar, number, minus, string, View, scalar, list}
 use Rattle.link_key.specs.declared.Key.{Key}
-use Rattle.link_key.specs.declared.info.Info.{Info}
-use Rattle.link_key.specs.declared.info.Info.the-variants as info
+use Rattle.link_key.specs.declared.additional_info.AdditionalInfo.{AdditionalInfo}
+use Rattle.link_key.specs.declared.additional_info.AdditionalInfo.the-variants as info
 use Rattle.cojp.specs.declared.address.AddressParameter.{AddressParameter}
 use Rattle.cojp.specs.declared.key_set.KeysParameter.{KeysParameter}
 use Rattle.cojp.specs.declared.list.ListParameter.{ListParameter}
 use Rattle.cojp.specs.declared.octets.OctetsParameter.{OctetsParameter}
 use Rattle.cojp.specs.declared.rate.RateParameter.{RateParameter}
-use Rattle.cojp.specs.declared.report.Report.{Report}
-use Rattle.cojp.specs.declared.report.Report.the-variants.{Taken, Discarded}
+use Rattle.cojp.specs.declared.disposition.Disposition.{Disposition}
+use Rattle.cojp.specs.declared.disposition.Disposition.the-variants.{Taken, Discarded}
 
 -- ---- what became of a parameter p: taken exactly if its value is good, and kept as what the value is good for
 pub record Judged {A P : Type 0} (Good : A → Type 0) (kept : A → P) (bad p : P) : Type 0 where
@@ -27,34 +27,34 @@ pub record Judged {A P : Type 0} (Good : A → Type 0) (kept : A → P) (bad p :
   pub other : ((a : A) × Good a) ⊎ (p ≡ bad)
 
 -- an unsigned number, if it is given
-abbrev pub perhaps : Option ℕ → List Plain
+abbrev pub perhaps : Option ℕ → List Scalar
 perhaps none = []
 perhaps (some n) = number n ∷ []
 
 -- ---- 7, join rate: unsigned; 0 is a rate
-abbrev pub rateAs : Report → ℕ → RateParameter
-rateAs r n = record { report = r; value = n }
+abbrev pub rateAs : Disposition → ℕ → RateParameter
+rateAs r n = record { disposition = r; value = n }
 
 abbrev pub GoodRate : View → ℕ → Type 0
-GoodRate x n = x ≡ plain (number n)
+GoodRate x n = x ≡ scalar (number n)
 
 abbrev pub RateJudged : View → RateParameter → Type 0
 RateJudged x p = Judged (GoodRate x) (rateAs Taken) (rateAs Discarded 0) p
 
 -- ---- byte strings: so many of 16 bytes, and zeros after them
-abbrev pub octetsAs : Report → List ℕ → OctetsParameter
-octetsAs r s = record { report = r; value = record { len = length s; bytes = s ++ replicate (16 - length s) 0 } }
+abbrev pub octetsAs : Disposition → List ℕ → OctetsParameter
+octetsAs r s = record { disposition = r; value = record { len = length s; bytes = s ++ replicate (16 - length s) 0 } }
 
 -- 4, JRC address: a byte string of 16
 abbrev pub GoodJrc : View → List ℕ → Type 0
-GoodJrc x s = (x ≡ plain (string s)) × (length s ≡ 16)
+GoodJrc x s = (x ≡ scalar (string s)) × (length s ≡ 16)
 
 abbrev pub JrcJudged : View → OctetsParameter → Type 0
 JrcJudged x p = Judged (GoodJrc x) (octetsAs Taken) (octetsAs Discarded []) p
 
 -- 5, network identifier of a request: a byte string of 0 to 16
 abbrev pub GoodNetwork : View → List ℕ → Type 0
-GoodNetwork x s = (x ≡ plain (string s)) × (length s ≤ 16)
+GoodNetwork x s = (x ≡ scalar (string s)) × (length s ≤ 16)
 
 abbrev pub NetworkJudged : View → OctetsParameter → Type 0
 NetworkJudged x p = Judged (GoodNetwork x) (octetsAs Taken) (octetsAs Discarded []) p
@@ -74,22 +74,22 @@ pub record GoodAddress (x : View) (i : Identifier) : Type 0 where
   pub free : ¬ ((i .high ≡ 0xff) × (0xfe ≤ i .low))
 
 -- without a lease it holds without end
-abbrev pub addressAs : Report → List ℕ → Option ℕ → AddressParameter
-addressAs r s none = record { report = r; value = record { bytes = s; leased = false; lease = 0 } }
-addressAs r s (some n) = record { report = r; value = record { bytes = s; leased = true; lease = n } }
+abbrev pub addressAs : Disposition → List ℕ → Option ℕ → AddressParameter
+addressAs r s none = record { disposition = r; value = record { bytes = s; leased = false; lease = 0 } }
+addressAs r s (some n) = record { disposition = r; value = record { bytes = s; leased = true; lease = n } }
 
-abbrev pub noAddressAs : Report → AddressParameter
+abbrev pub noAddressAs : Disposition → AddressParameter
 noAddressAs r = addressAs r (0 ∷ 0 ∷ []) none
 
 abbrev pub AddressJudged : View → AddressParameter → Type 0
 AddressJudged x p = Judged (GoodAddress x) (λ i. addressAs Taken (twoBytes i) (i .lease)) (noAddressAs Discarded) p
 
 -- ---- arrays that are kept as they are written: so many members in so many of 253 bytes, and zeros after them
-abbrev pub listAs : Report → ℕ → List ℕ → ListParameter
-listAs r n s = record { report = r; value = record { count = n; len = length s; bytes = s ++ replicate (253 - length s) 0 } }
+abbrev pub listAs : Disposition → ℕ → List ℕ → ListParameter
+listAs r n s = record { disposition = r; value = record { count = n; len = length s; bytes = s ++ replicate (253 - length s) 0 } }
 
 -- 6, blacklist: an array of byte strings, any number from none, any lengths
-abbrev pub strings : List (List ℕ) → List Plain
+abbrev pub strings : List (List ℕ) → List Scalar
 strings [] = []
 strings (s ∷ ss) = string s ∷ strings ss
 
@@ -110,7 +110,7 @@ pub data Integer : Type 0 where
   -- the number -1 - n
   below0 : ℕ → Integer
 
-abbrev pub integer : Integer → Plain
+abbrev pub integer : Integer → Scalar
 integer (from0 n) = number n
 integer (below0 n) = minus n
 
@@ -121,9 +121,9 @@ integerBytes (below0 n) = shortest 1 n
 pub record Entry : Type 0 where
   pub code : Integer
   pub label : Integer
-  pub third : Plain
+  pub third : Scalar
 
-abbrev pub entries : List Entry → List Plain
+abbrev pub entries : List Entry → List Scalar
 entries [] = []
 entries (e ∷ es) = integer (e .code) ∷ integer (e .label) ∷ e .third ∷ entries es
 
@@ -145,17 +145,17 @@ pub record Group : Type 0 where
   pub identifier : ℕ
   pub usage : Option ℕ
   pub value : List ℕ
-  pub source : Info
+  pub source : AdditionalInfo
 
-abbrev pub sourceMember : Info → List Plain
+abbrev pub sourceMember : AdditionalInfo → List Scalar
 sourceMember info.Absent = []
 sourceMember (info.Four a b c d) = string (a ∷ b ∷ c ∷ d ∷ []) ∷ []
 sourceMember (info.Eight a b c d e f g h) = string (a ∷ b ∷ c ∷ d ∷ e ∷ f ∷ g ∷ h ∷ []) ∷ []
 
-abbrev pub groupMembers : Group → List Plain
+abbrev pub groupMembers : Group → List Scalar
 groupMembers g = number (g .identifier) ∷ (perhaps (g .usage) ++ (string (g .value) ∷ sourceMember (g .source)))
 
-abbrev pub setMembers : List Group → List Plain
+abbrev pub setMembers : List Group → List Scalar
 setMembers [] = []
 setMembers (g ∷ gs) = groupMembers g ++ setMembers gs
 
@@ -202,8 +202,8 @@ keysIn (g ∷ gs) = keyIn g ∷ keysIn gs
 abbrev pub zeroKey : Key
 zeroKey = record { identifier = 0; usage = 0; value = replicate 16 0; info = info.Absent }
 
-abbrev pub keysAs : Report → List Group → KeysParameter
-keysAs r gs = record { report = r; value = record { count = length gs; keys = keysIn gs ++ replicate (8 - length gs) zeroKey } }
+abbrev pub keysAs : Disposition → List Group → KeysParameter
+keysAs r gs = record { disposition = r; value = record { count = length gs; keys = keysIn gs ++ replicate (8 - length gs) zeroKey } }
 
 abbrev pub KeysJudged : View → KeysParameter → Type 0
 KeysJudged x p = Judged (GoodKeys x) (keysAs Taken) (keysAs Discarded []) p

@@ -8,10 +8,10 @@ use lib.Dec.{eqb}
 use Rattle.refusal.specs.declared.Verdict.the-variants.{Accepted}
 use Rattle.cbor.specs.Laws.{Bytes}
 use Rattle.cbor.specs.View.{View}
-use Rattle.cojp.specs.Faults.{faultOf}
+use Rattle.cojp.specs.ErrorReports.{errorReportOf}
 use Rattle.cojp.specs.Reading.{ifTaken}
 use Rattle.cojp.specs.declared.configuration.Configuration.{Configuration}
-use Rattle.cojp.specs.declared.report.Report.the-variants.{Absent}
+use Rattle.cojp.specs.declared.disposition.Disposition.the-variants.{Absent}
 use Rattle.cojp.specs.declared.request.JoinRequest.{JoinRequest}
 use Rattle.cojp_report_laws.specs.Good.{KeysJudged, AddressJudged, JrcJudged, NetworkJudged, BlacklistJudged, RateJudged, EntriesJudged}
 use Rattle.cojp_report_laws.specs.Good.{keysAs, noAddressAs, octetsAs, listAs, rateAs}
@@ -44,7 +44,7 @@ pub record Requested (ks : List Known) (q : JoinRequest) : Type 0 where
   pub network : CameAs NetworkJudged (octetsAs Absent []) 5 ks (q .network)
   pub unsupported : CameAs EntriesJudged (listAs Absent 0 []) 8 ks (q .unsupported)
   -- what specs/InOrder.antt has reported of the list: 1/8 exactly where it came and was not taken
-  pub reported : CameAs (λ x r. listReports x ≡ ifTaken r [] (faultOf 1 8 ∷ [])) Absent 8 ks (q .unsupported .report)
+  pub reported : CameAs (λ x r. listReports x ≡ ifTaken r [] (errorReportOf 1 8 ∷ [])) Absent 8 ks (q .unsupported .disposition)
 
 -- read strictly or not; a payload is bytes
 pub record GoodValues : Type 0 where

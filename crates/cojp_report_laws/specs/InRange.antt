@@ -14,7 +14,7 @@ use Rattle.cojp.specs.declared.version.Version.{Version}
 
 pub record RequestInRange (v : Version) (q : JoinRequest) : Type 0 where
   pub in-range : requestInRange v q ≡ true
-  pub owes-nothing : owing v (q .role) (q .network .report) ≡ false
+  pub owes-nothing : owing v (q .role) (q .network .disposition) ≡ false
 
 -- either form, read strictly or not; a payload is bytes
 abbrev pub RequestReadsInRange : Type 0

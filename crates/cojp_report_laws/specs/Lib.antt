@@ -1,7 +1,7 @@
 pub mod Labels
 pub mod Verdicts
 pub mod InOrder
-pub mod PassedOver
+pub mod UnknownCount
 pub mod BadValues
 pub mod Good
 pub mod GoodValues

@@ -11,7 +11,7 @@ use Rattle.refusal.specs.declared.Verdict.{Verdict}
 use Rattle.refusal.specs.declared.Verdict.the-variants as verdict
 use Rattle.cbor.specs.Item.{Pairs}
 use Rattle.cbor.specs.Strict.{headBy}
-use Rattle.cbor.specs.View.{number, minus, string, other, View, plain, list}
+use Rattle.cbor.specs.View.{number, minus, string, other, View, scalar, list}
 use Rattle.cojp.specs.Configuration.{readConfigurationBy}
 use Rattle.cojp.specs.Request.{readRequestBy}
 use Rattle.cojp.specs.declared.configuration.ConfigurationRead.{ConfigurationRead}
@@ -22,10 +22,10 @@ use Rattle.cojp_report_laws.specs.Labels.{configurationLabels, requestLa
 
 -- a network identifier is a byte string of at most 16 bytes
 abbrev pub isIdentifier : View → Bool
-isIdentifier (plain (string s)) = leb (length s) 16
-isIdentifier (plain (number n)) = false
-isIdentifier (plain (minus n)) = false
-isIdentifier (plain other) = false
+isIdentifier (scalar (string s)) = leb (length s) 16
+isIdentifier (scalar (number n)) = false
+isIdentifier (scalar (minus n)) = false
+isIdentifier (scalar other) = false
 isIdentifier (list ps) = false
 
 -- label 5 came with one

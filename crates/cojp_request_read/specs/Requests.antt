@@ -4,14 +4,14 @@ use mathlib.Core.Bool.{Bool, cond}
 use mathlib.Core.Path.{_≡_}
 use lib.Dec.{eqb}
 use Rattle.refusal.specs.declared.Refusal.{Refusal}
-use Rattle.cojp.specs.Faults.{added}
-use Rattle.cojp.specs.Reading.{Judgement, refused, read, said}
-use Rattle.cojp.specs.Request.{withRole, withUnsupported, withFaults, roleGathered, listGathered}
+use Rattle.cojp.specs.ErrorReports.{added}
+use Rattle.cojp.specs.Reading.{Judgement, refused, read, resultOf}
+use Rattle.cojp.specs.Request.{withRole, withUnsupported, withErrors, roleGathered, listGathered}
 use Rattle.cojp.specs.Version.{byVersion}
-use Rattle.cojp.specs.declared.fault.Faults.{Faults}
+use Rattle.cojp.specs.declared.error_report.ErrorReports.{ErrorReports}
 use Rattle.cojp.specs.declared.list.ListParameter.{ListParameter}
-use Rattle.cojp.specs.declared.report.Report.{Report}
-use Rattle.cojp.specs.declared.request.Gathered.{Gathered}
+use Rattle.cojp.specs.declared.disposition.Disposition.{Disposition}
+use Rattle.cojp.specs.declared.request.RequestState.{RequestState}
 use Rattle.cojp.specs.declared.version.Version.{Version}
 use Rattle.cojp_map.specs.Pairs.{seen, once}
 use Rattle.cojp_request_read.specs.declared.parameter.RequestParameter.{RequestParameter}
@@ -29,22 +29,22 @@ requestParameterOf v n =
     (byVersion v parameter.Unknown (cond (eqb n 8) parameter.Unsupported parameter.Unknown)))
 
 -- what is gathered of a role that was read, the reports being f before it
-abbrev pub roleIn : Gathered → RoleRead → Gathered
-roleIn g r = withFaults (withRole g (r .role)) (r .faults)
+abbrev pub roleIn : RequestState → RoleRead → RequestState
+roleIn g r = withErrors (withRole g (r .role)) (r .errors)
 
-abbrev pub RoleSays : Version → Bool → Faults → Judgement ℕ → RoleRead → Type 0
-RoleSays v named f j r =
-    (g : Gathered) → g .request .faults ≡ f → said (r .verdict) (roleIn g r) ≡ once named (roleGathered v g j)
+abbrev pub RoleSpec : Version → Bool → ErrorReports → Judgement ℕ → RoleRead → Type 0
+RoleSpec v named f j r =
+    (g : RequestState) → g .request .errors ≡ f → resultOf (r .verdict) (roleIn g r) ≡ once named (roleGathered v g j)
 
 -- a bad role: the refusal of the draft, and the code of the published form's report
-abbrev pub BadRole : Version → Refusal → Faults → ℕ → RoleRead → Type 0
+abbrev pub BadRole : Version → Refusal → ErrorReports → ℕ → RoleRead → Type 0
 BadRole v k f code r =
-    (g : Gathered) → said (r .verdict) (roleIn g r) ≡ byVersion v (refused k) (read (withFaults (withRole g 0) (added f code 1)))
+    (g : RequestState) → resultOf (r .verdict) (roleIn g r) ≡ byVersion v (refused k) (read (withErrors (withRole g 0) (added f code 1)))
 
 -- what is gathered of a list of reports that was read
-abbrev pub unsupportedIn : Gathered → UnsupportedRead → Gathered
-unsupportedIn g r = withFaults (withUnsupported g (r .parameter)) (r .faults)
+abbrev pub unsupportedIn : RequestState → UnsupportedRead → RequestState
+unsupportedIn g r = withErrors (withUnsupported g (r .parameter)) (r .errors)
 
-abbrev pub UnsupportedSays : Report → Faults → ListParameter → UnsupportedRead → Type 0
-UnsupportedSays held f p r =
-    (g : Gathered) → g .request .faults ≡ f → said (r .verdict) (unsupportedIn g r) ≡ once (seen held) (read (listGathered g p))
+abbrev pub UnsupportedSpec : Disposition → ErrorReports → ListParameter → UnsupportedRead → Type 0
+UnsupportedSpec held f p r =
+    (g : RequestState) → g .request .errors ≡ f → resultOf (r .verdict) (unsupportedIn g r) ≡ once (seen held) (read (listGathered g p))

@@ -8,7 +8,7 @@ use cojp::RequestRead;
 use cojp::Version;
 use cojp::empty_request;
 use cojp::is_owing;
-use cojp_map::Start;
+use cojp_map::PayloadResult;
 use cojp_map::item_end;
 use cojp_map::labelled_at;
 use cojp_map::octets_once;
@@ -18,8 +18,8 @@ use refusal::Verdict;
 ghost use mathlib.Core.Path.{_≡_};
 ghost use mathlib.Core.Bool.{true};
 ghost use lib.ListN.{drop};
-ghost use Rattle.cojp.specs.Reading.{onward};
-ghost use Rattle.cojp.specs.Request.{gathered, nothingGathered, requestForm, settled, refuseRequest, requestAnswer, readRequestBy, readRequestAs, readStrictRequestAs, readRequest, readStrictRequest};
+ghost use Rattle.cojp.specs.Reading.{bind};
+ghost use Rattle.cojp.specs.Request.{requestState, emptyRequestState, requestForm, settled, refuseRequest, requestAnswer, readRequestBy, readRequestAs, readStrictRequestAs, readRequest, readStrictRequest};
 ghost use Rattle.cbor.specs.Strict.{headBy};
 ghost use Rattle.cojp_map.specs.Pairs.{walkAt};
 
@@ -35,10 +35,10 @@ fn refused_request(why: Refusal) -> RequestRead
 
 // The answer after the last pair: OWED where a network identifier is due.
 fn settled_request(request: JoinRequest, version: Version) -> RequestRead
-    ensures { λ r. ⌜ r ≡ requestAnswer (settled version (gathered true request)) ⌝ }
+    ensures { λ r. ⌜ r ≡ requestAnswer (settled version (requestState true request)) ⌝ }
 {
     let network = request.network;
-    let report = network.report;
+    let report = network.disposition;
     if is_owing(version, request.role, report) {
         return refused_request(Refusal::Owed);
     }
@@ -50,7 +50,7 @@ fn settled_request(request: JoinRequest, version: Version) -> RequestRead
 
 // The next pairs in payload order, up to the first refusal. The parameters are stored where they stand.
 fn take_pairs(s: &[u8], mut at: usize, mut left: u64, version: Version) -> RequestRead
-    ensures { λ r. ⌜ r ≡ requestAnswer (onward (walkAt (requestForm version) left nothingGathered (drop at (now (s .entry)))) (settled version)) ⌝ }
+    ensures { λ r. ⌜ r ≡ requestAnswer (bind (walkAt (requestForm version) left emptyRequestState (drop at (now (s .entry)))) (settled version)) ⌝ }
 {
     let mut named = false;
     let mut q = empty_request();
@@ -60,33 +60,33 @@ fn take_pairs(s: &[u8], mut at: usize, mut left: u64, version: Version) -> Reque
         let parameter = request_parameter_of(version, pair.label);
         match parameter {
             RequestParameter::Role => {
-                let r = role_once(s, pair.value, version, named, q.faults);
+                let r = role_once(s, pair.value, version, named, q.errors);
                 verdict = r.verdict;
                 q.role = r.role;
-                let faults = r.faults;
-                q.faults = faults;
+                let faults = r.errors;
+                q.errors = faults;
                 named = true;
                 at = r.next;
             }
             RequestParameter::Network => {
                 let held = q.network;
-                let report = held.report;
+                let report = held.disposition;
                 let r = octets_once(s, pair.value, report, 0, version);
                 verdict = r.verdict;
-                q.network = r.parameter.anew();
+                q.network = r.parameter.repacked();
                 at = r.next;
             }
             RequestParameter::Unsupported => {
-                let r = unsupported_once(s, pair.value, q.unsupported, q.faults);
+                let r = unsupported_once(s, pair.value, q.unsupported, q.errors);
                 verdict = r.verdict;
                 let unsupported = r.parameter;
                 q.unsupported = unsupported;
-                let faults = r.faults;
-                q.faults = faults;
+                let faults = r.errors;
+                q.errors = faults;
                 at = r.next;
             }
             RequestParameter::Unknown => {
-                q.passed += 1;
+                q.unknown += 1;
                 at = item_end(s, pair.value);
             }
         }
@@ -104,8 +104,8 @@ fn read_by(payload: &[u8], version: Version, strict: bool) -> RequestRead
 {
     let opened = open_payload(payload, strict);
     match opened {
-        Start::Refused(k) => refused_request(k),
-        Start::Pairs { count, start } => take_pairs(payload, start, count, version),
+        PayloadResult::Refused(k) => refused_request(k),
+        PayloadResult::Pairs { count, start } => take_pairs(payload, start, count, version),
     }
 }
 

@@ -1,35 +1,35 @@
 // The role of a join request.
 use cbor::Value;
 use cbor::value_at;
-use cojp::Faults;
+use cojp::ErrorReports;
 use cojp::Version;
-use cojp::no_faults;
+use cojp::no_error_reports;
 use cojp_map::item_end;
 use refusal::Refusal;
 use refusal::Verdict;
 ghost use mathlib.Core.Path.{_≡_};
 ghost use lib.ListN.{drop};
-ghost use Rattle.cojp.specs.Bytes.{valueView, afterValue, GoesOn};
+ghost use Rattle.cojp.specs.Bytes.{valueView, afterValue, EndsAt};
 ghost use Rattle.cojp.specs.Reading.{Accepting};
 ghost use Rattle.cojp.specs.Request.{roleJudged};
-ghost use Rattle.cojp_request_read.specs.Requests.{BadRole, RoleSays};
+ghost use Rattle.cojp_request_read.specs.Requests.{BadRole, RoleSpec};
 
 // The role, and the reports with the one about it. Beside a refusal nothing else says anything.
 pub(crate) struct RoleRead {
     pub verdict: Verdict,
     pub role: u8,
-    pub faults: Faults,
+    pub errors: ErrorReports,
     pub next: usize,
 }
 
 fn refused_role(why: Refusal) -> RoleRead
     ensures { λ r. ⌜ r .verdict ≡ Verdict.Refused why ⌝ }
 {
-    let none = no_faults();
+    let none = no_error_reports();
     RoleRead {
         verdict: Verdict::Refused(why),
         role: 0,
-        faults: none,
+        errors: none,
         next: 0,
     }
 }
@@ -40,11 +40,11 @@ fn bad_role(
     at: usize,
     version: Version,
     why: Refusal,
-    faults: Faults,
+    faults: ErrorReports,
     code: u8,
 ) -> RoleRead
     ensures { λ r. ⌜ BadRole version why faults code r ⌝ }
-    ensures rest { λ r. ⌜ Accepting (r .verdict) (GoesOn (now (s .entry)) (r .next) (afterValue (drop at (now (s .entry))))) ⌝ }
+    ensures rest { λ r. ⌜ Accepting (r .verdict) (EndsAt (now (s .entry)) (r .next) (afterValue (drop at (now (s .entry))))) ⌝ }
 {
     match version {
         Version::Draft => refused_role(why),
@@ -54,7 +54,7 @@ fn bad_role(
             RoleRead {
                 verdict: Verdict::Accepted,
                 role: 0,
-                faults: reported,
+                errors: reported,
                 next: next,
             }
         }
@@ -67,10 +67,10 @@ pub(crate) fn role_once(
     at: usize,
     version: Version,
     named: bool,
-    faults: Faults,
+    faults: ErrorReports,
 ) -> RoleRead
-    ensures { λ r. ⌜ RoleSays version named faults (roleJudged (valueView (drop at (now (s .entry))))) r ⌝ }
-    ensures rest { λ r. ⌜ Accepting (r .verdict) (GoesOn (now (s .entry)) (r .next) (afterValue (drop at (now (s .entry))))) ⌝ }
+    ensures { λ r. ⌜ RoleSpec version named faults (roleJudged (valueView (drop at (now (s .entry))))) r ⌝ }
+    ensures rest { λ r. ⌜ Accepting (r .verdict) (EndsAt (now (s .entry)) (r .next) (afterValue (drop at (now (s .entry))))) ⌝ }
 {
     if named {
         return refused_role(Refusal::Twice);
@@ -84,7 +84,7 @@ pub(crate) fn role_once(
             RoleRead {
                 verdict: Verdict::Accepted,
                 role: number as u8,
-                faults: faults,
+                errors: faults,
                 next: next,
             }
         }

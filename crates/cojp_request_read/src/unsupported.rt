@@ -1,7 +1,7 @@
 // What a node could not act on, as its request of the published form has it.
-use cojp::Faults;
+use cojp::Disposition;
+use cojp::ErrorReports;
 use cojp::ListParameter;
-use cojp::Report;
 use cojp::no_list;
 use cojp_list_read::read_unsupported;
 use cojp_list_read::taken_list;
@@ -11,16 +11,16 @@ use refusal::Refusal;
 use refusal::Verdict;
 ghost use mathlib.Core.Path.{_≡_};
 ghost use lib.ListN.{drop};
-ghost use Rattle.cojp.specs.Bytes.{valueView, afterValue, GoesOn};
+ghost use Rattle.cojp.specs.Bytes.{valueView, afterValue, EndsAt};
 ghost use Rattle.cojp.specs.Lists.{unsupportedTaken};
 ghost use Rattle.cojp.specs.Reading.{Accepting};
-ghost use Rattle.cojp_request_read.specs.Requests.{UnsupportedSays};
+ghost use Rattle.cojp_request_read.specs.Requests.{UnsupportedSpec};
 
 // The list, and the reports with the one about it. Beside a refusal nothing else says anything.
 pub(crate) struct UnsupportedRead {
     pub verdict: Verdict,
     pub parameter: ListParameter,
-    pub faults: Faults,
+    pub errors: ErrorReports,
     pub next: usize,
 }
 
@@ -29,18 +29,18 @@ pub(crate) fn unsupported_once(
     s: &[u8],
     at: usize,
     held: ListParameter,
-    faults: Faults,
+    faults: ErrorReports,
 ) -> UnsupportedRead
-    ensures { λ r. ⌜ UnsupportedSays (held .report) faults (unsupportedTaken (valueView (drop at (now (s .entry))))) r ⌝ }
-    ensures rest { λ r. ⌜ Accepting (r .verdict) (GoesOn (now (s .entry)) (r .next) (afterValue (drop at (now (s .entry))))) ⌝ }
+    ensures { λ r. ⌜ UnsupportedSpec (held .disposition) faults (unsupportedTaken (valueView (drop at (now (s .entry))))) r ⌝ }
+    ensures rest { λ r. ⌜ Accepting (r .verdict) (EndsAt (now (s .entry)) (r .next) (afterValue (drop at (now (s .entry))))) ⌝ }
 {
-    let report = held.report;
+    let report = held.disposition;
     if is_seen(report) {
-        let none = no_list(Report::Absent);
+        let none = no_list(Disposition::Absent);
         return UnsupportedRead {
             verdict: Verdict::Refused(Refusal::Twice),
             parameter: none,
-            faults: faults,
+            errors: faults,
             next: 0,
         };
     }
@@ -51,7 +51,7 @@ pub(crate) fn unsupported_once(
         return UnsupportedRead {
             verdict: Verdict::Accepted,
             parameter: parameter,
-            faults: faults,
+            errors: faults,
             next: next,
         };
     }
@@ -59,7 +59,7 @@ pub(crate) fn unsupported_once(
     UnsupportedRead {
         verdict: Verdict::Accepted,
         parameter: parameter,
-        faults: reported,
+        errors: reported,
         next: next,
     }
 }

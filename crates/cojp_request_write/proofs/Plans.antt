@@ -7,8 +7,8 @@ use Rattle.refusal.specs.declared.Refusal.the-variants.{Range, Owed}
 use Rattle.cbor.specs.Answer.{Plan, Did, refuse, emit}
 use Rattle.cbor.specs.Encode.{encode}
 use Rattle.cbor.specs.Item.{map}
-use Rattle.cbor.specs.declared.write.Written.{Written}
-use Rattle.cbor.specs.declared.write.Written.the-variants.{Refused}
+use Rattle.cbor.specs.declared.write.WriteResult.{WriteResult}
+use Rattle.cbor.specs.declared.write.WriteResult.the-variants.{Refused}
 use Rattle.cbor.specs.Writing.{did-refuse}
 use Rattle.cojp.specs.Request.{owing}
 use Rattle.cojp.specs.Writing.{fits, owingPlan, requestPairs, requestInRange, requestPlan}
@@ -24,7 +24,7 @@ module _ (owed : Bool) {p : Plan} where
     pub owing-owed : (d : List ℕ) → owed ≡ true → Did (owingPlan owed p) d (Refused Owed) d
     owing-owed d h = rw (e, h) (did-refuse Owed d)
 
-    pub owing-emit : {d d′ : List ℕ} {r : Written} → owed ≡ false → Did (emit s) d r d′ → Did (owingPlan owed p) d r d′
+    pub owing-emit : {d d′ : List ℕ} {r : WriteResult} → owed ≡ false → Did (emit s) d r d′ → Did (owingPlan owed p) d r d′
     owing-emit h w = rw (e, h) w
 
 module _ (v : Version) (q : JoinRequest) where
@@ -32,7 +32,7 @@ module _ (v : Version) (q : JoinRequest) where
   unfolding requestPlan
   request-range d h = simp h (did-refuse Range d)
 
-  pub request-emit : {owed : Bool} {d d′ : List ℕ} {r : Written} → requestInRange v q ≡ true → owed ≡ owing v (q .role) (q .network .report)
+  pub request-emit : {owed : Bool} {d d′ : List ℕ} {r : WriteResult} → requestInRange v q ≡ true → owed ≡ owing v (q .role) (q .network .disposition)
       → Did (owingPlan owed (fits (encode (map (requestPairs q))))) d r d′ → Did (requestPlan v q) d r d′
   unfolding requestPlan
   request-emit h e w = simp h (rw e at w)

@@ -8,7 +8,7 @@ use Rattle.cbor.specs.Answer.{Wrote}
 use Rattle.cbor.specs.Encode.{shortest, encode, encodePairs}
 use Rattle.cbor.specs.HeadLaws.{HeadLaws}
 use Rattle.cbor.specs.Item.{Pairs, map, countPairs}
-use Rattle.cojp.specs.Lists.{faultsIn, some}
+use Rattle.cojp.specs.Lists.{errorReportsIn, some}
 use Rattle.cojp.specs.Writing.{join, rolePairs, octetsPairs, listPairs, requestPairs}
 use Rattle.cojp.specs.declared.request.JoinRequest.{JoinRequest}
 use Rattle.cojp_list_read.specs.Laws.{ListWritten}
@@ -28,13 +28,13 @@ module _ (q : JoinRequest) where
 
   request-count : countPairs (requestPairs q) ≡ requestCount q
   request-count =
-      join-count front (listPairs 8 (some faultsIn) (q .unsupported))
-      ∙ ap (λ (n : ℕ). countPairs front + n) (list-count (some faultsIn) 8 (q .unsupported))
+      join-count front (listPairs 8 (some errorReportsIn) (q .unsupported))
+      ∙ ap (λ (n : ℕ). countPairs front + n) (list-count (some errorReportsIn) 8 (q .unsupported))
 
-  request-bytes : ListWritten (some faultsIn) → RequestFits q → encodePairs (requestPairs q) ≡ requestBytes q
+  request-bytes : ListWritten (some errorReportsIn) → RequestFits q → encodePairs (requestPairs q) ≡ requestBytes q
   request-bytes law f =
-      join-bytes front (listPairs 8 (some faultsIn) (q .unsupported))
-      ∙ ap (λ (s : List ℕ). encodePairs front ++ s) (list-bytes (some faultsIn) law 8 (q .unsupported) (f .unsupported))
+      join-bytes front (listPairs 8 (some errorReportsIn) (q .unsupported))
+      ∙ ap (λ (s : List ℕ). encodePairs front ++ s) (list-bytes (some errorReportsIn) law 8 (q .unsupported) (f .unsupported))
 
   pub request-length : (m : ℕ) → length (shortest 5 m) + length (requestBytes q) ≡ requestLength q m
   request-length m =
@@ -55,7 +55,7 @@ module _ (q : JoinRequest) where
   request-wrote m w = rw (parts m) w
 
   -- ---- the size, as that of the pairs
-  module _ (law : ListWritten (some faultsIn)) (f : RequestFits q) {s : Size} (z : Sizes (requestCount q) (requestBytes q) 3 299 s) where
+  module _ (law : ListWritten (some errorReportsIn)) (f : RequestFits q) {s : Size} (z : Sizes (requestCount q) (requestBytes q) 3 299 s) where
     pub request-sized : PairsSize (requestPairs q) 3 299 s
     request-sized = pairs-size (requestPairs q) request-count (request-bytes law f) z
 

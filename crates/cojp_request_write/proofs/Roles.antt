@@ -9,7 +9,7 @@ use Rattle.cbor.specs.Answer.{Did, Wrote, headPlan}
 use Rattle.cbor.specs.Encode.{encodePairs}
 use Rattle.cbor.specs.HeadLaws.{HeadLaws}
 use Rattle.cbor.specs.Item.{unsigned, empty}
-use Rattle.cbor.specs.declared.write.Written.{Written}
+use Rattle.cbor.specs.declared.write.WriteResult.{WriteResult}
 use Rattle.cbor.specs.Writing.{wrote-length}
 use Rattle.cojp.specs.Writing.{labelled, rolePairs}
 use Rattle.cojp_octets_write.specs.Size.{PairsSize}
@@ -32,7 +32,7 @@ module _ (heads : HeadLaws) where
   })
 
   -- the label was written to d, which then was d′, and the role to the part after it, which then was e
-  pub role-wrote : (n : ℕ) {d d′ e : List ℕ} {r s : Written} → (n ≡ 0 → ⊥) → n ≤ 1 → length (encodePairs (rolePairs n)) ≤ length d
+  pub role-wrote : (n : ℕ) {d d′ e : List ℕ} {r s : WriteResult} → (n ≡ 0 → ⊥) → n ≤ 1 → length (encodePairs (rolePairs n)) ≤ length d
       → Did (headPlan 0 1) d r d′ → Did (headPlan 0 n) (take (length d′ - 1) (drop 1 d′)) s e
       → Wrote (encodePairs (rolePairs n)) d 2 (take 1 d′ ++ (e ++ drop (length d′ - 1) (drop 1 d′)))
   role-wrote n {d} {d′} f h l w v =
@@ -44,7 +44,7 @@ module _ (heads : HeadLaws) where
       rw (role-pair n f) (labelled-seam 1 (unsigned n) (omega (arith, a .many, b .many)) a b)
 
   -- the part after the label is there
-  pub role-part : (n : ℕ) {d d′ : List ℕ} {r : Written} → (n ≡ 0 → ⊥) → n ≤ 1 → length (encodePairs (rolePairs n)) ≤ length d
+  pub role-part : (n : ℕ) {d d′ : List ℕ} {r : WriteResult} → (n ≡ 0 → ⊥) → n ≤ 1 → length (encodePairs (rolePairs n)) ≤ length d
       → Did (headPlan 0 1) d r d′ → 1 ≤ length d′
   role-part n f h l w =
       let two = role-size n f h .bytes in

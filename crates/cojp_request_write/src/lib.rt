@@ -2,7 +2,7 @@
 mod request;
 
 use crate::request::emit_request;
-use cbor::Written;
+use cbor::WriteResult;
 use cojp::JoinRequest;
 use cojp::Version;
 use cojp::is_owing;
@@ -13,20 +13,20 @@ ghost use Rattle.cojp.specs.Writing.{requestPlan};
 ghost use Rattle.cojp.specs.declared.version.Version.the-variants.{Draft};
 
 // Writes a join request in a form: RANGE, OWED, ROOM, or the length written.
-pub fn write_request_as(dst: &mut [u8], q: JoinRequest, version: Version) -> Written
+pub fn write_request_as(dst: &mut [u8], q: JoinRequest, version: Version) -> WriteResult
     ensures { λ r. ⌜ Did (requestPlan version q) (now (dst .entry)) r (now (dst .exit)) ⌝ }
 {
     if !request_in_range(version, q) {
-        return Written::Refused(Refusal::Range);
+        return WriteResult::Refused(Refusal::Range);
     }
     let network = q.network;
-    let report = network.report;
+    let report = network.disposition;
     let owed = is_owing(version, q.role, report);
     emit_request(dst, q, owed)
 }
 
 // Writes a join request of the draft: RANGE, OWED, ROOM, or the length written.
-pub fn write_request(dst: &mut [u8], q: JoinRequest) -> Written
+pub fn write_request(dst: &mut [u8], q: JoinRequest) -> WriteResult
     ensures { λ r. ⌜ Did (requestPlan Draft q) (now (dst .entry)) r (now (dst .exit)) ⌝ }
 {
     write_request_as(dst, q, Version::Draft)

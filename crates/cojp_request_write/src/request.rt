@@ -1,5 +1,5 @@
 // A join request's parameters, their sizes, and the map that they are.
-use cbor::Written;
+use cbor::WriteResult;
 use cbor_write::write_head;
 use cojp::JoinRequest;
 use cojp_octets_write::Size;
@@ -71,7 +71,7 @@ fn put_request(dst: &mut [u8], q: JoinRequest, members: u64) -> usize
 }
 
 // What is in range: RANGE over 256 bytes, OWED, ROOM, or the length written.
-pub(crate) fn emit_request(dst: &mut [u8], q: JoinRequest, owed: bool) -> Written
+pub(crate) fn emit_request(dst: &mut [u8], q: JoinRequest, owed: bool) -> WriteResult
     requires { ⌜ RequestFits q ⌝ }
     ensures { λ r. ⌜ Did (owingPlan owed (fits (encode (map (requestPairs q))))) (now (dst .entry)) r (now (dst .exit)) ⌝ }
 {
@@ -81,13 +81,13 @@ pub(crate) fn emit_request(dst: &mut [u8], q: JoinRequest, owed: bool) -> Writte
     let members = size.members;
     let whole = 1 + size.bytes;
     if 256 < whole {
-        return Written::Refused(Refusal::Range);
+        return WriteResult::Refused(Refusal::Range);
     }
     if owed {
-        return Written::Refused(Refusal::Owed);
+        return WriteResult::Refused(Refusal::Owed);
     }
     if dst.len() < whole {
-        return Written::Refused(Refusal::Room);
+        return WriteResult::Refused(Refusal::Room);
     }
-    Written::Length(put_request(dst, q, members as u64))
+    WriteResult::Length(put_request(dst, q, members as u64))
 }

@@ -15,13 +15,13 @@ use Rattle.refusal.specs.declared.Verdict.the-variants.{Refused}
 use Rattle.cbor.specs.Strict.{headBy}
 use Rattle.cojp.specs.Configuration.{refuseConfiguration, readConfigurationBy}
 use Rattle.cojp.specs.Request.{refuseRequest, readRequestBy}
-use Rattle.cojp_serial.specs.Arrival.{placed, partAnswer, partStore, endRead}
+use Rattle.cojp_serial.specs.State.{placed, partAnswer, partStore, endRead}
 use Rattle.cojp_serial.specs.Calls.{Reader, request, configuration, SerialCall, resetting, sending, ending, joinRequest, update}
-use Rattle.cojp_serial.specs.Calls.{Held, courseOn, told, left, verdictIn}
+use Rattle.cojp_serial.specs.Calls.{Held, decisionOn, told, left, verdictIn}
 use Rattle.cojp_serial.specs.Laws.{AsServed, LentLengthsMayChange}
 use Rattle.cojp_serial.specs.Loans.{Loan, loan, lentOf, loanTold, loanLeft, suffices, none-lent, lent-enough, lent-short}
-use Rattle.cojp_serial.specs.declared.arrival.Course.{Course}
-use Rattle.cojp_serial.specs.declared.arrival.Course.the-variants.{Outside, Overrun, Ended, Open}
+use Rattle.cojp_serial.specs.declared.state.PartDecision.{PartDecision}
+use Rattle.cojp_serial.specs.declared.state.PartDecision.the-variants.{Outside, Overrun, Ended, Open}
 use Rattle.cojp_serial.proofs.Courses.{open-fits}
 use Rattle.cojp_serial.proofs.Short.{part-range, end-range, part-leaves, end-leaves}
 use Rattle.cojp_serial.proofs.Stores.{placed-length}
@@ -45,43 +45,43 @@ module _ (h : Held) (n : ℕ) (l : 256 ≤ n) (s : 256 ≤ length (h .store)) wh
   lent-whole : 256 ≤ length (take n (h .store))
   lent-whole = simp length-take (omega arith)
 
-  same-course : (m : ℕ) → courseOn (lentOf n h) m ≡ courseOn h m
+  same-course : (m : ℕ) → decisionOn (lentOf n h) m ≡ decisionOn h m
   same-course m =
-      course-alike (h .arrival) m (length (take n (h .store))) (length (h .store))
+      course-alike (h .state) m (length (take n (h .store))) (length (h .store))
       (le-leb 256 (length (take n (h .store))) lent-whole ∙ sym (le-leb 256 (length (h .store)) s))
 
-  part-store : (p : List ℕ) (x : Course) → courseOn (lentOf n h) (length p) ≡ x
-      → partStore x (h .arrival .arrived) p (take n (h .store)) ++ drop n (h .store) ≡ partStore x (h .arrival .arrived) p (h .store)
+  part-store : (p : List ℕ) (x : PartDecision) → decisionOn (lentOf n h) (length p) ≡ x
+      → partStore x (h .state .arrived) p (take n (h .store)) ++ drop n (h .store) ≡ partStore x (h .state .arrived) p (h .store)
   part-store p Outside e = take-append-drop n (h .store)
   part-store p Overrun e = take-append-drop n (h .store)
   part-store p Ended e = take-append-drop n (h .store)
   part-store p Open e =
-      let f = open-fits (h .arrival) (length (take n (h .store))) (length p) e in
-      placed-lent n (h .arrival .arrived) p (h .store) (omega (arith, f .room, f .store)) (omega (arith, f .room, l))
+      let f = open-fits (h .state) (length (take n (h .store))) (length p) e in
+      placed-lent n (h .state .arrived) p (h .store) (omega (arith, f .room, f .store)) (omega (arith, f .room, l))
 
-  end-read : {A : Type 0} (refuse : Refusal → A) (reader : List ℕ → A) (x : Course) → courseOn (lentOf n h) 0 ≡ x
-      → endRead refuse reader x (take (h .arrival .arrived) (take n (h .store)))
-      ≡ endRead refuse reader x (take (h .arrival .arrived) (h .store))
+  end-read : {A : Type 0} (refuse : Refusal → A) (reader : List ℕ → A) (x : PartDecision) → decisionOn (lentOf n h) 0 ≡ x
+      → endRead refuse reader x (take (h .state .arrived) (take n (h .store)))
+      ≡ endRead refuse reader x (take (h .state .arrived) (h .store))
   end-read refuse reader Outside e = refl
   end-read refuse reader Overrun e = refl
   end-read refuse reader Ended e = refl
   end-read refuse reader Open e =
-      let f = open-fits (h .arrival) (length (take n (h .store))) 0 e in
-      ap reader (take-take (h .arrival .arrived) n (h .store) (omega (arith, f .room, l)))
+      let f = open-fits (h .state) (length (take n (h .store))) 0 e in
+      ap reader (take-take (h .state .arrived) n (h .store) (omega (arith, f .room, l)))
 
   end-told : (r : Reader) → told (ending r) (lentOf n h) ≡ told (ending r) h
   end-told (request v strict) =
-      rw (same-course 0) (ap joinRequest (end-read refuseRequest (readRequestBy v (headBy strict)) (courseOn h 0) (same-course 0)))
+      rw (same-course 0) (ap joinRequest (end-read refuseRequest (readRequestBy v (headBy strict)) (decisionOn h 0) (same-course 0)))
   end-told (configuration v strict) =
-      rw (same-course 0) (ap update (end-read refuseConfiguration (readConfigurationBy v (headBy strict)) (courseOn h 0) (same-course 0)))
+      rw (same-course 0) (ap update (end-read refuseConfiguration (readConfigurationBy v (headBy strict)) (decisionOn h 0) (same-course 0)))
 
   part-told : (p : List ℕ) → told (sending p) (lentOf n h) ≡ told (sending p) h
   part-told p = rw (same-course (length p))
 
   part-left : (p : List ℕ) → loanLeft (loan (sending p) n) h ≡ left (sending p) h
   part-left p =
-      let after = partAnswer (courseOn h (length p)) (h .arrival) (length p) .arrival in
-      rw (same-course (length p)) (ap (hold after) (part-store p (courseOn h (length p)) (same-course (length p))))
+      let after = partAnswer (decisionOn h (length p)) (h .state) (length p) .state in
+      rw (same-course (length p)) (ap (hold after) (part-store p (decisionOn h (length p)) (same-course (length p))))
 
   end-left : (r : Reader) → loanLeft (loan (ending r) n) h ≡ left (ending r) h
   end-left r = rw (same-course 0, take-append-drop n (h .store))
@@ -95,21 +95,21 @@ lent-less h n l = simp length-take (omega arith)
 
 unchanged : (h : Held) (n : ℕ) (c : SerialCall) → left c (lentOf n h) ≡ lentOf n h → loanLeft (loan c n) h ≡ h
 unchanged h n c e =
-    ap (λ (g : Held). hold (g .arrival) (g .store ++ drop n (h .store))) e ∙ ap (hold (h .arrival)) (take-append-drop n (h .store))
+    ap (λ (g : Held). hold (g .state) (g .store ++ drop n (h .store))) e ∙ ap (hold (h .state)) (take-append-drop n (h .store))
 
 -- ---- many calls
 store-kept : (c : SerialCall) (h : Held) → 256 ≤ length (h .store) → 256 ≤ length (left c h .store)
 store-kept resetting h s = s
 store-kept (ending r) h s = s
-store-kept (sending p) h s = by-course (courseOn h (length p)) refl
+store-kept (sending p) h s = by-course (decisionOn h (length p)) refl
   where
-    by-course : (x : Course) → courseOn h (length p) ≡ x → 256 ≤ length (partStore x (h .arrival .arrived) p (h .store))
+    by-course : (x : PartDecision) → decisionOn h (length p) ≡ x → 256 ≤ length (partStore x (h .state .arrived) p (h .store))
     by-course Outside e = s
     by-course Overrun e = s
     by-course Ended e = s
     by-course Open e =
-        let f = open-fits (h .arrival) (length (h .store)) (length p) e in
-        rw (placed-length (h .arrival .arrived) p (h .store) (omega (arith, f .room, s))) s
+        let f = open-fits (h .state) (length (h .store)) (length p) e in
+        rw (placed-length (h .state .arrived) p (h .store) (omega (arith, f .room, s))) s
 
 module _ (l : Loan) (ls : List Loan) (h : Held) where
   serve : suffices l ≡ true → loanTold l h ≡ told (l .call) h → loanLeft l h ≡ left (l .call) h → AsServed ls (left (l .call) h)

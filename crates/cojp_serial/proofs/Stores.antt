@@ -5,11 +5,11 @@ use mathlib.Core.List.{List, [], _++_, append-assoc, append-nil}
 use native.Mathlib.Omega.{arith}
 use lib.ListN.{length, take, drop, length-append, length-take, length-drop, drop-of-length-le}
 use lib.Seq.{take-all, take-at, drop-at, take-length, drop-drop, length-take-le}
-use Rattle.cojp_serial.specs.Arrival.{placed, courseOf, partAnswer, partStore, Parted}
+use Rattle.cojp_serial.specs.State.{placed, decisionOf, partAnswer, partStore, Parted}
 use Rattle.cojp_serial.specs.Laws.{OwnBytes}
-use Rattle.cojp_serial.specs.declared.arrival.Arrival.{Arrival}
-use Rattle.cojp_serial.specs.declared.arrival.Course.{Course}
-use Rattle.cojp_serial.specs.declared.parts.PartAnswer.{PartAnswer}
+use Rattle.cojp_serial.specs.declared.state.SerialState.{SerialState}
+use Rattle.cojp_serial.specs.declared.state.PartDecision.{PartDecision}
+use Rattle.cojp_serial.specs.declared.parts.PartResult.{PartResult}
 
 module _ (n : ℕ) (p s : List ℕ) (fits : n + length p ≤ length s) where
   head-length : length (take n s ++ p) ≡ n + length p
@@ -43,6 +43,6 @@ module _ (n : ℕ) (p s : List ℕ) (fits : n + length p ≤ length s) where
       rw (none, copied, append-nil)
 
 -- a part's promise, where its course is known
-pub parted : (a : Arrival) (s p : List ℕ) (x : Course) → courseOf a (length s) (length p) ≡ x → (r : PartAnswer) → r ≡ partAnswer x a (length p)
+pub parted : (a : SerialState) (s p : List ℕ) (x : PartDecision) → decisionOf a (length s) (length p) ≡ x → (r : PartResult) → r ≡ partAnswer x a (length p)
     → (t : List ℕ) → t ≡ partStore x (a .arrived) p s → Parted a s p r t
 parted a s p x e r says t holds = record { says = rw e says; holds = rw e holds }

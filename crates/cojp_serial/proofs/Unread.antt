@@ -9,32 +9,32 @@ use Rattle.refusal.specs.declared.Refusal.{Refusal}
 use Rattle.cbor.specs.Strict.{headBy}
 use Rattle.cojp.specs.Configuration.{refuseConfiguration, readConfigurationBy}
 use Rattle.cojp.specs.Request.{refuseRequest, readRequestBy}
-use Rattle.cojp_serial.specs.Arrival.{nothingArrived, courseOf, partAnswer, partStore, endArrival, endRead}
-use Rattle.cojp_serial.specs.Calls.{request, configuration, SerialCall, resetting, sending, ending, Told, joinRequest, update, Held, told, answers}
-use Rattle.cojp_serial.specs.Laws.{BeyondIsUnread, NothingOfTheFormerBoard}
-use Rattle.cojp_serial.specs.declared.arrival.Arrival.{Arrival}
-use Rattle.cojp_serial.specs.declared.arrival.Course.{Course}
-use Rattle.cojp_serial.specs.declared.arrival.Course.the-variants.{Outside, Overrun, Ended, Open}
+use Rattle.cojp_serial.specs.State.{emptyState, decisionOf, partAnswer, partStore, endState, endRead}
+use Rattle.cojp_serial.specs.Calls.{request, configuration, SerialCall, resetting, sending, ending, SerialResult, joinRequest, update, Held, told, answers}
+use Rattle.cojp_serial.specs.Laws.{BeyondIsUnread, ResetForgets}
+use Rattle.cojp_serial.specs.declared.state.SerialState.{SerialState}
+use Rattle.cojp_serial.specs.declared.state.PartDecision.{PartDecision}
+use Rattle.cojp_serial.specs.declared.state.PartDecision.the-variants.{Outside, Overrun, Ended, Open}
 use Rattle.cojp_serial.proofs.Courses.{open-fits}
 use Rattle.cojp_serial.proofs.Stores.{placed-length, placed-take}
 
-abbrev pub hold : Arrival → List ℕ → Held
-hold a s = record { arrival = a; store = s }
+abbrev pub hold : SerialState → List ℕ → Held
+hold a s = record { state = a; store = s }
 
-record Alike (a : Arrival) (s t : List ℕ) : Type 0 where
+record Alike (a : SerialState) (s t : List ℕ) : Type 0 where
   lent : leb 256 (length s) ≡ leb 256 (length t)
   arrived : take (a .arrived) s ≡ take (a .arrived) t
 
-pub course-alike : (a : Arrival) (n x y : ℕ) → leb 256 x ≡ leb 256 y → courseOf a x n ≡ courseOf a y n
-unfolding courseOf
+pub course-alike : (a : SerialState) (n x y : ℕ) → leb 256 x ≡ leb 256 y → decisionOf a x n ≡ decisionOf a y n
+unfolding decisionOf
 course-alike a n x y e = rw e
 
 -- ---- a part
-room : (a : Arrival) (n lent : ℕ) → courseOf a lent n ≡ Open → a .arrived + n ≤ lent
+room : (a : SerialState) (n lent : ℕ) → decisionOf a lent n ≡ Open → a .arrived + n ≤ lent
 room a n lent e = let f = open-fits a lent n e in omega (arith, f .room, f .store)
 
-after-part : (a : Arrival) (s t p : List ℕ) (x : Course) → courseOf a (length s) (length p) ≡ x → courseOf a (length t) (length p) ≡ x
-    → Alike a s t → Alike (partAnswer x a (length p) .arrival) (partStore x (a .arrived) p s) (partStore x (a .arrived) p t)
+after-part : (a : SerialState) (s t p : List ℕ) (x : PartDecision) → decisionOf a (length s) (length p) ≡ x → decisionOf a (length t) (length p) ≡ x
+    → Alike a s t → Alike (partAnswer x a (length p) .state) (partStore x (a .arrived) p s) (partStore x (a .arrived) p t)
 after-part a s t p Outside e f w = w
 after-part a s t p Overrun e f w = record { lent = w .lent; arrived = w .arrived }
 after-part a s t p Ended e f w = w
@@ -48,17 +48,17 @@ after-part a s t p Open e f w =
     }
 
 -- ---- an end
-after-end : (a : Arrival) (s t : List ℕ) (x : Course) → Alike a s t → Alike (endArrival x a) s t
+after-end : (a : SerialState) (s t : List ℕ) (x : PartDecision) → Alike a s t → Alike (endState x a) s t
 after-end a s t Outside w = w
 after-end a s t Overrun w = w
 after-end a s t Ended w = w
 after-end a s t Open w = record { lent = w .lent; arrived = w .arrived }
 
-end-alike : {A : Type 0} (f : A → Told) (refuse : Refusal → A) (reader : List ℕ → A) (a : Arrival) (s t : List ℕ) → Alike a s t
-    → f (endRead refuse reader (courseOf a (length s) 0) (take (a .arrived) s)) ≡ f (endRead refuse reader (courseOf a (length t) 0) (take (a .arrived) t))
+end-alike : {A : Type 0} (f : A → SerialResult) (refuse : Refusal → A) (reader : List ℕ → A) (a : SerialState) (s t : List ℕ) → Alike a s t
+    → f (endRead refuse reader (decisionOf a (length s) 0) (take (a .arrived) s)) ≡ f (endRead refuse reader (decisionOf a (length t) 0) (take (a .arrived) t))
 end-alike f refuse reader a s t w = rw (course-alike a 0 (length s) (length t) (w .lent), w .arrived)
 
-told-alike : (c : SerialCall) (a : Arrival) (s t : List ℕ) → Alike a s t → told c (hold a s) ≡ told c (hold a t)
+told-alike : (c : SerialCall) (a : SerialState) (s t : List ℕ) → Alike a s t → told c (hold a s) ≡ told c (hold a t)
 told-alike resetting a s t w = refl
 told-alike (sending p) a s t w = rw (course-alike a (length p) (length s) (length t) (w .lent))
 told-alike (ending (request v strict)) a s t w = end-alike joinRequest refuseRequest (readRequestBy v (headBy strict)) a s t w
@@ -67,19 +67,19 @@ told-alike (ending (configuration v strict)) a s t w = end-alike update refuseCo
 pub both : {A : Type 0} {x y : A} {xs ys : List A} → x ≡ y → xs ≡ ys → x ∷ xs ≡ y ∷ ys
 both p q = cc
 
-answers-alike : (cs : List SerialCall) (a : Arrival) (s t : List ℕ) → Alike a s t → answers cs (hold a s) ≡ answers cs (hold a t)
+answers-alike : (cs : List SerialCall) (a : SerialState) (s t : List ℕ) → Alike a s t → answers cs (hold a s) ≡ answers cs (hold a t)
 answers-alike [] a s t w = refl
-answers-alike (resetting ∷ cs) a s t w = both refl (answers-alike cs nothingArrived s t (record { lent = w .lent; arrived = refl }))
+answers-alike (resetting ∷ cs) a s t w = both refl (answers-alike cs emptyState s t (record { lent = w .lent; arrived = refl }))
 answers-alike (sending p ∷ cs) a s t w =
     let e = course-alike a (length p) (length s) (length t) (w .lent) in
-    both (told-alike (sending p) a s t w) (rw e (answers-alike cs _ _ _ (after-part a s t p (courseOf a (length t) (length p)) e refl w)))
+    both (told-alike (sending p) a s t w) (rw e (answers-alike cs _ _ _ (after-part a s t p (decisionOf a (length t) (length p)) e refl w)))
 answers-alike (ending r ∷ cs) a s t w =
     let e = course-alike a 0 (length s) (length t) (w .lent) in
-    both (told-alike (ending r) a s t w) (rw e (answers-alike cs _ _ _ (after-end a s t (courseOf a (length t) 0) w)))
+    both (told-alike (ending r) a s t w) (rw e (answers-alike cs _ _ _ (after-end a s t (decisionOf a (length t) 0) w)))
 
 pub beyond-is-unread : BeyondIsUnread
 beyond-is-unread a s t cs l e = answers-alike cs a s t (record { lent = l; arrived = e })
 
-pub nothing-of-the-former-board : NothingOfTheFormerBoard
+pub nothing-of-the-former-board : ResetForgets
 nothing-of-the-former-board g h cs l =
-    both refl (answers-alike cs nothingArrived (g .store) (h .store) (record { lent = l; arrived = refl }))
+    both refl (answers-alike cs emptyState (g .store) (h .store) (record { lent = l; arrived = refl }))

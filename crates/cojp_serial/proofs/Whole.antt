@@ -15,32 +15,32 @@ use Rattle.cojp.specs.Configuration.{refuseConfiguration, readConfigurationBy}
 use Rattle.cojp.specs.Request.{refuseRequest, readRequestBy}
 use Rattle.cojp.specs.Walk.{payloadReadBy}
 use Rattle.cojp.specs.declared.version.Version.{Version}
-use Rattle.cojp_serial.specs.Arrival.{partAnswer, partStore}
-use Rattle.cojp_serial.specs.Calls.{Reader, request, configuration, sending, ending, resetting, Held, courseOn, wholeRead, told, left, sent, joined}
+use Rattle.cojp_serial.specs.State.{partAnswer, partStore}
+use Rattle.cojp_serial.specs.Calls.{Reader, request, configuration, sending, ending, resetting, Held, decisionOn, wholeRead, told, left, sent, joined}
 use Rattle.cojp_serial.specs.Laws.{EndReadsTheWhole}
-use Rattle.cojp_serial.specs.declared.arrival.Course.{Course}
-use Rattle.cojp_serial.specs.declared.arrival.Course.the-variants.{Overrun, Open}
+use Rattle.cojp_serial.specs.declared.state.PartDecision.{PartDecision}
+use Rattle.cojp_serial.specs.declared.state.PartDecision.the-variants.{Overrun, Open}
 use Rattle.cojp_serial.proofs.Courses.{overrun-before, overrun-now, open-to}
 use Rattle.cojp_serial.proofs.Stores.{placed-length, placed-take}
 
 -- the bytes b were sent
 pub data Holds (h : Held) (b : List ℕ) : Type 0 where
   all :
-      h .arrival ≡ record { arrived = length b; overrun = false; ended = false } → take (length b) (h .store) ≡ b →
+      h .state ≡ record { arrived = length b; overrun = false; ended = false } → take (length b) (h .store) ≡ b →
       256 ≤ length (h .store) → length b ≤ 256 → Holds h b
-  over : h .arrival .overrun ≡ true → h .arrival .arrived ≤ 256 → 256 ≤ length (h .store) → 256 < length b → Holds h b
+  over : h .state .overrun ≡ true → h .state .arrived ≤ 256 → 256 ≤ length (h .store) → 256 < length b → Holds h b
 
 longer : (b p : List ℕ) → 256 < length b → 256 < length (b ++ p)
 longer b p h = simp length-append (omega arith)
 
 -- one part more, by its course
-overruns : (h : Held) (b p : List ℕ) (x : Course) → x ≡ Overrun → h .arrival .arrived ≤ 256 → 256 ≤ length (h .store) → 256 < length (b ++ p)
-    → Holds (record { arrival = partAnswer x (h .arrival) (length p) .arrival; store = partStore x (h .arrival .arrived) p (h .store) }) (b ++ p)
+overruns : (h : Held) (b p : List ℕ) (x : PartDecision) → x ≡ Overrun → h .state .arrived ≤ 256 → 256 ≤ length (h .store) → 256 < length (b ++ p)
+    → Holds (record { state = partAnswer x (h .state) (length p) .state; store = partStore x (h .state .arrived) p (h .store) }) (b ++ p)
 overruns h b p x e m s l = rw e (over refl m s l)
 
-fits : (h : Held) (b p : List ℕ) (x : Course) → x ≡ Open → h .arrival ≡ record { arrived = length b; overrun = false; ended = false }
+fits : (h : Held) (b p : List ℕ) (x : PartDecision) → x ≡ Open → h .state ≡ record { arrived = length b; overrun = false; ended = false }
     → take (length b) (h .store) ≡ b → 256 ≤ length (h .store) → length b + length p ≤ 256
-    → Holds (record { arrival = partAnswer x (h .arrival) (length p) .arrival; store = partStore x (h .arrival .arrived) p (h .store) }) (b ++ p)
+    → Holds (record { state = partAnswer x (h .state) (length p) .state; store = partStore x (h .state .arrived) p (h .store) }) (b ++ p)
 fits h b p x e a t s l =
     rw (e, a)
     (all
@@ -51,23 +51,23 @@ fits h b p x e a t s l =
 
 one-more : (h : Held) (b p : List ℕ) → Holds h b → Holds (left (sending p) h) (b ++ p)
 one-more h b p (over o m s l) =
-    overruns h b p (courseOn h (length p)) (sym (overrun-before (h .arrival) (length (h .store)) (length p) s m o)) m s (longer b p l)
+    overruns h b p (decisionOn h (length p)) (sym (overrun-before (h .state) (length (h .store)) (length p) s m o)) m s (longer b p l)
 one-more h b p (all a t s l) = by-room (ltb 256 (length b + length p)) refl
   where
-    limited : h .arrival .arrived ≤ 256
+    limited : h .state .arrived ≤ 256
     limited = rw a l
 
-    clear : h .arrival .overrun ≡ false
+    clear : h .state .overrun ≡ false
     clear = rw a
 
     by-room : (y : Bool) → ltb 256 (length b + length p) ≡ y → Holds (left (sending p) h) (b ++ p)
     by-room true e =
         let m = ltb-true 256 (length b + length p) e in
-        overruns h b p (courseOn h (length p))
-        (sym (overrun-now (h .arrival) (length (h .store)) (length p) s limited clear (rw a m))) limited s (rw (length-append b p) m)
+        overruns h b p (decisionOn h (length p))
+        (sym (overrun-now (h .state) (length (h .store)) (length p) s limited clear (rw a m))) limited s (rw (length-append b p) m)
     by-room false e =
         let m = ltb-false 256 (length b + length p) e in
-        fits h b p (courseOn h (length p)) (sym (open-to (h .arrival) (length (h .store)) (length p) s limited clear (rw a m) (rw a))) a t s m
+        fits h b p (decisionOn h (length p)) (sym (open-to (h .state) (length (h .store)) (length p) s limited clear (rw a m) (rw a))) a t s m
 
 all-sent : (h : Held) (b : List ℕ) (ps : List (List ℕ)) → Holds h b → Holds (sent ps h) (b ++ joined ps)
 all-sent h b [] w = rw (append-nil b) w
@@ -82,19 +82,19 @@ long-configuration : (v : Version) (head : List ℕ → Outcome Heading) (p : Li
 unfolding payloadReadBy
 long-configuration v head p h = rw (lt-ltb 256 (length p) h)
 
-end-reads : (r : Reader) (h : Held) (b : List ℕ) → courseOn h 0 ≡ Open → take (h .arrival .arrived) (h .store) ≡ b → told (ending r) h ≡ wholeRead r b
+end-reads : (r : Reader) (h : Held) (b : List ℕ) → decisionOn h 0 ≡ Open → take (h .state .arrived) (h .store) ≡ b → told (ending r) h ≡ wholeRead r b
 end-reads (request v strict) h b e t = rw (e, t)
 end-reads (configuration v strict) h b e t = rw (e, t)
 
-end-long : (r : Reader) (h : Held) (b : List ℕ) → courseOn h 0 ≡ Overrun → 256 < length b → told (ending r) h ≡ wholeRead r b
+end-long : (r : Reader) (h : Held) (b : List ℕ) → decisionOn h 0 ≡ Overrun → 256 < length b → told (ending r) h ≡ wholeRead r b
 end-long (request v strict) h b e l = rw (e, long-request v (headBy strict) b l)
 end-long (configuration v strict) h b e l = rw (e, long-configuration v (headBy strict) b l)
 
 end-whole : (r : Reader) (h : Held) (b : List ℕ) → Holds h b → told (ending r) h ≡ wholeRead r b
-end-whole r h b (over o m s l) = end-long r h b (sym (overrun-before (h .arrival) (length (h .store)) 0 s m o)) l
+end-whole r h b (over o m s l) = end-long r h b (sym (overrun-before (h .state) (length (h .store)) 0 s m o)) l
 end-whole r h b (all a t s l) =
     end-reads r h b
-    (sym (open-to (h .arrival) (length (h .store)) 0 s (rw a l) (rw a) (rw a (omega arith)) (rw a))) (rw a t)
+    (sym (open-to (h .state) (length (h .store)) 0 s (rw a l) (rw a) (rw a (omega arith)) (rw a))) (rw a t)
 
 pub end-reads-the-whole : EndReadsTheWhole
 end-reads-the-whole h ps r s =

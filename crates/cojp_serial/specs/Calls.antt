@@ -14,10 +14,10 @@ use Rattle.cojp.specs.Request.{readRequestBy}
 use Rattle.cojp.specs.declared.configuration.ConfigurationRead.{ConfigurationRead}
 use Rattle.cojp.specs.declared.request.RequestRead.{RequestRead}
 use Rattle.cojp.specs.declared.version.Version.{Version}
-use Rattle.cojp_serial.specs.Arrival.{nothingArrived, courseOf, partAnswer, partStore, endArrival, requestEnd, configurationEnd}
-use Rattle.cojp_serial.specs.declared.arrival.Arrival.{Arrival}
-use Rattle.cojp_serial.specs.declared.arrival.Course.{Course}
-use Rattle.cojp_serial.specs.declared.parts.PartAnswer.{PartAnswer}
+use Rattle.cojp_serial.specs.State.{emptyState, decisionOf, partAnswer, partStore, endState, requestEnd, configurationEnd}
+use Rattle.cojp_serial.specs.declared.state.SerialState.{SerialState}
+use Rattle.cojp_serial.specs.declared.state.PartDecision.{PartDecision}
+use Rattle.cojp_serial.specs.declared.parts.PartResult.{PartResult}
 
 -- the readings: of a form, strict or not
 pub data Reader : Type 0 where
@@ -30,43 +30,43 @@ pub data SerialCall : Type 0 where
   ending : Reader → SerialCall
 
 -- what a call answers
-pub data Told : Type 0 where
-  begun : Told
-  part : PartAnswer → Told
-  joinRequest : RequestRead → Told
-  update : ConfigurationRead → Told
+pub data SerialResult : Type 0 where
+  begun : SerialResult
+  part : PartResult → SerialResult
+  joinRequest : RequestRead → SerialResult
+  update : ConfigurationRead → SerialResult
 
 -- what the caller has in hand between two calls
 pub record Held : Type 0 where
-  pub arrival : Arrival
+  pub state : SerialState
   pub store : List ℕ
 
-abbrev pub courseOn : Held → ℕ → Course
-courseOn h n = courseOf (h .arrival) (length (h .store)) n
+abbrev pub decisionOn : Held → ℕ → PartDecision
+decisionOn h n = decisionOf (h .state) (length (h .store)) n
 
 -- one whole reading of a payload
-abbrev pub wholeRead : Reader → List ℕ → Told
+abbrev pub wholeRead : Reader → List ℕ → SerialResult
 wholeRead (request v strict) p = joinRequest (readRequestBy v (headBy strict) p)
 wholeRead (configuration v strict) p = update (readConfigurationBy v (headBy strict) p)
 
-abbrev pub endTold : Reader → Held → Told
-endTold (request v strict) h = joinRequest (requestEnd (readRequestBy v (headBy strict)) (h .arrival) (h .store) .read)
-endTold (configuration v strict) h = update (configurationEnd (readConfigurationBy v (headBy strict)) (h .arrival) (h .store) .read)
+abbrev pub endTold : Reader → Held → SerialResult
+endTold (request v strict) h = joinRequest (requestEnd (readRequestBy v (headBy strict)) (h .state) (h .store) .read)
+endTold (configuration v strict) h = update (configurationEnd (readConfigurationBy v (headBy strict)) (h .state) (h .store) .read)
 
-abbrev pub told : SerialCall → Held → Told
+abbrev pub told : SerialCall → Held → SerialResult
 told resetting h = begun
-told (sending p) h = part (partAnswer (courseOn h (length p)) (h .arrival) (length p))
+told (sending p) h = part (partAnswer (decisionOn h (length p)) (h .state) (length p))
 told (ending r) h = endTold r h
 
 abbrev pub left : SerialCall → Held → Held
-left resetting h = record { arrival = nothingArrived; store = h .store }
+left resetting h = record { state = emptyState; store = h .store }
 left (sending p) h = record {
-  arrival = partAnswer (courseOn h (length p)) (h .arrival) (length p) .arrival;
-  store = partStore (courseOn h (length p)) (h .arrival .arrived) p (h .store);
+  state = partAnswer (decisionOn h (length p)) (h .state) (length p) .state;
+  store = partStore (decisionOn h (length p)) (h .state .arrived) p (h .store);
 }
-left (ending r) h = record { arrival = endArrival (courseOn h 0) (h .arrival); store = h .store }
+left (ending r) h = record { state = endState (decisionOn h 0) (h .state); store = h .store }
 
-abbrev pub answers : List SerialCall → Held → List Told
+abbrev pub answers : List SerialCall → Held → List SerialResult
 answers [] h = []
 answers (c ∷ cs) h = told c h ∷ answers cs (left c h)
 
@@ -88,13 +88,13 @@ sendings [] = []
 sendings (p ∷ ps) = sending p ∷ sendings ps
 
 -- ---- the verdict of an answer
-abbrev pub verdictIn : Told → Verdict
+abbrev pub verdictIn : SerialResult → Verdict
 verdictIn begun = Accepted
 verdictIn (part a) = a .verdict
 verdictIn (joinRequest r) = r .verdict
 verdictIn (update r) = r .verdict
 
-abbrev pub verdicts : List Told → List Verdict
+abbrev pub verdicts : List SerialResult → List Verdict
 verdicts [] = []
 verdicts (t ∷ ts) = verdictIn t ∷ verdicts ts
 
@@ -103,7 +103,7 @@ abbrev pub ifAccepted : Verdict → ℕ → ℕ
 ifAccepted Accepted n = n
 ifAccepted (Refused k) n = 0
 
-abbrev pub takenBy : SerialCall → Told → ℕ
+abbrev pub takenBy : SerialCall → SerialResult → ℕ
 takenBy resetting t = 0
 takenBy (sending p) t = ifAccepted (verdictIn t) (length p)
 takenBy (ending r) t = 0
@@ -116,7 +116,7 @@ takenIn (c ∷ cs) h = takenBy c (told c h) + takenIn cs (left c h)
 abbrev pub saysLong : Verdict → Bool
 saysLong v = eqb (verdictNumber v) (verdictNumber (Refused Long))
 
-abbrev pub longPart : SerialCall → Told → Bool
+abbrev pub longPart : SerialCall → SerialResult → Bool
 longPart resetting t = false
 longPart (sending p) t = saysLong (verdictIn t)
 longPart (ending r) t = false

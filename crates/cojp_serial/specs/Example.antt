@@ -16,7 +16,7 @@ use Rattle.cojp_serial.specs.Calls.{told, leftBy, answers, verdictIn, ve
 use Rattle.cojp_serial.specs.Loans.{Loan, loan, loanAnswers}
 
 abbrev pub former : Held
-former = record { arrival = record { arrived = 200; overrun = true; ended = true }; store = replicate 256 0xFF }
+former = record { state = record { arrived = 200; overrun = true; ended = true }; store = replicate 256 0xFF }
 
 abbrev pub inParts : List SerialCall
 inParts = resetting ∷ sending (0xA1 ∷ []) ∷ sending (0x05 ∷ 0x42 ∷ []) ∷ sending [] ∷ sending (0xCA ∷ 0xFE ∷ []) ∷ []
@@ -34,7 +34,7 @@ afterwards =
     ∷ []
 
 abbrev pub larger : Held
-larger = record { arrival = former .arrival; store = replicate 300 0xFF }
+larger = record { state = former .state; store = replicate 300 0xFF }
 
 abbrev pub inLoans : List Loan
 inLoans =
@@ -52,7 +52,7 @@ inLoans =
 abbrev pub withRole2 : Version → List SerialCall
 withRole2 v = resetting ∷ sending (0xA2 ∷ 0x01 ∷ 0x02 ∷ []) ∷ sending (0x05 ∷ 0x42 ∷ 0xCA ∷ 0xFE ∷ []) ∷ ending (request v false) ∷ []
 
-pub record TwoBoards : Type 0 where
+pub record SerialExamples : Type 0 where
   pub before : verdictIn (told (sending []) former) ≡ Refused Long
   pub parts : verdicts (answers inParts former) ≡ replicate 5 Accepted
   pub whole : told (ending (request Draft false)) (leftBy inParts former) ≡ joinRequest (readRequest (0xA1 ∷ 0x05 ∷ 0x42 ∷ 0xCA ∷ 0xFE ∷ []))

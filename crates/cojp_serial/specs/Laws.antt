@@ -12,12 +12,12 @@ use Rattle.refusal.specs.declared.Verdict.{Verdict}
 use Rattle.refusal.specs.declared.Verdict.the-variants.{Accepted, Refused}
 use Rattle.cojp.specs.Configuration.{emptyConfiguration}
 use Rattle.cojp.specs.Request.{emptyRequest}
-use Rattle.cojp_serial.specs.Arrival.{overran, endMarked}
-use Rattle.cojp_serial.specs.Calls.{Reader, SerialCall, resetting, sending, ending, Told, begun, part, joinRequest, update, Held}
+use Rattle.cojp_serial.specs.State.{overran, endMarked}
+use Rattle.cojp_serial.specs.Calls.{Reader, SerialCall, resetting, sending, ending, SerialResult, begun, part, joinRequest, update, Held}
 use Rattle.cojp_serial.specs.Calls.{wholeRead, told, left, leftBy, answers, sent, joined, sendings}
 use Rattle.cojp_serial.specs.Calls.{verdictIn, verdicts, takenIn, longPartIn}
 use Rattle.cojp_serial.specs.Loans.{Loan, loanAnswers, loanLeftBy, served, RangeBetween}
-use Rattle.cojp_serial.specs.declared.arrival.Arrival.{Arrival}
+use Rattle.cojp_serial.specs.declared.state.SerialState.{SerialState}
 
 -- ---- cut anywhere, with empty parts too, after a reset, whatever stood before: the end answers as one whole reading does, LONG included
 abbrev pub EndReadsTheWhole : Type 0
@@ -28,35 +28,35 @@ EndReadsTheWhole =
 -- ---- bytes of the store beyond what arrived are never read: where two stores agree in what arrived, every list of calls is answered alike
 abbrev pub BeyondIsUnread : Type 0
 BeyondIsUnread =
-    (a : Arrival) (s t : List ℕ) (cs : List SerialCall) → leb 256 (length s) ≡ leb 256 (length t) →
+    (a : SerialState) (s t : List ℕ) (cs : List SerialCall) → leb 256 (length s) ≡ leb 256 (length t) →
     take (a .arrived) s ≡ take (a .arrived) t →
-    answers cs (record { arrival = a; store = s }) ≡ answers cs (record { arrival = a; store = t })
+    answers cs (record { state = a; store = s }) ≡ answers cs (record { state = a; store = t })
 
 -- ---- the fault of the recall: after a reset nothing shows of the former board, whatever it left in hand and in the store
-abbrev pub NothingOfTheFormerBoard : Type 0
-NothingOfTheFormerBoard =
+abbrev pub ResetForgets : Type 0
+ResetForgets =
     (g h : Held) (cs : List SerialCall) → leb 256 (length (g .store)) ≡ leb 256 (length (h .store)) →
     answers (resetting ∷ cs) g ≡ answers (resetting ∷ cs) h
 
 -- ---- a refused call leaves the store, comes with the empty object, and leaves the arrival but for two: a part that passes 256, and an end
 -- whose reading refuses what arrived
-abbrev pub EmptyBeside : Told → Type 0
+abbrev pub EmptyBeside : SerialResult → Type 0
 EmptyBeside begun = Unit {0}
 EmptyBeside (part a) = Unit {0}
 EmptyBeside (joinRequest r) = r .request ≡ emptyRequest
 EmptyBeside (update r) = r .configuration ≡ emptyConfiguration
 
-pub data Left : SerialCall → Held → Refusal → Arrival → Type 0 where
-  as-before : {c : SerialCall} {h : Held} {k : Refusal} {a : Arrival} → a ≡ h .arrival → Left c h k a
-  overrun-marked : {p : List ℕ} {h : Held} {k : Refusal} {a : Arrival} → k ≡ Long → a ≡ overran (h .arrival) → Left (sending p) h k a
+pub data Left : SerialCall → Held → Refusal → SerialState → Type 0 where
+  as-before : {c : SerialCall} {h : Held} {k : Refusal} {a : SerialState} → a ≡ h .state → Left c h k a
+  overrun-marked : {p : List ℕ} {h : Held} {k : Refusal} {a : SerialState} → k ≡ Long → a ≡ overran (h .state) → Left (sending p) h k a
   end-marked :
-      {r : Reader} {h : Held} {k : Refusal} {a : Arrival} → verdictIn (wholeRead r (take (h .arrival .arrived) (h .store))) ≡ Refused k →
-      a ≡ endMarked (h .arrival) → Left (ending r) h k a
+      {r : Reader} {h : Held} {k : Refusal} {a : SerialState} → verdictIn (wholeRead r (take (h .state .arrived) (h .store))) ≡ Refused k →
+      a ≡ endMarked (h .state) → Left (ending r) h k a
 
 pub record RefusedCall (c : SerialCall) (h : Held) (k : Refusal) : Type 0 where
   pub store : left c h .store ≡ h .store
   pub object : EmptyBeside (told c h)
-  pub arrival : Left c h k (left c h .arrival)
+  pub state : Left c h k (left c h .state)
 
 abbrev pub RefusedCalls : Type 0
 RefusedCalls = (c : SerialCall) (h : Held) (k : Refusal) → verdictIn (told c h) ≡ Refused k → RefusedCall c h k
@@ -67,9 +67,9 @@ pub data NoReset : List SerialCall → Type 0 where
   part-next : {p : List ℕ} {cs : List SerialCall} → NoReset cs → NoReset (sending p ∷ cs)
   end-next : {r : Reader} {cs : List SerialCall} → NoReset cs → NoReset (ending r ∷ cs)
 
-pub data Each (P : Verdict → Type 0) : List Told → Type 0 where
+pub data Each (P : Verdict → Type 0) : List SerialResult → Type 0 where
   none-told : Each P []
-  next-told : {t : Told} {ts : List Told} → P (verdictIn t) → Each P ts → Each P (t ∷ ts)
+  next-told : {t : SerialResult} {ts : List SerialResult} → P (verdictIn t) → Each P ts → Each P (t ∷ ts)
 
 abbrev pub IsLong : Verdict → Type 0
 IsLong v = v ≡ Refused Long
@@ -113,7 +113,7 @@ pub record OwnBytes (n : ℕ) (p before after : List ℕ) : Type 0 where
 abbrev pub WritesItsOwn : Type 0
 WritesItsOwn =
     (h : Held) (p : List ℕ) → IsAccepted (verdictIn (told (sending p) h)) →
-    OwnBytes (h .arrival .arrived) p (h .store) (left (sending p) h .store)
+    OwnBytes (h .state .arrived) p (h .store) (left (sending p) h .store)
 
 -- an end comes to its reading where an empty part would be accepted
 abbrev pub PhaseUntilReset : Type 0
@@ -144,7 +144,7 @@ shortVerdicts (c ∷ cs) = shortVerdict c ∷ shortVerdicts cs
 pub record OnShortStore (cs : List SerialCall) (h : Held) : Type 0 where
   pub says : verdicts (answers cs h) ≡ shortVerdicts cs
   pub store : leftBy cs h .store ≡ h .store
-  pub arrival : NoReset cs → leftBy cs h .arrival ≡ h .arrival
+  pub state : NoReset cs → leftBy cs h .state ≡ h .state
 
 abbrev pub ShortStoreIsRange : Type 0
 ShortStoreIsRange = (h : Held) (cs : List SerialCall) → length (h .store) < 256 → OnShortStore cs h
@@ -161,7 +161,7 @@ LentLengthsMayChange = (h : Held) (ls : List Loan) → 256 ≤ length (h .store)
 pub record SerialLaws : Type 0 where
   pub whole : EndReadsTheWhole
   pub unread : BeyondIsUnread
-  pub former-board : NothingOfTheFormerBoard
+  pub former-board : ResetForgets
   pub refused : RefusedCalls
   pub long : LongUntilReset
   pub phase : PhaseUntilReset

@@ -1,4 +1,4 @@
-pub mod Arrival
+pub mod State
 pub mod Calls
 pub mod Loans
 pub mod Laws

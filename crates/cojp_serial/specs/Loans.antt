@@ -7,7 +7,7 @@ use lib.Dec.{leb}
 use lib.ListN.{take, drop}
 use Rattle.refusal.specs.declared.Refusal.the-variants.{Range}
 use Rattle.refusal.specs.declared.Verdict.the-variants.{Refused}
-use Rattle.cojp_serial.specs.Calls.{SerialCall, resetting, sending, ending, Told, Held, told, left, verdictIn}
+use Rattle.cojp_serial.specs.Calls.{SerialCall, resetting, sending, ending, SerialResult, Held, told, left, verdictIn}
 
 -- a call, and how many bytes of the caller's store it is lent, from the first on
 pub record Loan : Type 0 where
@@ -19,19 +19,19 @@ loan c n = record { call = c; lent = n }
 
 -- what the call finds
 abbrev pub lentOf : ℕ → Held → Held
-lentOf n h = record { arrival = h .arrival; store = take n (h .store) }
+lentOf n h = record { state = h .state; store = take n (h .store) }
 
-abbrev pub loanTold : Loan → Held → Told
+abbrev pub loanTold : Loan → Held → SerialResult
 loanTold l h = told (l .call) (lentOf (l .lent) h)
 
 -- behind what was lent the store is as before
 abbrev pub loanLeft : Loan → Held → Held
 loanLeft l h = record {
-  arrival = left (l .call) (lentOf (l .lent) h) .arrival;
+  state = left (l .call) (lentOf (l .lent) h) .state;
   store = left (l .call) (lentOf (l .lent) h) .store ++ drop (l .lent) (h .store);
 }
 
-abbrev pub loanAnswers : List Loan → Held → List Told
+abbrev pub loanAnswers : List Loan → Held → List SerialResult
 loanAnswers [] h = []
 loanAnswers (l ∷ ls) h = loanTold l h ∷ loanAnswers ls (loanLeft l h)
 
@@ -54,11 +54,11 @@ served [] = []
 served (l ∷ ls) = cond (suffices l) (l .call ∷ served ls) (served ls)
 
 -- ts is told to all, us to those that are lent enough: in ts the others are told RANGE between them
-pub data RangeBetween : List Loan → List Told → List Told → Type 0 where
+pub data RangeBetween : List Loan → List SerialResult → List SerialResult → Type 0 where
   none-lent : RangeBetween [] [] []
   lent-enough :
-      {l : Loan} {ls : List Loan} {t : Told} {ts us : List Told} → suffices l ≡ true → RangeBetween ls ts us →
+      {l : Loan} {ls : List Loan} {t : SerialResult} {ts us : List SerialResult} → suffices l ≡ true → RangeBetween ls ts us →
       RangeBetween (l ∷ ls) (t ∷ ts) (t ∷ us)
   lent-short :
-      {l : Loan} {ls : List Loan} {t : Told} {ts us : List Told} → suffices l ≡ false → verdictIn t ≡ Refused Range →
+      {l : Loan} {ls : List Loan} {t : SerialResult} {ts us : List SerialResult} → suffices l ≡ false → verdictIn t ≡ Refused Range →
       RangeBetween ls ts us → RangeBetween (l ∷ ls) (t ∷ ts) us

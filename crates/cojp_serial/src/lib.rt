@@ -1,36 +1,36 @@
 // A payload that comes over a serial cable in parts, into a store that the caller lends, and is read at its end. What has come is a value beside
 // the store; no byte of the store beyond it is ever read.
-pub mod arrival;
 pub mod configuration;
 pub mod parts;
 pub mod request;
+pub mod state;
 
-pub use arrival::Arrival;
-pub use arrival::Course;
-pub use arrival::reset;
 pub use configuration::ConfigurationEnd;
 pub use configuration::end_configuration;
 pub use configuration::end_configuration_as;
 pub use configuration::end_strict_configuration;
 pub use configuration::end_strict_configuration_as;
-pub use parts::PartAnswer;
+pub use parts::PartResult;
 pub use parts::part;
 pub use request::RequestEnd;
 pub use request::end_request;
 pub use request::end_request_as;
 pub use request::end_strict_request;
 pub use request::end_strict_request_as;
-ghost use Rattle.cojp_serial.specs.Example.{TwoBoards};
+pub use state::PartDecision;
+pub use state::SerialState;
+pub use state::reset;
+ghost use Rattle.cojp_serial.specs.Example.{SerialExamples};
 ghost use Rattle.cojp_serial.specs.Laws.{SerialLaws};
 
 // What holds of whole lists of these calls.
 pub fn laws()
     ensures { λ r. ⌜ SerialLaws ⌝ }
 {
-    cojp::readers_demand1();
+    cojp::readers_demand1_law();
 }
 
 // A board after another at one fixture, computed, so that the laws speak of something.
-pub fn two_boards()
-    ensures { λ r. ⌜ TwoBoards ⌝ }
+pub fn serial_examples()
+    ensures { λ r. ⌜ SerialExamples ⌝ }
 {}

@@ -1,13 +1,13 @@
 // The commands `configuration HEX`, `new-configuration HEX` and their strict ones.
+use crate::parameter::put_disposition;
 use crate::parameter::put_octets;
-use crate::parameter::put_report;
 use cojp::AddressParameter;
 use cojp::Configuration;
 use cojp::ConfigurationRead;
+use cojp::Disposition;
 use cojp::KeysParameter;
 use cojp::ListParameter;
 use cojp::RateParameter;
-use cojp::Report;
 use cojp::ShortAddress;
 use cojp::Version;
 use refusal::Verdict;
@@ -67,22 +67,22 @@ fn put_draft(out: Output, configuration: Configuration, buffer: &mut Buffer) -> 
         configuration.prefix,
         buffer,
     );
-    put_passed(out, configuration.passed, buffer)
+    put_passed(out, configuration.unknown, buffer)
 }
 
 fn put_published(out: Output, configuration: Configuration, buffer: &mut Buffer) -> Output {
     let out = put_blacklist(out, configuration.blacklist, buffer);
     let out = put_rate(out, configuration.rate, buffer);
-    let out = put_passed(out, configuration.passed, buffer);
+    let out = put_passed(out, configuration.unknown, buffer);
     let out = out.text(b" reports=", buffer);
-    tool_notation::put_faults(out, cojp::faults_of(configuration), buffer)
+    tool_notation::put_faults(out, cojp::error_reports_of(configuration), buffer)
 }
 
 fn put_keys(out: Output, version: Version, keys: KeysParameter, buffer: &mut Buffer) -> Output {
-    let report = keys.report;
+    let report = keys.disposition;
     let out = out.text(b"accepted keys=", buffer);
-    let out = put_report(out, version, report, buffer);
-    let Report::Taken = report else {
+    let out = put_disposition(out, version, report, buffer);
+    let Disposition::Taken = report else {
         return out;
     };
     tool_notation::put_key_set(out, keys.value, buffer)
@@ -95,14 +95,14 @@ fn put_address(
     address: AddressParameter,
     buffer: &mut Buffer,
 ) -> Output {
-    let report = address.report;
+    let report = address.disposition;
     let out = out.text(b" address=", buffer);
-    if let Report::Taken = report {
+    if let Disposition::Taken = report {
         return put_leased(out, address.value, buffer);
     }
-    let out = put_report(out, version, report, buffer);
+    let out = put_disposition(out, version, report, buffer);
     let out = out.text(b" lease=", buffer);
-    put_report(out, version, report, buffer)
+    put_disposition(out, version, report, buffer)
 }
 
 fn put_leased(out: Output, address: ShortAddress, buffer: &mut Buffer) -> Output {
@@ -116,20 +116,20 @@ fn put_leased(out: Output, address: ShortAddress, buffer: &mut Buffer) -> Output
 }
 
 fn put_blacklist(out: Output, blacklist: ListParameter, buffer: &mut Buffer) -> Output {
-    let report = blacklist.report;
+    let report = blacklist.disposition;
     let out = out.text(b" blacklist=", buffer);
-    let out = put_report(out, Version::Published, report, buffer);
-    let Report::Taken = report else {
+    let out = put_disposition(out, Version::Published, report, buffer);
+    let Disposition::Taken = report else {
         return out;
     };
     tool_notation::put_blacklist(out, blacklist.value, buffer)
 }
 
 fn put_rate(out: Output, rate: RateParameter, buffer: &mut Buffer) -> Output {
-    let report = rate.report;
+    let report = rate.disposition;
     let out = out.text(b" rate=", buffer);
-    let out = put_report(out, Version::Published, report, buffer);
-    let Report::Taken = report else {
+    let out = put_disposition(out, Version::Published, report, buffer);
+    let Disposition::Taken = report else {
         return out;
     };
     out.number(rate.value, buffer)

@@ -1,14 +1,14 @@
 // The command `head HEX`.
 use cbor::Head;
-use cbor::HeadRead;
+use cbor::HeadResult;
 use tool_text::output::Buffer;
 use tool_text::output::Output;
 
 pub fn answer(bytes: &[u8], out: Output, buffer: &mut Buffer) -> Output {
     let read = cbor::read_head(bytes, 0);
     match read {
-        HeadRead::Refused(refusal) => tool_notation::put_refusal(out, refusal, buffer),
-        HeadRead::Got(head) => put_head(out, head, buffer),
+        HeadResult::Refused(refusal) => tool_notation::put_refusal(out, refusal, buffer),
+        HeadResult::Got(head) => put_head(out, head, buffer),
     }
 }
 

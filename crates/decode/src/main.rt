@@ -13,12 +13,12 @@ use command::Command;
 use command::Reading;
 use command::command_of;
 use serial::Answered;
-use serial::Cable;
-use tool_text::fault::Fault;
-use tool_text::fault::put_fault;
+use serial::SerialInput;
 use tool_text::hex::Payload;
 use tool_text::line::Form;
 use tool_text::line::Line;
+use tool_text::line_error::LineError;
+use tool_text::line_error::put_line_error;
 use tool_text::output::Buffer;
 use tool_text::output::Output;
 use tool_text::session::Session;
@@ -49,29 +49,29 @@ fn empty_store() -> Store {
 }
 
 // What is kept from line to line.
-struct Turn {
+struct ToolState {
     session: Session,
-    cable: Cable,
+    serial: SerialInput,
 }
 
 fn answer(
     line: Line,
     payloads: &[u8],
-    cable: Cable,
+    cable: SerialInput,
     store: &mut [u8],
     out: Output,
     buffer: &mut Buffer,
 ) -> Answered {
     match command_of(line) {
-        Command::Wrong => unchanged(cable, put_fault(out, Fault::Command, buffer)),
-        Command::NoNumber => unchanged(cable, put_fault(out, Fault::Number, buffer)),
+        Command::Wrong => unchanged(cable, put_line_error(out, LineError::Command, buffer)),
+        Command::NoNumber => unchanged(cable, put_line_error(out, LineError::Number, buffer)),
         Command::Merge => unchanged(cable, merge::answer(line.tail, payloads, out, buffer)),
         Command::Store(lent) => serial::lend(cable, lent, out, buffer),
         Command::End(reading) => serial::end(cable, reading, store, out, buffer),
         Command::Reset => serial::reset(cable, out, buffer),
         Command::OfHex(asking) => {
             let Payload::Bytes(len) = line.tail.hex.payload() else {
-                return unchanged(cable, put_fault(out, Fault::Hex, buffer));
+                return unchanged(cable, put_line_error(out, LineError::Hex, buffer));
             };
             let payload = tool_text::first(payloads, len);
             answer_hex(asking, payload, cable, store, out, buffer)
@@ -79,14 +79,14 @@ fn answer(
     }
 }
 
-fn unchanged(cable: Cable, out: Output) -> Answered {
-    Answered { cable, out }
+fn unchanged(cable: SerialInput, out: Output) -> Answered {
+    Answered { serial: cable, out }
 }
 
 fn answer_hex(
     asking: Asking,
     payload: &[u8],
-    cable: Cable,
+    cable: SerialInput,
     store: &mut [u8],
     out: Output,
     buffer: &mut Buffer,
@@ -114,28 +114,34 @@ fn answer_object(reading: Reading, payload: &[u8], out: Output, buffer: &mut Buf
 
 // Answers the next line; an empty one and a comment are not answered.
 fn answer_line(
-    turn: Turn,
+    turn: ToolState,
     bytes: &mut Buffer,
     payloads: &mut Payloads,
     store: &mut Store,
     buffer: &mut Buffer,
-) -> Turn {
+) -> ToolState {
     let asked = turn.session.next(FORM, bytes, payloads, buffer);
     let line = asked.line;
     let mut session = asked.session;
-    let cable = turn.cable;
+    let cable = turn.serial;
     if line.is_silent() {
-        return Turn { session, cable };
+        return ToolState {
+            session,
+            serial: cable,
+        };
     }
     let answered = answer(line, payloads, cable, store, session.out, buffer);
     session.out = answered.out.byte(b'\n', buffer);
-    let cable = answered.cable;
-    Turn { session, cable }
+    let cable = answered.serial;
+    ToolState {
+        session,
+        serial: cable,
+    }
 }
 
 // Answers line after line until the input ends or nobody reads the answers.
 fn run(
-    mut turn: Turn,
+    mut turn: ToolState,
     bytes: &mut Buffer,
     payloads: &mut Payloads,
     store: &mut Store,
@@ -162,9 +168,12 @@ part HEX, end READING, reset: a payload that comes in parts; store N: how many b
 READING is request or configuration, new-request or new-configuration (RFC 9031), with strict- before it if heads must be the shortest.\n",
         &mut buffer,
     );
-    let cable = Cable::new();
+    let cable = SerialInput::new();
     run(
-        Turn { session, cable },
+        ToolState {
+            session,
+            serial: cable,
+        },
         &mut bytes,
         &mut payloads,
         &mut store,

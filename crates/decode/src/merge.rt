@@ -1,18 +1,18 @@
 // The command `merge HEX + HEX`: two configurations joined and written.
-use cbor::Written;
+use cbor::WriteResult;
 use cojp::Configuration;
 use refusal::Verdict;
-use tool_text::fault::Fault;
-use tool_text::fault::put_fault;
 use tool_text::line::Tail;
+use tool_text::line_error::LineError;
+use tool_text::line_error::put_line_error;
 use tool_text::output::Buffer;
 use tool_text::output::Output;
 use tool_text::parting::Parts;
 
 pub fn answer(tail: Tail, payloads: &[u8], out: Output, buffer: &mut Buffer) -> Output {
     match tail.parted().parts() {
-        Parts::One => put_fault(out, Fault::Command, buffer),
-        Parts::Fault => put_fault(out, Fault::Hex, buffer),
+        Parts::One => put_line_error(out, LineError::Command, buffer),
+        Parts::Fault => put_line_error(out, LineError::Hex, buffer),
         Parts::Two { first, whole } => {
             let both = tool_text::first(payloads, whole);
             answer_two(
@@ -54,8 +54,8 @@ fn put_merged(
     let mut dst = [0u8; 256];
     let written = cojp_configuration_write::write_configuration(&mut dst, merged.configuration);
     match written {
-        Written::Refused(refusal) => tool_notation::put_refusal(out, refusal, buffer),
-        Written::Length(len) => {
+        WriteResult::Refused(refusal) => tool_notation::put_refusal(out, refusal, buffer),
+        WriteResult::Length(len) => {
             let out = out.text(b"merged ", buffer);
             out.octets(tool_text::first(&dst, len), buffer)
         }

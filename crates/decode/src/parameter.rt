@@ -1,16 +1,21 @@
 // A parameter of an object: absent, bad, or what was taken.
+use cojp::Disposition;
 use cojp::OctetsParameter;
-use cojp::Report;
 use cojp::Version;
 use tool_text::output::Buffer;
 use tool_text::output::Output;
 
 // The word for a parameter that was not taken; nothing for one that was.
-pub fn put_report(out: Output, version: Version, report: Report, buffer: &mut Buffer) -> Output {
+pub fn put_disposition(
+    out: Output,
+    version: Version,
+    report: Disposition,
+    buffer: &mut Buffer,
+) -> Output {
     match report {
-        Report::Absent => out.text(b"absent", buffer),
-        Report::Taken => out,
-        Report::Discarded => tool_notation::put_bad(out, version, buffer),
+        Disposition::Absent => out.text(b"absent", buffer),
+        Disposition::Taken => out,
+        Disposition::Discarded => tool_notation::put_bad(out, version, buffer),
     }
 }
 
@@ -22,10 +27,10 @@ pub fn put_octets(
     parameter: OctetsParameter,
     buffer: &mut Buffer,
 ) -> Output {
-    let report = parameter.report;
+    let report = parameter.disposition;
     let out = out.text(name, buffer);
-    let out = put_report(out, version, report, buffer);
-    let Report::Taken = report else {
+    let out = put_disposition(out, version, report, buffer);
+    let Disposition::Taken = report else {
         return out;
     };
     tool_notation::put_octets(out, parameter.value, buffer)

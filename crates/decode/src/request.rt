@@ -1,9 +1,9 @@
 // The commands `request HEX`, `new-request HEX` and their strict ones.
+use crate::parameter::put_disposition;
 use crate::parameter::put_octets;
-use crate::parameter::put_report;
+use cojp::Disposition;
 use cojp::JoinRequest;
 use cojp::ListParameter;
-use cojp::Report;
 use cojp::RequestRead;
 use cojp::Version;
 use refusal::Verdict;
@@ -32,22 +32,22 @@ fn put_request(out: Output, version: Version, request: JoinRequest, buffer: &mut
     let out = out.number(request.role as u64, buffer);
     let out = put_octets(out, b" network=", version, request.network, buffer);
     match version {
-        Version::Draft => put_passed(out, request.passed, buffer),
+        Version::Draft => put_passed(out, request.unknown, buffer),
         Version::Published => {
             let out = put_unsupported(out, request.unsupported, buffer);
-            let out = put_passed(out, request.passed, buffer);
+            let out = put_passed(out, request.unknown, buffer);
             let out = out.text(b" reports=", buffer);
-            tool_notation::put_faults(out, request.faults, buffer)
+            tool_notation::put_faults(out, request.errors, buffer)
         }
     }
 }
 
 // What a node could not act on.
 fn put_unsupported(out: Output, unsupported: ListParameter, buffer: &mut Buffer) -> Output {
-    let report = unsupported.report;
+    let report = unsupported.disposition;
     let out = out.text(b" unsupported=", buffer);
-    let out = put_report(out, Version::Published, report, buffer);
-    let Report::Taken = report else {
+    let out = put_disposition(out, Version::Published, report, buffer);
+    let Disposition::Taken = report else {
         return out;
     };
     tool_notation::put_unsupported(out, unsupported.value, buffer)

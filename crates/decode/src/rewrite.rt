@@ -1,6 +1,6 @@
 // The command `rewrite READING HEX`: the object that was read, written again.
 use crate::command::Reading;
-use cbor::Written;
+use cbor::WriteResult;
 use cojp::Version;
 use refusal::Verdict;
 use tool_text::output::Buffer;
@@ -10,15 +10,15 @@ pub fn answer(reading: Reading, payload: &[u8], out: Output, buffer: &mut Buffer
     let mut dst = [0u8; 256];
     let written = rewrite(reading, payload, &mut dst);
     match written {
-        Written::Refused(refusal) => tool_notation::put_refusal(out, refusal, buffer),
-        Written::Length(len) => {
+        WriteResult::Refused(refusal) => tool_notation::put_refusal(out, refusal, buffer),
+        WriteResult::Length(len) => {
             let out = out.text(b"wrote ", buffer);
             out.octets(tool_text::first(&dst, len), buffer)
         }
     }
 }
 
-fn rewrite(reading: Reading, payload: &[u8], dst: &mut [u8]) -> Written {
+fn rewrite(reading: Reading, payload: &[u8], dst: &mut [u8]) -> WriteResult {
     let version = reading.version;
     if reading.is_request {
         return rewrite_request(version, reading.strict, payload, dst);
@@ -26,11 +26,11 @@ fn rewrite(reading: Reading, payload: &[u8], dst: &mut [u8]) -> Written {
     rewrite_configuration(version, reading.strict, payload, dst)
 }
 
-fn rewrite_request(version: Version, strict: bool, payload: &[u8], dst: &mut [u8]) -> Written {
+fn rewrite_request(version: Version, strict: bool, payload: &[u8], dst: &mut [u8]) -> WriteResult {
     let read = crate::request::read(version, strict, payload);
     let verdict = read.verdict;
     match verdict {
-        Verdict::Refused(refusal) => Written::Refused(refusal),
+        Verdict::Refused(refusal) => WriteResult::Refused(refusal),
         Verdict::Accepted => cojp_request_write::write_request_as(dst, read.request, version),
     }
 }
@@ -40,11 +40,11 @@ fn rewrite_configuration(
     strict: bool,
     payload: &[u8],
     dst: &mut [u8],
-) -> Written {
+) -> WriteResult {
     let read = crate::configuration::read(version, strict, payload);
     let verdict = read.verdict;
     match verdict {
-        Verdict::Refused(refusal) => Written::Refused(refusal),
+        Verdict::Refused(refusal) => WriteResult::Refused(refusal),
         Verdict::Accepted => {
             cojp_configuration_write::write_configuration_as(dst, read.configuration, version)
         }

@@ -3,91 +3,94 @@ use crate::command::Reading;
 use crate::configuration;
 use crate::request;
 use cojp::Version;
-use cojp_serial::Arrival;
 use cojp_serial::ConfigurationEnd;
-use cojp_serial::PartAnswer;
+use cojp_serial::PartResult;
 use cojp_serial::RequestEnd;
+use cojp_serial::SerialState;
 use refusal::Verdict;
 use tool_text::output::Buffer;
 use tool_text::output::Output;
 
 // What has come, and how much of the store is lent.
-pub struct Cable {
-    pub arrival: Arrival,
+pub struct SerialInput {
+    pub state: SerialState,
     pub lent: usize,
 }
 
 pub struct Answered {
-    pub cable: Cable,
+    pub serial: SerialInput,
     pub out: Output,
 }
 
-impl Cable {
-    pub fn new() -> Cable {
-        Cable {
-            arrival: cojp_serial::reset(),
+impl SerialInput {
+    pub fn new() -> SerialInput {
+        SerialInput {
+            state: cojp_serial::reset(),
             lent: 256,
         }
     }
 
-    fn with(self, arrival: Arrival) -> Cable {
-        Cable {
-            arrival,
+    fn with(self, arrival: SerialState) -> SerialInput {
+        SerialInput {
+            state: arrival,
             lent: self.lent,
         }
     }
 }
 
-pub fn lend(cable: Cable, lent: usize, out: Output, buffer: &mut Buffer) -> Answered {
-    let arrival = cable.arrival;
+pub fn lend(cable: SerialInput, lent: usize, out: Output, buffer: &mut Buffer) -> Answered {
+    let arrival = cable.state;
     let out = out.text(b"lent ", buffer);
     Answered {
-        cable: Cable { arrival, lent },
+        serial: SerialInput {
+            state: arrival,
+            lent,
+        },
         out: out.number(lent as u64, buffer),
     }
 }
 
-pub fn reset(cable: Cable, out: Output, buffer: &mut Buffer) -> Answered {
+pub fn reset(cable: SerialInput, out: Output, buffer: &mut Buffer) -> Answered {
     Answered {
-        cable: cable.with(cojp_serial::reset()),
+        serial: cable.with(cojp_serial::reset()),
         out: out.text(b"reset", buffer),
     }
 }
 
 pub fn part(
-    cable: Cable,
+    cable: SerialInput,
     sent: &[u8],
     store: &mut [u8],
     out: Output,
     buffer: &mut Buffer,
 ) -> Answered {
     let answer = take_part(cable, sent, store);
-    let arrival = answer.arrival;
+    let arrival = answer.state;
     Answered {
-        cable: cable.with(arrival),
+        serial: cable.with(arrival),
         out: put_part(out, answer, buffer),
     }
 }
 
-fn take_part(cable: Cable, sent: &[u8], store: &mut [u8]) -> PartAnswer {
+fn take_part(cable: SerialInput, sent: &[u8], store: &mut [u8]) -> PartResult {
     let lent = cable.lent;
     if store.len() < lent {
-        return cojp_serial::part(cable.arrival, store, sent);
+        return cojp_serial::part(cable.state, store, sent);
     }
-    cojp_serial::part(cable.arrival, &mut store[..lent], sent)
+    cojp_serial::part(cable.state, &mut store[..lent], sent)
 }
 
-fn put_part(out: Output, answer: PartAnswer, buffer: &mut Buffer) -> Output {
+fn put_part(out: Output, answer: PartResult, buffer: &mut Buffer) -> Output {
     let verdict = answer.verdict;
     match verdict {
         Verdict::Accepted => out.text(b"held ", buffer)
-            .number(answer.arrival.arrived as u64, buffer),
+            .number(answer.state.arrived as u64, buffer),
         Verdict::Refused(refusal) => tool_notation::put_refusal(out, refusal, buffer),
     }
 }
 
 pub fn end(
-    cable: Cable,
+    cable: SerialInput,
     reading: Reading,
     store: &[u8],
     out: Output,
@@ -96,22 +99,22 @@ pub fn end(
     let version = reading.version;
     let lent = tool_text::first(store, cable.lent);
     if reading.is_request {
-        let end = end_request(cable.arrival, lent, version, reading.strict);
-        let arrival = end.arrival;
+        let end = end_request(cable.state, lent, version, reading.strict);
+        let arrival = end.state;
         return Answered {
-            cable: cable.with(arrival),
+            serial: cable.with(arrival),
             out: request::put_read(out, version, end.read, buffer),
         };
     }
-    let end = end_configuration(cable.arrival, lent, version, reading.strict);
-    let arrival = end.arrival;
+    let end = end_configuration(cable.state, lent, version, reading.strict);
+    let arrival = end.state;
     Answered {
-        cable: cable.with(arrival),
+        serial: cable.with(arrival),
         out: configuration::put_read(out, version, end.read, buffer),
     }
 }
 
-fn end_request(arrival: Arrival, store: &[u8], version: Version, strict: bool) -> RequestEnd {
+fn end_request(arrival: SerialState, store: &[u8], version: Version, strict: bool) -> RequestEnd {
     if strict {
         return cojp_serial::end_strict_request_as(arrival, store, version);
     }
@@ -119,7 +122,7 @@ fn end_request(arrival: Arrival, store: &[u8], version: Version, strict: bool) -
 }
 
 fn end_configuration(
-    arrival: Arrival,
+    arrival: SerialState,
     store: &[u8],
     version: Version,
     strict: bool,

@@ -15,7 +15,7 @@ use Rattle.refusal.specs.Verdict.{verdictNumber}
 use Rattle.refusal.specs.declared.Refusal.{Refusal}
 use Rattle.refusal.specs.declared.Verdict.{Verdict}
 use Rattle.refusal.specs.declared.Verdict.the-variants.{Accepted, Refused}
-use Rattle.image.specs.Left.{left, handed, zeroed, handVerdict, Hands}
+use Rattle.image.specs.Effects.{onAccept, resultBytes, zeroed, handVerdict, ResultSpec}
 use Rattle.image.specs.Part.{Part, isImage}
 
 -- all n bytes of an argument of n, as an array
@@ -39,35 +39,35 @@ module _ (a : List ℕ) (n : ℕ) (b : Bool) where
 
 -- ---- what a verdict leaves
 module _ (v : Verdict) (before after : List ℕ) {x : List ℕ} where
-  pub accepted : v ≡ Accepted → x ≡ after → (0 ≡ verdictNumber v) × (x ≡ left v before after)
+  pub accepted : v ≡ Accepted → x ≡ after → (0 ≡ verdictNumber v) × (x ≡ onAccept v before after)
   accepted e h = rw e (refl, h)
 
-  pub refused : (k : Refusal) {r : ℕ} → v ≡ Refused k → r ≡ numberOf k → x ≡ before → (r ≡ verdictNumber v) × (x ≡ left v before after)
+  pub refused : (k : Refusal) {r : ℕ} → v ≡ Refused k → r ≡ numberOf k → x ≡ before → (r ≡ verdictNumber v) × (x ≡ onAccept v before after)
   refused k e g h = rw e (g, h)
 
 -- a call whose number is not 0 was refused, and leaves what stood before
-pub kept : {A : Type 0} (v : Verdict) (before after : A) {r : ℕ} {x : A} → r ≡ verdictNumber v → (r ≡ 0 → ⊥) → x ≡ left v before after → x ≡ before
+pub kept : {A : Type 0} (v : Verdict) (before after : A) {r : ℕ} {x : A} → r ≡ verdictNumber v → (r ≡ 0 → ⊥) → x ≡ onAccept v before after → x ≡ before
 kept Accepted before after e h f = absurd (h e)
 kept (Refused k) before after e h f = f
 
 -- its result is all zero
-pub emptied : (n : ℕ) (v : Verdict) (image s : List ℕ) {r : ℕ} {x : List ℕ} → r ≡ verdictNumber v → (r ≡ 0 → ⊥) → x ≡ handed n v image s
+pub emptied : (n : ℕ) (v : Verdict) (image s : List ℕ) {r : ℕ} {x : List ℕ} → r ≡ verdictNumber v → (r ≡ 0 → ⊥) → x ≡ resultBytes n v image s
     → x ≡ zeroed n s
 emptied n Accepted image s e h f = absurd (h e)
 emptied n (Refused k) image s e h f = f
 
 -- ---- a call that hands back a struct
 module _ (n : ℕ) (right : Bool) (w : Verdict) (image s : List ℕ) where
-  pub hands-unfit : ¬ (length s ≡ n) → Hands n right w image s 13 s
+  pub hands-unfit : ¬ (length s ≡ n) → ResultSpec n right w image s 13 s
   hands-unfit h = record { number = rw (ne-eqb (length s) n h); result = rw (ne-eqb (length s) n h) }
 
-  pub hands-none : {s′ : List ℕ} → length s ≡ n → right ≡ false → s′ ≡ replicate (length s) 0 → Hands n right w image s 13 s′
+  pub hands-none : {s′ : List ℕ} → length s ≡ n → right ≡ false → s′ ≡ replicate (length s) 0 → ResultSpec n right w image s 13 s′
   hands-none h k e =
       record { number = rw (eq-eqb (length s) n h, k); result = rw (eq-eqb (length s) n h, k) (e ∙ ap (λ (m : ℕ). replicate m 0) h) }
 
-  pub hands-told : {r : ℕ} {s′ : List ℕ} → length s ≡ n → right ≡ true → r ≡ verdictNumber w → s′ ≡ left w (replicate n 0) image
-      → Hands n right w image s r s′
+  pub hands-told : {r : ℕ} {s′ : List ℕ} → length s ≡ n → right ≡ true → r ≡ verdictNumber w → s′ ≡ onAccept w (replicate n 0) image
+      → ResultSpec n right w image s r s′
   hands-told h k e f = record { number = rw (eq-eqb (length s) n h, k) e; result = rw (eq-eqb (length s) n h, k) f }
 
-  pub hands-emptied : (r : ℕ) (s′ : List ℕ) → Hands n right w image s r s′ → (r ≡ 0 → ⊥) → s′ ≡ zeroed n s
+  pub hands-emptied : (r : ℕ) (s′ : List ℕ) → ResultSpec n right w image s r s′ → (r ≡ 0 → ⊥) → s′ ≡ zeroed n s
   hands-emptied r s′ d h = emptied n (handVerdict n right w s) image s (d .number) h (d .result)

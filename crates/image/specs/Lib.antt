@@ -1,6 +1,6 @@
 pub mod Part
 pub mod Numbers
-pub mod Lawful
+pub mod CodecLaws
 pub mod Fields
-pub mod Left
+pub mod Effects
 pub mod Lent

@@ -21,7 +21,7 @@ abbrev pub AllBytes : List ℕ → Type 0
 AllBytes s = (i : ℕ) → getD s i 0 < 256
 
 -- what is put is got back and good, whatever stands behind it; good bytes are those of one value, which fits
-pub record Lawful {A : Type 0} (p : Part A) : Type 0 where
+pub record RoundTrips {A : Type 0} (p : Part A) : Type 0 where
   pub sized : (a : A) → p .Fit a → length (p .put a) ≡ p .size
   pub loaded : (a : A) (r : List ℕ) → p .Fit a → p .get (p .put a ++ r) ≡ a
   pub stored : (a : A) (r : List ℕ) → p .Fit a → p .good (p .put a ++ r) ≡ true

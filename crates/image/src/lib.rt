@@ -8,17 +8,17 @@ pub use head::is_headed;
 pub use head::put_head;
 pub use number::number_at;
 pub use number::put_number;
-pub use octets::bytes253_at;
+pub use octets::array_2_at;
+pub use octets::array_8_at;
+pub use octets::array_13_at;
+pub use octets::array_16_at;
+pub use octets::array_253_at;
 pub use octets::clear;
-pub use octets::eight_at;
+pub use octets::put_array_2;
+pub use octets::put_array_8;
+pub use octets::put_array_16;
+pub use octets::put_array_253;
 pub use octets::put_byte;
-pub use octets::put_bytes253;
-pub use octets::put_eight;
-pub use octets::put_sixteen;
-pub use octets::put_two;
-pub use octets::sixteen_at;
-pub use octets::thirteen_at;
-pub use octets::two_at;
 
 // The number of RANGE, which every call answers first: to a struct of another length, and to bytes that are no image.
 pub const RANGE: u32 = 13;

@@ -14,7 +14,7 @@ pub fn put_byte(dst: &mut [u8], b: u8)
 }
 
 // Writes two bytes.
-pub fn put_two(dst: &mut [u8], value: [u8; 2])
+pub fn put_array_2(dst: &mut [u8], value: [u8; 2])
     requires { ⌜ 2 ≤ length (now dst) ⌝ }
     ensures { λ _. ⌜ Wrote value (now (dst .entry)) 2 (now (dst .exit)) ⌝ }
 {
@@ -22,7 +22,7 @@ pub fn put_two(dst: &mut [u8], value: [u8; 2])
 }
 
 // Writes eight bytes.
-pub fn put_eight(dst: &mut [u8], value: [u8; 8])
+pub fn put_array_8(dst: &mut [u8], value: [u8; 8])
     requires { ⌜ 8 ≤ length (now dst) ⌝ }
     ensures { λ _. ⌜ Wrote value (now (dst .entry)) 8 (now (dst .exit)) ⌝ }
 {
@@ -30,7 +30,7 @@ pub fn put_eight(dst: &mut [u8], value: [u8; 8])
 }
 
 // Writes sixteen bytes.
-pub fn put_sixteen(dst: &mut [u8], value: [u8; 16])
+pub fn put_array_16(dst: &mut [u8], value: [u8; 16])
     requires { ⌜ 16 ≤ length (now dst) ⌝ }
     ensures { λ _. ⌜ Wrote value (now (dst .entry)) 16 (now (dst .exit)) ⌝ }
 {
@@ -38,7 +38,7 @@ pub fn put_sixteen(dst: &mut [u8], value: [u8; 16])
 }
 
 // Writes 253 bytes.
-pub fn put_bytes253(dst: &mut [u8], value: [u8; 253])
+pub fn put_array_253(dst: &mut [u8], value: [u8; 253])
     requires { ⌜ 253 ≤ length (now dst) ⌝ }
     ensures { λ _. ⌜ Wrote value (now (dst .entry)) 253 (now (dst .exit)) ⌝ }
 {
@@ -57,7 +57,7 @@ pub fn clear(dst: &mut [u8])
 }
 
 // Two bytes from a place on.
-pub fn two_at(s: &[u8], at: usize) -> [u8; 2]
+pub fn array_2_at(s: &[u8], at: usize) -> [u8; 2]
     requires { ⌜ at + 2 ≤ length (now s) ⌝ }
     ensures { λ r. ⌜ r ≡ take 2 (drop at (now (s .entry))) ⌝ }
 {
@@ -67,7 +67,7 @@ pub fn two_at(s: &[u8], at: usize) -> [u8; 2]
 }
 
 // Eight bytes from a place on.
-pub fn eight_at(s: &[u8], at: usize) -> [u8; 8]
+pub fn array_8_at(s: &[u8], at: usize) -> [u8; 8]
     requires { ⌜ at + 8 ≤ length (now s) ⌝ }
     ensures { λ r. ⌜ r ≡ take 8 (drop at (now (s .entry))) ⌝ }
 {
@@ -77,7 +77,7 @@ pub fn eight_at(s: &[u8], at: usize) -> [u8; 8]
 }
 
 // Thirteen bytes from a place on.
-pub fn thirteen_at(s: &[u8], at: usize) -> [u8; 13]
+pub fn array_13_at(s: &[u8], at: usize) -> [u8; 13]
     requires { ⌜ at + 13 ≤ length (now s) ⌝ }
     ensures { λ r. ⌜ r ≡ take 13 (drop at (now (s .entry))) ⌝ }
 {
@@ -87,7 +87,7 @@ pub fn thirteen_at(s: &[u8], at: usize) -> [u8; 13]
 }
 
 // Sixteen bytes from a place on.
-pub fn sixteen_at(s: &[u8], at: usize) -> [u8; 16]
+pub fn array_16_at(s: &[u8], at: usize) -> [u8; 16]
     requires { ⌜ at + 16 ≤ length (now s) ⌝ }
     ensures { λ r. ⌜ r ≡ take 16 (drop at (now (s .entry))) ⌝ }
 {
@@ -97,7 +97,7 @@ pub fn sixteen_at(s: &[u8], at: usize) -> [u8; 16]
 }
 
 // 253 bytes from a place on.
-pub fn bytes253_at(s: &[u8], at: usize) -> [u8; 253]
+pub fn array_253_at(s: &[u8], at: usize) -> [u8; 253]
     requires { ⌜ at + 253 ≤ length (now s) ⌝ }
     ensures { λ r. ⌜ r ≡ take 253 (drop at (now (s .entry))) ⌝ }
 {

@@ -14,7 +14,7 @@ use lib.ListN.{length, getD, take, drop, length-append, length-drop, drop-of-len
 use lib.Seq.{take-all, take-at, drop-at, drop-drop}
 use Rattle.byte_lists.specs.Digits.{digits}
 use Rattle.byte_lists.specs.Table.{table, table-self}
-use Rattle.aes_ccm.specs.declared.Written.{Written}
+use Rattle.aes_ccm.specs.declared.WriteResult.{WriteResult}
 use Rattle.aes_ccm.specs.Ccm.{sealed, two}
 use Rattle.aes_ccm.specs.Laws.{CcmLaws}
 use Rattle.aes_ccm.specs.Plan.{Plan, emit, Did, after, sealPlan}
@@ -104,7 +104,7 @@ text-bytes interface port token a b c d e f g h l pa pb pc pd pe pf pg ph =
 
 -- ---- the body as it is written: the number first, and then the part after it is lent to sealing
 -- what sealing left in the part after the number
-sealed-part : CcmLaws → (key number text rest p : List ℕ) (r : Written) → length text ≡ 19 → 27 ≤ length rest
+sealed-part : CcmLaws → (key number text rest p : List ℕ) (r : WriteResult) → length text ≡ 19 → 27 ≤ length rest
     → Did (sealPlan key (nonceWith number) [] text (length rest)) rest r p → p ≡ sealed key (nonceWith number) [] text ++ drop 27 rest
 sealed-part laws key number text rest p r l h did =
     let long : length (sealed key (nonceWith number) [] text) ≡ 27 = laws .length-sealed key (nonceWith number) [] text ∙ rw l in
@@ -112,7 +112,7 @@ sealed-part laws key number text rest p r l h did =
     = laws .seals key (nonceWith number) [] text (length rest) (omega arith) (omega arith) (omega arith) in
     did .holds ∙ ap (λ (x : Plan). after x rest) plan ∙ ap (λ (k : ℕ). sealed key (nonceWith number) [] text ++ drop k rest) long
 
-pub written-body : CcmLaws → (key text p : List ℕ) (r : Written) (number nonce d d1 : List ℕ) → length text ≡ 19 → length number ≡ 4
+pub written-body : CcmLaws → (key text p : List ℕ) (r : WriteResult) (number nonce d d1 : List ℕ) → length text ≡ 19 → length number ≡ 4
     → nonce ≡ nonceWith number → 31 ≤ length d → d1 ≡ number ++ drop 4 d
     → (let part = take (length d1 - 4) (drop 4 d1) in
     Did (sealPlan key nonce [] text (length part)) part r p → BodyWritten key number text d (putMid 4 (length d1 - 4) d1 p))

@@ -11,7 +11,7 @@ use Rattle.refusal.specs.Verdict.{verdictNumber}
 use Rattle.refusal.specs.declared.Refusal.the-variants.{Range, Room, Spent, Stale}
 use Rattle.aes_ccm.specs.Laws.{CcmLaws}
 use Rattle.aes_ccm.specs.Plan.{Plan, refuse, emit, answer, numberIn}
-use Rattle.join_proxy.specs.declared.judging.Judgement.{Judgement}
+use Rattle.join_proxy.specs.declared.judging.JudgeResult.{JudgeResult}
 use Rattle.join_proxy.specs.declared.judging.Pledge.{Pledge}
 use Rattle.join_proxy.specs.declared.proxy.Issued.the-variants.{Count}
 use Rattle.join_proxy.specs.Body.{four, numberOf, pledgeText, bodyOf}
@@ -21,7 +21,7 @@ use Rattle.join_proxy.specs.Judging.{judgeBody, judgeText, forwardTo, re
 use Rattle.join_proxy.specs.Keys.{countOf}
 use Rattle.join_proxy.specs.Laws.{pledgeFor, IssuesInOrder, Recent, Forwardable, JudgesInOrder}
 use Rattle.join_proxy.proofs.Bodies.{reads-back, token-length}
-use Rattle.join_proxy.proofs.Histories.{Standing, going, spent, standing-count, Told, told, number-at}
+use Rattle.join_proxy.proofs.Histories.{IssuedCount, going, spent, standing-count, Told, told, number-at}
 use Rattle.join_proxy.proofs.Judgements.{not-31, text-range, text-forwarded, text-stale, fresh-true, fresh-both}
 use Rattle.join_proxy.proofs.Judgements.{by-text, never-opens, passing, own-body}
 
@@ -35,14 +35,14 @@ module _ (h : History) (t : Told h) (interface : List ℕ) (port : ℕ) (token :
   unfolding issuePlan
   is-spent l e = by-standing (t .stands)
     where
-      by-standing : Standing (h .proxy .issued) (length (h .sent)) → issuePlan (h .proxy) interface port token room ≡ refuse Spent
+      by-standing : IssuedCount (h .proxy .issued) (length (h .sent)) → issuePlan (h .proxy) interface port token room ≡ refuse Spent
       by-standing (going q k) = absurd (omega arith)
       by-standing (spent q k) = rw (le-ltb 8 (length token) l, q)
 
   next : length token ≤ 8 → length (h .sent) < 4294967296 → h .proxy .issued ≡ Count (length (h .sent))
   next l k = by-standing (t .stands)
     where
-      by-standing : Standing (h .proxy .issued) (length (h .sent)) → h .proxy .issued ≡ Count (length (h .sent))
+      by-standing : IssuedCount (h .proxy .issued) (length (h .sent)) → h .proxy .issued ≡ Count (length (h .sent))
       by-standing (going q k) = q
       by-standing (spent q e) = absurd (omega arith)
 
@@ -55,7 +55,7 @@ module _ (h : History) (t : Told h) (interface : List ℕ) (port : ℕ) (token :
   unfolding issuePlan
   is-done l k r = rw (le-ltb 8 (length token) l, next l k, le-ltb room 31 r, t .key-is)
 
-  at-most : Standing (h .proxy .issued) (length (h .sent)) → length (h .sent) ≤ 4294967296
+  at-most : IssuedCount (h .proxy .issued) (length (h .sent)) → length (h .sent) ≤ 4294967296
   at-most (going q k) = omega arith
   at-most (spent q e) = omega arith
 
@@ -177,7 +177,7 @@ module _ (laws : CcmLaws) (key : List ℕ) (calls : List ProxyCall) (body : List
   judges-in-order =
       let p = after key calls .proxy in
       let n = numberOf (take 4 body) in
-      let number : Judgement → ℕ = λ j. verdictNumber (j .verdict) in
+      let number : JudgeResult → ℕ = λ j. verdictNumber (j .verdict) in
       record {
         type-first = λ l. ap number (not-31 p body l);
         seal-next = λ l never. ap number (never-opens laws p body l (λ t e. never t (from-proxy t e)));

@@ -27,18 +27,18 @@ use Rattle.join_proxy.proofs.Bodies.{number-back}
 use Rattle.join_proxy.proofs.Plans.{emitted}
 
 -- what the proxy keeps after n issues
-pub data Standing (issued : Issued) (n : ℕ) : Type 0 where
-  going : issued ≡ Count n → n < 4294967296 → Standing issued n
-  spent : issued ≡ All → n ≡ 4294967296 → Standing issued n
+pub data IssuedCount (issued : Issued) (n : ℕ) : Type 0 where
+  going : issued ≡ Count n → n < 4294967296 → IssuedCount issued n
+  spent : issued ≡ All → n ≡ 4294967296 → IssuedCount issued n
 
-pub standing-count : (issued : Issued) (n : ℕ) → Standing issued n → countOf issued ≡ n
+pub standing-count : (issued : Issued) (n : ℕ) → IssuedCount issued n → countOf issued ≡ n
 standing-count issued n (going e h) = ap countOf e
 standing-count issued n (spent e h) = ap countOf e ∙ sym h
 
-raised-stands : (n : ℕ) → n < 4294967296 → Standing (raised n) (n + 1)
+raised-stands : (n : ℕ) → n < 4294967296 → IssuedCount (raised n) (n + 1)
 raised-stands n h = by-test (eqb n 4294967295) refl
   where
-    by-test : (b : Bool) → eqb n 4294967295 ≡ b → Standing (cond b All (Count (n + 1))) (n + 1)
+    by-test : (b : Bool) → eqb n 4294967295 ≡ b → IssuedCount (cond b All (Count (n + 1))) (n + 1)
     by-test true e = let q : n ≡ 4294967295 = eqb-true n 4294967295 e in spent refl (omega arith)
     by-test false e = let q : n ≡ 4294967295 → ⊥ = eqb-false n 4294967295 e in going refl (omega arith)
 
@@ -50,7 +50,7 @@ pub record Right (key : List ℕ) (s : Sent) (n : ℕ) : Type 0 where
 -- what the calls tell is what the proxy keeps
 pub record Told (h : History) : Type 0 where
   pub key-is : h .proxy .key ≡ h .key
-  pub stands : Standing (h .proxy .issued) (length (h .sent))
+  pub stands : IssuedCount (h .proxy .issued) (length (h .sent))
   pub each : (i : ℕ) → i < length (h .sent) → Right (h .key) (sentAt (h .sent) i) i
 
 -- ---- setting a key
@@ -83,7 +83,7 @@ grown key sent s each right i l =
     (eq-or-lt-of-le m)
 
 -- the number that was used is how many there were
-number-used : (issued : Issued) (m n : ℕ) → Standing issued m → issued ≡ Count n → (m ≡ n) × (m < 4294967296)
+number-used : (issued : Issued) (m n : ℕ) → IssuedCount issued m → issued ≡ Count n → (m ≡ n) × (m < 4294967296)
 number-used issued m n (going e h) q = (ap countOf (sym e ∙ q), h)
 number-used issued m n (spent e h) q = absurd (let r : All ≡ Count n = sym e ∙ q in let z : _≡_ {A = ℕ} 0 1 = cc in omega arith)
 
@@ -105,8 +105,8 @@ issue-told h interface port token room (emit body) q t =
     record {
       key-is = t .key-is;
       stands =
-          subst (λ (n : ℕ). Standing (raisedFrom (h .proxy .issued)) n) (sym (length-append (h .sent) (s ∷ [])))
-          (subst (λ (x : Issued). Standing x (m + 1)) (sym now-issued) (raised-stands m (used .1)));
+          subst (λ (n : ℕ). IssuedCount (raisedFrom (h .proxy .issued)) n) (sym (length-append (h .sent) (s ∷ [])))
+          (subst (λ (x : Issued). IssuedCount x (m + 1)) (sym now-issued) (raised-stands m (used .1)));
       each = grown (h .key) (h .sent) s (t .each) right;
     }
 

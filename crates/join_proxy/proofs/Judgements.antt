@@ -14,12 +14,12 @@ use Rattle.refusal.specs.Verdict.{accepted-not}
 use Rattle.refusal.specs.declared.Refusal.{Refusal}
 use Rattle.refusal.specs.declared.Refusal.the-variants.{«Type», Range, Seal, Stale}
 use Rattle.refusal.specs.declared.Verdict.the-variants as verdict
-use Rattle.aes_ccm.specs.declared.Written.{Written}
-use Rattle.aes_ccm.specs.declared.Written.the-variants.{Refused, Length}
+use Rattle.aes_ccm.specs.declared.WriteResult.{WriteResult}
+use Rattle.aes_ccm.specs.declared.WriteResult.the-variants.{Refused, Length}
 use Rattle.aes_ccm.specs.Ccm.{sealed}
 use Rattle.aes_ccm.specs.Laws.{CcmLaws}
 use Rattle.aes_ccm.specs.Plan.{Plan, refuse, emit, Did, unsealPlan}
-use Rattle.join_proxy.specs.declared.judging.Judgement.{Judgement}
+use Rattle.join_proxy.specs.declared.judging.JudgeResult.{JudgeResult}
 use Rattle.join_proxy.specs.declared.judging.Pledge.{Pledge}
 use Rattle.join_proxy.specs.declared.proxy.Issued.{Issued}
 use Rattle.join_proxy.specs.declared.proxy.Proxy.{Proxy}
@@ -64,7 +64,7 @@ unfolding pledgeIn table
 pledge-bytes t a b c d e f g h pa pb pc pd pe pf pg ph = ap (pledgeWith t) (eight-eq pa pb pc pd pe pf pg ph)
 
 -- ---- the seal
-opened-as : (plan : Plan) (d d′ : List ℕ) (r : Written) (k : Refusal) → Did plan d r d′ → r ≡ Refused k → plan ≡ refuse k
+opened-as : (plan : Plan) (d d′ : List ℕ) (r : WriteResult) (k : Refusal) → Did plan d r d′ → r ≡ Refused k → plan ≡ refuse k
 opened-as (refuse j) d d′ r k did e = ap refuse (let q : Refused j ≡ Refused k = sym (did .says) ∙ e in cc)
 opened-as (emit t) d d′ r k did e = absurd (let q : Length (length t) ≡ Refused k = sym (did .says) ∙ e in let z : _≡_ {A = ℕ} 0 1 = cc in omega arith)
 
@@ -74,7 +74,7 @@ pub record Opened (plan : Plan) (d d′ : List ℕ) : Type 0 where
   pub so : plan ≡ emit text
   pub left : d′ ≡ text ++ drop (length text) d
 
-opened-to : (plan : Plan) (d d′ : List ℕ) (r : Written) (n : ℕ) → Did plan d r d′ → r ≡ Length n → Opened plan d d′
+opened-to : (plan : Plan) (d d′ : List ℕ) (r : WriteResult) (n : ℕ) → Did plan d r d′ → r ≡ Length n → Opened plan d d′
 opened-to (refuse j) d d′ r n did e = absurd (let q : Refused j ≡ Length n = sym (did .says) ∙ e in let z : _≡_ {A = ℕ} 0 1 = cc in omega arith)
 opened-to (emit t) d d′ r n did e = record { text = t; so = refl; left = did .holds }
 
@@ -95,7 +95,7 @@ module _ (p : Proxy) (body : List ℕ) where
   by-plan plan l e = rw (eq-eqb (length body) 31 l, e)
 
   -- the part after the number, as the code lends it, with the nonce that the code makes of the number
-  module _ (l : length body ≡ 31) (nonce d d′ : List ℕ) (r : Written)
+  module _ (l : length body ≡ 31) (nonce d d′ : List ℕ) (r : WriteResult)
       (en : nonce ≡ nonceWith (getD body 0 0 ∷ getD body 1 0 ∷ getD body 2 0 ∷ getD body 3 0 ∷ []))
       (did : Did (unsealPlan (p .key) nonce [] (take (length body - 4) (drop 4 body)) 19) d r d′) where
     opening-did : Did (opening p body) d r d′
@@ -125,7 +125,7 @@ module _ (p : Proxy) (body : List ℕ) where
 -- ---- exactly when a body is forwarded
 accepted : (k : Refusal) (w : Pledge) → refusedWith k ≡ forwardTo w → ⊥
 accepted k w e =
-    let q : verdict.Refused k ≡ verdict.Accepted = ap (λ (j : Judgement). j .verdict) e in
+    let q : verdict.Refused k ≡ verdict.Accepted = ap (λ (j : JudgeResult). j .verdict) e in
     let z : _≡_ {A = ℕ} 0 1 = cc in
     omega arith
 
@@ -160,7 +160,7 @@ text-passed issued n t w e = by-length (ltb 8 (getD t 10 0)) (isFresh issued n) 
           token-fits = ltb-false 8 (getD t 10 0) p;
           was-issued = two .0;
           is-recent = two .1;
-          names = ap (λ (j : Judgement). j .pledge) e;
+          names = ap (λ (j : JudgeResult). j .pledge) e;
         }
 
 pub fresh-true : (issued : Issued) (n : ℕ) → n < countOf issued → countOf issued - 1 - n < 64 → isFresh issued n ≡ true

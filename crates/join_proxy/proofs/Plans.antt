@@ -11,9 +11,9 @@ use lib.ListN.{length, drop}
 use Rattle.refusal.specs.Refusal.{numberOf as refusalNumber}
 use Rattle.refusal.specs.declared.Refusal.{Refusal}
 use Rattle.refusal.specs.declared.Refusal.the-variants.{Range, Room, Spent}
-use Rattle.aes_ccm.specs.declared.Written.the-variants.{Refused, Length}
+use Rattle.aes_ccm.specs.declared.WriteResult.the-variants.{Refused, Length}
 use Rattle.aes_ccm.specs.Plan.{Plan, refuse, emit, Did, numberIn, lengthIn}
-use Rattle.join_proxy.specs.declared.issuing.Issue.{Issue}
+use Rattle.join_proxy.specs.declared.issuing.IssueResult.{IssueResult}
 use Rattle.join_proxy.specs.declared.proxy.Issued.{Issued}
 use Rattle.join_proxy.specs.declared.proxy.Issued.the-variants.{Count, All}
 use Rattle.join_proxy.specs.declared.proxy.Proxy.{Proxy}
@@ -89,7 +89,7 @@ emitted p interface port token room body e =
     let got = with-number (p .key) (p .issued) (pledgeText interface port token) room body (on .1) in
     record { token-fits = ltb-false 8 (length token) (on .0); number = got .0; was = got .1 .0; so = got .1 .1 }
 
-pub refused-issue : (p : Proxy) (interface : List ℕ) (port : ℕ) (token d : List ℕ) (r : Issue) (d′ : List ℕ) (k : Refusal)
+pub refused-issue : (p : Proxy) (interface : List ℕ) (port : ℕ) (token d : List ℕ) (r : IssueResult) (d′ : List ℕ) (k : Refusal)
     → Issues p interface port token d r d′ → issuePlan p interface port token (length d) ≡ refuse k
     → (numberIn (r .written) ≡ refusalNumber k) × (lengthIn (r .written) ≡ 0) × (r .proxy ≡ p) × (d′ ≡ d)
 refused-issue p interface port token d r d′ k did e =

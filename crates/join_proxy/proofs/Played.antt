@@ -7,10 +7,10 @@ use Rattle.byte_lists.specs.Same.{same}
 use Rattle.join_proxy.specs.Body.{bodyOf}
 use Rattle.join_proxy.specs.Issuing.{issuePlan}
 use Rattle.join_proxy.specs.Judging.{judgeBody}
-use Rattle.join_proxy.specs.Day.{Day, key, asks}
+use Rattle.join_proxy.specs.Example.{ProxyExample, key, asks}
 use Rattle.join_proxy.specs.Laws.{ProxyLaws}
 
-pub day : ProxyLaws → Day
+pub day : ProxyLaws → ProxyExample
 unfolding same bodyOf issuePlan judgeBody
 day laws =
     record {

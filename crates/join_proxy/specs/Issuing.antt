@@ -7,7 +7,7 @@ use lib.Dec.{eqb, ltb}
 use lib.ListN.{length}
 use Rattle.refusal.specs.declared.Refusal.the-variants.{Range, Room, Spent}
 use Rattle.aes_ccm.specs.Plan.{Plan, refuse, emit, Did}
-use Rattle.join_proxy.specs.declared.issuing.Issue.{Issue}
+use Rattle.join_proxy.specs.declared.issuing.IssueResult.{IssueResult}
 use Rattle.join_proxy.specs.declared.proxy.Issued.{Issued}
 use Rattle.join_proxy.specs.declared.proxy.Issued.the-variants.{Count, All}
 use Rattle.join_proxy.specs.declared.proxy.Proxy.{Proxy}
@@ -36,6 +36,6 @@ afterIssue (refuse k) p = p
 afterIssue (emit body) p = record { key = p .key; issued = raisedFrom (p .issued) }
 
 -- issuing did so: its answer r with the proxy after it, and the destination d before and d′ afterwards
-pub record Issues (p : Proxy) (interface : List ℕ) (port : ℕ) (token d : List ℕ) (r : Issue) (d′ : List ℕ) : Type 0 where
+pub record Issues (p : Proxy) (interface : List ℕ) (port : ℕ) (token d : List ℕ) (r : IssueResult) (d′ : List ℕ) : Type 0 where
   pub did : Did (issuePlan p interface port token (length d)) d (r .written) d′
   pub goes-on : r .proxy ≡ afterIssue (issuePlan p interface port token (length d)) p

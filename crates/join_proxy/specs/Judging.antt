@@ -9,7 +9,7 @@ use Rattle.refusal.specs.declared.Refusal.{Refusal}
 use Rattle.refusal.specs.declared.Refusal.the-variants.{«Type», Range, Seal, Stale}
 use Rattle.refusal.specs.declared.Verdict.the-variants as verdict
 use Rattle.aes_ccm.specs.Plan.{Plan, refuse, emit, unsealPlan}
-use Rattle.join_proxy.specs.declared.judging.Judgement.{Judgement}
+use Rattle.join_proxy.specs.declared.judging.JudgeResult.{JudgeResult}
 use Rattle.join_proxy.specs.declared.judging.Pledge.{Pledge}
 use Rattle.join_proxy.specs.declared.proxy.Issued.{Issued}
 use Rattle.join_proxy.specs.declared.proxy.Proxy.{Proxy}
@@ -25,10 +25,10 @@ nobody =
       token = 0 ∷ 0 ∷ 0 ∷ 0 ∷ 0 ∷ 0 ∷ 0 ∷ 0 ∷ [];
     }
 
-abbrev pub refusedWith : Refusal → Judgement
+abbrev pub refusedWith : Refusal → JudgeResult
 refusedWith k = record { verdict = verdict.Refused k; pledge = nobody }
 
-abbrev pub forwardTo : Pledge → Judgement
+abbrev pub forwardTo : Pledge → JudgeResult
 forwardTo w = record { verdict = verdict.Accepted; pledge = w }
 
 -- the number was issued since the key was set, with fewer than 64 issued after it
@@ -46,11 +46,11 @@ pledgeIn t =
     }
 
 -- the text that the seal held, with the body's number
-unfoldable pub judgeText : Issued → ℕ → List ℕ → Judgement
+unfoldable pub judgeText : Issued → ℕ → List ℕ → JudgeResult
 judgeText issued n t =
     cond (ltb 8 (getD t 10 0)) (refusedWith Range) (cond (isFresh issued n) (forwardTo (pledgeIn t)) (refusedWith Stale))
 
-abbrev pub judgePlan : Issued → ℕ → Plan → Judgement
+abbrev pub judgePlan : Issued → ℕ → Plan → JudgeResult
 judgePlan issued n (refuse k) = refusedWith Seal
 judgePlan issued n (emit t) = judgeText issued n t
 
@@ -58,6 +58,6 @@ judgePlan issued n (emit t) = judgeText issued n t
 abbrev pub opening : Proxy → List ℕ → Plan
 opening p body = unsealPlan (p .key) (nonceWith (take 4 body)) [] (drop 4 body) 19
 
-unfoldable pub judgeBody : Proxy → List ℕ → Judgement
+unfoldable pub judgeBody : Proxy → List ℕ → JudgeResult
 judgeBody p body =
     cond (eqb (length body) 31) (judgePlan (p .issued) (numberOf (take 4 body)) (opening p body)) (refusedWith «Type»)

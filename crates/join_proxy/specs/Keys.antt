@@ -7,7 +7,7 @@ use Rattle.refusal.specs.declared.Refusal.the-variants.{Range}
 use Rattle.refusal.specs.declared.Verdict.the-variants as verdict
 use Rattle.join_proxy.specs.declared.proxy.Issued.{Issued}
 use Rattle.join_proxy.specs.declared.proxy.Issued.the-variants.{Count, All}
-use Rattle.join_proxy.specs.declared.proxy.Keyed.{Keyed}
+use Rattle.join_proxy.specs.declared.proxy.SetKeyResult.{SetKeyResult}
 use Rattle.join_proxy.specs.declared.proxy.Proxy.{Proxy}
 
 -- how many numbers were issued with the present key: 0 up to the one before
@@ -20,7 +20,7 @@ abbrev pub fresh : List ℕ → Proxy
 fresh key = record { key = key; issued = Count 0 }
 
 -- a new key begins at 0 again; the key in use is RANGE
-abbrev pub setKey : Proxy → List ℕ → Keyed
+abbrev pub setKey : Proxy → List ℕ → SetKeyResult
 setKey p key =
     cond (same (p .key) key)
     (record { verdict = verdict.Refused Range; proxy = p })

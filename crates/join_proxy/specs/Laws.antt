@@ -9,7 +9,7 @@ use Rattle.refusal.specs.declared.Refusal.{Refusal}
 use Rattle.refusal.specs.declared.Refusal.the-variants.{Stale}
 use Rattle.refusal.specs.declared.Verdict.the-variants as verdict
 use Rattle.aes_ccm.specs.Plan.{refuse, emit, numberIn, lengthIn}
-use Rattle.join_proxy.specs.declared.issuing.Issue.{Issue}
+use Rattle.join_proxy.specs.declared.issuing.IssueResult.{IssueResult}
 use Rattle.join_proxy.specs.declared.judging.Pledge.{Pledge}
 use Rattle.join_proxy.specs.declared.proxy.Proxy.{Proxy}
 use Rattle.join_proxy.specs.Body.{four, numberOf, eight, pledgeText, bodyOf}
@@ -96,7 +96,7 @@ pub record ProxyLaws : Type 0 where
   -- a refused call leaves the proxy
   pub refused-leaves : (c : ProxyCall) (h : History) → (answered c h ≡ 0 → ⊥) → called c h .proxy ≡ h .proxy
   -- a refused issue answers its number and no length, and leaves proxy and destination; a refused body names nobody
-  pub refused-issue : (p : Proxy) (interface : List ℕ) (port : ℕ) (token d : List ℕ) (r : Issue) (d′ : List ℕ) (k : Refusal)
+  pub refused-issue : (p : Proxy) (interface : List ℕ) (port : ℕ) (token d : List ℕ) (r : IssueResult) (d′ : List ℕ) (k : Refusal)
       → Issues p interface port token d r d′ → issuePlan p interface port token (length d) ≡ refuse k
       → (numberIn (r .written) ≡ refusalNumber k) × (lengthIn (r .written) ≡ 0) × (r .proxy ≡ p) × (d′ ≡ d)
   pub refused-body : (p : Proxy) (body : List ℕ) (k : Refusal) → judgeBody p body .verdict ≡ verdict.Refused k → judgeBody p body .pledge ≡ nobody

@@ -4,4 +4,4 @@ pub mod Issuing
 pub mod Judging
 pub mod History
 pub mod Laws
-pub mod Day
+pub mod Example

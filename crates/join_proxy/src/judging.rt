@@ -2,7 +2,7 @@
 use crate::body::nonce;
 use crate::proxy::Issued;
 use crate::proxy::Proxy;
-use aes_ccm::Written;
+use aes_ccm::WriteResult;
 use refusal::Refusal;
 use refusal::Verdict;
 ghost use mathlib.Core.Bool.{cond};
@@ -22,14 +22,14 @@ pub struct Pledge {
 }
 
 // Accepted means forwarded, to this pledge; with a refusal all of it is zero.
-pub struct Judgement {
+pub struct JudgeResult {
     pub verdict: Verdict,
     pub pledge: Pledge,
 }
 
 impl Proxy {
     // Judges a response's body: TYPE (not 31 bytes), SEAL, RANGE (token length over 8), STALE, or forwarded. The proxy stays as it is.
-    pub fn judge(self, body: &[u8]) -> Judgement
+    pub fn judge(self, body: &[u8]) -> JudgeResult
         ensures { λ r. ⌜ r ≡ judgeBody self (now (body .entry)) ⌝ }
     {
         aes_ccm::laws();
@@ -41,7 +41,7 @@ impl Proxy {
         let mut text = [0u8; 19];
         let key = self.key;
         let written = aes_ccm::unseal(key, nonce(front), &none[..0], &body[4..], &mut text);
-        let Written::Length(_) = written else {
+        let WriteResult::Length(_) = written else {
             return refused(Refusal::Seal);
         };
         let issued = self.issued;
@@ -50,10 +50,10 @@ impl Proxy {
     }
 }
 
-fn refused(refusal: Refusal) -> Judgement
+fn refused(refusal: Refusal) -> JudgeResult
     ensures { λ r. ⌜ r ≡ refusedWith refusal ⌝ }
 {
-    Judgement {
+    JudgeResult {
         verdict: Verdict::Refused(refusal),
         pledge: Pledge {
             interface: [0; 8],
@@ -91,7 +91,7 @@ fn count_is_fresh(count: u32, number: u32) -> bool
 }
 
 // What the text under the seal leads to.
-fn forwarded(issued: Issued, number: u32, text: [u8; 19]) -> Judgement
+fn forwarded(issued: Issued, number: u32, text: [u8; 19]) -> JudgeResult
     ensures { λ r. ⌜ r ≡ judgeText issued number text ⌝ }
 {
     let len = text[10];
@@ -99,7 +99,7 @@ fn forwarded(issued: Issued, number: u32, text: [u8; 19]) -> Judgement
         return refused(Refusal::Range);
     }
     if is_fresh(issued, number) {
-        return Judgement {
+        return JudgeResult {
             verdict: Verdict::Accepted,
             pledge: pledge_in(text),
         };

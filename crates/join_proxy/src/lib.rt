@@ -5,13 +5,13 @@ mod issuing;
 mod judging;
 mod proxy;
 
-pub use issuing::Issue;
-pub use judging::Judgement;
+pub use issuing::IssueResult;
+pub use judging::JudgeResult;
 pub use judging::Pledge;
 pub use proxy::Issued;
-pub use proxy::Keyed;
 pub use proxy::Proxy;
-ghost use Rattle.join_proxy.specs.Day.{Day};
+pub use proxy::SetKeyResult;
+ghost use Rattle.join_proxy.specs.Example.{ProxyExample};
 ghost use Rattle.join_proxy.specs.Laws.{ProxyLaws};
 
 // What holds of a proxy after any list of calls, and for which bodies a response is forwarded.
@@ -22,8 +22,8 @@ pub fn laws()
 }
 
 // A day of a proxy, with each refusal but SEAL, two keys, and what the laws say of bodies 63 and 64 issues old.
-pub fn day_of_two_keys()
-    ensures { λ _. ⌜ Day ⌝ }
+pub fn two_keys_example()
+    ensures { λ _. ⌜ ProxyExample ⌝ }
 {
     laws();
 }

@@ -19,7 +19,7 @@ pub enum Issued {
 }
 
 // What setting a key answers, and the proxy after it.
-pub struct Keyed {
+pub struct SetKeyResult {
     pub verdict: Verdict,
     pub proxy: Proxy,
 }
@@ -36,17 +36,17 @@ impl Proxy {
     }
 
     // Sets a key, and numbers begin at 0 again. The key in use is RANGE.
-    pub fn set_key(self, key: [u8; 16]) -> Keyed
+    pub fn set_key(self, key: [u8; 16]) -> SetKeyResult
         ensures { λ r. ⌜ r ≡ setKey self key ⌝ }
     {
         let own = self.key;
         if same_key(own, key) {
-            return Keyed {
+            return SetKeyResult {
                 verdict: Verdict::Refused(Refusal::Range),
                 proxy: self,
             };
         }
-        Keyed {
+        SetKeyResult {
             verdict: Verdict::Accepted,
             proxy: Proxy::new(key),
         }

@@ -12,22 +12,22 @@ use Rattle.logic_facts.specs.Tests.{both-left, both-right, both as both-true}
 use Rattle.cbor.specs.Answer.{Wrote}
 use Rattle.cbor.specs.Decode.{digits, bigEndian}
 use Rattle.image.specs.Fields.{and-good}
-use Rattle.image.specs.Lawful.{byte-lawful, number-lawful, octets-lawful, both-lawful, times-lawful, viewed-lawful}
-use Rattle.image.specs.Part.{Part, Lawful, byte, number, octets, both, puts, gets, goods}
-use Rattle.link_key.specs.Info.{spread}
-use Rattle.link_key.specs.Key.{informedKey}
+use Rattle.image.specs.CodecLaws.{byte-lawful, number-lawful, octets-lawful, both-lawful, times-lawful, viewed-lawful}
+use Rattle.image.specs.Part.{Part, RoundTrips, byte, number, octets, both, puts, gets, goods}
+use Rattle.link_key.specs.AdditionalInfo.{paddedBytes}
+use Rattle.link_key.specs.Key.{keyWithAdditionalInfo}
 use Rattle.link_key.specs.declared.Key.{Key}
-use Rattle.link_key.specs.declared.info.Info.{Info}
-use Rattle.link_key.specs.declared.info.Info.the-variants.{Absent, Four, Eight}
-use Rattle.link_key.specs.declared.info.Spread.{Spread}
+use Rattle.link_key.specs.declared.additional_info.AdditionalInfo.{AdditionalInfo}
+use Rattle.link_key.specs.declared.additional_info.AdditionalInfo.the-variants.{Absent, Four, Eight}
+use Rattle.link_key.specs.declared.additional_info.PaddedBytes.{PaddedBytes}
 use Rattle.link_key_set.specs.Lists.{allOf}
 use Rattle.link_key_set.specs.declared.key_set.KeySet.{KeySet}
-use Rattle.key_image.specs.Info.{such, isZero, isSpread, infoTo, infoFrom, infoFields, infoPart}
+use Rattle.key_image.specs.AdditionalInfo.{such, isZero, isPaddedBytes, additionalInfoTo, additionalInfoFrom, additionalInfoFields, additionalInfoPart}
 use Rattle.key_image.specs.Key.{keyFields, keyTo, keyFrom, keyPart, setFields, setTo, setFrom, keySetPart, countedFields, countedTo, countedFrom, countedSetPart}
 use Rattle.key_image.specs.Laws.{KeyImages}
 
 -- ---- additional information
-such-lawful : {A : Type 0} (test : A → Bool) (p : Part A) → Lawful p → Lawful (such test p)
+such-lawful : {A : Type 0} (test : A → Bool) (p : Part A) → RoundTrips p → RoundTrips (such test p)
 such-lawful test p l =
     record {
       sized = λ a h. l .sized a (h .0);
@@ -42,7 +42,7 @@ all-zero [] g = refl
 all-zero (b ∷ s) g =
     ap₂ (λ (x : ℕ) (y : List ℕ). x ∷ y) (eqb-true b 0 (both-left (isZero b) (allOf isZero s) g)) (all-zero s (both-right (isZero b) (allOf isZero s) g))
 
-info-again : (i : Info) → infoTo (infoFrom i) ≡ i
+info-again : (i : AdditionalInfo) → additionalInfoTo (additionalInfoFrom i) ≡ i
 info-again Absent = refl
 info-again (Four a b c d) = refl
 info-again (Eight a b c d e f g h) = refl
@@ -63,7 +63,7 @@ zeros-after n s k e g =
     sym (all-zero (drop n s) g ∙ ap (λ (i : ℕ). replicate i 0) f)
 
 abbrev Undone : List ℕ → ℕ → Type 0
-Undone s n = isSpread (n, s) ≡ true → infoFrom (infoTo (n, s)) ≡ (n, s)
+Undone s n = isPaddedBytes (n, s) ≡ true → additionalInfoFrom (additionalInfoTo (n, s)) ≡ (n, s)
 
 info-undone : (n : ℕ) (s : List ℕ) → length s ≡ 8 → (a b : Bool) → eqb n 0 ≡ a → eqb n 4 ≡ b → Undone s n
 info-undone n s e true b p q =
@@ -75,23 +75,23 @@ info-undone n s e false false p q = λ g.
     let t : eqb n 8 ≡ true = ap (λ (b : Bool). b || eqb n 8) (sym q) ∙ ap (λ (b : Bool). b || eqb n 4 || eqb n 8) (sym p) ∙ both-left (eqb n 0 || eqb n 4 || eqb n 8) (allOf isZero (drop n s)) g in
     subst (Undone s) (sym (eqb-true n 8 t)) (λ g. ap (λ (t : List ℕ). (8, t)) (all-eight s e)) g
 
-info-lawful : Lawful infoPart
+info-lawful : RoundTrips additionalInfoPart
 info-lawful =
-    viewed-lawful infoFields infoTo infoFrom info-again
+    viewed-lawful additionalInfoFields additionalInfoTo additionalInfoFrom info-again
     (λ x h. info-undone (x .0) (x .1) (h .0 .1 .0) (eqb (x .0) 0) (eqb (x .0) 4) refl refl (h .1))
-    (such-lawful isSpread (both byte (octets 8)) (both-lawful _ _ byte-lawful (octets-lawful 8)))
+    (such-lawful isPaddedBytes (both byte (octets 8)) (both-lawful _ _ byte-lawful (octets-lawful 8)))
 
 -- ---- keys and key sets
-key-lawful : Lawful keyPart
+key-lawful : RoundTrips keyPart
 key-lawful =
     viewed-lawful keyFields keyTo keyFrom (λ k. refl) (λ x h. refl)
     (both-lawful _ _ byte-lawful (both-lawful _ _ byte-lawful (both-lawful _ _ (octets-lawful 16) info-lawful)))
 
-key-set-lawful : Lawful keySetPart
+key-set-lawful : RoundTrips keySetPart
 key-set-lawful =
     viewed-lawful setFields setTo setFrom (λ s. refl) (λ x h. refl) (both-lawful _ _ (number-lawful 1) (times-lawful keyPart key-lawful 8))
 
-counted-set-lawful : Lawful countedSetPart
+counted-set-lawful : RoundTrips countedSetPart
 counted-set-lawful =
     viewed-lawful countedFields countedTo countedFrom (λ s. refl) (λ x h. refl)
     (both-lawful _ _ key-set-lawful (times-lawful (number 4) (number-lawful 4) 8))
@@ -120,7 +120,7 @@ full n u false e = refl
 full n u true e =
     ap (allOf isZero) (sym (ap (λ (k : ℕ). drop k (take 8 u)) (eqb-true n 8 e) ∙ drop-of-length-le (take 8 u) {i = 8} (omega (arith, length-take 8 u))))
 
-same-key : {a b c d : ℕ} {v w : List ℕ} {i j : Info} → a ≡ c → b ≡ d → v ≡ w → i ≡ j → informedKey a b v i ≡ informedKey c d w j
+same-key : {a b c d : ℕ} {v w : List ℕ} {i j : AdditionalInfo} → a ≡ c → b ≡ d → v ≡ w → i ≡ j → keyWithAdditionalInfo a b v i ≡ keyWithAdditionalInfo c d w j
 same-key e f g h = rw (e, f, g, h)
 
 -- ---- four elements of a list
@@ -149,43 +149,43 @@ module _ (s : List ℕ) (at : ℕ) where
   info-byte : (n : ℕ) → n < 8 → getD s (at + (1 + n)) 0 ≡ getD (take 8 (drop 1 (drop at s))) n 0
   info-byte n h = byte-got (1 + n) ∙ sym (getD-take 8 (drop 1 (drop at s)) n 0 h ∙ getD-drop 1 (drop at s) n 0)
 
-  pub absent-got : getD s at 0 ≡ 0 → Absent ≡ infoPart .get (drop at s)
+  pub absent-got : getD s at 0 ≡ 0 → Absent ≡ additionalInfoPart .get (drop at s)
   absent-got e = rw (first-byte, e)
 
   pub four-got : getD s at 0 ≡ 4
-      → Four (getD s (at + 1) 0) (getD s (at + 2) 0) (getD s (at + 3) 0) (getD s (at + 4) 0) ≡ infoPart .get (drop at s)
+      → Four (getD s (at + 1) 0) (getD s (at + 2) 0) (getD s (at + 3) 0) (getD s (at + 4) 0) ≡ additionalInfoPart .get (drop at s)
   four-got e =
       rw (first-byte, e, info-byte 0 (omega arith), info-byte 1 (omega arith), info-byte 2 (omega arith), info-byte 3 (omega arith))
 
   pub eight-got : ¬ (getD s at 0 ≡ 0) → ¬ (getD s at 0 ≡ 4)
       → Eight (getD s (at + 1) 0) (getD s (at + 2) 0) (getD s (at + 3) 0) (getD s (at + 4) 0) (getD s (at + 5) 0) (getD s (at + 6) 0) (getD s (at + 7) 0) (getD s (at + 8) 0)
-      ≡ infoPart .get (drop at s)
+      ≡ additionalInfoPart .get (drop at s)
   eight-got e f =
       rw (first-byte, ne-eqb (getD s at 0) 0 e, ne-eqb (getD s at 0) 4 f, info-byte 0 (omega arith), info-byte 1 (omega arith), info-byte 2 (omega arith), info-byte 3 (omega arith), info-byte 4 (omega arith), info-byte 5 (omega arith), info-byte 6 (omega arith), info-byte 7 (omega arith))
 
-  pub absent-judged : {n : ℕ} → getD s at 0 ≡ 0 → n ≡ bigEndian (take 8 (drop (at + 1) s)) → eqb n 0 ≡ infoPart .good (drop at s)
+  pub absent-judged : {n : ℕ} → getD s at 0 ≡ 0 → n ≡ bigEndian (take 8 (drop (at + 1) s)) → eqb n 0 ≡ additionalInfoPart .good (drop at s)
   absent-judged e f = rw (f, first-byte, e, past 1) (zero-number (take 8 (drop 1 (drop at s))))
 
-  pub four-judged : {n : ℕ} → at + 9 ≤ length s → getD s at 0 ≡ 4 → n ≡ bigEndian (take 4 (drop (at + 5) s)) → eqb n 0 ≡ infoPart .good (drop at s)
+  pub four-judged : {n : ℕ} → at + 9 ≤ length s → getD s at 0 ≡ 4 → n ≡ bigEndian (take 4 (drop (at + 5) s)) → eqb n 0 ≡ additionalInfoPart .good (drop at s)
   four-judged h e f =
       let u = drop 1 (drop at s) in
       let g : 4 ≤ length u = omega (arith, length-drop 1 (drop at s), length-drop at s) in
       rw (f, first-byte, e, past 5, ← drop-drop 4 1 (drop at s), second-four u g) (zero-number (take 4 (drop 4 u)))
 
-  pub eight-judged : ¬ (getD s at 0 ≡ 0) → ¬ (getD s at 0 ≡ 4) → eqb (getD s at 0) 8 ≡ infoPart .good (drop at s)
+  pub eight-judged : ¬ (getD s at 0 ≡ 0) → ¬ (getD s at 0 ≡ 4) → eqb (getD s at 0) 8 ≡ additionalInfoPart .good (drop at s)
   eight-judged e f =
       rw (first-byte, ne-eqb (getD s at 0) 0 e, ne-eqb (getD s at 0) 4 f) (full (getD s at 0) (drop 1 (drop at s)) (eqb (getD s at 0) 8) refl)
 
   key-info : drop (at + 18) s ≡ drop 16 (drop 1 (drop 1 (drop at s)))
   key-info = past 18 ∙ sym (ap (drop 16) (drop-drop 1 1 (drop at s)) ∙ drop-drop 16 2 (drop at s))
 
-  pub key-got : {v : List ℕ} {i : Info} → v ≡ take 16 (drop (at + 2) s) → i ≡ infoPart .get (drop (at + 18) s)
-      → informedKey (getD s at 0) (getD s (at + 1) 0) v i ≡ keyPart .get (drop at s)
+  pub key-got : {v : List ℕ} {i : AdditionalInfo} → v ≡ take 16 (drop (at + 2) s) → i ≡ additionalInfoPart .get (drop (at + 18) s)
+      → keyWithAdditionalInfo (getD s at 0) (getD s (at + 1) 0) v i ≡ keyPart .get (drop at s)
   key-got e f =
-      same-key (sym first-byte) (byte-got 1 ∙ sym (getD-drop 1 (drop at s) 0 0)) (e ∙ ap (take 16) (past 2 ∙ sym (drop-drop 1 1 (drop at s)))) (f ∙ ap (infoPart .get) key-info)
+      same-key (sym first-byte) (byte-got 1 ∙ sym (getD-drop 1 (drop at s) 0 0)) (e ∙ ap (take 16) (past 2 ∙ sym (drop-drop 1 1 (drop at s)))) (f ∙ ap (additionalInfoPart .get) key-info)
 
-  pub key-judged : {b : Bool} → b ≡ infoPart .good (drop (at + 18) s) → b ≡ keyPart .good (drop at s)
-  key-judged e = e ∙ ap (infoPart .good) key-info
+  pub key-judged : {b : Bool} → b ≡ additionalInfoPart .good (drop (at + 18) s) → b ≡ keyPart .good (drop at s)
+  key-judged e = e ∙ ap (additionalInfoPart .good) key-info
 
   pub set-got : {n : ℕ} {ks : List Key} → n ≡ bigEndian (take 1 (drop at s)) → ks ≡ gets keyPart 8 (drop (at + 1) s)
       → setTo (n, ks) ≡ keySetPart .get (drop at s)
@@ -305,10 +305,10 @@ module _ (s : List ℕ) (at : ℕ) where
         (one-read (number 4) s 1 (at + 241) (at + 245) (omega arith) e7
         (one-read (number 4) s 0 (at + 245) (at + 249) (omega arith) e8 refl)))))))
 
-pub info-wrote : (i : Info) {x : Spread} {t t′ : List ℕ} → x ≡ spread i → Wrote ((x .len ∷ []) ++ x .bytes) t 9 t′ → Wrote (infoPart .put i) t 9 t′
+pub info-wrote : (i : AdditionalInfo) {x : PaddedBytes} {t t′ : List ℕ} → x ≡ paddedBytes i → Wrote ((x .len ∷ []) ++ x .bytes) t 9 t′ → Wrote (additionalInfoPart .put i) t 9 t′
 info-wrote i e w = rw e at w
 
-pub info-short : (i : Info) {x : Spread} → x ≡ spread i → x .len < 256
+pub info-short : (i : AdditionalInfo) {x : PaddedBytes} → x ≡ paddedBytes i → x .len < 256
 info-short Absent e = rw e (omega arith)
 info-short (Four a b c d) e = rw e (omega arith)
 info-short (Eight a b c d e f g h) k = rw k (omega arith)

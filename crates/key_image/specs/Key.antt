@@ -3,21 +3,21 @@
 use Prim.Native.Nat.{ℕ}
 use mathlib.Core.List.{List}
 use Rattle.image.specs.Part.{Part, byte, number, octets, both, viewed, times}
-use Rattle.link_key.specs.Key.{informedKey}
+use Rattle.link_key.specs.Key.{keyWithAdditionalInfo}
 use Rattle.link_key.specs.declared.Key.{Key}
-use Rattle.link_key.specs.declared.info.Info.{Info}
+use Rattle.link_key.specs.declared.additional_info.AdditionalInfo.{AdditionalInfo}
 use Rattle.link_key_set.specs.declared.key_set.KeySet.{KeySet}
 use Rattle.link_key_counters.specs.declared.CountedSet.{CountedSet}
-use Rattle.key_image.specs.Info.{infoPart}
+use Rattle.key_image.specs.AdditionalInfo.{additionalInfoPart}
 
 -- ---- a key
-abbrev pub keyFields : Part (ℕ × (ℕ × (List ℕ × Info)))
-keyFields = both byte (both byte (both (octets 16) infoPart))
+abbrev pub keyFields : Part (ℕ × (ℕ × (List ℕ × AdditionalInfo)))
+keyFields = both byte (both byte (both (octets 16) additionalInfoPart))
 
-abbrev pub keyTo : ℕ × (ℕ × (List ℕ × Info)) → Key
-keyTo x = informedKey (x .0) (x .1 .0) (x .1 .1 .0) (x .1 .1 .1)
+abbrev pub keyTo : ℕ × (ℕ × (List ℕ × AdditionalInfo)) → Key
+keyTo x = keyWithAdditionalInfo (x .0) (x .1 .0) (x .1 .1 .0) (x .1 .1 .1)
 
-abbrev pub keyFrom : Key → ℕ × (ℕ × (List ℕ × Info))
+abbrev pub keyFrom : Key → ℕ × (ℕ × (List ℕ × AdditionalInfo))
 keyFrom k = (k .identifier, (k .usage, (k .value, k .info)))
 
 abbrev pub keyPart : Part Key

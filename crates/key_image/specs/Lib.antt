@@ -1,3 +1,3 @@
-pub mod Info
+pub mod AdditionalInfo
 pub mod Key
 pub mod Laws

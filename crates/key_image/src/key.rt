@@ -1,10 +1,10 @@
 // A key.
-use crate::info::info_at;
-use crate::info::is_info;
-use crate::info::put_info;
+use crate::additional_info::additional_info_at;
+use crate::additional_info::is_additional_info;
+use crate::additional_info::put_additional_info;
+use image::array_16_at;
+use image::put_array_16;
 use image::put_byte;
-use image::put_sixteen;
-use image::sixteen_at;
 use link_key::Key;
 ghost use mathlib.Core.Path.{_≡_};
 ghost use Prim.Native.Nat.{_+_, _≤_};
@@ -20,8 +20,8 @@ pub fn key_at(src: &[u8], at: usize) -> Key
     Key {
         identifier: src[at],
         usage: src[at + 1],
-        value: sixteen_at(src, at + 2),
-        info: info_at(src, at + 18),
+        value: array_16_at(src, at + 2),
+        info: additional_info_at(src, at + 18),
     }
 }
 
@@ -30,7 +30,7 @@ pub fn is_key(src: &[u8], at: usize) -> bool
     requires { ⌜ at + 27 ≤ length (now src) ⌝ }
     ensures { λ r. ⌜ r ≡ keyPart .good (drop at (now (src .entry))) ⌝ }
 {
-    is_info(src, at + 18)
+    is_additional_info(src, at + 18)
 }
 
 // Writes a key.
@@ -42,6 +42,6 @@ pub fn put_key(dst: &mut [u8], key: Key)
     let info = key.info;
     put_byte(dst, key.identifier);
     put_byte(&mut dst[1..], key.usage);
-    put_sixteen(&mut dst[2..], value);
-    put_info(&mut dst[18..], info);
+    put_array_16(&mut dst[2..], value);
+    put_additional_info(&mut dst[18..], info);
 }

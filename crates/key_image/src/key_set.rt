@@ -63,7 +63,7 @@ pub fn is_key_set(src: &[u8], at: usize) -> bool
 }
 
 // The key at one of the eight places.
-fn place(set: KeySet, i: usize) -> Key
+fn key_offset(set: KeySet, i: usize) -> Key
     requires { ⌜ i < 8 ⌝ }
     ensures { λ r. ⌜ r ≡ getD (set .keys) i noKey ⌝ }
 {
@@ -85,10 +85,10 @@ fn put_first_half(dst: &mut [u8], set: KeySet)
     requires { ⌜ 108 ≤ length (now dst) ⌝ }
     ensures { λ _. ⌜ Wrote (puts keyPart (take 4 (drop 0 (set .keys)))) (now (dst .entry)) 108 (now (dst .exit)) ⌝ }
 {
-    let a = place(set, 0);
-    let b = place(set, 1);
-    let c = place(set, 2);
-    let d = place(set, 3);
+    let a = key_offset(set, 0);
+    let b = key_offset(set, 1);
+    let c = key_offset(set, 2);
+    let d = key_offset(set, 3);
     put_four(dst, a, b, c, d);
 }
 
@@ -97,10 +97,10 @@ fn put_second_half(dst: &mut [u8], set: KeySet)
     requires { ⌜ 108 ≤ length (now dst) ⌝ }
     ensures { λ _. ⌜ Wrote (puts keyPart (take 4 (drop 4 (set .keys)))) (now (dst .entry)) 108 (now (dst .exit)) ⌝ }
 {
-    let a = place(set, 4);
-    let b = place(set, 5);
-    let c = place(set, 6);
-    let d = place(set, 7);
+    let a = key_offset(set, 4);
+    let b = key_offset(set, 5);
+    let c = key_offset(set, 6);
+    let d = key_offset(set, 7);
     put_four(dst, a, b, c, d);
 }
 

@@ -41,7 +41,7 @@ pub fn put_ledger(out: Output, ledger: Ledger, buffer: &mut Buffer) -> Output {
         .number(ledger.size as u64, buffer);
     let out = out.text(b" free=", buffer)
         .number(ledger.free as u64, buffer);
-    let out = put_groups(out.text(b" marks=[", buffer), ledger.marks, buffer);
+    let out = put_groups(out.text(b" marks=[", buffer), ledger.summary, buffer);
     out.byte(b']', buffer)
 }
 

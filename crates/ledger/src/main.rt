@@ -1,53 +1,56 @@
 // The desk tool ledger: one ledger of short addresses over one memory, called by lines of standard input (docs/TOOLS.md).
 mod answer;
-mod fixture;
 mod memory;
+mod state;
 
-use fixture::Fixture;
-use fixture::execute;
 use ledger_commands::Board;
 use ledger_commands::Bytes;
+use ledger_commands::command_of;
 use ledger_commands::next_line;
-use ledger_commands::order_of;
 use memory::Memory;
+use state::LedgerState;
+use state::execute;
 use tool_text::output::Buffer;
 use tool_text::session::Session;
 
 // What is kept from line to line, beside the memory.
-struct Desk {
+struct ToolState {
     session: Session,
-    fixture: Fixture,
+    state: LedgerState,
 }
 
 // Answers the next line; an empty one and a comment are not answered.
 fn answer_line(
-    desk: Desk,
+    desk: ToolState,
     bytes: &mut Buffer,
     board: &mut Board,
     hex: &mut Bytes,
     memory: &mut Memory,
     buffer: &mut Buffer,
-) -> Desk {
+) -> ToolState {
     let asked = next_line(desk.session, bytes, board, hex, buffer);
     let mut session = asked.session;
     let done = execute(
-        desk.fixture,
-        order_of(asked.line),
+        desk.state,
+        command_of(asked.line),
         board,
         memory,
         hex,
         session.out,
         buffer,
     );
-    let fixture = done.fixture;
+    let fixture = done.state;
     let out = done.out;
     session.out = out;
-    Desk { session, fixture }
+    ToolState {
+        session,
+        state: fixture,
+    }
 }
 
 // Answers line after line until the input ends or nobody reads the answers.
 fn run(
-    mut desk: Desk,
+    mut desk: ToolState,
     bytes: &mut Buffer,
     board: &mut Board,
     hex: &mut Bytes,
@@ -73,9 +76,9 @@ fn main() {
 open FIRST SIZE, grant BOARD, back BOARD, free, lend N, read PLACE N, write PLACE HEX, clear, count N, marks G.., show\n",
         &mut buffer,
     );
-    let desk = Desk {
+    let desk = ToolState {
         session,
-        fixture: Fixture::new(),
+        state: LedgerState::new(),
     };
     run(
         desk,

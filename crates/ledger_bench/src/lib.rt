@@ -1,6 +1,6 @@
 // The face of the address ledger for the benchmark in C (bench/ledger): a script of calls is played on one ledger.
 use address_ledger::AddressAnswer;
-use address_ledger::Answered;
+use address_ledger::CallResult;
 use address_ledger::FreeAnswer;
 use address_ledger::Ledger;
 
@@ -32,7 +32,7 @@ fn call(played: Played, memory: &mut [u8], kind: u8, board: [u8; 8]) -> Played {
     }
 }
 
-fn with_answer(answered: Answered, sum: u64) -> Played {
+fn with_answer(answered: CallResult, sum: u64) -> Played {
     let ledger = answered.ledger;
     let answer = answered.answer;
     Played {

@@ -3,7 +3,7 @@ use Prim.Native.Nat.{ℕ}
 use mathlib.Core.List.{List}
 use mathlib.Core.Path.{_≡_}
 use Rattle.address_ledger_laws.specs.Demand1.{LedgerCall}
-use Rattle.image.specs.Left.{zeroed}
+use Rattle.image.specs.Effects.{zeroed}
 use Rattle.ledger_calls.specs.Ledger.{Opens, LedgerDid, Counts}
 
 pub record LedgerRefusals : Type 0 where

@@ -1,10 +1,10 @@
 // The address ledger.
-use crate::told::hand_ledger;
-use crate::told::tell_address;
+use crate::store::store_address;
+use crate::store::store_ledger;
 use address_ledger::FreeAnswer;
 use address_ledger::Ledger;
 use image::RANGE;
-use image::eight_at;
+use image::array_8_at;
 use state_image::is_ledger;
 use state_image::ledger_in;
 ghost use Rattle.address_ledger_laws.specs.Demand1.{asking, returning};
@@ -20,7 +20,7 @@ pub fn ledger_open(first: u16, size: u16, memory: &[u8], ledger: &mut [u8]) -> u
     let opened = Ledger::open(first as usize, size as usize, memory);
     let verdict = opened.verdict;
     let made = opened.ledger;
-    hand_ledger(verdict, made, ledger)
+    store_ledger(verdict, made, ledger)
 }
 
 // Grants the board the lowest free address, or the one that it holds.
@@ -36,10 +36,10 @@ pub fn ledger_grant(ledger: &mut [u8], memory: &mut [u8], board: &[u8], address:
         *address = 0;
         return RANGE;
     }
-    let done = ledger_in(ledger).grant(memory, eight_at(board, 0));
+    let done = ledger_in(ledger).grant(memory, array_8_at(board, 0));
     let answer = done.answer;
     let after = done.ledger;
-    tell_address(answer, after, ledger, address)
+    store_address(answer, after, ledger, address)
 }
 
 // Takes the board's address back.
@@ -60,10 +60,10 @@ pub fn ledger_give_back(
         *address = 0;
         return RANGE;
     }
-    let done = ledger_in(ledger).give_back(memory, eight_at(board, 0));
+    let done = ledger_in(ledger).give_back(memory, array_8_at(board, 0));
     let answer = done.answer;
     let after = done.ledger;
-    tell_address(answer, after, ledger, address)
+    store_address(answer, after, ledger, address)
 }
 
 // How many addresses are free.

@@ -11,10 +11,10 @@ use lib.ListN.{length}
 use Rattle.refusal.specs.declared.Refusal.the-variants.{Range}
 use Rattle.link_key_usage.specs.Usage.{usageOf, familyOf, familyCovers, listed, knownType, entryAt, entrySays}
 use Rattle.link_key.specs.Same.{sameBytes}
-use Rattle.link_key.specs.Info.{infoBytes}
-use Rattle.link_key.specs.Key.{informedKey, validKey, sameKey, sameSecret, covers, coverageOf, coverageSays, foundKey}
+use Rattle.link_key.specs.AdditionalInfo.{additionalInfoBytes}
+use Rattle.link_key.specs.Key.{keyWithAdditionalInfo, validKey, sameKey, sameSecret, covers, coverageOf, coverageSays, foundKey}
 use Rattle.link_key.specs.declared.Key.{Key}
-use Rattle.link_key.specs.declared.info.Info.{Info}
+use Rattle.link_key.specs.declared.additional_info.AdditionalInfo.{AdditionalInfo}
 use Rattle.link_key_usage.specs.declared.Coverage.the-variants.{Covered, Refused}
 use Rattle.link_key_usage.specs.declared.Entry.the-variants as entry
 use Rattle.link_key_usage.specs.declared.Usage.{Usage}
@@ -30,10 +30,10 @@ bytes-self s = same-self eqb (λ n. eq-eqb n n refl) s
 pub same-key-self : (k : Key) → sameKey k k ≡ true
 unfolding sameKey
 same-key-self k =
-    rw (eq-eqb (k .identifier) (k .identifier) refl, eq-eqb (k .usage) (k .usage) refl, bytes-self (k .value), bytes-self (infoBytes (k .info)))
+    rw (eq-eqb (k .identifier) (k .identifier) refl, eq-eqb (k .usage) (k .usage) refl, bytes-self (k .value), bytes-self (additionalInfoBytes (k .info)))
 
 alike :
-    {i j t u : ℕ} {v w : List ℕ} {m n : Info} → i ≡ j → t ≡ u → v ≡ w → m ≡ n → informedKey i t v m ≡ informedKey j u w n
+    {i j t u : ℕ} {v w : List ℕ} {m n : AdditionalInfo} → i ≡ j → t ≡ u → v ≡ w → m ≡ n → keyWithAdditionalInfo i t v m ≡ keyWithAdditionalInfo j u w n
 alike p q r s = rw (p, q, r, s)
 
 pub same-key-equal : (k l : Key) → sameKey k l ≡ true → k ≡ l
@@ -42,13 +42,13 @@ same-key-equal k l e =
     let names = eqb (k .identifier) (l .identifier) in
     let usages = eqb (k .usage) (l .usage) in
     let values = sameBytes (k .value) (l .value) in
-    let infos = sameBytes (infoBytes (k .info)) (infoBytes (l .info)) in
+    let infos = sameBytes (additionalInfoBytes (k .info)) (additionalInfoBytes (l .info)) in
     let three : (names && usages && values) ≡ true = both-left (names && usages && values) infos e in
     let front : (names && usages) ≡ true = both-left (names && usages) values three in
     let i : k .identifier ≡ l .identifier = eqb-true _ _ (both-left names usages front) in
     let u : k .usage ≡ l .usage = eqb-true _ _ (both-right names usages front) in
     let v : k .value ≡ l .value = same-equal eqb eqb-true (k .value) (l .value) (both-right (names && usages) values three) in
-    let bytes = same-equal eqb eqb-true (infoBytes (k .info)) (infoBytes (l .info)) (both-right (names && usages && values) infos e) in
+    let bytes = same-equal eqb eqb-true (additionalInfoBytes (k .info)) (additionalInfoBytes (l .info)) (both-right (names && usages && values) infos e) in
     alike i u v (info-equal (k .info) (l .info) bytes)
 
 pub same-secret-says : (k l : Key) → sameSecret k l ≡ true → (k .identifier ≡ l .identifier) × (k .value ≡ l .value)

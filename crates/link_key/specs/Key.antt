@@ -8,22 +8,22 @@ use lib.ListN.{length, replicate}
 use Rattle.refusal.specs.Refusal.{numberOf}
 use Rattle.refusal.specs.declared.Refusal.the-variants.{Range}
 use Rattle.link_key.specs.Same.{sameBytes}
-use Rattle.link_key.specs.Info.{infoBytes, noInfo}
+use Rattle.link_key.specs.AdditionalInfo.{additionalInfoBytes, noAdditionalInfo}
 use Rattle.link_key_usage.specs.Usage.{familyOf, familyCovers, listed, knownType}
 use Rattle.link_key.specs.declared.Key.{Key}
 use Rattle.link_key.specs.declared.FoundKey.{FoundKey}
-use Rattle.link_key.specs.declared.info.Info.{Info}
-use Rattle.link_key.specs.declared.info.Info.the-variants as info
+use Rattle.link_key.specs.declared.additional_info.AdditionalInfo.{AdditionalInfo}
+use Rattle.link_key.specs.declared.additional_info.AdditionalInfo.the-variants as info
 use Rattle.link_key_usage.specs.declared.Coverage.{Coverage}
 use Rattle.link_key_usage.specs.declared.Coverage.the-variants as coverage
 
 -- the one place that makes a key
-abbrev pub informedKey : ℕ → ℕ → List ℕ → Info → Key
-informedKey identifier usage value info = record { identifier = identifier; usage = usage; value = value; info = info }
+abbrev pub keyWithAdditionalInfo : ℕ → ℕ → List ℕ → AdditionalInfo → Key
+keyWithAdditionalInfo identifier usage value info = record { identifier = identifier; usage = usage; value = value; info = info }
 
 -- a key without additional information
 abbrev pub keyOf : ℕ → ℕ → List ℕ → Key
-keyOf identifier usage value = informedKey identifier usage value info.Absent
+keyOf identifier usage value = keyWithAdditionalInfo identifier usage value info.Absent
 
 -- all zero: what stands where there is no key
 abbrev pub noKey : Key
@@ -39,8 +39,8 @@ unfoldable pub validKey : Key → Bool
 validKey k = (leb 1 (k .identifier) && leb (k .identifier) 255 && listed (k .usage) && eqb (length (k .value)) 16)
 
 -- no additional information, as every key of draft 004; a published key may have some, so it is no part of a key's limits
-unfoldable pub plainKey : Key → Bool
-plainKey k = noInfo (k .info)
+unfoldable pub hasNoAdditionalInfo : Key → Bool
+hasNoAdditionalInfo k = noAdditionalInfo (k .info)
 
 -- two keys are equal when identifier, usage, value and additional information are
 unfoldable pub sameKey : Key → Key → Bool
@@ -48,7 +48,7 @@ sameKey k l =
     (eqb (k .identifier) (l .identifier)
     && eqb (k .usage) (l .usage)
     && sameBytes (k .value) (l .value)
-    && sameBytes (infoBytes (k .info)) (infoBytes (l .info)))
+    && sameBytes (additionalInfoBytes (k .info)) (additionalInfoBytes (l .info)))
 
 -- the same identifier and value, whatever the usage and the additional information
 unfoldable pub sameSecret : Key → Key → Bool

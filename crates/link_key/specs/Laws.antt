@@ -2,9 +2,9 @@
 -- the definition is.
 use mathlib.Core.Path.{_≡_}
 use mathlib.Core.Bool.{true}
-use Rattle.link_key.specs.Key.{plainKey, sameKey, sameSecret}
+use Rattle.link_key.specs.Key.{hasNoAdditionalInfo, sameKey, sameSecret}
 use Rattle.link_key.specs.declared.Key.{Key}
-use Rattle.link_key.specs.declared.info.Info.the-variants.{Absent}
+use Rattle.link_key.specs.declared.additional_info.AdditionalInfo.the-variants.{Absent}
 
 pub record SameKeyLaws : Type 0 where
   pub same-key-self : (k : Key) → sameKey k k ≡ true
@@ -13,4 +13,4 @@ pub record SameKeyLaws : Type 0 where
   pub same-secret-says : (k l : Key) → sameSecret k l ≡ true → (k .identifier ≡ l .identifier) × (k .value ≡ l .value)
   pub same-secret-made : (k l : Key) → k .identifier ≡ l .identifier → k .value ≡ l .value → sameSecret k l ≡ true
   -- a key of draft 004
-  pub plain-info : (k : Key) → plainKey k ≡ true → k .info ≡ Absent
+  pub plain-info : (k : Key) → hasNoAdditionalInfo k ≡ true → k .info ≡ Absent

@@ -1,4 +1,4 @@
 pub mod Same
-pub mod Info
+pub mod AdditionalInfo
 pub mod Key
 pub mod Laws

@@ -1,18 +1,18 @@
 // A link-layer key: its limits, when two are equal, and which frames it covers.
+pub mod additional_info;
 pub mod compare;
-pub mod info;
 
+pub use additional_info::AdditionalInfo;
+pub use additional_info::PaddedBytes;
+pub use additional_info::additional_info_bytes;
+pub use additional_info::same_additional_info;
 pub use compare::same_bytes;
-pub use info::Info;
-pub use info::Spread;
-pub use info::bytes_of;
-pub use info::same_info;
 use link_key_usage::Coverage;
 use link_key_usage::Entry;
 use link_key_usage::entry_at;
 use refusal::Refusal;
 ghost use mathlib.Core.Path.{_≡_};
-ghost use Rattle.link_key.specs.Key.{informedKey, keyOf, noKey, validKey, plainKey, sameKey, sameSecret, covers, coverageOf};
+ghost use Rattle.link_key.specs.Key.{keyWithAdditionalInfo, keyOf, noKey, validKey, hasNoAdditionalInfo, sameKey, sameSecret, covers, coverageOf};
 ghost use Rattle.link_key.specs.Laws.{SameKeyLaws};
 
 pub struct Key {
@@ -22,7 +22,7 @@ pub struct Key {
     pub usage: u8,
     pub value: [u8; 16],
     // Additional information (RFC 9031); a key of draft 004 has none.
-    pub info: Info,
+    pub info: AdditionalInfo,
 }
 
 // What a search for a key gives. The key is all zero where none was found.
@@ -32,8 +32,8 @@ pub struct FoundKey {
 }
 
 // The one place that makes a key.
-pub fn key_with(identifier: u8, usage: u8, value: [u8; 16], info: Info) -> Key
-    ensures { λ r. ⌜ r ≡ informedKey identifier usage value info ⌝ }
+pub fn key_with(identifier: u8, usage: u8, value: [u8; 16], info: AdditionalInfo) -> Key
+    ensures { λ r. ⌜ r ≡ keyWithAdditionalInfo identifier usage value info ⌝ }
 {
     Key {
         identifier,
@@ -47,7 +47,7 @@ pub fn key_with(identifier: u8, usage: u8, value: [u8; 16], info: Info) -> Key
 pub fn key_of(identifier: u8, usage: u8, value: [u8; 16]) -> Key
     ensures { λ r. ⌜ r ≡ keyOf identifier usage value ⌝ }
 {
-    key_with(identifier, usage, value, Info::Absent)
+    key_with(identifier, usage, value, AdditionalInfo::Absent)
 }
 
 // The key that is all zero, which stands where there is none.
@@ -69,14 +69,14 @@ impl Key {
     }
 
     // Whether the key has no additional information, as draft 004 wants it.
-    pub fn is_plain(self) -> bool
-        ensures { λ r. ⌜ r ≡ plainKey self ⌝ }
+    pub fn has_no_additional_info(self) -> bool
+        ensures { λ r. ⌜ r ≡ hasNoAdditionalInfo self ⌝ }
     {
         let info = self.info;
         match info {
-            Info::Absent => true,
-            Info::Four(_, _, _, _) => false,
-            Info::Eight(_, _, _, _, _, _, _, _) => false,
+            AdditionalInfo::Absent => true,
+            AdditionalInfo::Four(_, _, _, _) => false,
+            AdditionalInfo::Eight(_, _, _, _, _, _, _, _) => false,
         }
     }
 
@@ -135,7 +135,7 @@ impl Key {
         }
         let info = self.info;
         let other_info = other.info;
-        same_info(info, other_info)
+        same_additional_info(info, other_info)
     }
 }
 

@@ -20,7 +20,7 @@ use Rattle.link_key_set.specs.Lists.{firstOf}
 use Rattle.link_key_set.specs.declared.key_set.KeySet.{KeySet}
 use Rattle.link_key_set.proofs.Lists.{first-is}
 use Rattle.link_key_set.proofs.KeySets.{has-none, valid-set, valid-few}
-use Rattle.link_key_counters.specs.Counters.{Slot, slot, slotsFrom, slotsOf, serves, firstServing, raised, counterIn, keptCounter, keptCounters, succeeded}
+use Rattle.link_key_counters.specs.Counters.{Slot, slot, slotsFrom, slotsOf, serves, firstServing, raised, counterIn, keptCounter, keptCounters, inheritCounters}
 use Rattle.link_key_counters.specs.declared.CountedSet.{CountedSet}
 use Rattle.link_key_counter_laws.specs.Kept.{Holds, Sound, KeptLaws}
 
@@ -226,8 +226,8 @@ place-found k i (y ∷ ks) l (List·Memᴰ·head p) e =
 place-found k i (y ∷ ks) l (List·Memᴰ·tail m) e =
     found-step (sameSecret y k) i (placeFrom k (i + 1) ks) (λ f. place-found k (i + 1) ks l m e)
 
-succeeded-keeps : (s : CountedSet) (keys : KeySet) (k : Key) → Holds k (keysOf keys) → keptCounter (succeeded s keys) k ≡ keptCounter s k
-unfolding succeeded counterAt
+succeeded-keeps : (s : CountedSet) (keys : KeySet) (k : Key) → Holds k (keysOf keys) → keptCounter (inheritCounters s keys) k ≡ keptCounter s k
+unfolding inheritCounters counterAt
 succeeded-keeps s keys k h =
     let ks = keysOf keys in
     let found = place-found k 0 ks (h .key) (h .member) (h .same) in
@@ -237,8 +237,8 @@ succeeded-keeps s keys k h =
     ∙ at-place (keptCounter s) k (keptCounter s k) (λ l e. kept-same s l k e) zeros 0 (found .0) [] ks refl (found .1)
 
 -- ---- sizes
-succeeded-size : (s : CountedSet) (keys : KeySet) → validSet keys ≡ true → length (succeeded s keys .counters) ≡ 8
-unfolding succeeded
+succeeded-size : (s : CountedSet) (keys : KeySet) → validSet keys ≡ true → length (inheritCounters s keys .counters) ≡ 8
+unfolding inheritCounters
 succeeded-size s keys ok =
     let ks = keysOf keys in
     let few : length ks ≤ 8 = valid-few ks (valid-set keys ok .1) in

@@ -10,7 +10,7 @@ use Rattle.link_key.specs.Key.{sameSecret}
 use Rattle.link_key.specs.declared.Key.{Key}
 use Rattle.link_key_set.specs.KeySet.{keysOf, validSet, noneTwice}
 use Rattle.link_key_set.specs.declared.key_set.KeySet.{KeySet}
-use Rattle.link_key_counters.specs.Counters.{Slot, firstServing, raised, arrived, keptCounter, succeeded}
+use Rattle.link_key_counters.specs.Counters.{Slot, firstServing, raised, withZeroCounters, keptCounter, inheritCounters}
 use Rattle.link_key_counters.specs.declared.CountedSet.{CountedSet}
 
 -- one of the keys has the identifier and the value of this one
@@ -40,8 +40,8 @@ pub record KeptLaws : Type 0 where
       keptCounter (raised s x) k ≡ keptCounter s k
   -- in a set that replaces this one at once a key has the counter that it had
   pub succeeded-keeps :
-      (s : CountedSet) (keys : KeySet) (k : Key) → Holds k (keysOf keys) → keptCounter (succeeded s keys) k ≡ keptCounter s k
+      (s : CountedSet) (keys : KeySet) (k : Key) → Holds k (keysOf keys) → keptCounter (inheritCounters s keys) k ≡ keptCounter s k
   -- there are eight counters always
   pub raised-size : (s : CountedSet) (x : Slot) → length (s .counters) ≡ 8 → length (raised s x .counters) ≡ 8
-  pub arrived-size : (keys : KeySet) → length (arrived keys .counters) ≡ 8
-  pub succeeded-size : (s : CountedSet) (keys : KeySet) → validSet keys ≡ true → length (succeeded s keys .counters) ≡ 8
+  pub arrived-size : (keys : KeySet) → length (withZeroCounters keys .counters) ≡ 8
+  pub succeeded-size : (s : CountedSet) (keys : KeySet) → validSet keys ≡ true → length (inheritCounters s keys .counters) ≡ 8

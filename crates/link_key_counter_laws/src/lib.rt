@@ -2,6 +2,6 @@
 ghost use Rattle.link_key_counter_laws.specs.Kept.{KeptLaws};
 
 // A key's counter is one higher after a sending with it, and else as it was, while the key stays in the set or in one that replaces it.
-pub fn kept()
+pub fn kept_counters_law()
     ensures { λ r. ⌜ KeptLaws ⌝ }
 {}

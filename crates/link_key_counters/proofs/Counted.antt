@@ -12,8 +12,8 @@ use Rattle.logic_facts.specs.Tests.{both-left}
 use Rattle.link_key_set.specs.KeySet.{keysOf}
 use Rattle.link_key_set.specs.declared.key_set.KeySet.{KeySet}
 use Rattle.link_key_set.proofs.Lists.{any-one, first-is, first-finds}
-use Rattle.link_key_counters.specs.Counters.{Slot, slot, slotsFrom, slotsOf, countedSet, isUsedUp, serves, firstServing, spentOn, spend}
-use Rattle.link_key_counters.specs.Counters.{keptCounters, succeeded}
+use Rattle.link_key_counters.specs.Counters.{Slot, slot, slotsFrom, slotsOf, countedSet, isUsedUp, serves, firstServing, takenCounterOn, takeCounter}
+use Rattle.link_key_counters.specs.Counters.{keptCounters, inheritCounters}
 use Rattle.link_key_counters.specs.CounterLaws.{SlotOf, CounterLaws}
 use Rattle.link_key_counters.specs.declared.CountedSet.{CountedSet}
 
@@ -33,8 +33,8 @@ key-slot s k m = let x = slot-of 0 (s .counters) m in record { slot = x .0; memb
 
 -- ---- what is sent
 spent-by :
-    (type : ℕ) (s : CountedSet) (o : Option Slot) → firstServing type s ≡ o → spentOn s o .found ≡ true →
-    List·Memᴰ (spentOn s o .key) (keysOf (s .set)) × (covers (spentOn s o .key) type ≡ true)
+    (type : ℕ) (s : CountedSet) (o : Option Slot) → firstServing type s ≡ o → takenCounterOn s o .found ≡ true →
+    List·Memᴰ (takenCounterOn s o .key) (keysOf (s .set)) × (covers (takenCounterOn s o .key) type ≡ true)
 spent-by type s (some x) e f =
     let found = first-is (serves type) (slotsOf s) x e in
     (slot-key 0 (s .counters) (found .0), both-left (covers (x .key) type) (not (isUsedUp x)) (found .1))
@@ -42,32 +42,32 @@ spent-by type s none e f = absurd (let z : _≡_ {A = ℕ} 0 1 = cc in omega ari
 
 -- a key that is found is one of the set and covers the type
 spent-from :
-    (type : ℕ) (s : CountedSet) → spend type s .found ≡ true →
-    List·Memᴰ (spend type s .key) (keysOf (s .set)) × (covers (spend type s .key) type ≡ true)
-unfolding spend
+    (type : ℕ) (s : CountedSet) → takeCounter type s .found ≡ true →
+    List·Memᴰ (takeCounter type s .key) (keysOf (s .set)) × (covers (takeCounter type s .key) type ≡ true)
+unfolding takeCounter
 spent-from type s f = spent-by type s (firstServing type s) refl f
 
 -- one that serves is found
-spends : (type : ℕ) (s : CountedSet) (x : Slot) → List·Memᴰ x (slotsOf s) → serves type x ≡ true → spend type s .found ≡ true
-unfolding spend
+spends : (type : ℕ) (s : CountedSet) (x : Slot) → List·Memᴰ x (slotsOf s) → serves type x ≡ true → takeCounter type s .found ≡ true
+unfolding takeCounter
 spends type s x m e = rw (first-finds (serves type) (slotsOf s) (any-one (serves type) m e) .1)
 
 -- the keys stay
-keys-by : (s : CountedSet) (o : Option Slot) → spentOn s o .set .set ≡ s .set
+keys-by : (s : CountedSet) (o : Option Slot) → takenCounterOn s o .set .set ≡ s .set
 keys-by s none = refl
 keys-by s (some x) = refl
 
-spend-keys : (type : ℕ) (s : CountedSet) → spend type s .set .set ≡ s .set
-unfolding spend
+spend-keys : (type : ℕ) (s : CountedSet) → takeCounter type s .set .set ≡ s .set
+unfolding takeCounter
 spend-keys type s = keys-by s (firstServing type s)
 
-spend-first : (type : ℕ) (s : CountedSet) → spend type s ≡ spentOn s (firstServing type s)
-unfolding spend
+spend-first : (type : ℕ) (s : CountedSet) → takeCounter type s ≡ takenCounterOn s (firstServing type s)
+unfolding takeCounter
 spend-first type s = refl
 
 -- ---- a set that replaces another one
-succeeded-is : (s : CountedSet) (keys : KeySet) → succeeded s keys ≡ countedSet keys (keptCounters s (keysOf keys))
-unfolding succeeded
+succeeded-is : (s : CountedSet) (keys : KeySet) → inheritCounters s keys ≡ countedSet keys (keptCounters s (keysOf keys))
+unfolding inheritCounters
 succeeded-is s keys = refl
 
 pub counter-laws : CounterLaws

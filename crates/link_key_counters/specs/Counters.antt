@@ -11,7 +11,7 @@ use Rattle.link_key_set.specs.Lists.{firstOf}
 use Rattle.link_key_set.specs.KeySet.{keysOf, noKeys}
 use Rattle.link_key_set.specs.declared.key_set.KeySet.{KeySet}
 use Rattle.link_key_counters.specs.declared.CountedSet.{CountedSet}
-use Rattle.link_key_counters.specs.declared.Spent.{Spent}
+use Rattle.link_key_counters.specs.declared.TakenCounter.{TakenCounter}
 
 -- ---- a set's keys with their counters
 -- a key with its place in the set and its next counter
@@ -35,11 +35,11 @@ abbrev pub countedSet : KeySet → List ℕ → CountedSet
 countedSet keys counters = record { set = keys; counters = counters }
 
 -- "0 on arrival"
-abbrev pub arrived : KeySet → CountedSet
-arrived keys = countedSet keys (replicate 8 0)
+abbrev pub withZeroCounters : KeySet → CountedSet
+withZeroCounters keys = countedSet keys (replicate 8 0)
 
 abbrev pub noCounted : CountedSet
-noCounted = arrived noKeys
+noCounted = withZeroCounters noKeys
 
 -- ---- sending: the first key that covers the type and whose counter is not the last one; its counter rises by one
 -- the counter that is never used
@@ -63,12 +63,12 @@ placeOf (some x) = x .place
 abbrev pub raised : CountedSet → Slot → CountedSet
 raised s x = countedSet (s .set) (set (s .counters) (x .place) (x .counter + 1))
 
-abbrev pub spentOn : CountedSet → Option Slot → Spent
-spentOn s none = record { found = false; key = noKey; counter = 0; set = s }
-spentOn s (some x) = record { found = true; key = x .key; counter = x .counter; set = raised s x }
+abbrev pub takenCounterOn : CountedSet → Option Slot → TakenCounter
+takenCounterOn s none = record { found = false; key = noKey; counter = 0; set = s }
+takenCounterOn s (some x) = record { found = true; key = x .key; counter = x .counter; set = raised s x }
 
-unfoldable pub spend : ℕ → CountedSet → Spent
-spend type s = spentOn s (firstServing type s)
+unfoldable pub takeCounter : ℕ → CountedSet → TakenCounter
+takeCounter type s = takenCounterOn s (firstServing type s)
 
 -- ---- a set that replaces another one at once: a key keeps the counter of the key with its identifier and value
 abbrev pub counterIn : Option Slot → ℕ
@@ -81,5 +81,5 @@ keptCounter s k = counterIn (firstOf (λ (x : Slot). sameSecret (x .key) k) (slo
 abbrev pub keptCounters : CountedSet → List Key → List ℕ
 keptCounters s ks = map (keptCounter s) ks ++ replicate (8 - length ks) 0
 
-unfoldable pub succeeded : CountedSet → KeySet → CountedSet
-succeeded s keys = countedSet keys (keptCounters s (keysOf keys))
+unfoldable pub inheritCounters : CountedSet → KeySet → CountedSet
+inheritCounters s keys = countedSet keys (keptCounters s (keysOf keys))

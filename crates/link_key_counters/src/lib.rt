@@ -4,7 +4,7 @@ use link_key::no_key;
 use link_key_set::KeySet;
 use link_key_set::key_set::no_keys;
 ghost use mathlib.Core.Path.{_≡_};
-ghost use Rattle.link_key_counters.specs.Counters.{arrived, noCounted, firstServing, placeOf, spend, keptCounter, succeeded};
+ghost use Rattle.link_key_counters.specs.Counters.{withZeroCounters, noCounted, firstServing, placeOf, takeCounter, keptCounter, inheritCounters};
 ghost use Rattle.link_key_counters.specs.CounterLaws.{CounterLaws};
 
 pub struct CountedSet {
@@ -14,7 +14,7 @@ pub struct CountedSet {
 }
 
 // What a frame is sent with, and the set after it. Where no key serves, the key is all zero, the counter 0, and the set as it was.
-pub struct Spent {
+pub struct TakenCounter {
     pub found: bool,
     pub key: Key,
     pub counter: u32,
@@ -22,8 +22,8 @@ pub struct Spent {
 }
 
 // A set whose counters are all 0.
-pub fn arrived(set: KeySet) -> CountedSet
-    ensures { λ r. ⌜ r ≡ arrived set ⌝ }
+pub fn with_zero_counters(set: KeySet) -> CountedSet
+    ensures { λ r. ⌜ r ≡ withZeroCounters set ⌝ }
 {
     CountedSet {
         set,
@@ -35,7 +35,7 @@ pub fn arrived(set: KeySet) -> CountedSet
 pub fn none_counted() -> CountedSet
     ensures { λ r. ⌜ r ≡ noCounted ⌝ }
 {
-    arrived(no_keys())
+    with_zero_counters(no_keys())
 }
 
 impl CountedSet {
@@ -60,8 +60,8 @@ impl CountedSet {
 
     // The first key that covers the frame type and is not used up, its counter, and the set with that counter one higher.
     // The answer is built in one place, after the branch: built in each branch, the set would be copied.
-    pub fn spend(self, frame_type: u8) -> Spent
-        ensures { λ r. ⌜ r ≡ spend «frame_type» self ⌝ }
+    pub fn take_counter(self, frame_type: u8) -> TakenCounter
+        ensures { λ r. ⌜ r ≡ takeCounter «frame_type» self ⌝ }
     {
         let place = self.serving(frame_type);
         let set = self.set;
@@ -75,7 +75,7 @@ impl CountedSet {
             counter = counters[place];
             counters[place] = counter + 1;
         }
-        Spent {
+        TakenCounter {
             set: CountedSet { set, counters },
             found,
             key,
@@ -102,8 +102,8 @@ impl CountedSet {
     }
 
     // A set that replaces this one at once: a key keeps the counter that it has here, by its identifier and value.
-    pub fn succeeded(self, set: KeySet) -> CountedSet
-        ensures { λ r. ⌜ r ≡ succeeded self set ⌝ }
+    pub fn inherit_counters(self, set: KeySet) -> CountedSet
+        ensures { λ r. ⌜ r ≡ inheritCounters self set ⌝ }
     {
         let n = set.len();
         let keys = set.keys;

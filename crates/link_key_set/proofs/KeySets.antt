@@ -8,11 +8,11 @@ use mathlib.Core.Option.{none, some}
 use borrow.Author.Tests.{leb-true, eqb-true, eqb-false, eq-eqb, ne-eqb, le-leb, lt-leb, not-true}
 use lib.Dec.{leb, eqb}
 use lib.ListN.{length, length-take}
-use Rattle.link_key.specs.Key.{validKey, plainKey, sameKey}
-use Rattle.link_key_set.specs.KeySet.{keysOf, noKeys, named, has, validKeys, validSet, allValid, noneTwice, eachOnce, plainKeys, sameKeys, shares, Apart}
+use Rattle.link_key.specs.Key.{validKey, hasNoAdditionalInfo, sameKey}
+use Rattle.link_key_set.specs.KeySet.{keysOf, noKeys, named, has, validKeys, validSet, allValid, noneTwice, eachOnce, noAdditionalInfos, sameKeys, shares, Apart}
 use Rattle.link_key_set.specs.KeySet.{findKey}
 use Rattle.link_key.specs.declared.Key.{Key}
-use Rattle.link_key.specs.declared.info.Info.the-variants.{Absent}
+use Rattle.link_key.specs.declared.additional_info.AdditionalInfo.the-variants.{Absent}
 use Rattle.link_key_set.specs.declared.key_set.KeySet.{KeySet}
 use Rattle.logic_facts.specs.Tests.{both-left, both-right, never}
 use Rattle.link_key.proofs.Same.{same-self, same-equal}
@@ -135,8 +135,8 @@ one-of-a-name ks k l e m n p =
     cc
 
 -- ---- additional information
-pub plain-each : (ks : List Key) → plainKeys ks ≡ true → (k : Key) → List·Memᴰ k ks → k .info ≡ Absent
-plain-each ks e k m = plain-info k (all-each plainKey m e)
+pub plain-each : (ks : List Key) → noAdditionalInfos ks ≡ true → (k : Key) → List·Memᴰ k ks → k .info ≡ Absent
+plain-each ks e k m = plain-info k (all-each hasNoAdditionalInfo m e)
 
 -- ---- limits
 module _ (ks : List Key) (ok : validKeys ks ≡ true) where

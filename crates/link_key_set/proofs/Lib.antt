@@ -2,4 +2,4 @@ mod Places
 pub mod Lists
 pub mod KeySets
 mod Flags
-mod Informed
+mod InfoAllowed

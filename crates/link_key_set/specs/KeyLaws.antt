@@ -6,11 +6,11 @@ use mathlib.Core.List.{List, [], _∷_, _++_, List·Memᴰ}
 use mathlib.Core.Option.{Option, none, some}
 use lib.ListN.{length}
 use Rattle.link_key_usage.specs.Usage.{listed, knownType, usageOf, entryAt, entrySays}
-use Rattle.link_key.specs.Key.{validKey, plainKey, sameKey, covers, coverageOf, coverageSays, foundKey}
-use Rattle.link_key_set.specs.KeySet.{keysOf, noKeys, has, validKeys, validSet, noneTwice, allValid, plainKeys, sameKeys, shares, Apart}
+use Rattle.link_key.specs.Key.{validKey, hasNoAdditionalInfo, sameKey, covers, coverageOf, coverageSays, foundKey}
+use Rattle.link_key_set.specs.KeySet.{keysOf, noKeys, has, validKeys, validSet, noneTwice, allValid, noAdditionalInfos, sameKeys, shares, Apart}
 use Rattle.link_key_set.specs.KeySet.{findKey}
 use Rattle.link_key.specs.declared.Key.{Key}
-use Rattle.link_key.specs.declared.info.Info.the-variants.{Absent}
+use Rattle.link_key.specs.declared.additional_info.AdditionalInfo.the-variants.{Absent}
 use Rattle.link_key_set.specs.declared.key_set.KeySet.{KeySet}
 use Rattle.link_key_usage.specs.declared.Coverage.the-variants.{Covered}
 
@@ -50,8 +50,8 @@ pub record KeyLaws : Type 0 where
   pub find-none : (identifier : ℕ) (ks : List Key) → findKey identifier ks ≡ none → has identifier ks ≡ false
   pub none-find : (identifier : ℕ) (ks : List Key) → has identifier ks ≡ false → findKey identifier ks ≡ none
   -- additional information
-  pub plain-info : (k : Key) → plainKey k ≡ true → k .info ≡ Absent
-  pub plain-each : (ks : List Key) → plainKeys ks ≡ true → (k : Key) → List·Memᴰ k ks → k .info ≡ Absent
+  pub plain-info : (k : Key) → hasNoAdditionalInfo k ≡ true → k .info ≡ Absent
+  pub plain-each : (ks : List Key) → noAdditionalInfos ks ≡ true → (k : Key) → List·Memᴰ k ks → k .info ≡ Absent
   -- limits
   pub valid-none-twice : (ks : List Key) → validKeys ks ≡ true → noneTwice ks ≡ true
   pub valid-each : (ks : List Key) → validKeys ks ≡ true → (k : Key) → List·Memᴰ k ks → validKey k ≡ true

@@ -8,7 +8,7 @@ use lib.Dec.{leb, eqb}
 use lib.ListN.{length, take, replicate}
 use Rattle.link_key.specs.Same.{sameBy}
 use Rattle.link_key_set.specs.Lists.{anyOf, allOf, firstOf}
-use Rattle.link_key.specs.Key.{noKey, validKey, plainKey, sameKey, covers}
+use Rattle.link_key.specs.Key.{noKey, validKey, hasNoAdditionalInfo, sameKey, covers}
 use Rattle.link_key.specs.declared.Key.{Key}
 use Rattle.link_key_set.specs.declared.key_set.KeySet.{KeySet}
 
@@ -52,12 +52,12 @@ unfoldable pub validSet : KeySet → Bool
 validSet set = (leb (set .count) 8 && validKeys (keysOf set))
 
 -- no key has additional information, as draft 004 wants it; the published form does not ask for it
-abbrev pub plainKeys : List Key → Bool
-plainKeys ks = allOf plainKey ks
+abbrev pub noAdditionalInfos : List Key → Bool
+noAdditionalInfos ks = allOf hasNoAdditionalInfo ks
 
 -- whether the keys are those of a form in which a key may have additional information, or may not
-abbrev pub mayInform : Bool → List Key → Bool
-mayInform informed ks = (informed || plainKeys ks)
+abbrev pub additionalInfoAllowed : Bool → List Key → Bool
+additionalInfoAllowed allowed ks = (allowed || noAdditionalInfos ks)
 
 -- the same keys in the same order
 abbrev pub sameKeys : List Key → List Key → Bool

@@ -12,8 +12,8 @@ ghost use lib.Dec.{eqb};
 ghost use mathlib.Core.List.{map};
 ghost use lib.ListN.{length, take, drop};
 ghost use Rattle.link_key_set.specs.Lists.{anyOf};
-ghost use Rattle.link_key_set.specs.KeySet.{keysOf, identifierOf, noKeys, has, eachOnce, validSet, plainKeys, mayInform, sameKeys, shares, findKey};
-ghost use Rattle.link_key.specs.Key.{plainKey, foundKey};
+ghost use Rattle.link_key_set.specs.KeySet.{keysOf, identifierOf, noKeys, has, eachOnce, validSet, noAdditionalInfos, additionalInfoAllowed, sameKeys, shares, findKey};
+ghost use Rattle.link_key.specs.Key.{hasNoAdditionalInfo, foundKey};
 
 pub struct KeySet {
     // How many keys the set has; 0 is no set.
@@ -60,10 +60,10 @@ fn among(ids: [u8; 8], from: usize, to: usize, identifier: u8) -> bool
 }
 
 // Whether a key is without additional information, or may have it.
-fn may_inform(informed: bool, key: Key) -> bool
-    ensures { λ r. ⌜ r ≡ (informed || plainKey key) ⌝ }
+fn additional_info_allowed(allowed: bool, key: Key) -> bool
+    ensures { λ r. ⌜ r ≡ (allowed || hasNoAdditionalInfo key) ⌝ }
 {
-    informed || key.is_plain()
+    allowed || key.has_no_additional_info()
 }
 
 impl KeySet {
@@ -101,18 +101,18 @@ impl KeySet {
     }
 
     // The same of a form whose keys may have additional information, or may not.
-    pub fn valid_as(self, informed: bool) -> bool
-        ensures { λ r. ⌜ r ≡ (validSet self && mayInform informed (keysOf self)) ⌝ }
+    pub fn valid_as(self, allowed: bool) -> bool
+        ensures { λ r. ⌜ r ≡ (validSet self && additionalInfoAllowed allowed (keysOf self)) ⌝ }
     {
         if self.count == 0 || 8 < self.count {
             return false;
         }
-        self.keys_valid(informed)
+        self.keys_valid(allowed)
     }
 
     // Whether every key is in its limits, and no identifier comes twice: each key is looked at once.
-    fn keys_valid(self, informed: bool) -> bool
-        ensures { λ r. ⌜ r ≡ (eachOnce (keysOf self) && mayInform informed (keysOf self)) ⌝ }
+    fn keys_valid(self, allowed: bool) -> bool
+        ensures { λ r. ⌜ r ≡ (eachOnce (keysOf self) && additionalInfoAllowed allowed (keysOf self)) ⌝ }
     {
         let n = self.len();
         let keys = self.keys;
@@ -120,7 +120,7 @@ impl KeySet {
         let mut i: usize = 0;
         while i < n {
             let key = keys[i];
-            if !may_inform(informed, key) {
+            if !additional_info_allowed(allowed, key) {
                 return false;
             }
             if join(&mut seen, key) {
@@ -133,15 +133,15 @@ impl KeySet {
     }
 
     // Whether no key of the set has additional information, as draft 004 wants it.
-    pub fn is_plain(self) -> bool
-        ensures { λ r. ⌜ r ≡ plainKeys (keysOf self) ⌝ }
+    pub fn has_no_additional_info(self) -> bool
+        ensures { λ r. ⌜ r ≡ noAdditionalInfos (keysOf self) ⌝ }
     {
         let n = self.len();
         let keys = self.keys;
         let mut i: usize = 0;
         while i < n {
             let key = keys[i];
-            if !key.is_plain() {
+            if !key.has_no_additional_info() {
                 return false;
             }
             i += 1;

@@ -14,7 +14,7 @@ pub fn none_seen() -> [u32; 8]
 }
 
 // Asked key by key from clear flags, a set is told by its flags alone.
-pub fn flags_tell()
+pub fn flags_law()
     ensures { λ r. ⌜ SeenLaws ⌝ }
 {}
 

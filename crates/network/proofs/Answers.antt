@@ -13,7 +13,7 @@ use Rattle.node.specs.Frames.{send, afterSend, verified}
 use Rattle.node.specs.Node.{activeOf}
 use Rattle.node.specs.declared.node.Node.{Node}
 use Rattle.node_laws.specs.Answers.{AnswersSay}
-use Rattle.network.specs.Answers.{sentKey, found, TurnsSay}
+use Rattle.network.specs.Answers.{sentKey, found, TurnAnswers}
 use Rattle.network.specs.Turn.{turned, answerOf, told, judged, turn, answerNumber, wasVerified, hasSwitched}
 use Rattle.network.specs.declared.turn.Answer.the-variants.{Failed}
 
@@ -63,7 +63,7 @@ module _ (A : AnswersSay) (a b : Node) (type : ℕ) (e : send a type .verdict �
       let n = none-refused told-change active has-switched has-kept in
       (n .0, n .1, same-switched told-change ∙ has-switched)
 
-pub turns-say : AnswersSay → (sender receiver : Node) (type : ℕ) → TurnsSay sender receiver type
+pub turns-say : AnswersSay → (sender receiver : Node) (type : ℕ) → TurnAnswers sender receiver type
 unfolding turn
 turns-say A a b type = record {
   sender-refused = λ k e. rw e;

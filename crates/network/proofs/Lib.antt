@@ -5,6 +5,6 @@ mod Flood
 mod Rekey
 mod Line
 mod PublishedLine
-mod Building
+mod PartialRekeyRun
 mod Answers
 mod Untouched

@@ -10,11 +10,11 @@ use mathlib.Core.Logic.{inl, inr, ⊎-elim}
 use lib.Dec.{lit<, ltb, eqb}
 use lib.ListN.{length}
 use Rattle.refusal.specs.declared.Refusal.the-variants as refusal
-use Rattle.link_key.specs.Key.{validKey, plainKey, sameKey, sameSecret, covers}
+use Rattle.link_key.specs.Key.{validKey, hasNoAdditionalInfo, sameKey, sameSecret, covers}
 use Rattle.logic_facts.specs.Tests.{never, both-left, both-right, neither-left, neither-right}
 use Rattle.link_key_set.specs.Lists.{anyOf, allOf}
 use Rattle.link_key_set.specs.KeySet.{validKeys, validSet, Apart}
-use Rattle.link_key_counters.specs.Counters.{Slot, lastCounter, isUsedUp, spend, succeeded}
+use Rattle.link_key_counters.specs.Counters.{Slot, lastCounter, isUsedUp, takeCounter, inheritCounters}
 use Rattle.link_key.specs.declared.Key.{Key}
 use Rattle.cbor.specs.Decode.{payloadBy, decodeBy, heading, argument, next, digits, members, pairs, majorOf}
 use Rattle.cbor.specs.Encode.{bytesOf, infoOf, extraOf, shortest}
@@ -25,8 +25,8 @@ use Rattle.cojp.specs.Request.{owing}
 use Rattle.cojp.specs.Walk.{payloadReadBy}
 use Rattle.cojp.specs.Parameter.{laterParameter, parameterOf}
 use Rattle.cojp.specs.Configuration.{configurationTaking}
-use Rattle.cojp.specs.Faults.{validFaults, faultsFit, added}
-use Rattle.cojp.specs.Reported.{faultsOf}
+use Rattle.cojp.specs.ErrorReports.{validErrorReports, errorReportsValid, added}
+use Rattle.cojp.specs.Reported.{errorReportsOf}
 use Rattle.cojp.specs.Writing.{requestInRange, requestPlan}
 use Rattle.cojp_list_read.specs.Listed.{listedIn}
 use Rattle.node_key_sets.specs.Sets as sets
@@ -37,9 +37,9 @@ use Rattle.node_attempt.specs.Attempt as attempt
 use Rattle.node_attempt.specs.Attempt.{mayStart}
 use Rattle.node_attempt.specs.Poll as polling
 use Rattle.node_attempt.specs.Poll.{stepped}
-use Rattle.node_parameters.specs.Reports.{reportsOf}
+use Rattle.node_parameters.specs.Dispositions.{dispositionsOf}
 use Rattle.node.specs.Node.{activeOf, pendingOf}
-use Rattle.node.specs.Range.{formFits, valid, Valid}
+use Rattle.node.specs.Range.{versionValid, valid, Valid}
 use Rattle.node.specs.Timing.{requestOf, startVerdict, startPlan, start, poll}
 use Rattle.node.specs.Delivery.{fitted, configured, apply, deliverVerdict, deliver}
 use Rattle.node.specs.Frames.{sending, send, sendCounter, afterSend, receive, verified}
@@ -50,23 +50,23 @@ use Rattle.node_delivery.specs.Delivery.{mayCome}
 use Rattle.node_delivery.specs.declared.Delivery.the-variants.{Update}
 use Rattle.network.specs.Network.{Network, nodeAt, withNode}
 use Rattle.network.specs.Turn.{judged, turn}
-use Rattle.network.specs.Events.{Event, turning, calling, step, run, Come, Comes, Throughout}
+use Rattle.network.specs.Events.{Event, turning, calling, step, run, Admissible, AdmissibleEvent, Throughout}
 use Rattle.network.specs.Rounds.{Neighbours, Hops, here, hop, Linked, AllLinked, Round, Rounds, none, more}
 use Rattle.network.specs.Demand3.{Supposed, NoneUsedUp, Demand3}
-use Rattle.network.specs.Witness
-use Rattle.network.specs.Witness.{oldKeys, newKeys, line, lineLinks, first, taken, worst, twice, Witness}
+use Rattle.network.specs.RekeyExample
+use Rattle.network.specs.RekeyExample.{oldKeys, newKeys, line, lineLinks, first, taken, worst, twice, RekeyExample}
 use Rattle.network.proofs.Places.{size-step}
 
 -- what computing unfolds: items, keys, objects, the node's calls, and the network's events
 unfoldable pub computing : Unit {0}
 unfolding payloadBy decodeBy heading argument next digits members pairs majorOf bytesOf infoOf extraOf shortest
-    validKey plainKey sameKey covers validKeys validSet
+    validKey hasNoAdditionalInfo sameKey covers validKeys validSet
     padded octetsJudged addressIn groups identified used valued owing payloadReadBy
-    laterParameter parameterOf configurationTaking validFaults faultsFit added faultsOf listedIn requestInRange requestPlan
-    spend sameSecret succeeded sets.valid sets.validAs install frames.sending receivingKey verifiedIn attempt.valid mayStart stepped polling.poll
-    formFits valid requestOf startVerdict startPlan start poll reportsOf fitted configured apply mayCome deliverVerdict deliver
+    laterParameter parameterOf configurationTaking validErrorReports errorReportsValid added errorReportsOf listedIn requestInRange requestPlan
+    takeCounter sameSecret inheritCounters sets.valid sets.validAs install frames.sending receivingKey verifiedIn attempt.valid mayStart stepped polling.poll
+    versionValid valid requestOf startVerdict startPlan start poll dispositionsOf fitted configured apply mayCome deliverVerdict deliver
     sending send sendCounter afterSend receive verified perform
-    nodeAt withNode judged turn step run Come Comes
+    nodeAt withNode judged turn step run Admissible AdmissibleEvent
 computing = tt
 
 pub three : (P : ℕ → Type 0) → P 0 → P 1 → P 2 → (i : ℕ) → i < 3 → P i
@@ -150,8 +150,8 @@ abbrev between : ℕ → Event → Bool
 between size (turning i j type) = ltb i size && (ltb j size && not (eqb i j))
 between size (calling i c) = false
 
-comes : (net : Network) (e : Event) → between (length net) e ≡ true → Comes net e
-unfolding Comes
+comes : (net : Network) (e : Event) → between (length net) e ≡ true → AdmissibleEvent net e
+unfolding AdmissibleEvent
 comes net (turning i j type) t =
     let size = length net in
     let others = both-right (ltb i size) (ltb j size && not (eqb i j)) t in
@@ -162,8 +162,8 @@ comes net (turning i j type) t =
     )
 comes net (calling i c) t = never false t refl
 
-pub turns-come : (size : ℕ) (net : Network) (es : List Event) → length net ≡ size → allOf (between size) es ≡ true → Come net es
-unfolding Come
+pub turns-come : (size : ℕ) (net : Network) (es : List Event) → length net ≡ size → allOf (between size) es ≡ true → Admissible net es
+unfolding Admissible
 turns-come size net [] l t = tt
 turns-come size net (e ∷ es) l t = (
   comes net e (rw l (both-left (between size e) (allOf (between size) es) t)),
@@ -171,7 +171,7 @@ turns-come size net (e ∷ es) l t = (
 )
 
 -- ---- what happens, computed
-before : Come line first
+before : Admissible line first
 unfolding computing
 before = (
   (lit< tt, lit< tt, λ e. omega arith),
@@ -193,11 +193,11 @@ before = (
   ),
 )
 
-takes : Takes Update (nodeAt (run line first) 0) 20000 Witness.payload newKeys
+takes : Takes Update (nodeAt (run line first) 0) 20000 RekeyExample.payload newKeys
 unfolding computing
 takes = record { accepted = refl; taken = refl; set = refl }
 
-after : Come taken twice
+after : Admissible taken twice
 unfolding computing
 after = turns-come 3 taken twice refl refl
 
@@ -242,7 +242,7 @@ unspent-after : Throughout (NoneUsedUp newKeys 1) taken twice
 unfolding computing unspentAt unspentThrough
 unspent-after = unspent-through newKeys 1 taken twice refl
 
-pub witness : Demand3 → Witness
+pub witness : Demand3 → RekeyExample
 unfolding Demand3 computing
 witness claim =
     let said = claim line 0 newKeys 1 supposed first before in
@@ -262,5 +262,5 @@ witness claim =
       two-rounds-pending = refl;
       none-sends = said .0;
       rekeyed =
-          said .1 unspent-before Update 20000 Witness.payload takes lineLinks 2 twice after linked-twice rounds unspent-after 2 (lit< tt) hops;
+          said .1 unspent-before Update 20000 RekeyExample.payload takes lineLinks 2 twice after linked-twice rounds unspent-after 2 (lit< tt) hops;
     }

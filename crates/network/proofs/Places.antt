@@ -13,9 +13,9 @@ use Rattle.node_laws.specs.Calls.{NodeCall, starting, polling, delivering, aski
 use Rattle.node_laws.specs.Laws.{KeysStay, CanSend, NodeLaws}
 use Rattle.node.specs.declared.node.Node.{Node}
 use Rattle.network.specs.Network.{Network, nodeAt, withNode}
-use Rattle.network.specs.Events.{Event, turning, calling, step, run, Permitted, Comes, Come, Throughout}
+use Rattle.network.specs.Events.{Event, turning, calling, step, run, Permitted, AdmissibleEvent, Admissible, Throughout}
 use Rattle.network.specs.Rounds.{Links, Linked, AllLinked}
-use Rattle.network.specs.Sleepers.{OneLeft}
+use Rattle.network.specs.PartialRekey.{SomeKeyUsable}
 use Rattle.network.specs.Turn.{turn}
 use Rattle.network.proofs.Turns.{stay-self, sender-stays, receiver-either, receiver-role}
 use Rattle.network.proofs.Receiving.{Kind, new, Quiet, IsNew, Is, becomes, stays-is, turn-becomes}
@@ -87,9 +87,9 @@ module _ (L : NodeLaws) (ks : List Key) where
   Ready kinds net (calling i c) = Unit {0}
 
   step-are :
-      (kinds : Kinds) (net : Network) (e : Event) → Comes net e → Ready kinds net e → Are ks kinds net →
+      (kinds : Kinds) (net : Network) (e : Event) → AdmissibleEvent net e → Ready kinds net e → Are ks kinds net →
       Are ks (moves kinds e) (step net e)
-  unfolding step Comes
+  unfolding step AdmissibleEvent
   step-are kinds net (turning i j type) h f a =
       let t = turn (nodeAt net i) (nodeAt net j) type in
       let s = stays-is ks (kinds i) (sender-stays L (nodeAt net i) (nodeAt net j) type) (a i (h .0)) in
@@ -102,31 +102,31 @@ module _ (L : NodeLaws) (ks : List Key) where
   -- ---- a list of events
   -- where no node has switched, each node's kind stays, whatever the frame types
   module _ (kinds : Kinds) (quiet : (k : ℕ) → Quiet (kinds k)) where
-    pub step-quiet : (net : Network) (e : Event) → Comes net e → Are ks kinds net → Are ks kinds (step net e)
+    pub step-quiet : (net : Network) (e : Event) → AdmissibleEvent net e → Are ks kinds net → Are ks kinds (step net e)
     step-quiet net e h a k l = rw (still kinds quiet e k) at (step-are kinds net e h (ready e) a k l)
       where
         ready : (e : Event) → Ready kinds net e
         ready (turning i j type) = λ w. absurd (rw w at (quiet i))
         ready (calling i c) = tt
 
-    pub run-quiet : (net : Network) (es : List Event) → Come net es → Are ks kinds net → Are ks kinds (run net es)
-    unfolding run Come
+    pub run-quiet : (net : Network) (es : List Event) → Admissible net es → Are ks kinds net → Are ks kinds (run net es)
+    unfolding run Admissible
     run-quiet net [] h a = a
     run-quiet net (e ∷ es) h a = run-quiet (step net e) es (h .1) (step-quiet net e (h .0) a)
 
   -- with turns of a type for which each node that has the set active has a key left, the kinds flow
   module _ (links : Links) (type : ℕ) where
     ready :
-        (kinds : Kinds) (net : Network) (e : Event) → Comes net e → Linked links type e → OneLeft ks type net → Are ks kinds net →
+        (kinds : Kinds) (net : Network) (e : Event) → AdmissibleEvent net e → Linked links type e → SomeKeyUsable ks type net → Are ks kinds net →
         Ready kinds net e
-    unfolding Comes
+    unfolding AdmissibleEvent
     ready kinds net (turning i j u) h l left a = λ w. let is : IsNew ks (nodeAt net i) = rw w at (a i (h .0)) in rw (l .1) (left i (h .0) (is .active))
     ready kinds net (calling i c) h l left a = tt
 
     pub run-flows :
-        (kinds : Kinds) (net : Network) (es : List Event) → Come net es → AllLinked links type es → Throughout (OneLeft ks type) net es →
+        (kinds : Kinds) (net : Network) (es : List Event) → Admissible net es → AllLinked links type es → Throughout (SomeKeyUsable ks type) net es →
         Are ks kinds net → Are ks (flows kinds es) (run net es)
-    unfolding run Come Throughout
+    unfolding run Admissible Throughout
     run-flows kinds net [] h l u a = a
     run-flows kinds net (e ∷ es) h l u a =
         run-flows (moves kinds e) (step net e) es (h .1) (λ x m. l x (List·Memᴰ·tail m)) (u .1)
@@ -194,8 +194,8 @@ module _ (L : NodeLaws) where
       ⊎-elim (λ q. unmoved-stays q u) (λ d. absurd (List·Memᴰ·not-nil (rw (u .pending) at (d .by .member)))) (receiver-either L a b type)
 
   module _ (start : Network) where
-    step-unmoved : (net : Network) (e : Event) → Comes net e → All (UnmovedFrom start) net → All (UnmovedFrom start) (step net e)
-    unfolding step Comes
+    step-unmoved : (net : Network) (e : Event) → AdmissibleEvent net e → All (UnmovedFrom start) net → All (UnmovedFrom start) (step net e)
+    unfolding step AdmissibleEvent
     step-unmoved net (turning i j type) h a =
         let t = turn (nodeAt net i) (nodeAt net j) type in
         all-still (UnmovedFrom start) (withNode net i (t .sender)) j (t .receiver)
@@ -205,7 +205,7 @@ module _ (L : NodeLaws) where
         all-still (UnmovedFrom start) net i (perform c (nodeAt net i) .node) a
         (λ e. unmoved-stays (call-stays L (nodeAt net i) c (h .1)) (a i (h .0) e))
 
-    pub run-unmoved : (net : Network) (es : List Event) → Come net es → All (UnmovedFrom start) net → All (UnmovedFrom start) (run net es)
-    unfolding run Come
+    pub run-unmoved : (net : Network) (es : List Event) → Admissible net es → All (UnmovedFrom start) net → All (UnmovedFrom start) (run net es)
+    unfolding run Admissible
     run-unmoved net [] h a = a
     run-unmoved net (e ∷ es) h a = run-unmoved (step net e) es (h .1) (step-unmoved net e (h .0) a)

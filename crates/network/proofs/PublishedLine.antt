@@ -10,20 +10,20 @@ use Rattle.node.specs.Range.{Valid}
 use Rattle.node_laws.specs.Laws.{Takes}
 use Rattle.node_delivery.specs.declared.Delivery.the-variants.{Update}
 use Rattle.network.specs.Network.{nodeAt}
-use Rattle.network.specs.Events.{run, Come, Throughout}
+use Rattle.network.specs.Events.{run, Admissible, Throughout}
 use Rattle.network.specs.Demand3.{Supposed, NoneUsedUp, Demand3}
-use Rattle.network.specs.Witness.{oldKeys, lineLinks, twice}
-use Rattle.network.specs.PublishedLine.{informedKeys, publishedLine, badJrcBeside, firstPublished, takenPublished, PublishedWitness}
+use Rattle.network.specs.RekeyExample.{oldKeys, lineLinks, twice}
+use Rattle.network.specs.PublishedRekeyExample.{keysWithInfo, publishedLine, badJrcBeside, firstPublished, takenPublished, PublishedRekeyExample}
 use Rattle.network.proofs.Line.{computing, three, ones-apart, ones-differ, linked-twice, rounds, hops, turns-come}
 use Rattle.network.proofs.Line.{unspentAt, unspentThrough, unspent-through}
 
-apart : Apart oldKeys informedKeys
+apart : Apart oldKeys keysWithInfo
 apart = ones-apart _ _ (λ e. omega arith)
 
-differ : oldKeys ≡ informedKeys → ⊥
+differ : oldKeys ≡ keysWithInfo → ⊥
 differ = ones-differ _ _ (λ e. omega arith)
 
-supposed : Supposed publishedLine 0 informedKeys 1
+supposed : Supposed publishedLine 0 keysWithInfo 1
 unfolding computing
 supposed =
     record {
@@ -33,13 +33,13 @@ supposed =
       ordinary = three (λ i. (i ≡ 0 → ⊥) → nodeAt publishedLine i .role ≡ 0) (λ f. absurd (f refl)) (λ _. refl) (λ _. refl);
       covering = record { key = _; member = at refl; covering = refl };
       pending =
-          three (λ i. nodeAt publishedLine i .role ≡ 0 → pendingOf (nodeAt publishedLine i) ≡ informedKeys) (λ e. absurd (omega arith))
+          three (λ i. nodeAt publishedLine i .role ≡ 0 → pendingOf (nodeAt publishedLine i) ≡ keysWithInfo) (λ e. absurd (omega arith))
           (λ _. refl) (λ _. refl);
-      active-at-none = three (λ i. activeOf (nodeAt publishedLine i) ≡ informedKeys → ⊥) differ differ differ;
+      active-at-none = three (λ i. activeOf (nodeAt publishedLine i) ≡ keysWithInfo → ⊥) differ differ differ;
       former-apart = apart;
     }
 
-before : Come publishedLine firstPublished
+before : Admissible publishedLine firstPublished
 unfolding computing
 before = (
   (lit< tt, lit< tt, λ e. omega arith),
@@ -52,26 +52,26 @@ before = (
   ),
 )
 
-takes : Takes Update (nodeAt (run publishedLine firstPublished) 0) 20000 badJrcBeside informedKeys
+takes : Takes Update (nodeAt (run publishedLine firstPublished) 0) 20000 badJrcBeside keysWithInfo
 unfolding computing
 takes = record { accepted = refl; taken = refl; set = refl }
 
-after : Come takenPublished twice
+after : Admissible takenPublished twice
 unfolding computing
 after = turns-come 3 takenPublished twice refl refl
 
-unspent-before : Throughout (NoneUsedUp informedKeys 1) publishedLine firstPublished
+unspent-before : Throughout (NoneUsedUp keysWithInfo 1) publishedLine firstPublished
 unfolding computing unspentAt unspentThrough
-unspent-before = unspent-through informedKeys 1 publishedLine firstPublished refl
+unspent-before = unspent-through keysWithInfo 1 publishedLine firstPublished refl
 
-unspent-after : Throughout (NoneUsedUp informedKeys 1) takenPublished twice
+unspent-after : Throughout (NoneUsedUp keysWithInfo 1) takenPublished twice
 unfolding computing unspentAt unspentThrough
-unspent-after = unspent-through informedKeys 1 takenPublished twice refl
+unspent-after = unspent-through keysWithInfo 1 takenPublished twice refl
 
-pub published-witness : Demand3 → PublishedWitness
+pub published-witness : Demand3 → PublishedRekeyExample
 unfolding Demand3 computing
 published-witness claim =
-    let said = claim publishedLine 0 informedKeys 1 supposed firstPublished before in
+    let said = claim publishedLine 0 keysWithInfo 1 supposed firstPublished before in
     let then = said .1 unspent-before Update 20000 badJrcBeside takes in
     record {
       supposed = supposed;

@@ -23,10 +23,10 @@ use Rattle.node_delivery.specs.declared.Delivery.{Delivery}
 use Rattle.node_key_sets.specs.declared.frames.KeyAnswer.{KeyAnswer}
 use Rattle.node.specs.declared.node.Node.{Node}
 use Rattle.network.specs.Network.{Network, nodeAt}
-use Rattle.network.specs.Events.{Event, turning, calling, step, run, Comes, Come, Throughout, answers, Under}
+use Rattle.network.specs.Events.{Event, turning, calling, step, run, AdmissibleEvent, Admissible, Throughout, answers, Under}
 use Rattle.network.specs.Rounds.{Links, Neighbours, Towards, Hops, here, hop, AllLinked, Rounds}
 use Rattle.network.specs.Demand3.{Supposed, NoneUsedUp, NoneSendsUnder, Rekeyed, handed, Demand3}
-use Rattle.network.specs.Sleepers.{OneLeft, SupposedSome, Followed, PassesWhile, SomeLack, all, WhereAllHad}
+use Rattle.network.specs.PartialRekey.{SomeKeyUsable, SupposedSome, Followed, RekeyUnder, PartialRekey, all, FullCase}
 use Rattle.network.proofs.Receiving.{apart, old, new, Quiet, Carries, IsNew, Is, none-apart, kind-valid, quiet-sends}
 use Rattle.network.proofs.Flood.{Kinds, with, flows, far}
 use Rattle.network.proofs.Places.{All, at-other, Are, are-with, size-with, size-run, throughout-map, at-end, run-role, step-quiet, run-quiet, run-flows}
@@ -58,9 +58,9 @@ module _ (L : NodeLaws) where
   -- ---- before: no node sends under the set
   module _ (ks : List Key) (kinds : Kinds) (quiet : (k : ℕ) → Quiet (kinds k)) where
     answers-none :
-        (net : Network) (es : List Event) → Come net es → Are ks kinds net →
+        (net : Network) (es : List Event) → Admissible net es → Are ks kinds net →
         (a : KeyAnswer) → List·Memᴰ a (answers net es) → Under ks a → ⊥
-    unfolding answers Come Comes
+    unfolding answers Admissible AdmissibleEvent
     answers-none net [] h s a m = absurd (List·Memᴰ·not-nil m)
     answers-none net (turning i j type ∷ es) h s a (List·Memᴰ·head q) =
         rw q (quiet-sends L ks (nodeAt net i) type (kinds i) (quiet i) (s i (h .0 .0)))
@@ -69,7 +69,7 @@ module _ (L : NodeLaws) where
     answers-none net (calling i c ∷ es) h s a m =
         answers-none (step net (calling i c)) es (h .1) (step-quiet L ks kinds quiet net (calling i c) (h .0) s) a m
 
-    none-sends : (net : Network) (es : List Event) → Come net es → Are ks kinds net → NoneSendsUnder ks net es
+    none-sends : (net : Network) (es : List Event) → Admissible net es → Are ks kinds net → NoneSendsUnder ks net es
     none-sends net es h s = record {
       in-list = answers-none net es h s;
       at-end = λ i type l.
@@ -130,12 +130,12 @@ module _ (L : NodeLaws) where
       size : length next ≡ length net
       size = size-with out border (deliver delivery (nodeAt out border) time payload .node) ∙ same
 
-      module _ (links : Links) (h : ℕ) (es : List Event) (come : Come next es) (linked : AllLinked links type es)
-          (rounds : Rounds links type h es) (left : Throughout (OneLeft ks type) next es) where
+      module _ (links : Links) (h : ℕ) (es : List Event) (come : Admissible next es) (linked : AllLinked links type es)
+          (rounds : Rounds links type h es) (left : Throughout (SomeKeyUsable ks type) next es) where
         reached : (i : ℕ) → i < length net → Hops (Towards links had) h border i → Rekeyed ks type (nodeAt (run next es) i)
         reached i l hops =
             let inside : i < length (run next es) = rw (size-run next es ∙ size) l in
-            rekeyed ks type (nodeAt (run next es) i) (at-end (OneLeft ks type) next es left i inside)
+            rekeyed ks type (nodeAt (run next es) i) (at-end (SomeKeyUsable ks type) next es left i inside)
             (rw switched at (run-flows L ks links type (atStep had border) next es come linked left step-are i inside))
           where
             switched : flows (atStep had border) es i ≡ new
@@ -162,8 +162,8 @@ module _ (L : NodeLaws) where
         followed : Followed had net border ks type links h (run next es)
         followed = record { reached = reached; lacked = lacked }
 
-  pub while-one-left : PassesWhile OneLeft
-  unfolding PassesWhile
+  pub while-one-left : RekeyUnder SomeKeyUsable
+  unfolding RekeyUnder
   while-one-left had net border ks type g before come =
       let quiet = start-quiet had border in
       let start = start-are had net border ks type g in (
@@ -176,13 +176,13 @@ module _ (L : NodeLaws) where
       )
 
   -- where none of the covering keys is used up, one is left
-  none-used-left : (ks : List Key) (type : ℕ) → Covers ks type → (net : Network) → NoneUsedUp ks type net → OneLeft ks type net
+  none-used-left : (ks : List Key) (type : ℕ) → Covers ks type → (net : Network) → NoneUsedUp ks type net → SomeKeyUsable ks type net
   none-used-left ks type covering net unspent i l e = L .covers-can (nodeAt net i) type (rw e covering) (rw e (unspent i l))
 
-  pub some-lack : PassesWhile OneLeft → SomeLack
-  unfolding PassesWhile
+  pub some-lack : RekeyUnder SomeKeyUsable → PartialRekey
+  unfolding RekeyUnder
   some-lack claim had net border ks type g before come =
-      let left = throughout-map (NoneUsedUp ks type) (OneLeft ks type) (none-used-left ks type (g .covering)) in
+      let left = throughout-map (NoneUsedUp ks type) (SomeKeyUsable ks type) (none-used-left ks type (g .covering)) in
       let said = claim had net border ks type g before come in (
         said .0,
         λ unspent delivery time payload takes links h after comes linked rounds unspent-after.
@@ -223,11 +223,11 @@ supposed-back g = record {
   former-apart = g .former-apart;
 }
 
-pub where-all-had : WhereAllHad
+pub where-all-had : FullCase
 where-all-had = record { supposed = supposed-all; supposed-back = supposed-back; hops = hops-all; hops-back = hops-back }
 
-pub demand3 : SomeLack → Demand3
-unfolding Demand3 PassesWhile
+pub demand3 : PartialRekey → Demand3
+unfolding Demand3 RekeyUnder
 demand3 claim net border ks type g before come =
     let said = claim all net border ks type (supposed-all g) before come in (
       said .0,

@@ -18,7 +18,7 @@ use Rattle.node.specs.declared.node.Node.{Node}
 use Rattle.network.specs.Turn.{turned, told, judged, received, sent, turn}
 use Rattle.network.specs.declared.turn.Answer.{Answer}
 use Rattle.network.specs.declared.turn.Answer.the-variants.{Refused, Failed}
-use Rattle.network.specs.declared.turn.Turned.{Turned}
+use Rattle.network.specs.declared.turn.TurnResult.{TurnResult}
 
 pub stay-self : (n : Node) → KeysStay n n
 stay-self n = record { active = refl; pending = refl; role = refl; valid = λ v. v }
@@ -37,7 +37,7 @@ abbrev pub Receives : Node → Node → ℕ → Node → Type 0
 Receives a b type m = KeysStay b m ⊎ Moved a b type m
 
 -- a turn ends with the receiver as it was, or the send was answered and the receiver is told that the frame is verified
-module _ (a b : Node) (type : ℕ) (P : Turned → Type 0) (same : (x : Answer) → P (turned (afterSend a type) b x))
+module _ (a b : Node) (type : ℕ) (P : TurnResult → Type 0) (same : (x : Answer) → P (turned (afterSend a type) b x))
     (verifies : send a type .verdict ≡ Accepted → P (told (afterSend a type) b (verified b type (frameId a type)))) where
   at-radio : (e : send a type .verdict ≡ Accepted) (l : Key) → P (judged (afterSend a type) b type (send a type .key) l)
   unfolding judged

@@ -23,7 +23,7 @@ module _ (sender receiver : Node) (type : ℕ) where
   abbrev pub found : KeyAnswer
   found = receive receiver type (sentKey .identifier)
 
-pub record TurnsSay (sender receiver : Node) (type : ℕ) : Type 0 where
+pub record TurnAnswers (sender receiver : Node) (type : ℕ) : Type 0 where
   pub sender-refused : (k : Refusal) → send sender type .verdict ≡ Refused k → answerNumber (turn sender receiver type .answer) ≡ numberOf k
   pub receiver-refused :
       (k : Refusal) → send sender type .verdict ≡ Accepted → found sender receiver type .verdict ≡ Refused k →
@@ -43,5 +43,5 @@ pub record TurnsSay (sender receiver : Node) (type : ℕ) : Type 0 where
       ≡ (sameKey (sentKey sender receiver type) (found sender receiver type .key)
       && not (has (sentKey sender receiver type .identifier) (activeOf receiver)))
 
-abbrev pub EveryTurnSays : Type 0
-EveryTurnSays = (sender receiver : Node) (type : ℕ) → TurnsSay sender receiver type
+abbrev pub EveryTurnAnswers : Type 0
+EveryTurnAnswers = (sender receiver : Node) (type : ℕ) → TurnAnswers sender receiver type

@@ -14,7 +14,7 @@ use Rattle.node_delivery.specs.declared.Delivery.{Delivery}
 use Rattle.node_key_sets.specs.declared.frames.KeyAnswer.{KeyAnswer}
 use Rattle.node.specs.declared.node.Node.{Node}
 use Rattle.network.specs.Network.{Network, nodeAt, withNode}
-use Rattle.network.specs.Events.{Event, run, Come, Throughout, answers, Under}
+use Rattle.network.specs.Events.{Event, run, Admissible, Throughout, answers, Under}
 use Rattle.network.specs.Rounds.{Links, Neighbours, Hops, AllLinked, Rounds}
 
 -- what demand 3 supposes at the start, of a network with its border router at that place, the new set and the frame type
@@ -64,7 +64,7 @@ unfoldable pub Demand3 : Type 0
 Demand3 =
     (net : Network) (border : ℕ) (new : List Key) (type : ℕ) → Supposed net border new type →
     -- "before the border router accepts it, for every list of 01's events, with turns of any two nodes and whatever frames pass,"
-    (before : List Event) → Come net before →
+    (before : List Event) → Admissible net before →
     -- "no node sends anything under it, in the list or if asked at its end."
     NoneSendsUnder new net before
     -- "the new set's covering keys aren't used up at any node from the start of its lists"
@@ -74,7 +74,7 @@ Demand3 =
     -- "from there radio links are fixed"
     (links : Links) →
     -- "for every h, take every further list of such events,"
-    (h : ℕ) (after : List Event) → Come (handed (run net before) border delivery time payload) after →
+    (h : ℕ) (after : List Event) → Admissible (handed (run net before) border delivery time payload) after →
     -- "with turns only of neighbours," "and every turn asks for that type",
     AllLinked links type after →
     -- "that holds h rounds one after another."

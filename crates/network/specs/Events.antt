@@ -12,7 +12,7 @@ use Rattle.node_key_sets.specs.declared.frames.KeyAnswer.{KeyAnswer}
 use Rattle.node.specs.declared.node.Node.{Node}
 use Rattle.network.specs.Network.{Network, nodeAt, withNode}
 use Rattle.network.specs.Turn.{turn}
-use Rattle.network.specs.declared.turn.Turned.{Turned}
+use Rattle.network.specs.declared.turn.TurnResult.{TurnResult}
 
 pub data Event : Type 0 where
   -- a turn: the first node is asked to send the frame type, the second receives it
@@ -22,7 +22,7 @@ pub data Event : Type 0 where
 
 -- ---- what events do
 -- both nodes of a turn are as it left them
-abbrev pub withTurned : Network → ℕ → ℕ → Turned → Network
+abbrev pub withTurned : Network → ℕ → ℕ → TurnResult → Network
 withTurned net i j t = withNode (withNode net i (t .sender)) j (t .receiver)
 
 unfoldable pub step : Network → Event → Network
@@ -50,14 +50,14 @@ Permitted n (receiving type identifier) = ⊥
 Permitted n (reporting type identifier) = ⊥
 
 -- turns of any two nodes with whatever frame type, and those calls at any node
-unfoldable pub Comes : Network → Event → Type 0
-Comes net (turning i j type) = (i < length net) × (j < length net) × (i ≡ j → ⊥)
-Comes net (calling i c) = (i < length net) × Permitted (nodeAt net i) c
+unfoldable pub AdmissibleEvent : Network → Event → Type 0
+AdmissibleEvent net (turning i j type) = (i < length net) × (j < length net) × (i ≡ j → ⊥)
+AdmissibleEvent net (calling i c) = (i < length net) × Permitted (nodeAt net i) c
 
 -- a list of such events
-unfoldable pub Come : Network → List Event → Type 0
-Come net [] = Unit {0}
-Come net (e ∷ es) = Comes net e × Come (step net e) es
+unfoldable pub Admissible : Network → List Event → Type 0
+Admissible net [] = Unit {0}
+Admissible net (e ∷ es) = AdmissibleEvent net e × Admissible (step net e) es
 
 -- at every moment of a list of events, its start and its end included
 unfoldable pub Throughout : (Network → Type 0) → Network → List Event → Type 0

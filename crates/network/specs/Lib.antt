@@ -3,9 +3,9 @@ pub mod Network
 pub mod Events
 pub mod Rounds
 pub mod Demand3
-pub mod Witness
+pub mod RekeyExample
 pub mod Answers
 pub mod Demand1
-pub mod Sleepers
-pub mod Building
-pub mod PublishedLine
+pub mod PartialRekey
+pub mod PartialRekeyExample
+pub mod PublishedRekeyExample

@@ -9,14 +9,14 @@ use Rattle.link_key.specs.declared.Key.{Key}
 use Rattle.node.specs.Frames.{send, afterSend, receive, verified}
 use Rattle.node_key_sets.specs.declared.frames.Change.{Change}
 use Rattle.node_key_sets.specs.declared.frames.Change.the-variants as change
-use Rattle.node.specs.declared.frames.Reported.{Reported}
+use Rattle.node.specs.declared.frames.VerifyResult.{VerifyResult}
 use Rattle.node_key_sets.specs.declared.frames.KeyAnswer.{KeyAnswer}
 use Rattle.node.specs.declared.node.Node.{Node}
 use Rattle.network.specs.declared.turn.Answer.{Answer}
 use Rattle.network.specs.declared.turn.Answer.the-variants.{Refused, Failed, Kept, Switched}
-use Rattle.network.specs.declared.turn.Turned.{Turned}
+use Rattle.network.specs.declared.turn.TurnResult.{TurnResult}
 
-abbrev pub turned : Node → Node → Answer → Turned
+abbrev pub turned : Node → Node → Answer → TurnResult
 turned sender receiver answer = record { sender = sender; receiver = receiver; answer = answer }
 
 -- what the receiver answers to the report of a verified frame
@@ -26,28 +26,28 @@ answerOf change.Switched = Switched
 answerOf change.Kept = Kept
 
 -- the receiver was told that the frame is verified: what the report made of it
-abbrev pub told : Node → Node → Reported → Turned
+abbrev pub told : Node → Node → VerifyResult → TurnResult
 told sender receiver report = turned sender (report .node) (answerOf (report .change))
 
 -- the radio: a frame is verified exactly where the key sent with and the key found are equal; one that failed is no call
-unfoldable pub judged : Node → Node → ℕ → Key → Key → Turned
+unfoldable pub judged : Node → Node → ℕ → Key → Key → TurnResult
 judged sender receiver type sent found =
     cond (sameKey sent found) (told sender receiver (verified receiver type (sent .identifier))) (turned sender receiver Failed)
 
 -- the receiver's answer; a refusal ends the turn
-abbrev pub received : Node → Node → ℕ → Key → Verdict → Key → Turned
+abbrev pub received : Node → Node → ℕ → Key → Verdict → Key → TurnResult
 received sender receiver type sent (verdict.Refused k) found = turned sender receiver (Refused k)
 received sender receiver type sent verdict.Accepted found = judged sender receiver type sent found
 
-abbrev pub receives : Node → Node → ℕ → Key → KeyAnswer → Turned
+abbrev pub receives : Node → Node → ℕ → Key → KeyAnswer → TurnResult
 receives sender receiver type sent found = received sender receiver type sent (found .verdict) (found .key)
 
 -- the sender's answer, with the sender after it was asked; a refusal ends the turn, and the receiver is not asked
-abbrev pub sent : Node → Node → ℕ → Verdict → Key → Turned
+abbrev pub sent : Node → Node → ℕ → Verdict → Key → TurnResult
 sent sender receiver type (verdict.Refused k) key = turned sender receiver (Refused k)
 sent sender receiver type verdict.Accepted key = receives sender receiver type key (receive receiver type (key .identifier))
 
-unfoldable pub turn : Node → Node → ℕ → Turned
+unfoldable pub turn : Node → Node → ℕ → TurnResult
 turn sender receiver type = sent (afterSend sender type) receiver type (send sender type .verdict) (send sender type .key)
 
 -- the answer in document 01's terms: the refusal's number, 0 where there is none;

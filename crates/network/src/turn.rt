@@ -12,7 +12,7 @@ pub enum Answer {
 }
 
 // Both nodes as the turn left them.
-pub struct Turned {
+pub struct TurnResult {
     pub sender: Node,
     pub receiver: Node,
     pub answer: Answer,

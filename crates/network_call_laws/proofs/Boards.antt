@@ -9,12 +9,12 @@ use borrow.Author.Tests.{eqb-true}
 use lib.Dec.{eqb}
 use lib.ListN.{length}
 use Rattle.logic_facts.specs.Tests.{both-left, both-right}
-use Rattle.image.specs.Part.{AllBytes, Lawful, isImage}
+use Rattle.image.specs.Part.{AllBytes, RoundTrips, isImage}
 use Rattle.node.specs.declared.node.Node.{Node}
 use Rattle.node_image.specs.Node.{nodeImage}
 use Rattle.node_laws.specs.Calls.{NodeCall, perform}
 use Rattle.node_call_laws.specs.Fits.{CallsFit}
-use Rattle.pothatch_laws.specs.Node.{Call, calling, Told, Did, Called, Held, node, toldOf, tells, after, shown, NodeRuns}
+use Rattle.pothatch_laws.specs.Node.{Call, calling, NodeOutput, Did, Called, Held, node, toldOf, tells, after, shown, NodeRuns}
 use Rattle.pothatch_laws.specs.Runs.{Runs, none-made, next-made, afterAll, answers}
 use Rattle.network_call_laws.proofs.Running.{runs-append}
 
@@ -24,7 +24,7 @@ pub record Holds (n : Node) (s : List ℕ) : Type 0 where
   bytes : AllBytes first
   is : isImage nodeImage first ≡ true
   calls : List Call
-  told : List Told
+  told : List NodeOutput
   runs : Runs Did calls first told s
   so : afterAll after calls (node (nodeImage .get first)) ≡ node n
   pub fits : nodeImage .Fit n
@@ -35,21 +35,21 @@ after-then c [] h = refl
 after-then c (d ∷ cs) h = after-then c cs (after d h)
 
 -- the last of the answers
-abbrev final : Told → List Told → Told
+abbrev final : NodeOutput → List NodeOutput → NodeOutput
 final d [] = d
 final d (t ∷ ts) = final t ts
 
-final-then : (d t : Told) (ts : List Told) → final d (ts ++ (t ∷ [])) ≡ t
+final-then : (d t : NodeOutput) (ts : List NodeOutput) → final d (ts ++ (t ∷ [])) ≡ t
 final-then d t [] = refl
 final-then d t (u ∷ ts) = final-then u t ts
 
-final-answer : (d : Told) (c : Call) (cs : List Call) (h : Held)
+final-answer : (d : NodeOutput) (c : Call) (cs : List Call) (h : Held)
     → final d (answers tells after (cs ++ (c ∷ [])) h) ≡ tells c (afterAll after cs h)
 final-answer d c [] h = refl
 final-answer d c (e ∷ cs) h = final-answer (tells e h) c cs (after e h)
 
 -- a call on the struct of the node n told t and left s′
-pub record Makes (c : NodeCall) (n : Node) (t : Told) (s′ : List ℕ) : Type 0 where
+pub record Makes (c : NodeCall) (n : Node) (t : NodeOutput) (s′ : List ℕ) : Type 0 where
   pub told : t ≡ toldOf c (perform c n)
   pub holds : Holds (perform c n .node) s′
 
@@ -57,7 +57,7 @@ module _ (law : NodeRuns) (fit : CallsFit) where
   pub image : {n : Node} {s : List ℕ} → Holds n s → s ≡ nodeImage .put n
   image {s = s} h = law .from-image (h .calls) (h .first) (h .told) s (h .bytes) (h .is) (h .runs) .left ∙ ap shown (h .so)
 
-  pub makes : (c : NodeCall) (n : Node) (s : List ℕ) (t : Told) (s′ : List ℕ) → Holds n s → Called c s t s′ → Makes c n t s′
+  pub makes : (c : NodeCall) (n : Node) (s : List ℕ) (t : NodeOutput) (s′ : List ℕ) → Holds n s → Called c s t s′ → Makes c n t s′
   makes c n s t s′ h d =
       let r = runs-append Did (h .runs) (next-made d none-made) in
       let cs = h .calls in
@@ -82,7 +82,7 @@ module _ (law : NodeRuns) (fit : CallsFit) where
       }
 
 -- ---- the struct of an image, and the node that is loaded from it again
-module _ (lawful : Lawful nodeImage) where
+module _ (lawful : RoundTrips nodeImage) where
   pub from-image : (s : List ℕ) → AllBytes s → isImage nodeImage s ≡ true → Holds (nodeImage .get s) s
   from-image s b i =
       let l : length s ≡ 878 = eqb-true (length s) 878 (both-left (eqb (length s) 878) (nodeImage .good s) i) in

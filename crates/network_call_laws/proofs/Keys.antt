@@ -6,7 +6,7 @@ use mathlib.Core.List.{[], _++_, append-nil}
 use lib.ListN.{take}
 use lib.Seq.{take-append-seam}
 use Rattle.cbor.specs.Encode.{bytesOf}
-use Rattle.image.specs.Part.{Lawful}
+use Rattle.image.specs.Part.{RoundTrips}
 use Rattle.key_image.specs.Key.{keyPart}
 use Rattle.key_image.specs.Laws.{KeyImages}
 use Rattle.link_key.specs.Key.{sameKey}
@@ -18,7 +18,7 @@ use Rattle.network_call_laws.specs.Turn.{identifierIn, keyIn}
 pub identifier-in : (k : Key) (n : ℕ) → identifierIn (frameKeyImage .put (k, n)) ≡ k .identifier
 identifier-in k n = refl
 
-pub key-loaded : Lawful frameKeyImage → (k : Key) (n : ℕ) → frameKeyImage .Fit (k, n)
+pub key-loaded : RoundTrips frameKeyImage → (k : Key) (n : ℕ) → frameKeyImage .Fit (k, n)
     → frameKeyImage .get (frameKeyImage .put (k, n)) .0 ≡ k
 key-loaded lawful k n f =
     ap (λ (x : Key × ℕ). x .0) (ap (frameKeyImage .get) (sym (append-nil (frameKeyImage .put (k, n)))) ∙ lawful .loaded (k, n) [] f)

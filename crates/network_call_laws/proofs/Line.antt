@@ -14,9 +14,9 @@ use Rattle.node_image.specs.Node.{nodeImage}
 use Rattle.node_laws.specs.Calls.{delivering, perform}
 use Rattle.node_laws.specs.Laws.{Takes}
 use Rattle.network.specs.Demand3.{Supposed, NoneUsedUp}
-use Rattle.network.specs.Events.{Event, turning, calling, step, run, Come, Throughout}
+use Rattle.network.specs.Events.{Event, turning, calling, step, run, Admissible, Throughout}
 use Rattle.network.specs.Network.{Network, nodeAt}
-use Rattle.network.specs.Witness.{newKeys, line, lineLinks, first, payload, taken, worst, twice, Witness}
+use Rattle.network.specs.RekeyExample.{newKeys, line, lineLinks, first, payload, taken, worst, twice, RekeyExample}
 use Rattle.network_call_laws.specs.Line.{LineInC}
 use Rattle.network_call_laws.specs.Network.{Structs, structAt, Images, loaded, stored, Answer, Did, NetworkRuns}
 use Rattle.network_call_laws.specs.Playing.{Playable, AllPlayable}
@@ -115,7 +115,7 @@ module _ (law : NetworkRuns) where
   nodes-later es ts z r =
       nodes-after (first ++ (takes ∷ es)) ts z r ∙ run-append line first (takes ∷ es) ∙ ap (λ (net : Network). run net es) took
 
-  pub line-in-c : Demand3InC → Witness → LineInC
+  pub line-in-c : Demand3InC → RekeyExample → LineInC
   unfolding Demand3InC run
   line-in-c demand w =
       let p = events-play first (stored line) first-plays in
@@ -134,7 +134,7 @@ module _ (law : NetworkRuns) where
       let claim =
       demand (stored line) 0 newKeys 1 line-images
       (subst (λ (net : Network). Supposed net 0 newKeys 1) (sym line-nodes) (w .supposed)) first (p .told) (p .left) (p .runs)
-      (subst (λ (net : Network). Come net first) (sym line-nodes) (w .before))
+      (subst (λ (net : Network). Admissible net first) (sym line-nodes) (w .before))
       in
       record {
         images = line-images;
@@ -159,6 +159,6 @@ module _ (law : NetworkRuns) where
             Update 20000 payload (q .told) (q .after) (q .did)
             (subst (λ (net : Network). Takes Update (nodeAt net 0) 20000 payload newKeys) (sym x) (w .takes)) lineLinks 2 twice (t .told)
             (t .left) (t .runs)
-            (subst (λ (net : Network). Come net twice) (sym y) (w .after)) (w .linked) (w .rounds)
+            (subst (λ (net : Network). Admissible net twice) (sym y) (w .after)) (w .linked) (w .rounds)
             (subst (λ (net : Network). Throughout (NoneUsedUp newKeys 1) net twice) (sym y) (w .unspent-after)) 2 (omega arith) (w .hops);
       }

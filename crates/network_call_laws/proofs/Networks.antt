@@ -5,7 +5,7 @@ use mathlib.Core.List.{List, [], _∷_}
 use native.Mathlib.Omega.{arith}
 use lib.ListN.{length, set, length-set}
 use Rattle.refusal.specs.Refusal.{Numbered}
-use Rattle.image.specs.Part.{Lawful}
+use Rattle.image.specs.Part.{RoundTrips}
 use Rattle.key_image.specs.Laws.{KeyImages}
 use Rattle.link_key.specs.Laws.{SameKeyLaws}
 use Rattle.node.specs.declared.node.Node.{Node}
@@ -46,7 +46,7 @@ pub runs-length : {es : List Event} {x z : Structs} {ts : List Answer} → Runs 
 runs-length none-made = refl
 runs-length (next-made d r) = runs-length r ∙ did-length d
 
-pub from-images : Lawful nodeImage → (z : Structs) → Images z → Hold (loaded z) z
+pub from-images : RoundTrips nodeImage → (z : Structs) → Images z → Hold (loaded z) z
 from-images lawful [] b = none
 from-images lawful (s ∷ z) b =
     let h = b 0 (omega arith) in
@@ -57,7 +57,7 @@ module _ (numbers : Numbered) (images : KeyImages) (same : SameKeyLaws) (law : N
   stored-so none = refl
   stored-so (more h r) = ap₂ (λ (s : List ℕ) (z : Structs). s ∷ z) (image law fit h) (stored-so r)
 
-  pub loaded-so : Lawful nodeImage → {net : Network} {z : Structs} → Hold net z → loaded z ≡ net
+  pub loaded-so : RoundTrips nodeImage → {net : Network} {z : Structs} → Hold net z → loaded z ≡ net
   loaded-so lawful none = refl
   loaded-so lawful (more {n = n} {s = s} h r) = ap₂ (λ (m : Node) (net : Network). m ∷ net) (load lawful law fit n s h) (loaded-so lawful r)
 
@@ -92,7 +92,7 @@ module _ (numbers : Numbered) (images : KeyImages) (same : SameKeyLaws) (law : N
       let q = ran ds (step net e) y us z (p .hold) r in
       record { told = ap₂ (λ (a : Answer) (bs : List Answer). a ∷ bs) (p .told) (q .told); hold = q .hold }
 
-  pub network-runs : Lawful nodeImage → NetworkRuns
+  pub network-runs : RoundTrips nodeImage → NetworkRuns
   network-runs lawful =
       record {
         same-bytes = same-bytes images same;

@@ -11,13 +11,13 @@ use Rattle.refusal.specs.Verdict.{verdictNumber}
 use Rattle.refusal.specs.declared.Verdict.{Verdict}
 use Rattle.byte_lists.specs.Same as bytes
 use Rattle.byte_lists.specs.Same.{same-equal, same-refl}
-use Rattle.image.specs.Left.{left, handed}
+use Rattle.image.specs.Effects.{onAccept, resultBytes}
 use Rattle.node_image.specs.Node.{nodeImage}
 use Rattle.node_laws.specs.Calls.{NodeCall, starting, polling, delivering, asking, sending, receiving, reporting, lentTo}
 use Rattle.node_calls.specs.Calls.{performedIn, callVerdict, giveVerdict}
 use Rattle.node_calls.specs.Results.{valueOf, structOf}
 use Rattle.network.specs.Events.{Event, turning, calling}
-use Rattle.pothatch_laws.specs.Node.{Told, told, Done, Asked, Changed, Given, CallDid, Called}
+use Rattle.pothatch_laws.specs.Node.{NodeOutput, nodeOutput, Done, Asked, Changed, Given, CallDid, Called}
 use Rattle.pothatch_laws.specs.Runs.{none-made, next-made}
 use Rattle.network_call_laws.specs.Network.{Structs, structAt, Answer, of-turn, of-call, Did, turned, called}
 use Rattle.network_call_laws.specs.Playing.{Playable, AllPlayable, EventsPlay}
@@ -25,17 +25,17 @@ use Rattle.network_call_laws.specs.Turn.{identifierIn, keyIn, Accepted, 
 use Rattle.network_call_laws.proofs.Networks.{did-length}
 
 -- ---- a call
-record Answered (D : Told → List ℕ → Type 0) : Type 0 where
-  told : Told
+record Answered (D : NodeOutput → List ℕ → Type 0) : Type 0 where
+  told : NodeOutput
   after : List ℕ
   did : D told after
 
 module _ (c : NodeCall) (s : List ℕ) where
   abbrev stored : Verdict → List ℕ
-  stored v = left v s (nodeImage .put (performedIn c s .node))
+  stored v = onAccept v s (nodeImage .put (performedIn c s .node))
 
-  abbrev valued : List ℕ → Told
-  valued d = told (verdictNumber (callVerdict c s)) (left (callVerdict c s) 0 (valueOf (performedIn c s .object))) [] d
+  abbrev valued : List ℕ → NodeOutput
+  valued d = nodeOutput (verdictNumber (callVerdict c s)) (onAccept (callVerdict c s) 0 (valueOf (performedIn c s .object))) [] d
 
   does : Answered (Done c s)
   does = record {
@@ -58,8 +58,8 @@ module _ (c : NodeCall) (s : List ℕ) where
     abbrev verdict : Verdict
     verdict = giveVerdict n c s empty
 
-    abbrev handing : Told
-    handing = told (verdictNumber verdict) 0 (handed n verdict (structOf (performedIn c s .object)) empty) (lentTo c)
+    abbrev handing : NodeOutput
+    handing = nodeOutput (verdictNumber verdict) 0 (resultBytes n verdict (structOf (performedIn c s .object)) empty) (lentTo c)
 
     changes : Answered (Changed n c s)
     changes = record {
@@ -88,7 +88,7 @@ call : (c : NodeCall) (s : List ℕ) → Answered (CallDid c s)
 call (starting time timeout d) s =
     let c = starting time timeout d in
     record {
-      told = valued c s (left (callVerdict c s) d (performedIn c s .lent));
+      told = valued c s (onAccept (callVerdict c s) d (performedIn c s .lent));
       after = stored c s (callVerdict c s);
       did = record {
         starts = record { does = record { tells = record { number = refl; value = refl }; node = refl }; dst = refl };
@@ -130,7 +130,7 @@ module _ (type : ℕ) (s w : List ℕ) (byte : type < 256) where
   abbrev identifier : ℕ
   identifier = identifierIn (first .told .struct)
 
-  abbrev second : Told
+  abbrev second : NodeOutput
   second = handing (receiving type identifier) w 33
 
   sent : Called (sending type) s (first .told) (first .after)

@@ -5,7 +5,7 @@ use mathlib.Core.List.{List, List·Memᴰ}
 use lib.ListN.{length, length-map}
 use Rattle.refusal.specs.Refusal.{Numbered}
 use Rattle.refusal.specs.Verdict.{verdictNumber}
-use Rattle.image.specs.Part.{Lawful}
+use Rattle.image.specs.Part.{RoundTrips}
 use Rattle.key_image.specs.Laws.{KeyImages}
 use Rattle.link_key.specs.Laws.{SameKeyLaws}
 use Rattle.link_key.specs.declared.Key.{Key}
@@ -18,9 +18,9 @@ use Rattle.node_laws.specs.Calls.{sending, delivering, perform}
 use Rattle.node_laws.specs.Laws.{Takes}
 use Rattle.node_call_laws.specs.Fits.{CallsFit}
 use Rattle.network.specs.Demand3.{NoneUsedUp, NoneSendsUnder, Rekeyed, handed, Demand3}
-use Rattle.network.specs.Events.{Event, calling, step, run, Come, Throughout, Under}
+use Rattle.network.specs.Events.{Event, calling, step, run, Admissible, Throughout, Under}
 use Rattle.network.specs.Network.{Network, nodeAt}
-use Rattle.pothatch_laws.specs.Node.{Told, Called, NodeRuns}
+use Rattle.pothatch_laws.specs.Node.{NodeOutput, Called, NodeRuns}
 use Rattle.network_call_laws.specs.Network.{Structs, structAt, loaded, Answer, Did}
 use Rattle.network_call_laws.specs.Rekey.{HandsOneOf, NoneSends, Follows, Demand3InC}
 use Rattle.network_call_laws.specs.Turn.{Accepted}
@@ -29,22 +29,22 @@ use Rattle.network_call_laws.proofs.Keys.{key-loaded}
 use Rattle.network_call_laws.proofs.Networks.{Hold, hold-at, did-length, runs-length, from-images, loaded-so, does, ran}
 use Rattle.network_call_laws.proofs.Turns.{Sent, send-number, sends}
 
-module _ (numbers : Numbered) (images : KeyImages) (same : SameKeyLaws) (law : NodeRuns) (fit : CallsFit) (lawful : Lawful nodeImage)
-    (frame : Lawful frameKeyImage) where
+module _ (numbers : Numbered) (images : KeyImages) (same : SameKeyLaws) (law : NodeRuns) (fit : CallsFit) (lawful : RoundTrips nodeImage)
+    (frame : RoundTrips frameKeyImage) where
   -- ---- one board
   module _ (new : List Key) (type : ℕ) (n : Node) (s : List ℕ) (holds : Holds n s) where
     -- the key that it hands back is the one that the node answers
-    handed-key : (a : Told) (s′ : List ℕ) → Sent n type a s′ → frameKeyImage .get (a .struct) .0 ≡ send n type .key
+    handed-key : (a : NodeOutput) (s′ : List ℕ) → Sent n type a s′ → frameKeyImage .get (a .struct) .0 ≡ send n type .key
     handed-key a s′ x =
         ap (λ (k : List ℕ). frameKeyImage .get k .0) (x .struct)
         ∙ key-loaded frame (send n type .key) (sendCounter n type) (x .fits)
 
-    under : (a : Told) (s′ : List ℕ) → Accepted (sending type) s a s′ → HandsOneOf new a → Under new (send n type)
+    under : (a : NodeOutput) (s′ : List ℕ) → Accepted (sending type) s a s′ → HandsOneOf new a → Under new (send n type)
     under a s′ d m =
         let x = sends numbers law fit n type s a s′ holds d in
         record { accepted = x .accepted; member = subst (λ (k : Key). List·Memᴰ k new) (handed-key a s′ x) m }
 
-    hands : Under new (send n type) → (a : Told) (s′ : List ℕ) → Called (sending type) s a s′ → (a .number ≡ 0) × HandsOneOf new a
+    hands : Under new (send n type) → (a : NodeOutput) (s′ : List ℕ) → Called (sending type) s a s′ → (a .number ≡ 0) × HandsOneOf new a
     hands u a s′ d =
         let e = send-number numbers law fit n type s a s′ holds d ∙ ap verdictNumber (u .accepted) in
         let x = sends numbers law fit n type s a s′ holds (record { called = d; accepted = e }) in
@@ -89,7 +89,7 @@ module _ (numbers : Numbered) (images : KeyImages) (same : SameKeyLaws) (law : N
             (hold-at j (q .hold) inside)
             (claim .1 unspent delivery time payload
             (subst (λ (m : Network). Takes delivery (nodeAt m border) time payload new) (same-nodes (p .hold)) takes) links h later
-            (subst (λ (m : Network). Come m later) e comes) linked rounds
+            (subst (λ (m : Network). Admissible m later) e comes) linked rounds
             (subst (λ (m : Network). Throughout (NoneUsedUp new type) m later) e unspent-later) j
             (subst (λ (k : ℕ). j < k) (sym size) l) hops),
       )

@@ -6,7 +6,7 @@ use Rattle.node_delivery.specs.declared.Delivery.the-variants.{Update}
 use Rattle.node_image.specs.Node.{nodeImage}
 use Rattle.node_laws.specs.Calls.{delivering}
 use Rattle.network.specs.Events.{calling}
-use Rattle.network.specs.Witness.{oldKeys, newKeys, line, first, payload, worst, twice}
+use Rattle.network.specs.RekeyExample.{oldKeys, newKeys, line, first, payload, worst, twice}
 use Rattle.pothatch_laws.specs.Runs.{Runs}
 use Rattle.network_call_laws.specs.Network.{Structs, structAt, Images, loaded, stored, Answer, Did}
 use Rattle.network_call_laws.specs.Rekey.{NoneSends, Follows}

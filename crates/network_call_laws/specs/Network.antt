@@ -16,8 +16,8 @@ use Rattle.network.specs.Network.{Network, nodeAt}
 use Rattle.network.specs.Turn.{turn, answerNumber}
 use Rattle.network.specs.declared.turn.Answer as network
 use Rattle.network.specs.declared.turn.Answer.the-variants.{Refused, Failed, Kept, Switched}
-use Rattle.network.specs.declared.turn.Turned.{Turned}
-use Rattle.pothatch_laws.specs.Node.{Told, Called, toldOf}
+use Rattle.network.specs.declared.turn.TurnResult.{TurnResult}
+use Rattle.pothatch_laws.specs.Node.{NodeOutput, Called, toldOf}
 use Rattle.pothatch_laws.specs.Runs.{Runs, answers}
 use Rattle.network_call_laws.specs.Turn.{identifierIn, keyIn, Played}
 
@@ -43,7 +43,7 @@ stored net = map (nodeImage .put) net
 -- what they tell: a turn's number and the code of its change, or what a call answered
 pub data Answer : Type 0 where
   of-turn : ℕ → ℕ → Answer
-  of-call : Told → Answer
+  of-call : NodeOutput → Answer
 
 pub data Did : Event → Structs → Answer → Structs → Type 0 where
   -- a turn of two nodes
@@ -51,7 +51,7 @@ pub data Did : Event → Structs → Answer → Structs → Type 0 where
       → Played type (structAt structs i) (structAt structs j) r c s′ w′
       → Did (turning i j type) structs (of-turn r c) (set (set structs i s′) j w′)
   -- a call at a node
-  called : {i : ℕ} {c : NodeCall} {structs : Structs} {t : Told} {s′ : List ℕ} → i < length structs → Called c (structAt structs i) t s′
+  called : {i : ℕ} {c : NodeCall} {structs : Structs} {t : NodeOutput} {s′ : List ℕ} → i < length structs → Called c (structAt structs i) t s′
       → Did (calling i c) structs (of-call t) (set structs i s′)
 
 -- ---- the same events in the network
@@ -62,7 +62,7 @@ answerCode Failed = 0
 answerCode Kept = 1
 answerCode Switched = 2
 
-abbrev pub ofTurned : Turned → Answer
+abbrev pub ofTurned : TurnResult → Answer
 ofTurned t = of-turn (answerNumber (t .answer)) (answerCode (t .answer))
 
 abbrev pub tells : Event → Network → Answer

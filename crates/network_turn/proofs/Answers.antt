@@ -9,14 +9,14 @@ use Rattle.link_key.specs.declared.Key.{Key}
 use Rattle.node.specs.Frames.{sending, send, afterSend, receive, verified}
 use Rattle.node_key_sets.specs.declared.frames.Change.{Change}
 use Rattle.node_key_sets.specs.declared.frames.Change.the-variants as change
-use Rattle.node.specs.declared.frames.Reported.{Reported}
-use Rattle.node.specs.declared.frames.Sent.{Sent}
+use Rattle.node.specs.declared.frames.VerifyResult.{VerifyResult}
+use Rattle.node.specs.declared.frames.SendResult.{SendResult}
 use Rattle.node_key_sets.specs.declared.frames.KeyAnswer.{KeyAnswer}
 use Rattle.node.specs.declared.node.Node.{Node}
 use Rattle.network.specs.Turn.{turned, answerOf, judged, receives, sent, turn}
 use Rattle.network.specs.declared.turn.Answer.{Answer}
 use Rattle.network.specs.declared.turn.Answer.the-variants.{Refused, Failed}
-use Rattle.network.specs.declared.turn.Turned.{Turned}
+use Rattle.network.specs.declared.turn.TurnResult.{TurnResult}
 
 pub answer-refused : (x : Change) (why : Refusal) → x ≡ change.Refused why → Refused why ≡ answerOf x
 answer-refused x why e = rw e
@@ -28,7 +28,7 @@ module _ (a b : Node) (type : ℕ) where
   radio-failed k l same e t = rw (sym e, t)
 
   pub radio-verified :
-      (k l : Key) (same : Bool) (h : Reported) (x : Answer) → same ≡ sameKey k l → same ≡ true → h ≡ verified b type (k .identifier) →
+      (k l : Key) (same : Bool) (h : VerifyResult) (x : Answer) → same ≡ sameKey k l → same ≡ true → h ≡ verified b type (k .identifier) →
       x ≡ answerOf (h .change) → turned a (h .node) x ≡ judged a b type k l
   unfolding judged
   radio-verified k l same h x e t v w = rw (sym e, t, sym v, w)
@@ -41,20 +41,20 @@ module _ (a b : Node) (type : ℕ) where
     receiver-refuses why v = rw (sym e, v)
 
     pub receiver-finds :
-        (t : Turned) → found .verdict ≡ verdict.Accepted → t ≡ judged a b type key (found .key) →
+        (t : TurnResult) → found .verdict ≡ verdict.Accepted → t ≡ judged a b type key (found .key) →
         t ≡ receives a b type key (receive b type (key .identifier))
     receiver-finds t v w = rw (sym e, v) w
 
   -- the sender, which answered `x`
-  module _ (x : Sent) (e : x ≡ sending a type) where
+  module _ (x : SendResult) (e : x ≡ sending a type) where
     turn-is : sent (x .node) b type (x .answer .verdict) (x .answer .key) ≡ turn a b type
     unfolding turn send afterSend
-    turn-is = ap (λ (y : Sent). sent (y .node) b type (y .answer .verdict) (y .answer .key)) e
+    turn-is = ap (λ (y : SendResult). sent (y .node) b type (y .answer .verdict) (y .answer .key)) e
 
     pub sender-refuses : (why : Refusal) → x .answer .verdict ≡ verdict.Refused why → turned (x .node) b (Refused why) ≡ turn a b type
     sender-refuses why v = rw v at turn-is
 
     pub sender-finds :
-        (t : Turned) → x .answer .verdict ≡ verdict.Accepted →
+        (t : TurnResult) → x .answer .verdict ≡ verdict.Accepted →
         t ≡ receives (x .node) b type (x .answer .key) (receive b type (x .answer .key .identifier)) → t ≡ turn a b type
     sender-finds t v w = w ∙ rw v at turn-is

@@ -1,7 +1,7 @@
 // Turns carried out: one node is asked to send a frame, another receives it.
 use link_key::Key;
 use network::Answer;
-use network::Turned;
+use network::TurnResult;
 use node::Node;
 use node_key_sets::Change;
 use refusal::Verdict;
@@ -11,7 +11,7 @@ ghost use Rattle.network.specs.Turn.{answerOf, judged, receives, turn};
 
 // The sender is asked for a frame of this type, and the receiver receives it with the identifier of the key answered. The radio
 // reports the frame verified exactly where their keys are equal. A refusal ends the turn.
-pub fn turn(sender: Node, receiver: Node, frame_type: u8) -> Turned
+pub fn turn(sender: Node, receiver: Node, frame_type: u8) -> TurnResult
     ensures { λ r. ⌜ r ≡ turn sender receiver «frame_type» ⌝ }
 {
     let sent = sender.sending_key(frame_type);
@@ -19,7 +19,7 @@ pub fn turn(sender: Node, receiver: Node, frame_type: u8) -> Turned
     let answer = sent.answer;
     let verdict = answer.verdict;
     match verdict {
-        Verdict::Refused(why) => Turned {
+        Verdict::Refused(why) => TurnResult {
             sender: after,
             receiver,
             answer: Answer::Refused(why),
@@ -32,13 +32,13 @@ pub fn turn(sender: Node, receiver: Node, frame_type: u8) -> Turned
 }
 
 // The receiver receives a frame that was sent with the key.
-fn received(sender: Node, receiver: Node, frame_type: u8, key: Key) -> Turned
+fn received(sender: Node, receiver: Node, frame_type: u8, key: Key) -> TurnResult
     ensures { λ r. ⌜ r ≡ receives sender receiver «frame_type» key (receive receiver «frame_type» (key .identifier)) ⌝ }
 {
     let found = receiver.receiving_key(frame_type, key.identifier);
     let verdict = found.verdict;
     match verdict {
-        Verdict::Refused(why) => Turned {
+        Verdict::Refused(why) => TurnResult {
             sender,
             receiver,
             answer: Answer::Refused(why),
@@ -51,20 +51,20 @@ fn received(sender: Node, receiver: Node, frame_type: u8, key: Key) -> Turned
 }
 
 // The radio compares the key that was sent with and the key that was found; a frame that failed is no call.
-fn judged(sender: Node, receiver: Node, frame_type: u8, key: Key, found: Key) -> Turned
+fn judged(sender: Node, receiver: Node, frame_type: u8, key: Key, found: Key) -> TurnResult
     ensures { λ r. ⌜ r ≡ judged sender receiver «frame_type» key found ⌝ }
 {
     if key.same_key(found) {
         let reported = receiver.verified(frame_type, key.identifier);
         let change = reported.change;
         let node = reported.node;
-        return Turned {
+        return TurnResult {
             sender,
             receiver: node,
             answer: answer_of(change),
         };
     }
-    Turned {
+    TurnResult {
         sender,
         receiver,
         answer: Answer::Failed,

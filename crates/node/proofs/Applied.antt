@@ -10,10 +10,10 @@ use Rattle.refusal.specs.declared.Verdict.{Verdict}
 use Rattle.refusal.specs.declared.Verdict.the-variants as verdict
 use Rattle.node_key_sets.specs.Sets.{placed, install, setAt, placing}
 use Rattle.node_key_sets.specs.declared.sets.KeySets.{KeySets}
-use Rattle.node_key_sets.specs.declared.sets.Place.{Place}
-use Rattle.node_key_sets.specs.declared.sets.Place.the-variants as place
-use Rattle.node_key_sets.specs.declared.sets.Placement.{Placement}
-use Rattle.node_key_sets.specs.declared.sets.Spot.{Spot}
+use Rattle.node_key_sets.specs.declared.sets.InstallDecision.{InstallDecision}
+use Rattle.node_key_sets.specs.declared.sets.InstallDecision.the-variants as place
+use Rattle.node_key_sets.specs.declared.sets.InstallResult.{InstallResult}
+use Rattle.node_key_sets.specs.declared.sets.InstallSlot.{InstallSlot}
 use Rattle.node_delivery.specs.Delivery.{mayCome}
 use Rattle.node_delivery.specs.declared.Delivery.{Delivery}
 use Rattle.cojp.specs.Configuration.{withKeys, readConfigurationAs}
@@ -22,10 +22,10 @@ use Rattle.cojp.specs.Reading.{ifTaken}
 use Rattle.cojp.specs.Version.{byVersion}
 use Rattle.cojp.specs.declared.configuration.Configuration.{Configuration}
 use Rattle.cojp.specs.declared.configuration.ConfigurationRead.{ConfigurationRead}
-use Rattle.cojp.specs.declared.report.Report.the-variants.{Discarded}
+use Rattle.cojp.specs.declared.disposition.Disposition.the-variants.{Discarded}
 use Rattle.cojp.specs.declared.version.Version.{Version}
 use Rattle.cojp.specs.declared.version.Version.the-variants.{Draft, Published}
-use Rattle.node_parameters.specs.Reports.{reportsOf}
+use Rattle.node_parameters.specs.Dispositions.{dispositionsOf}
 use Rattle.node_parameters.proofs.Taken.{taken-is, taken-not}
 use Rattle.node.specs.Delivery.{placementOf, fittedBy, fitted, configured, undelivered, delivered, owesIdentifier, placedBy, apply, deliverVerdict, deliver}
 use Rattle.node.specs.Node.{isBorder, keyed}
@@ -74,18 +74,18 @@ module _ (n : Node) (c : Configuration) where
       go Published = refl
 
   -- where the key set goes, by the answers of the code
-  module _ {t : Bool} (asked : t ≡ ifTaken (c .keys .report) true false) where
+  module _ {t : Bool} (asked : t ≡ ifTaken (c .keys .disposition) true false) where
     not-placed : t ≡ false → placementOf n (c .keys) ≡ placed (n .sets)
-    not-placed e = taken-not (c .keys .report) (install (isBorder n) (n .sets) (c .keys .value)) (placed (n .sets)) t asked e
+    not-placed e = taken-not (c .keys .disposition) (install (isBorder n) (n .sets) (c .keys .value)) (placed (n .sets)) t asked e
 
     placed-at :
-        (p : Place) → t ≡ true → install (isBorder n) (n .sets) (c .keys .value) ≡ placing p (n .sets) (c .keys .value) →
+        (p : InstallDecision) → t ≡ true → install (isBorder n) (n .sets) (c .keys .value) ≡ placing p (n .sets) (c .keys .value) →
         placementOf n (c .keys) ≡ placing p (n .sets) (c .keys .value)
-    placed-at p e f = taken-is (c .keys .report) (install (isBorder n) (n .sets) (c .keys .value)) (placed (n .sets)) t asked e ∙ f
+    placed-at p e f = taken-is (c .keys .disposition) (install (isBorder n) (n .sets) (c .keys .value)) (placed (n .sets)) t asked e ∙ f
 
 -- ---- applying
 module _ (delivery : Delivery) (n : Node) (time : ℕ) (c : Configuration) where
-  pub apply-owed : owesIdentifier delivery n (c .network .report) ≡ true → undelivered refusal.Owed n ≡ apply delivery n time (fitted n c)
+  pub apply-owed : owesIdentifier delivery n (c .network .disposition) ≡ true → undelivered refusal.Owed n ≡ apply delivery n time (fitted n c)
   unfolding apply
   apply-owed e = rw (fitted-network n c, e)
 
@@ -94,20 +94,20 @@ module _ (delivery : Delivery) (n : Node) (time : ℕ) (c : Configuration) where
     pub held : m ≡ keyed n (m .sets)
     pub does : placedBy verdict.Accepted delivery n time left (m .sets) ≡ apply delivery n time (fitted n c)
 
-  module _ (owes : owesIdentifier delivery n (c .network .report) ≡ false) where
+  module _ (owes : owesIdentifier delivery n (c .network .disposition) ≡ false) where
     apply-placed : {s : KeySets} → placementOf n (c .keys) ≡ placed s → placedBy verdict.Accepted delivery n time c s ≡ apply delivery n time (fitted n c)
     unfolding apply
-    apply-placed e = rw (fitted-placed n c (ap (λ (p : Placement). p .verdict) e), owes, e)
+    apply-placed e = rw (fitted-placed n c (ap (λ (p : InstallResult). p .verdict) e), owes, e)
 
-    module _ {t : Bool} (asked : t ≡ ifTaken (c .keys .report) true false) where
+    module _ {t : Bool} (asked : t ≡ ifTaken (c .keys .disposition) true false) where
       pub none-placed : t ≡ false → Placed n c
       none-placed e = record { held = refl; does = apply-placed (not-placed n c asked e) }
 
-      module _ (took : t ≡ true) {p : Place} (told : install (isBorder n) (n .sets) (c .keys .value) ≡ placing p (n .sets) (c .keys .value)) where
-        goes : {q : Place} → p ≡ q → placementOf n (c .keys) ≡ placing q (n .sets) (c .keys .value)
+      module _ (took : t ≡ true) {p : InstallDecision} (told : install (isBorder n) (n .sets) (c .keys .value) ≡ placing p (n .sets) (c .keys .value)) where
+        goes : {q : InstallDecision} → p ≡ q → placementOf n (c .keys) ≡ placing q (n .sets) (c .keys .value)
         goes e = rw (← e) (placed-at n c asked p took told)
 
-        pub set-placed : {spot : Spot} → p ≡ place.At spot → Placed (keyed n (setAt spot (n .sets) (c .keys .value))) c
+        pub set-placed : {spot : InstallSlot} → p ≡ place.At spot → Placed (keyed n (setAt spot (n .sets) (c .keys .value))) c
         set-placed e = record { held = refl; does = apply-placed (goes e) }
 
         pub apply-clash : {k : Refusal} → p ≡ place.Refused k → n .version ≡ Draft → undelivered k n ≡ apply delivery n time (fitted n c)
@@ -121,6 +121,6 @@ module _ (delivery : Delivery) (n : Node) (time : ℕ) (c : Configuration) where
   -- the answer, from the node with its key sets placed
   pub apply-changed :
       (m : Node) (left : Configuration) → Placed m left →
-      delivered (reportsOf (isBorder m) left) (configured delivery m time left (m .sets) (reportsOf (isBorder m) left)) ≡ apply delivery n time (fitted n c)
+      delivered (dispositionsOf (isBorder m) left) (configured delivery m time left (m .sets) (dispositionsOf (isBorder m) left)) ≡ apply delivery n time (fitted n c)
   unfolding configured
   apply-changed m left h = rw (h .held) (h .does)

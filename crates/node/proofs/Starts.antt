@@ -6,7 +6,7 @@ use Rattle.refusal.specs.declared.Refusal.{Refusal}
 use Rattle.refusal.specs.declared.Verdict.{Verdict}
 use Rattle.refusal.specs.declared.Verdict.the-variants as verdict
 use Rattle.cbor.specs.Answer.{Did}
-use Rattle.cbor.specs.declared.write.Written.{Written}
+use Rattle.cbor.specs.declared.write.WriteResult.{WriteResult}
 use Rattle.cojp.specs.Writing.{requestPlan}
 use Rattle.cojp.specs.declared.request.JoinRequest.{JoinRequest}
 use Rattle.node.specs.Timing.{requestOf, startVerdict, startPlan, startedFrom, startedBy, unstarted, start, startAfter, StartDid}
@@ -17,7 +17,7 @@ module _ (n : Node) (time timeout : ℕ) (d : List ℕ) (v : Verdict) (e : v ≡
   unfolding start startAfter startPlan
   start-refused r = let f = sym e ∙ r in record { says = rw f; holds = rw f }
 
-  module _ (a : v ≡ verdict.Accepted) (q : JoinRequest) (w : Written) (d′ : List ℕ) (f : q ≡ requestOf n) (did : Did (requestPlan (n .version) q) d w d′) where
+  module _ (a : v ≡ verdict.Accepted) (q : JoinRequest) (w : WriteResult) (d′ : List ℕ) (f : q ≡ requestOf n) (did : Did (requestPlan (n .version) q) d w d′) where
     pub start-written : StartDid n time timeout d (startedBy w n (startedFrom n time timeout)) d′
     unfolding start startAfter startPlan
     start-written =

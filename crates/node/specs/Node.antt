@@ -10,7 +10,7 @@ use Rattle.node_key_sets.specs.Sets.{activeIn, pendingIn, noSets}
 use Rattle.node_key_sets.specs.declared.sets.KeySets.{KeySets}
 use Rattle.node_attempt.specs.Attempt.{idle}
 use Rattle.node_attempt.specs.declared.attempt.Attempt.{Attempt}
-use Rattle.cojp.specs.Faults.{noFaults}
+use Rattle.cojp.specs.ErrorReports.{noErrorReports}
 use Rattle.cojp.specs.declared.version.Version.{Version}
 use Rattle.cojp.specs.declared.version.Version.the-variants.{Draft}
 use Rattle.node_parameters.specs.Blacklist.{absentList}
@@ -18,7 +18,7 @@ use Rattle.node_parameters.specs.Lease.{absentAddress}
 use Rattle.node_parameters.specs.Octets.{absentOctets, knownOctets, validOctets}
 use Rattle.node_parameters.specs.Rate.{absentRate}
 use Rattle.node_parameters.specs.declared.octets.HeldOctets.{HeldOctets}
-use Rattle.node.specs.declared.node.Made.{Made}
+use Rattle.node.specs.declared.node.MakeResult.{MakeResult}
 use Rattle.node.specs.declared.node.Node.{Node}
 
 -- the keys of the two sets, in order; no keys are no set
@@ -49,7 +49,7 @@ freshNode version role network = record {
   version = version;
   blacklist = absentList;
   rate = absentRate;
-  faults = noFaults;
+  errors = noErrorReports;
 }
 
 abbrev pub emptyNode : Node
@@ -60,10 +60,10 @@ abbrev pub validRole : ℕ → Bool
 validRole role = leb role 1
 
 -- the answer: RANGE for the role or the network identifier, and the empty node, which is one of the draft, beside it
-abbrev pub unmade : Made
+abbrev pub unmade : MakeResult
 unmade = record { verdict = verdict.Refused Range; node = emptyNode }
 
-unfoldable pub made : Version → ℕ → HeldOctets → Made
+unfoldable pub made : Version → ℕ → HeldOctets → MakeResult
 made version role network =
     cond (validRole role)
     (cond (validOctets network)
@@ -85,7 +85,7 @@ module _ (n : Node) where
     version = n .version;
     blacklist = n .blacklist;
     rate = n .rate;
-    faults = n .faults;
+    errors = n .errors;
   }
 
   abbrev pub keyed : KeySets → Node
@@ -100,5 +100,5 @@ module _ (n : Node) where
     version = n .version;
     blacklist = n .blacklist;
     rate = n .rate;
-    faults = n .faults;
+    errors = n .errors;
   }

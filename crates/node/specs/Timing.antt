@@ -8,9 +8,9 @@ use Rattle.refusal.specs.declared.Refusal.the-variants as refusal
 use Rattle.refusal.specs.declared.Verdict.{Verdict}
 use Rattle.refusal.specs.declared.Verdict.the-variants as verdict
 use Rattle.cbor.specs.Answer.{Plan, refuse, answer, after}
-use Rattle.cbor.specs.declared.write.Written.{Written}
-use Rattle.cbor.specs.declared.write.Written.the-variants as written
-use Rattle.cojp.specs.Faults.{noFaults}
+use Rattle.cbor.specs.declared.write.WriteResult.{WriteResult}
+use Rattle.cbor.specs.declared.write.WriteResult.the-variants as written
+use Rattle.cojp.specs.ErrorReports.{noErrorReports}
 use Rattle.cojp.specs.Writing.{requestPlan}
 use Rattle.cojp.specs.declared.request.JoinRequest.{JoinRequest}
 use Rattle.cojp_list_read.specs.Listed.{listedIn}
@@ -18,13 +18,13 @@ use Rattle.node_attempt.specs.Attempt.{mayStart, waitingFrom}
 use Rattle.node_attempt.specs.Poll as attempt
 use Rattle.node_attempt.specs.declared.poll.Due.{Due}
 use Rattle.node_attempt.specs.declared.poll.Due.the-variants as due
-use Rattle.node_attempt.specs.declared.poll.Step.{Step}
+use Rattle.node_attempt.specs.declared.poll.AttemptResult.{AttemptResult}
 use Rattle.node_parameters.specs.Octets.{identifierIn}
 use Rattle.node.specs.Node.{attempting}
 use Rattle.node.specs.Range.{valid}
 use Rattle.node.specs.declared.node.Node.{Node}
-use Rattle.node.specs.declared.timing.Polled.{Polled}
-use Rattle.node.specs.declared.timing.Started.{Started}
+use Rattle.node.specs.declared.timing.PollResult.{PollResult}
+use Rattle.node.specs.declared.timing.StartResult.{StartResult}
 
 -- ---- starting
 -- the request carries the node's role, its network identifier where it holds one, and its reports where it has any
@@ -32,9 +32,9 @@ unfoldable pub requestOf : Node → JoinRequest
 requestOf n = record {
   role = n .role;
   network = identifierIn (n .network);
-  unsupported = listedIn (n .faults);
-  faults = noFaults;
-  passed = 0;
+  unsupported = listedIn (n .errors);
+  errors = noErrorReports;
+  unknown = 0;
 }
 
 -- whether it may start: RANGE: the node; CLOCK, PHASE, RANGE: the timeout
@@ -53,15 +53,15 @@ startPlan n time timeout = planBy (startVerdict n time timeout) (requestPlan (n 
 abbrev pub startedFrom : Node → ℕ → ℕ → Node
 startedFrom n time timeout = attempting n (waitingFrom time timeout)
 
-abbrev pub unstarted : Refusal → Node → Started
+abbrev pub unstarted : Refusal → Node → StartResult
 unstarted k n = record { verdict = verdict.Refused k; length = 0; node = n }
 
-abbrev pub startedBy : Written → Node → Node → Started
+abbrev pub startedBy : WriteResult → Node → Node → StartResult
 startedBy (written.Refused k) n m = unstarted k n
 startedBy (written.Length l) n m = record { verdict = verdict.Accepted; length = l; node = m }
 
 -- the answer, d being what the destination holds
-unfoldable pub start : Node → ℕ → ℕ → List ℕ → Started
+unfoldable pub start : Node → ℕ → ℕ → List ℕ → StartResult
 start n time timeout d = startedBy (answer (startPlan n time timeout) d) n (startedFrom n time timeout)
 
 -- the destination's contents afterwards
@@ -69,16 +69,16 @@ unfoldable pub startAfter : Node → ℕ → ℕ → List ℕ → List ℕ
 startAfter n time timeout d = after (startPlan n time timeout) d
 
 -- a start: its answer r, and the destination d before and d′ afterwards
-pub record StartDid (n : Node) (time timeout : ℕ) (d : List ℕ) (r : Started) (d′ : List ℕ) : Type 0 where
+pub record StartDid (n : Node) (time timeout : ℕ) (d : List ℕ) (r : StartResult) (d′ : List ℕ) : Type 0 where
   pub says : r ≡ start n time timeout d
   pub holds : d′ ≡ startAfter n time timeout d
 
 -- ---- polling: RANGE: the node; then as its join attempt
-abbrev pub polled : Due → Node → Polled
+abbrev pub polled : Due → Node → PollResult
 polled due n = record { due = due; node = n }
 
-abbrev pub polledBy : Node → Step → Polled
+abbrev pub polledBy : Node → AttemptResult → PollResult
 polledBy n s = polled (s .due) (attempting n (s .attempt))
 
-unfoldable pub poll : Node → ℕ → Polled
+unfoldable pub poll : Node → ℕ → PollResult
 poll n time = cond (valid n) (polledBy n (attempt.poll (n .attempt) time)) (polled (due.Refused refusal.Range) n)

@@ -1,17 +1,17 @@
 // Configurations handed to a node: join answers (join responses) and parameter updates.
 use crate::node::Node;
+use cojp::Disposition;
 use cojp::OctetsParameter;
-use cojp::Report;
 use cojp::Version;
-use cojp::faults_of;
+use cojp::error_reports_of;
 use cojp::no_key_set;
 use cojp_configuration_read::read_configuration_as;
 use cojp_range::is_taken;
 use node_delivery::Delivery;
-use node_key_sets::Place;
-use node_parameters::Reports;
-use node_parameters::reports::no_reports;
-use node_parameters::reports::reports_of;
+use node_key_sets::InstallDecision;
+use node_parameters::Dispositions;
+use node_parameters::dispositions::dispositions_of;
+use node_parameters::dispositions::no_dispositions;
 use refusal::Refusal;
 use refusal::Verdict;
 ghost use mathlib.Core.Path.{_≡_};
@@ -19,35 +19,35 @@ ghost use Rattle.node.specs.Delivery.{undelivered, owesIdentifier, deliv
 ghost use Rattle.node_delivery.specs.declared.Delivery.the-variants as delivery;
 
 // Beside a refusal stand the empty report and the node as it was.
-pub struct Delivered {
+pub struct DeliveryResult {
     pub verdict: Verdict,
-    pub reports: Reports,
+    pub dispositions: Dispositions,
     pub node: Node,
 }
 
 impl Node {
-    fn undelivered(self, why: Refusal) -> Delivered
+    fn undelivered(self, why: Refusal) -> DeliveryResult
         ensures { λ r. ⌜ r ≡ undelivered why self ⌝ }
     {
-        Delivered {
+        DeliveryResult {
             verdict: Verdict::Refused(why),
-            reports: no_reports(),
+            dispositions: no_dispositions(),
             node: self,
         }
     }
 
     // A border node's join answer owes a network identifier that neither the request nor the answer had.
     fn owes_identifier(self, delivery: Delivery, parameter: OctetsParameter) -> bool
-        ensures { λ r. ⌜ r ≡ owesIdentifier delivery self (parameter .report) ⌝ }
+        ensures { λ r. ⌜ r ≡ owesIdentifier delivery self (parameter .disposition) ⌝ }
     {
         let network = self.network;
-        let report = parameter.report;
+        let report = parameter.disposition;
         delivery.asks_identifier() && self.role == 1 && !network.held && !is_taken(report)
     }
 
     // A payload with a configuration of the node's form: RANGE: the node; LONG, CLOCK, PHASE; then reading, OWED, CLASH in the draft.
     // The node is changed where it stands: handed from function to function, an update costs a fifth more.
-    fn deliver(mut self, delivery: Delivery, time: u64, payload: &[u8]) -> Delivered
+    fn deliver(mut self, delivery: Delivery, time: u64, payload: &[u8]) -> DeliveryResult
         ensures { λ r. ⌜ r ≡ deliver delivery self time (now (payload .entry)) ⌝ }
     {
         if !self.valid() {
@@ -67,19 +67,19 @@ impl Node {
             return self.undelivered(Refusal::Owed);
         }
         let keys = c.keys;
-        let report = keys.report;
+        let report = keys.disposition;
         if is_taken(report) {
-            let place = self.sets.place_of(self.role == 1, keys.value);
+            let place = self.sets.decide_install(self.role == 1, keys.value);
             match place {
                 // The draft refuses a set that cannot be placed, the published form takes the rest.
-                Place::Refused(why) => match version {
+                InstallDecision::Refused(why) => match version {
                     Version::Draft => return self.undelivered(why),
-                    Version::Published => c.keys = no_key_set(Report::Discarded),
+                    Version::Published => c.keys = no_key_set(Disposition::Discarded),
                 },
-                Place::At(spot) => self.sets = self.sets.with_set(spot, keys.value),
+                InstallDecision::At(spot) => self.sets = self.sets.with_set(spot, keys.value),
             }
         }
-        let reports = reports_of(self.role == 1, c);
+        let reports = dispositions_of(self.role == 1, c);
         let jrc = reports.jrc;
         let network = reports.network;
         let prefix = reports.prefix;
@@ -90,23 +90,23 @@ impl Node {
         self.prefix = self.prefix.after(prefix, c.prefix);
         self.blacklist = self.blacklist.after(c.blacklist);
         self.rate = self.rate.after(c.rate);
-        self.faults = faults_of(c);
-        Delivered {
+        self.errors = error_reports_of(c);
+        DeliveryResult {
             verdict: Verdict::Accepted,
-            reports,
+            dispositions: reports,
             node: self,
         }
     }
 
     // A join answer, which belongs to a waiting node and makes it joined.
-    pub fn join_answer(self, time: u64, payload: &[u8]) -> Delivered
+    pub fn join_answer(self, time: u64, payload: &[u8]) -> DeliveryResult
         ensures { λ r. ⌜ r ≡ deliver delivery.JoinAnswer self time (now (payload .entry)) ⌝ }
     {
         self.deliver(Delivery::JoinAnswer, time, payload)
     }
 
     // A parameter update, which belongs to a joined node.
-    pub fn update(self, time: u64, payload: &[u8]) -> Delivered
+    pub fn update(self, time: u64, payload: &[u8]) -> DeliveryResult
         ensures { λ r. ⌜ r ≡ deliver delivery.Update self time (now (payload .entry)) ⌝ }
     {
         self.deliver(Delivery::Update, time, payload)

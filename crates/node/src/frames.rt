@@ -11,25 +11,25 @@ ghost use Rattle.node.specs.Frames.{sending, receive, verified};
 
 // What a frame is sent with: the key and its counter, and the node with that counter one higher. Beside a refusal stand 0 and the node as
 // it was. The node stands first: with a gap before it, the compiler copies it.
-pub struct Sent {
+pub struct SendResult {
     pub node: Node,
     pub answer: KeyAnswer,
     pub counter: u32,
 }
 
-pub struct Reported {
+pub struct VerifyResult {
     pub change: Change,
     pub node: Node,
 }
 
 impl Node {
     // The key to send a frame of this type with: the first active one that covers it and is not used up. RANGE: the node, the type; SILENT.
-    pub fn sending_key(self, frame_type: u8) -> Sent
+    pub fn sending_key(self, frame_type: u8) -> SendResult
         ensures { λ r. ⌜ r ≡ sending self «frame_type» ⌝ }
     {
         if !self.valid() {
             let answer = without_key(Refusal::Range);
-            return Sent {
+            return SendResult {
                 answer,
                 counter: 0,
                 node: self,
@@ -40,7 +40,7 @@ impl Node {
         let sets = sending.sets;
         let mut node = self;
         node.sets = sets;
-        Sent {
+        SendResult {
             answer,
             counter: sending.counter,
             node,
@@ -68,20 +68,20 @@ impl Node {
     }
 
     // The radio reports a frame of this type and key identifier verified. Refused as `receiving_key` is.
-    pub fn verified(self, frame_type: u8, identifier: u8) -> Reported
+    pub fn verified(self, frame_type: u8, identifier: u8) -> VerifyResult
         ensures { λ r. ⌜ r ≡ verified self «frame_type» identifier ⌝ }
     {
         if !self.valid() {
-            return Reported {
+            return VerifyResult {
                 change: Change::Refused(Refusal::Range),
                 node: self,
             };
         }
         let change = self.sets.verified(frame_type, identifier);
         match change {
-            Change::Refused(_) => Reported { change, node: self },
-            Change::Kept => Reported { change, node: self },
-            Change::Switched => Reported {
+            Change::Refused(_) => VerifyResult { change, node: self },
+            Change::Kept => VerifyResult { change, node: self },
+            Change::Switched => VerifyResult {
                 change,
                 node: self.switched(),
             },

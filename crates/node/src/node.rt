@@ -1,7 +1,7 @@
 // One node's state, and how a node is made.
-use cojp::Faults;
+use cojp::ErrorReports;
 use cojp::Version;
-use cojp::no_faults;
+use cojp::no_error_reports;
 use node_attempt::Attempt;
 use node_attempt::attempt::idle;
 use node_key_sets::KeySets;
@@ -34,11 +34,11 @@ pub struct Node {
     // Blacklist, join rate and reports for the next join request belong to the published form.
     pub blacklist: HeldList,
     pub rate: HeldRate,
-    pub faults: Faults,
+    pub errors: ErrorReports,
 }
 
 // A node that was made; beside a refusal stands the empty node.
-pub struct Made {
+pub struct MakeResult {
     pub verdict: Verdict,
     pub node: Node,
 }
@@ -59,21 +59,21 @@ fn fresh_node(version: Version, role: u8, network: HeldOctets) -> Node
         version,
         blacklist: absent_list(),
         rate: absent_rate(),
-        faults: no_faults(),
+        errors: no_error_reports(),
     }
 }
 
-fn not_made() -> Made
+fn not_made() -> MakeResult
     ensures { λ r. ⌜ r ≡ unmade ⌝ }
 {
-    Made {
+    MakeResult {
         verdict: Verdict::Refused(Refusal::Range),
         node: fresh_node(Version::Draft, 0, absent_octets()),
     }
 }
 
 // A node of a form. RANGE: role over 1, identifier over 16 bytes.
-fn make(version: Version, role: u8, network: HeldOctets) -> Made
+fn make(version: Version, role: u8, network: HeldOctets) -> MakeResult
     ensures { λ r. ⌜ r ≡ made version role network ⌝ }
 {
     if 1 < role {
@@ -82,7 +82,7 @@ fn make(version: Version, role: u8, network: HeldOctets) -> Made
     if !network.valid() {
         return not_made();
     }
-    Made {
+    MakeResult {
         verdict: Verdict::Accepted,
         node: fresh_node(version, role, network.known()),
     }
@@ -97,14 +97,14 @@ impl Node {
 
     // A node of document 01's form with this role, idle, and perhaps with a network identifier. RANGE: role over 1, identifier over 16
     // bytes.
-    pub fn new(role: u8, network: HeldOctets) -> Made
+    pub fn new(role: u8, network: HeldOctets) -> MakeResult
         ensures { λ r. ⌜ r ≡ made Draft role network ⌝ }
     {
         make(Version::Draft, role, network)
     }
 
     // The same of RFC 9031's form. Beside a refusal stands the empty node of the draft.
-    pub fn published(role: u8, network: HeldOctets) -> Made
+    pub fn published(role: u8, network: HeldOctets) -> MakeResult
         ensures { λ r. ⌜ r ≡ made Published role network ⌝ }
     {
         make(Version::Published, role, network)

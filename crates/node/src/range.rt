@@ -1,14 +1,14 @@
 // Which nodes may be handed in.
 use crate::node::Node;
 use cojp::Version;
-use node_parameters::faults::faults_fit;
+use node_parameters::error_reports::error_reports_valid;
 ghost use mathlib.Core.Path.{_≡_};
-ghost use Rattle.cojp.specs.Version.{informed};
-ghost use Rattle.node.specs.Range.{draftFits, publishedFits, formFits, othersValid, valid};
+ghost use Rattle.cojp.specs.Version.{allowsAdditionalInfo};
+ghost use Rattle.node.specs.Range.{draftValid, publishedValid, versionValid, othersValid, valid};
 
 // Whether a form's keys may have additional information.
-fn informed(version: Version) -> bool
-    ensures { λ r. ⌜ r ≡ informed version ⌝ }
+fn allows_additional_info(version: Version) -> bool
+    ensures { λ r. ⌜ r ≡ allowsAdditionalInfo version ⌝ }
 {
     match version {
         Version::Draft => false,
@@ -18,8 +18,8 @@ fn informed(version: Version) -> bool
 
 impl Node {
     // Whether a node of the draft has nothing that belongs to the published form.
-    fn draft_fits(self) -> bool
-        ensures { λ r. ⌜ r ≡ draftFits self ⌝ }
+    fn draft_valid(self) -> bool
+        ensures { λ r. ⌜ r ≡ draftValid self ⌝ }
     {
         let blacklist = self.blacklist;
         let rate = self.rate;
@@ -27,31 +27,31 @@ impl Node {
     }
 
     // Whether a node of the published form has no prefix, and a blacklist in range if it has one.
-    fn published_fits(self) -> bool
-        ensures { λ r. ⌜ r ≡ publishedFits self ⌝ }
+    fn published_valid(self) -> bool
+        ensures { λ r. ⌜ r ≡ publishedValid self ⌝ }
     {
         let prefix = self.prefix;
         !prefix.held && self.blacklist.valid()
     }
 
     // Whether what the node has besides belongs to its form.
-    fn form_fits(self) -> bool
-        ensures { λ r. ⌜ r ≡ formFits self ⌝ }
+    fn version_valid(self) -> bool
+        ensures { λ r. ⌜ r ≡ versionValid self ⌝ }
     {
         let version = self.version;
-        if !faults_fit(version, self.faults) {
+        if !error_reports_valid(version, self.errors) {
             return false;
         }
         match version {
-            Version::Draft => self.draft_fits(),
-            Version::Published => self.published_fits(),
+            Version::Draft => self.draft_valid(),
+            Version::Published => self.published_valid(),
         }
     }
 
     fn others_valid(self) -> bool
         ensures { λ r. ⌜ r ≡ othersValid self ⌝ }
     {
-        self.role <= 1 && self.jrc.valid_jrc() && self.network.valid() && self.form_fits()
+        self.role <= 1 && self.jrc.valid_jrc() && self.network.valid() && self.version_valid()
     }
 
     // Whether the node may be handed in; where it may not, each call answers RANGE.
@@ -60,8 +60,8 @@ impl Node {
     {
         let attempt = self.attempt;
         let version = self.version;
-        let informed = informed(version);
-        self.sets.valid(self.role == 1, informed)
+        let allowed = allows_additional_info(version);
+        self.sets.valid(self.role == 1, allowed)
             && attempt.valid()
             && self.address.valid(attempt.clock)
             && self.others_valid()

@@ -1,8 +1,8 @@
 // The join attempt: a start writes the join request, polls say when to send it again and when to give up.
 use crate::node::Node;
-use cbor::Written;
+use cbor::WriteResult;
 use cojp::JoinRequest;
-use cojp::no_faults;
+use cojp::no_error_reports;
 use cojp_list_read::unsupported_of;
 use cojp_request_write::write_request_as;
 use node_attempt::Attempt;
@@ -15,13 +15,13 @@ ghost use Rattle.node.specs.Node.{attempting};
 ghost use Rattle.node.specs.Timing.{requestOf, startVerdict, startedFrom, startedBy, unstarted, StartDid, poll};
 
 // A start wrote `length` bytes of the join request; beside a refusal stand 0 and the node as it was.
-pub struct Started {
+pub struct StartResult {
     pub verdict: Verdict,
     pub length: usize,
     pub node: Node,
 }
 
-pub struct Polled {
+pub struct PollResult {
     pub due: Due,
     pub node: Node,
 }
@@ -34,9 +34,9 @@ impl Node {
         JoinRequest {
             role: self.role,
             network: self.network.parameter(),
-            unsupported: unsupported_of(self.faults),
-            faults: no_faults(),
-            passed: 0,
+            unsupported: unsupported_of(self.errors),
+            errors: no_error_reports(),
+            unknown: 0,
         }
     }
 
@@ -49,10 +49,10 @@ impl Node {
         node
     }
 
-    fn unstarted(self, why: Refusal) -> Started
+    fn unstarted(self, why: Refusal) -> StartResult
         ensures { λ r. ⌜ r ≡ unstarted why self ⌝ }
     {
-        Started {
+        StartResult {
             verdict: Verdict::Refused(why),
             length: 0,
             node: self,
@@ -70,12 +70,12 @@ impl Node {
     }
 
     // The answer to a start, by what became of its request.
-    fn started(self, written: Written, time: u64, timeout: u64) -> Started
+    fn started(self, written: WriteResult, time: u64, timeout: u64) -> StartResult
         ensures { λ r. ⌜ r ≡ startedBy written self (startedFrom self time timeout) ⌝ }
     {
         match written {
-            Written::Refused(why) => self.unstarted(why),
-            Written::Length(length) => Started {
+            WriteResult::Refused(why) => self.unstarted(why),
+            WriteResult::Length(length) => StartResult {
                 verdict: Verdict::Accepted,
                 length,
                 node: self.attempting(waiting_from(time, timeout)),
@@ -85,7 +85,7 @@ impl Node {
 
     // Starts a join attempt with this first timeout: the join request is written to `dst`, and the node waits.
     // RANGE: the node; CLOCK, PHASE; RANGE: the timeout; OWED, ROOM.
-    pub fn start(self, dst: &mut [u8], time: u64, timeout: u64) -> Started
+    pub fn start(self, dst: &mut [u8], time: u64, timeout: u64) -> StartResult
         ensures { λ r. ⌜ StartDid self time timeout (now (dst .entry)) r (now (dst .exit)) ⌝ }
     {
         match self.may_start(time, timeout) {
@@ -99,18 +99,18 @@ impl Node {
     }
 
     // Asks what is due in the join attempt; at most one step per poll. RANGE: the node; CLOCK, PHASE.
-    pub fn poll(self, time: u64) -> Polled
+    pub fn poll(self, time: u64) -> PollResult
         ensures { λ r. ⌜ r ≡ poll self time ⌝ }
     {
         if !self.valid() {
-            return Polled {
+            return PollResult {
                 due: Due::Refused(Refusal::Range),
                 node: self,
             };
         }
         let step = self.attempt.poll(time);
         let due = step.due;
-        Polled {
+        PollResult {
             due,
             node: self.attempting(step.attempt),
         }

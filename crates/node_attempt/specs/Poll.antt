@@ -13,20 +13,20 @@ use Rattle.node_attempt.specs.declared.attempt.Attempt.{Attempt}
 use Rattle.node_attempt.specs.declared.attempt.Phase.the-variants as phase
 use Rattle.node_attempt.specs.declared.poll.Due.{Due}
 use Rattle.node_attempt.specs.declared.poll.Due.the-variants.{Refused, NotYet, SendAgain, GaveUp}
-use Rattle.node_attempt.specs.declared.poll.Step.{Step}
+use Rattle.node_attempt.specs.declared.poll.AttemptResult.{AttemptResult}
 
-abbrev pub step : Due → Attempt → Step
+abbrev pub step : Due → Attempt → AttemptResult
 step due a = record { due = due; attempt = a }
 
 -- the step that is due: the request goes out again, up to 4 times
-unfoldable pub stepped : Attempt → ℕ → Step
+unfoldable pub stepped : Attempt → ℕ → AttemptResult
 stepped a time =
     cond (ltb (a .count) 4)
     (step SendAgain (attempt (a .phase) time time (2 * a .timeout) (a .count + 1)))
     (step GaveUp (attempt phase.GaveUp time (a .sent) (a .timeout) (a .count)))
 
 -- RANGE: the attempt; CLOCK, PHASE; a step is due once the time since the last sending has reached the timeout
-unfoldable pub poll : Attempt → ℕ → Step
+unfoldable pub poll : Attempt → ℕ → AttemptResult
 poll a time =
     cond (valid a)
     (cond (leb (a .clock) time)

@@ -4,8 +4,8 @@ pub mod poll;
 
 pub use attempt::Attempt;
 pub use attempt::Phase;
+pub use poll::AttemptResult;
 pub use poll::Due;
-pub use poll::Step;
 ghost use Rattle.node_attempt.specs.Demand1.{AttemptDemand1};
 
 // Demand 1 for the join attempt.

@@ -16,14 +16,14 @@ pub enum Due {
 }
 
 // What was due, and the attempt afterwards; beside a refusal the attempt as it was.
-pub struct Step {
+pub struct AttemptResult {
     pub due: Due,
     pub attempt: Attempt,
 }
 
 impl Attempt {
     // The step that is due: the request goes out again, or the node gives up.
-    fn stepped(self, time: u64) -> Step
+    fn stepped(self, time: u64) -> AttemptResult
         requires { ⌜ self .timeout ≤ 240000 ⌝ }
         ensures { λ r. ⌜ r ≡ stepped self time ⌝ }
     {
@@ -33,7 +33,7 @@ impl Attempt {
             again.sent = time;
             again.timeout = 2 * self.timeout;
             again.count = self.count + 1;
-            return Step {
+            return AttemptResult {
                 due: Due::SendAgain,
                 attempt: again,
             };
@@ -45,31 +45,31 @@ impl Attempt {
             timeout: self.timeout,
             count: self.count,
         };
-        Step {
+        AttemptResult {
             due: Due::GaveUp,
             attempt: over,
         }
     }
 
     // Asks what is due; at most one step per poll. RANGE: the attempt; CLOCK, PHASE.
-    pub fn poll(self, time: u64) -> Step
+    pub fn poll(self, time: u64) -> AttemptResult
         ensures { λ r. ⌜ r ≡ poll self time ⌝ }
     {
         if !self.valid() {
-            return Step {
+            return AttemptResult {
                 due: Due::Refused(Refusal::Range),
                 attempt: self,
             };
         }
         if time < self.clock {
-            return Step {
+            return AttemptResult {
                 due: Due::Refused(Refusal::Clock),
                 attempt: self,
             };
         }
         let phase = self.phase;
         if !is_waiting(phase) {
-            return Step {
+            return AttemptResult {
                 due: Due::Refused(Refusal::Phase),
                 attempt: self,
             };
@@ -79,7 +79,7 @@ impl Attempt {
         }
         let mut still = self;
         still.clock = time;
-        Step {
+        AttemptResult {
             due: Due::NotYet,
             attempt: still,
         }

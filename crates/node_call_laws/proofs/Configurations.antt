@@ -10,26 +10,26 @@ use Rattle.image.specs.Part.{AllBytes}
 use Rattle.link_key_set.specs.KeyLaws.{KeyLaws}
 use Rattle.cbor.specs.Strict.{headBy}
 use Rattle.cbor.specs.View.{View}
-use Rattle.cojp.specs.Configuration.{emptyConfiguration, withKeys, withAddress, withJrc, withNetwork, withPrefix, standingFor, configurationPassing, takingFor, noted, configurationTaking, configurationForm, configurationAnswer, readConfigurationBy}
-use Rattle.cojp.specs.Faults.{added}
+use Rattle.cojp.specs.Configuration.{emptyConfiguration, withKeys, withAddress, withJrc, withNetwork, withPrefix, labelStatusFor, configurationPassing, takingFor, noted, configurationTaking, configurationForm, configurationAnswer, readConfigurationBy}
+use Rattle.cojp.specs.ErrorReports.{added}
 use Rattle.cojp.specs.KeySet.{noKeysParameter, keysReadAs}
 use Rattle.cojp.specs.Address.{noAddressParameter, addressRead}
 use Rattle.cojp.specs.Octets.{noOctetsParameter, octetsRead}
 use Rattle.cojp.specs.Parameter.{laterParameter, parameterOf}
-use Rattle.cojp.specs.Reading.{Reading, refused, read, following}
-use Rattle.cojp.specs.Version.{byVersion, informed}
+use Rattle.cojp.specs.Reading.{Reading, refused, read, byVersionOf}
+use Rattle.cojp.specs.Version.{byVersion, allowsAdditionalInfo}
 use Rattle.cojp.specs.Walk.{knownRead, payloadReadBy}
 use Rattle.cojp.specs.declared.configuration.Configuration.{Configuration}
 use Rattle.cojp.specs.declared.parameter.Parameter.{Parameter}
 use Rattle.cojp.specs.declared.parameter.Parameter.the-variants as name
-use Rattle.cojp.specs.declared.report.Report.the-variants.{Absent, Discarded}
+use Rattle.cojp.specs.declared.disposition.Disposition.the-variants.{Absent, Discarded}
 use Rattle.cojp.specs.declared.version.Version.{Version}
 use Rattle.cojp.specs.declared.version.Version.the-variants.{Draft, Published}
-use Rattle.cojp.specs.declared.walk.Standing.{Standing}
-use Rattle.cojp.specs.declared.walk.Standing.the-variants.{Unknown, Fresh, Again}
+use Rattle.cojp.specs.declared.walk.LabelStatus.{LabelStatus}
+use Rattle.cojp.specs.declared.walk.LabelStatus.the-variants.{Unknown, First, Repeated}
 use Rattle.object_image.specs.Address.{addressParameterPart}
 use Rattle.object_image.specs.Configuration.{keysParameterPart, configurationImage}
-use Rattle.object_image.specs.Faults.{faultsPart}
+use Rattle.object_image.specs.ErrorReports.{errorReportsPart}
 use Rattle.object_image.specs.Octets.{octetsParameterPart}
 use Rattle.node_call_laws.proofs.Items.{Always, ViewOk}
 use Rattle.node_call_laws.proofs.Lists.{by-cond}
@@ -41,7 +41,7 @@ abbrev ConfigurationFits : Configuration → Type 0
 ConfigurationFits c = configurationImage .Fit c
 
 abbrev Reads : ℕ → Configuration → Type 0
-Reads m c = Fitting ConfigurationFits (λ (d : Configuration). d .passed) m c
+Reads m c = Fitting ConfigurationFits (λ (d : Configuration). d .unknown) m c
 
 -- a label that names a parameter is a byte
 abbrev Known : Parameter → Type 0
@@ -75,16 +75,16 @@ module _ (laws : KeyLaws) (v : Version) where
   module _ (c : Configuration) (m : ℕ) (f : Reads m c) where
     taking-for : (q : Parameter) (x : View) → ViewOk x → ReadOk (Reads m) (takingFor v c q x)
     taking-for name.Keys x h =
-        put-ok (keysParameterPart .Fit) (Reads m) (withKeys c) (following v (noKeysParameter Discarded) (keysReadAs (informed v) x))
-        (following-ok (keysParameterPart .Fit) v (noKeysParameter Discarded) (keysReadAs (informed v) x) (report-fits Discarded, no-keys-fit)
-        (keys-read laws (informed v) x h))
+        put-ok (keysParameterPart .Fit) (Reads m) (withKeys c) (byVersionOf v (noKeysParameter Discarded) (keysReadAs (allowsAdditionalInfo v) x))
+        (following-ok (keysParameterPart .Fit) v (noKeysParameter Discarded) (keysReadAs (allowsAdditionalInfo v) x) (report-fits Discarded, no-keys-fit)
+        (keys-read laws (allowsAdditionalInfo v) x h))
         (λ p g. (((g, f .0 .0 .1), f .0 .1), f .1))
     taking-for name.Address x h =
-        put-ok (addressParameterPart .Fit) (Reads m) (withAddress c) (following v (noAddressParameter Discarded) (addressRead x))
+        put-ok (addressParameterPart .Fit) (Reads m) (withAddress c) (byVersionOf v (noAddressParameter Discarded) (addressRead x))
         (following-ok (addressParameterPart .Fit) v (noAddressParameter Discarded) (addressRead x) (no-address-fits Discarded) (address-read x h))
         (λ p g. (((f .0 .0 .0, (g, f .0 .0 .1 .1)), f .0 .1), f .1))
     taking-for name.Jrc x h =
-        put-ok (octetsParameterPart .Fit) (Reads m) (withJrc c) (following v (noOctetsParameter Discarded) (octetsRead 16 x))
+        put-ok (octetsParameterPart .Fit) (Reads m) (withJrc c) (byVersionOf v (noOctetsParameter Discarded) (octetsRead 16 x))
         (following-ok (octetsParameterPart .Fit) v (noOctetsParameter Discarded) (octetsRead 16 x) (no-octets-fit Discarded) (octets-read 16 x h))
         (λ p g. (((f .0 .0 .0, (f .0 .0 .1 .0, (g, f .0 .0 .1 .1 .1))), f .0 .1), f .1))
     taking-for name.Network x h =
@@ -98,11 +98,11 @@ module _ (laws : KeyLaws) (v : Version) where
     taking-for name.Unknown x h = f
 
   noted-fits : (n m : ℕ) → n < 256 → (c : Configuration) → Reads m c → Reads m (noted v n c)
-  noted-fits n m l c f = ((f .0 .0, (f .0 .1 .0, (f .0 .1 .1 .0, (came v, f .0 .1 .1 .1 .1)))), f .1)
+  noted-fits n m l c f = ((f .0 .0, (f .0 .1 .0, (f .0 .1 .1 .0, (met v, f .0 .1 .1 .1 .1)))), f .1)
     where
-      came : (w : Version) → faultsPart .Fit (byVersion w (c .came) (added (c .came) 1 n))
-      came Draft = f .0 .1 .1 .1 .0
-      came Published = added-fits (c .came) 1 n (omega arith) l (f .0 .1 .1 .1 .0)
+      met : (w : Version) → errorReportsPart .Fit (byVersion w (c .labels) (added (c .labels) 1 n))
+      met Draft = f .0 .1 .1 .1 .0
+      met Published = added-fits (c .labels) 1 n (omega arith) l (f .0 .1 .1 .1 .0)
 
   taken : (c : Configuration) (n m : ℕ) (x : View) → n < 256 → ViewOk x → Reads m c → ReadOk (Reads m) (configurationTaking v c n x)
   unfolding configurationTaking
@@ -117,23 +117,23 @@ module _ (laws : KeyLaws) (v : Version) where
   one-less c m f = (f .0, omega (arith, f .1))
 
   module _ (c : Configuration) (n m : ℕ) (x : View) (h : ViewOk x) (f : Reads (suc m) c) where
-    by-standing : (s : Standing) → n < 256 → ReadOk (Reads m) (knownRead (configurationForm v) s c n x)
+    by-standing : (s : LabelStatus) → n < 256 → ReadOk (Reads m) (knownRead (configurationForm v) s c n x)
     by-standing Unknown l = passed-over c m f
-    by-standing Fresh l = taken c n m x l h (one-less c m f)
-    by-standing Again l = refl
+    by-standing First l = taken c n m x l h (one-less c m f)
+    by-standing Repeated l = refl
 
-    by-name : (q : Parameter) → (Known q → n < 256) → ReadOk (Reads m) (knownRead (configurationForm v) (standingFor c q) c n x)
-    by-name name.Keys l = by-standing (standingFor c name.Keys) (l refl)
-    by-name name.Address l = by-standing (standingFor c name.Address) (l refl)
-    by-name name.Jrc l = by-standing (standingFor c name.Jrc) (l refl)
-    by-name name.Network l = by-standing (standingFor c name.Network) (l refl)
-    by-name name.Prefix l = by-standing (standingFor c name.Prefix) (l refl)
-    by-name name.Blacklist l = by-standing (standingFor c name.Blacklist) (l refl)
-    by-name name.Rate l = by-standing (standingFor c name.Rate) (l refl)
+    by-name : (q : Parameter) → (Known q → n < 256) → ReadOk (Reads m) (knownRead (configurationForm v) (labelStatusFor c q) c n x)
+    by-name name.Keys l = by-standing (labelStatusFor c name.Keys) (l refl)
+    by-name name.Address l = by-standing (labelStatusFor c name.Address) (l refl)
+    by-name name.Jrc l = by-standing (labelStatusFor c name.Jrc) (l refl)
+    by-name name.Network l = by-standing (labelStatusFor c name.Network) (l refl)
+    by-name name.Prefix l = by-standing (labelStatusFor c name.Prefix) (l refl)
+    by-name name.Blacklist l = by-standing (labelStatusFor c name.Blacklist) (l refl)
+    by-name name.Rate l = by-standing (labelStatusFor c name.Rate) (l refl)
     by-name name.Unknown l = passed-over c m f
 
   known : (c : Configuration) (n m : ℕ) (x : View) → ViewOk x → Reads (suc m) c
-      → ReadOk (Reads m) (knownRead (configurationForm v) (standingFor c (parameterOf v n)) c n x)
+      → ReadOk (Reads m) (knownRead (configurationForm v) (labelStatusFor c (parameterOf v n)) c n x)
   known c n m x h f = by-name c n m x h f (parameterOf v n) (small-label v n)
 
   empty-fits : ConfigurationFits emptyConfiguration
@@ -149,5 +149,5 @@ module _ (laws : KeyLaws) (v : Version) where
   pub configuration-fits : (strict : Bool) (p : List ℕ) → AllBytes p → ConfigurationFits (readConfigurationBy v (headBy strict) p .configuration)
   configuration-fits strict p b =
       answer-ok (payloadReadBy (configurationForm v) (headBy strict) emptyConfiguration p)
-      (payload-read (configurationForm v) ConfigurationFits (λ (c : Configuration). c .passed) passed-over known
+      (payload-read (configurationForm v) ConfigurationFits (λ (c : Configuration). c .unknown) passed-over known
       emptyConfiguration (λ m w. (empty-fits, omega (arith, w))) strict p b)

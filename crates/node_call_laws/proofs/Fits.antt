@@ -14,7 +14,7 @@ use Rattle.cojp.specs.Octets.{padded, copiedFrom}
 use Rattle.cojp.specs.declared.version.Version.{Version}
 use Rattle.cojp.specs.declared.version.Version.the-variants.{Draft, Published}
 use Rattle.node.specs.Node.{validRole, freshNode, made}
-use Rattle.node.specs.declared.node.Made.{Made}
+use Rattle.node.specs.declared.node.MakeResult.{MakeResult}
 use Rattle.node_calls.specs.Calls.{networkOf, madeOf}
 use Rattle.node_attempt.specs.declared.attempt.Phase.the-variants as phase
 use Rattle.node_image.specs.Held.{heldOctetsPart}
@@ -84,7 +84,7 @@ network-fits false x h e b v =
 made-fits : (form role has : ℕ) (x : List ℕ) → AllBytes x → nodeImage .Fit (madeOf form role has x .node)
 unfolding made
 made-fits form role has x b =
-    let P : Made → Type 0 = λ m. nodeImage .Fit (m .node) in
+    let P : MakeResult → Type 0 = λ m. nodeImage .Fit (m .node) in
     let h = networkOf has x in
     let empty = fresh-fits Draft 0 absentOctets (omega arith) absent-fits in
     by-cond P (validRole role)

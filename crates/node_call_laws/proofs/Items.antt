@@ -13,7 +13,7 @@ use Rattle.image.specs.Part.{AllBytes}
 use Rattle.cbor.specs.Decode.{Outcome, refused, got, andThen, next, bigEndian, argument, Heading, heading, Major, unsigneds, negatives, byteStrings, textStrings, arrays, maps, tags, others, majorOf, members, pairs, content, decodeBy, ended, payloadBy}
 use Rattle.cbor.specs.Strict.{short, strictHeading, headBy}
 use Rattle.cbor.specs.Item.{Item, Items, Pairs, unsigned, negative, bytes, text, array, map, tag, simple, float, empty, pair}
-use Rattle.cbor.specs.View.{Plain, number, minus, string, other, View, plain, list, plainOf, plainsOf, viewOf}
+use Rattle.cbor.specs.View.{Scalar, number, minus, string, other, View, scalar, list, scalarOf, scalarsOf, viewOf}
 use Rattle.node_call_laws.proofs.Lists.{by-cond}
 
 -- nothing is asked
@@ -24,18 +24,18 @@ abbrev pub Word : ℕ → Type 0
 Word n = n < 256 ^ 8
 
 -- ---- values
-abbrev pub PlainOk : Plain → Type 0
+abbrev pub PlainOk : Scalar → Type 0
 PlainOk (number n) = Word n
 PlainOk (minus n) = Word n
 PlainOk (string s) = AllBytes s
 PlainOk other = Always
 
-abbrev pub PlainsOk : List Plain → Type 0
+abbrev pub PlainsOk : List Scalar → Type 0
 PlainsOk [] = Always
 PlainsOk (p ∷ ps) = PlainOk p × PlainsOk ps
 
 abbrev pub ViewOk : View → Type 0
-ViewOk (plain p) = PlainOk p
+ViewOk (scalar p) = PlainOk p
 ViewOk (list ps) = PlainsOk ps
 
 -- at most so many pairs
@@ -60,7 +60,7 @@ MapOk (simple n) = Always
 MapOk (float w n) = Always
 
 abbrev pub Ok : Item → Type 0
-Ok i = ViewOk (viewOf i) × (PlainOk (plainOf i) × MapOk i)
+Ok i = ViewOk (viewOf i) × (PlainOk (scalarOf i) × MapOk i)
 
 -- ---- reading: what was got fits, and bytes are left
 abbrev pub OutOk : {A : Type 0} → (A → Type 0) → Outcome A → Type 0
@@ -122,11 +122,11 @@ head-ok true s b =
 head-ok false s b = heading-ok s b
 
 module _ (read : List ℕ → Outcome Item) (ok : (s : List ℕ) → AllBytes s → OutOk Ok (read s)) where
-  members-ok : (n : ℕ) (s : List ℕ) → AllBytes s → OutOk (λ (is : Items). PlainsOk (plainsOf is)) (members read n s)
+  members-ok : (n : ℕ) (s : List ℕ) → AllBytes s → OutOk (λ (is : Items). PlainsOk (scalarsOf is)) (members read n s)
   unfolding members
   members-ok zero s b = (refl, b)
   members-ok (suc n) s b =
-      let Q : Items → Type 0 = λ is. PlainsOk (plainsOf is) in
+      let Q : Items → Type 0 = λ is. PlainsOk (scalarsOf is) in
       then-ok Ok Q (read s) _ (ok s b) (λ i t f g. then-ok Q Q (members read n t) _ (members-ok n t g) (λ is u h c. ((f .1 .0, h), c)))
 
   pairs-ok : (n : ℕ) (s : List ℕ) → AllBytes s → OutOk (PairsOk n) (pairs read n s)
@@ -143,7 +143,7 @@ module _ (read : List ℕ → Outcome Item) (ok : (s : List ℕ) → AllBytes s 
   content-ok byteStrings info n s h b = then-ok AllBytes Ok (next n s) _ (next-ok n s b) (λ bs t f g. ((f, (f, refl)), g))
   content-ok textStrings info n s h b = then-ok AllBytes Ok (next n s) _ (next-ok n s b) (λ bs t f g. ((refl, (refl, refl)), g))
   content-ok arrays info n s h b =
-      then-ok (λ (is : Items). PlainsOk (plainsOf is)) Ok (members read n s) _ (members-ok n s b) (λ is t f g. ((f, (refl, refl)), g))
+      then-ok (λ (is : Items). PlainsOk (scalarsOf is)) Ok (members read n s) _ (members-ok n s b) (λ is t f g. ((f, (refl, refl)), g))
   content-ok maps info n s h b =
       then-ok (PairsOk n) Ok (pairs read n s) _ (pairs-ok n s b) (λ ps t f g. ((refl, (refl, record { most = n; small = h; each = f })), g))
   content-ok tags info n s h b = then-ok Ok Ok (read s) _ (ok s b) (λ i t f g. ((refl, (refl, refl)), g))

@@ -10,21 +10,21 @@ use Rattle.refusal.specs.declared.Refusal.the-variants as refusal
 use Rattle.refusal.specs.declared.Verdict.{Verdict}
 use Rattle.refusal.specs.declared.Verdict.the-variants.{Accepted, Refused}
 use Rattle.cbor.specs.Answer.{answer}
-use Rattle.cbor.specs.declared.write.Written.{Written}
-use Rattle.cbor.specs.declared.write.Written.the-variants as written
+use Rattle.cbor.specs.declared.write.WriteResult.{WriteResult}
+use Rattle.cbor.specs.declared.write.WriteResult.the-variants as written
 use Rattle.cojp.specs.Configuration.{withKeys}
-use Rattle.cojp.specs.Faults.{noFaults, faultList}
+use Rattle.cojp.specs.ErrorReports.{noErrorReports, errorReportList}
 use Rattle.cojp.specs.KeySet.{noKeysParameter}
-use Rattle.cojp.specs.Reported.{faultsOf}
+use Rattle.cojp.specs.Reported.{errorReportsOf}
 use Rattle.cojp.specs.Version.{byVersion}
 use Rattle.cojp.specs.declared.configuration.Configuration.{Configuration}
 use Rattle.cojp.specs.declared.configuration.ConfigurationRead.{ConfigurationRead}
-use Rattle.cojp.specs.declared.report.Report.the-variants.{Discarded}
+use Rattle.cojp.specs.declared.disposition.Disposition.the-variants.{Discarded}
 use Rattle.cojp.specs.declared.version.Version.{Version}
 use Rattle.cojp.specs.declared.version.Version.the-variants.{Draft, Published}
 use Rattle.link_key.specs.Key.{noKey}
 use Rattle.link_key_usage.specs.Usage.{knownType}
-use Rattle.link_key_counters.specs.Counters.{spend}
+use Rattle.link_key_counters.specs.Counters.{takeCounter}
 use Rattle.link_key_set.specs.KeyLaws.{KeyLaws}
 use Rattle.link_key_set.specs.KeySet.{has}
 use Rattle.node.specs.Delivery.{placementOf, fittedBy, fitted, configured, undelivered, owesIdentifier, placedBy, apply, deliverVerdict, applyRead, deliverBy, readFor, deliver}
@@ -33,13 +33,13 @@ use Rattle.node.specs.Lease.{holds}
 use Rattle.node.specs.Node.{isBorder, attempting, keyed}
 use Rattle.node.specs.Range.{valid}
 use Rattle.node.specs.Timing.{startPlan, startedFrom, startedBy, start, poll}
-use Rattle.node.specs.declared.delivery.Delivered.{Delivered}
-use Rattle.node.specs.declared.frames.Reported.{Reported}
-use Rattle.node.specs.declared.frames.Sent.{Sent}
-use Rattle.node.specs.declared.lease.Holding.{Holding}
-use Rattle.node.specs.declared.lease.Holding.the-variants as holding
+use Rattle.node.specs.declared.delivery.DeliveryResult.{DeliveryResult}
+use Rattle.node.specs.declared.frames.VerifyResult.{VerifyResult}
+use Rattle.node.specs.declared.frames.SendResult.{SendResult}
+use Rattle.node.specs.declared.lease.LeaseStatus.{LeaseStatus}
+use Rattle.node.specs.declared.lease.LeaseStatus.the-variants as holding
 use Rattle.node.specs.declared.node.Node.{Node}
-use Rattle.node.specs.declared.timing.Polled.{Polled}
+use Rattle.node.specs.declared.timing.PollResult.{PollResult}
 use Rattle.node_attempt.specs.Attempt.{waitingFrom}
 use Rattle.node_attempt.specs.Poll as attempt
 use Rattle.node_attempt.specs.declared.attempt.Attempt.{Attempt}
@@ -48,7 +48,7 @@ use Rattle.node_attempt.specs.declared.poll.Due.{Due}
 use Rattle.node_attempt.specs.declared.poll.Due.the-variants as due
 use Rattle.node_delivery.specs.Delivery.{phaseAfter}
 use Rattle.node_delivery.specs.declared.Delivery.{Delivery}
-use Rattle.node_image.specs.Answers.{reportsImage, frameKeyImage}
+use Rattle.node_image.specs.Answers.{dispositionsImage, frameKeyImage}
 use Rattle.node_image.specs.Attempt.{attemptPart}
 use Rattle.node_image.specs.Held.{heldOctetsPart, heldAddressPart, heldListPart, heldRatePart}
 use Rattle.node_image.specs.Node.{setsPart, nodeImage}
@@ -58,14 +58,14 @@ use Rattle.node_key_sets.specs.Sets.{activeIn}
 use Rattle.node_key_sets.specs.declared.frames.Change.{Change}
 use Rattle.node_key_sets.specs.declared.frames.Change.the-variants as change
 use Rattle.node_key_sets.specs.declared.frames.KeyAnswer.{KeyAnswer}
-use Rattle.node_key_sets.specs.declared.frames.Sending.{Sending}
+use Rattle.node_key_sets.specs.declared.frames.SendKeyResult.{SendKeyResult}
 use Rattle.node_key_sets.specs.declared.sets.KeySets.{KeySets}
-use Rattle.node_key_sets.specs.declared.sets.Placement.{Placement}
+use Rattle.node_key_sets.specs.declared.sets.InstallResult.{InstallResult}
 use Rattle.node_laws.specs.Calls.{NodeCall, starting, polling, delivering, asking, sending, receiving, reporting, dueObject, holdingObject, changeObject, Performed, perform}
-use Rattle.node_parameters.specs.Reports.{noReports, reportsOf}
-use Rattle.node_parameters.specs.declared.reports.Reports.{Reports}
+use Rattle.node_parameters.specs.Dispositions.{noDispositions, dispositionsOf}
+use Rattle.node_parameters.specs.declared.dispositions.Dispositions.{Dispositions}
 use Rattle.object_image.specs.Configuration.{configurationImage}
-use Rattle.object_image.specs.Faults.{faultPart}
+use Rattle.object_image.specs.ErrorReports.{errorReportPart}
 use Rattle.node_call_laws.specs.Fits.{Time, Callable, AnswerFits}
 use Rattle.node_call_laws.proofs.Lists.{by-cond, each-taken}
 use Rattle.node_call_laws.proofs.Configurations.{configuration-fits}
@@ -82,7 +82,7 @@ keyed-fits : (n : Node) (s : KeySets) → NodeFits n → setsPart .Fit s → Nod
 keyed-fits n s f h = (f .0, (f .1 .0, (h, f .1 .1 .1)))
 
 -- ---- starting and polling
-started-fits : (w : Written) (n m : Node) → NodeFits n → NodeFits m → NodeFits (startedBy w n m .node)
+started-fits : (w : WriteResult) (n m : Node) → NodeFits n → NodeFits m → NodeFits (startedBy w n m .node)
 started-fits (written.Refused k) n m f g = f
 started-fits (written.Length l) n m f g = g
 
@@ -95,12 +95,12 @@ start-fits n time timeout d t u f =
 node-poll-fits : (n : Node) (time : ℕ) → Time time → NodeFits n → NodeFits (poll n time .node)
 unfolding poll
 node-poll-fits n time t f =
-    by-cond (λ (p : Polled). NodeFits (p .node)) (valid n)
+    by-cond (λ (p : PollResult). NodeFits (p .node)) (valid n)
     (λ _. attempting-fits n (attempt.poll (n .attempt) time .attempt) f (poll-fits (n .attempt) time t (f .1 .0)))
     (λ _. f)
 
 -- ---- frames: the key sets and the node, and the key and counter that are answered
-abbrev SendingFits : Sending → Type 0
+abbrev SendingFits : SendKeyResult → Type 0
 SendingFits x = setsPart .Fit (x .sets) × frameKeyImage .Fit (x .answer .key, x .counter)
 
 no-frame-key : frameKeyImage .Fit (noKey, 0)
@@ -110,12 +110,12 @@ sending-fits : (s : KeySets) (type : ℕ) → setsPart .Fit s → SendingFits (s
 unfolding sets.sending
 sending-fits s type f =
     by-cond SendingFits (knownType type)
-    (λ _. by-cond SendingFits (spend type (s .active) .found)
+    (λ _. by-cond SendingFits (takeCounter type (s .active) .found)
     (λ _. ((spend-fits type (s .active) (f .0), f .1), spend-key type (s .active) (f .0)))
     (λ _. (f, no-frame-key)))
     (λ _. (f, no-frame-key))
 
-abbrev SentFits : Sent → Type 0
+abbrev SentFits : SendResult → Type 0
 SentFits x = NodeFits (x .node) × frameKeyImage .Fit (x .answer .key, x .counter)
 
 send-fits : (n : Node) (type : ℕ) → NodeFits n → SentFits (frames.sending n type)
@@ -139,14 +139,14 @@ effect-fits Accepted false s f = (f .1, none-counted-fits)
 report-node-fits : (n : Node) (type identifier : ℕ) → NodeFits n → NodeFits (frames.verified n type identifier .node)
 unfolding frames.verified verifiedIn
 report-node-fits n type identifier f =
-    by-cond (λ (x : Reported). NodeFits (x .node)) (valid n)
+    by-cond (λ (x : VerifyResult). NodeFits (x .node)) (valid n)
     (λ _. keyed-fits n (verifiedIn (n .sets) type identifier .sets) f
     (effect-fits (receivingKey (n .sets) type identifier .verdict) (has identifier (activeIn (n .sets))) (n .sets) (f .1 .1 .0)))
     (λ _. f)
 
 -- ---- a configuration
 -- its reports have one code each
-reports-so : (r : Reports) → r .passed < 256 ^ 8 → reportsImage .Fit r
+reports-so : (r : Dispositions) → r .unknown < 256 ^ 8 → dispositionsImage .Fit r
 reports-so r h = (
   report-fits (r .keys),
   (
@@ -177,13 +177,13 @@ fitted-fits Published c d f g = g
 
 placement-fits : (n : Node) (c : Configuration) → NodeFits n → ConfigurationFits c → setsPart .Fit (placementOf n (c .keys) .sets)
 placement-fits n c f g =
-    by-report (λ (p : Placement). setsPart .Fit (p .sets)) (c .keys .report)
+    by-report (λ (p : InstallResult). setsPart .Fit (p .sets)) (c .keys .disposition)
     (install-fits (isBorder n) (n .sets) (c .keys .value) (f .1 .1 .0) (g .0 .0 .1))
     (f .1 .1 .0)
 
-configured-fits : (d : Delivery) (n : Node) (time : ℕ) (c : Configuration) (s : KeySets) (r : Reports) → Time time → NodeFits n
+configured-fits : (d : Delivery) (n : Node) (time : ℕ) (c : Configuration) (s : KeySets) (r : Dispositions) → Time time → NodeFits n
     → ConfigurationFits c → setsPart .Fit s → NodeFits (configured d n time c s r)
-unfolding configured faultsOf
+unfolding configured errorReportsOf
 configured-fits d n time c s r t f g h =
     let a = f .1 .0 in
     let held = f .1 .1 .1 in
@@ -195,7 +195,7 @@ configured-fits d n time c s r t f g h =
         (
           h,
           (
-            by-report (heldAddressPart .Fit) (c .address .report) (bool-fits true, (early .0 .1, t)) (held .0),
+            by-report (heldAddressPart .Fit) (c .address .disposition) (bool-fits true, (early .0 .1, t)) (held .0),
             (
               by-report (heldOctetsPart .Fit) (r .jrc) (bool-fits true, early .1 .0 .1) (held .1 .0),
               (
@@ -205,10 +205,10 @@ configured-fits d n time c s r t f g h =
                   (
                     held .1 .1 .1 .1 .0,
                     (
-                      by-report (heldListPart .Fit) (c .blacklist .report) (bool-fits true, late .0 .1) (held .1 .1 .1 .1 .1 .0),
+                      by-report (heldListPart .Fit) (c .blacklist .disposition) (bool-fits true, late .0 .1) (held .1 .1 .1 .1 .1 .0),
                       (
-                        by-report (heldRatePart .Fit) (c .rate .report) (bool-fits true, late .1 .0 .1) (held .1 .1 .1 .1 .1 .1 .0),
-                        reports-fit c noFaults (faultList (c .came)) (each-taken faultPart (c .came .count) 5 (c .came .faults) (late .1 .1 .0 .1)) no-faults-fit,
+                        by-report (heldRatePart .Fit) (c .rate .disposition) (bool-fits true, late .1 .0 .1) (held .1 .1 .1 .1 .1 .1 .0),
+                        reports-fit c noErrorReports (errorReportList (c .labels)) (each-taken errorReportPart (c .labels .count) 5 (c .labels .reports) (late .1 .1 .0 .1)) no-faults-fit,
                       ),
                     ),
                   ),
@@ -221,23 +221,23 @@ configured-fits d n time c s r t f g h =
     )
 
 -- and the reports on it
-abbrev DeliveredFits : Delivered → Type 0
-DeliveredFits x = NodeFits (x .node) × reportsImage .Fit (x .reports)
+abbrev DeliveredFits : DeliveryResult → Type 0
+DeliveredFits x = NodeFits (x .node) × dispositionsImage .Fit (x .dispositions)
 
 undelivered-fits : (k : Refusal) (n : Node) → NodeFits n → DeliveredFits (undelivered k n)
-undelivered-fits k n f = (f, reports-so noReports (omega arith))
+undelivered-fits k n f = (f, reports-so noDispositions (omega arith))
 
 placed-fits : (v : Verdict) (d : Delivery) (n : Node) (time : ℕ) (c : Configuration) (s : KeySets) → Time time → NodeFits n → ConfigurationFits c
     → setsPart .Fit s → DeliveredFits (placedBy v d n time c s)
-unfolding reportsOf
+unfolding dispositionsOf
 placed-fits (Refused k) d n time c s t f g h = undelivered-fits k n f
 placed-fits Accepted d n time c s t f g h =
-    let r = reportsOf (isBorder n) c in (configured-fits d n time c s r t f g h, reports-so r (g .1 .1 .1 .1))
+    let r = dispositionsOf (isBorder n) c in (configured-fits d n time c s r t f g h, reports-so r (g .1 .1 .1 .1))
 
 apply-fits : (d : Delivery) (n : Node) (time : ℕ) (c : Configuration) → Time time → NodeFits n → ConfigurationFits c → DeliveredFits (apply d n time c)
 unfolding apply
 apply-fits d n time c t f g =
-    by-cond DeliveredFits (owesIdentifier d n (c .network .report))
+    by-cond DeliveredFits (owesIdentifier d n (c .network .disposition))
     (λ _. undelivered-fits refusal.Owed n f)
     (λ _. placed-fits (placementOf n (c .keys) .verdict) d n time c (placementOf n (c .keys) .sets) t f g (placement-fits n c f g))
 
@@ -266,10 +266,10 @@ due-fits due.NotYet = tt
 due-fits due.SendAgain = tt
 due-fits due.GaveUp = tt
 
-holding-fits : (h : Holding) → AnswerFits (holdingObject h)
+holding-fits : (h : LeaseStatus) → AnswerFits (holdingObject h)
 holding-fits (holding.Refused k) = tt
-holding-fits holding.Yes = tt
-holding-fits holding.No = tt
+holding-fits holding.Valid = tt
+holding-fits holding.Expired = tt
 
 change-fits : (c : Change) → AnswerFits (changeObject c)
 change-fits (change.Refused k) = tt

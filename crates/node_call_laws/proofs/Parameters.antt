@@ -12,25 +12,25 @@ use lib.ListN.{length, getD, replicate, length-append, length-replicate}
 use Rattle.logic_facts.specs.Tests.{both-left, both-right}
 use Rattle.short_address.specs.Address.{isAddress, isReserved}
 use Rattle.image.specs.Part.{AllBytes, octets}
-use Rattle.key_image.specs.Info.{infoPart}
+use Rattle.key_image.specs.AdditionalInfo.{additionalInfoPart}
 use Rattle.key_image.specs.Key.{keyPart, keySetPart}
-use Rattle.link_key.specs.Info.{infoIn}
+use Rattle.link_key.specs.AdditionalInfo.{additionalInfoIn}
 use Rattle.link_key.specs.Key.{noKey, validKey}
 use Rattle.link_key.specs.declared.Key.{Key}
-use Rattle.link_key.specs.declared.info.Info.{Info}
-use Rattle.link_key.specs.declared.info.Info.the-variants as info
+use Rattle.link_key.specs.declared.additional_info.AdditionalInfo.{AdditionalInfo}
+use Rattle.link_key.specs.declared.additional_info.AdditionalInfo.the-variants as info
 use Rattle.link_key_set.specs.KeyLaws.{KeyLaws}
 use Rattle.link_key_set.specs.KeySet.{allValid, noneTwice, validKeys}
 use Rattle.cbor.specs.Encode.{bytesOf, infoOf, extraOf, shortest, encode}
-use Rattle.cbor.specs.View.{Plain, number, minus, string, other, View, plain, list}
+use Rattle.cbor.specs.View.{Scalar, number, minus, string, other, View, scalar, list}
 use Rattle.cojp.specs.Address.{addressBy, addressIn, addressJudged, addressParameter, noAddressParameter, addressRead}
 use Rattle.cojp.specs.KeySet.{keySetOf, Groups, notGroups, groupsOf, group, further, groups, identified, used, valued, keysIn, keysJudgedAs, keysParameter, keysReadAs}
-use Rattle.cojp.specs.Lists.{plainItem, written, Picked, nothing, picked, before, stringsIn, isInteger, faultsIn, some, inArray, fitting, listAnswer, noListParameter, listTaken, blacklistTaken, unsupportedTaken}
+use Rattle.cojp.specs.Lists.{scalarItem, written, Picked, nothing, picked, before, stringsIn, isInteger, errorReportsIn, some, inArray, fitting, listAnswer, noListParameter, listTaken, blacklistTaken, unsupportedTaken}
 use Rattle.cojp.specs.Octets.{padded, octetsParameter, noOctetsParameter, octetsJudged, octetsRead}
 use Rattle.cojp.specs.Rate.{rateTaken}
 use Rattle.cojp.specs.Reading.{Reading, refused, read, Judgement, broken, unfit, good, concluded}
-use Rattle.cojp.specs.declared.report.Report.{Report}
-use Rattle.cojp.specs.declared.report.Report.the-variants.{Absent, Taken, Discarded}
+use Rattle.cojp.specs.declared.disposition.Disposition.{Disposition}
+use Rattle.cojp.specs.declared.disposition.Disposition.the-variants.{Absent, Taken, Discarded}
 use Rattle.object_image.specs.Address.{shortAddressPart, addressParameterPart}
 use Rattle.object_image.specs.Configuration.{keysParameterPart}
 use Rattle.object_image.specs.Lists.{listParameterPart}
@@ -63,18 +63,18 @@ padded-fits n s b h =
     (omega (arith, length-append s zeros, length-replicate {A = ℕ} (n - length s) 0), under-append 256 s zeros b (under-zeros 256 (n - length s) (omega arith)))
 
 -- ---- byte strings
-pub no-octets-fit : (r : Report) → octetsParameterPart .Fit (noOctetsParameter r)
+pub no-octets-fit : (r : Disposition) → octetsParameterPart .Fit (noOctetsParameter r)
 no-octets-fit r = (report-fits r, (omega arith, (refl, under-zeros 256 16 (omega arith))))
 
 octets-judged : (least : ℕ) (v : View) → ViewOk v → JudgedOk (octetsPart .Fit) (octetsJudged least v)
 unfolding octetsJudged
-octets-judged least (plain (string s)) h =
+octets-judged least (scalar (string s)) h =
     by-cond (JudgedOk (octetsPart .Fit)) (leb least (length s) && leb (length s) 16)
     (λ e. let short = leb-true (length s) 16 (both-right (leb least (length s)) (leb (length s) 16) e) in (omega arith, padded-fits 16 s h short))
     (λ _. refl)
-octets-judged least (plain (number n)) h = refl
-octets-judged least (plain (minus n)) h = refl
-octets-judged least (plain other) h = refl
+octets-judged least (scalar (number n)) h = refl
+octets-judged least (scalar (minus n)) h = refl
+octets-judged least (scalar other) h = refl
 octets-judged least (list ps) h = refl
 
 pub octets-read : (least : ℕ) (v : View) → ViewOk v → ReadOk (octetsParameterPart .Fit) (octetsRead least v)
@@ -83,7 +83,7 @@ octets-read least v h =
     (no-octets-fit Discarded) (λ o f. (report-fits Taken, f)) (octets-judged least v h)
 
 -- ---- short addresses
-pub no-address-fits : (r : Report) → addressParameterPart .Fit (noAddressParameter r)
+pub no-address-fits : (r : Disposition) → addressParameterPart .Fit (noAddressParameter r)
 no-address-fits r = (report-fits r, ((refl, under-zeros 256 2 (omega arith)), (bool-fits false, omega arith)))
 
 address-by : (s : List ℕ) (leased : Bool) (lease : ℕ) → AllBytes s → Word lease → JudgedOk (shortAddressPart .Fit) (addressBy s leased lease)
@@ -93,7 +93,7 @@ address-by s leased lease b w =
     (λ e. ((eqb-true (length s) 2 (both-left (eqb (length s) 2) (not (isReserved s)) e), b), (bool-fits leased, w)))
     (λ _. refl)
 
-address-in : (ps : List Plain) → PlainsOk ps → JudgedOk (shortAddressPart .Fit) (addressIn ps)
+address-in : (ps : List Scalar) → PlainsOk ps → JudgedOk (shortAddressPart .Fit) (addressIn ps)
 unfolding addressIn
 address-in [] h = refl
 address-in (number n ∷ r) h = refl
@@ -107,7 +107,7 @@ address-in (string s ∷ minus n ∷ r) h = refl
 address-in (string s ∷ other ∷ r) h = refl
 
 address-judged : (v : View) → ViewOk v → JudgedOk (shortAddressPart .Fit) (addressJudged v)
-address-judged (plain p) h = refl
+address-judged (scalar p) h = refl
 address-judged (list ps) h = address-in ps h
 
 pub address-read : (v : View) → ViewOk v → ReadOk (addressParameterPart .Fit) (addressRead v)
@@ -118,29 +118,29 @@ address-read v h =
 -- ---- join rates
 pub rate-taken : (v : View) → ViewOk v → rateParameterPart .Fit (rateTaken v)
 unfolding rateTaken
-rate-taken (plain (number n)) h = (report-fits Taken, h)
-rate-taken (plain (minus n)) h = (report-fits Discarded, omega arith)
-rate-taken (plain (string s)) h = (report-fits Discarded, omega arith)
-rate-taken (plain other) h = (report-fits Discarded, omega arith)
+rate-taken (scalar (number n)) h = (report-fits Taken, h)
+rate-taken (scalar (minus n)) h = (report-fits Discarded, omega arith)
+rate-taken (scalar (string s)) h = (report-fits Discarded, omega arith)
+rate-taken (scalar other) h = (report-fits Discarded, omega arith)
 rate-taken (list ps) h = (report-fits Discarded, omega arith)
 
 -- ---- blacklists and reports of what could not be acted on
-pub no-list-fits : (r : Report) → listParameterPart .Fit (noListParameter r)
+pub no-list-fits : (r : Disposition) → listParameterPart .Fit (noListParameter r)
 no-list-fits r = (report-fits r, (omega arith, (omega arith, (refl, under-zeros 256 253 (omega arith)))))
 
 abbrev PickedOk : Picked → Type 0
 PickedOk nothing = Always
 PickedOk (picked ps) = PlainsOk ps
 
-plains-append : (ps qs : List Plain) → PlainsOk ps → PlainsOk qs → PlainsOk (ps ++ qs)
+plains-append : (ps qs : List Scalar) → PlainsOk ps → PlainsOk qs → PlainsOk (ps ++ qs)
 plains-append [] qs f g = g
 plains-append (p ∷ ps) qs f g = (f .0, plains-append ps qs (f .1) g)
 
-before-ok : (ps : List Plain) (q : Picked) → PlainsOk ps → PickedOk q → PickedOk (before ps q)
+before-ok : (ps : List Scalar) (q : Picked) → PlainsOk ps → PickedOk q → PickedOk (before ps q)
 before-ok ps nothing f g = refl
 before-ok ps (picked qs) f g = plains-append ps qs f g
 
-strings-ok : (ps : List Plain) → PlainsOk ps → PickedOk (stringsIn ps)
+strings-ok : (ps : List Scalar) → PlainsOk ps → PickedOk (stringsIn ps)
 unfolding stringsIn
 strings-ok [] h = refl
 strings-ok (number n ∷ r) h = refl
@@ -148,22 +148,22 @@ strings-ok (minus n ∷ r) h = refl
 strings-ok (string s ∷ r) h = before-ok (string s ∷ []) (stringsIn r) (h .0, refl) (strings-ok r (h .1))
 strings-ok (other ∷ r) h = refl
 
-faults-ok : (ps : List Plain) → PlainsOk ps → PickedOk (faultsIn ps)
-unfolding faultsIn
+faults-ok : (ps : List Scalar) → PlainsOk ps → PickedOk (errorReportsIn ps)
+unfolding errorReportsIn
 faults-ok [] h = refl
 faults-ok (p ∷ []) h = refl
 faults-ok (p ∷ q ∷ []) h = refl
 faults-ok (p ∷ q ∷ x ∷ r) h =
     by-cond PickedOk (isInteger p && isInteger q)
-    (λ _. before-ok (p ∷ q ∷ other ∷ []) (faultsIn r) (h .0, (h .1 .0, (refl, refl))) (faults-ok r (h .1 .1 .1)))
+    (λ _. before-ok (p ∷ q ∷ other ∷ []) (errorReportsIn r) (h .0, (h .1 .0, (refl, refl))) (faults-ok r (h .1 .1 .1)))
     (λ _. refl)
 
-some-ok : (ps : List Plain) → PlainsOk ps → PickedOk (some faultsIn ps)
+some-ok : (ps : List Scalar) → PlainsOk ps → PickedOk (some errorReportsIn ps)
 some-ok [] h = refl
 some-ok (p ∷ ps) h = faults-ok (p ∷ ps) h
 
-array-ok : (f : List Plain → Picked) → ((ps : List Plain) → PlainsOk ps → PickedOk (f ps)) → (v : View) → ViewOk v → PickedOk (inArray f v)
-array-ok f g (plain p) h = refl
+array-ok : (f : List Scalar → Picked) → ((ps : List Scalar) → PlainsOk ps → PickedOk (f ps)) → (v : View) → ViewOk v → PickedOk (inArray f v)
+array-ok f g (scalar p) h = refl
 array-ok f g (list ps) h = g ps h
 
 -- what is written are bytes, one at least of each member
@@ -195,7 +195,7 @@ head-written major n h = (all, omega arith)
     all zero = omega (arith, low-info n)
     all (suc i) = number-bytes (extraOf n) n i
 
-member-written : (p : Plain) → PlainOk p → Written (encode (plainItem p))
+member-written : (p : Scalar) → PlainOk p → Written (encode (scalarItem p))
 member-written (number n) h = head-written 0 n (omega arith)
 member-written (minus n) h = head-written 1 n (omega arith)
 member-written (string s) h =
@@ -203,13 +203,13 @@ member-written (string s) h =
     (under-append 256 (shortest 2 (length s)) s (w .0) h, omega (arith, length-append (shortest 2 (length s)) s, w .1))
 member-written other h = head-written 7 22 (omega arith)
 
-all-written : (ps : List Plain) → PlainsOk ps → AllBytes (written ps) × (length ps ≤ length (written ps))
+all-written : (ps : List Scalar) → PlainsOk ps → AllBytes (written ps) × (length ps ≤ length (written ps))
 all-written [] h = (λ i. omega arith, omega arith)
 all-written (p ∷ ps) h =
     let one = member-written p (h .0) in
     let rest = all-written ps (h .1) in (
-      under-append 256 (encode (plainItem p)) (written ps) (one .0) (rest .0),
-      omega (arith, length-append (encode (plainItem p)) (written ps), one .1, rest .1),
+      under-append 256 (encode (scalarItem p)) (written ps) (one .0) (rest .0),
+      omega (arith, length-append (encode (scalarItem p)) (written ps), one .1, rest .1),
     )
 
 fitted-list : (q : Picked) → PickedOk q → listParameterPart .Fit (listTaken (listAnswer (fitting 253 q)))
@@ -226,11 +226,11 @@ pub blacklist-taken : (v : View) → ViewOk v → listParameterPart .Fit (blackl
 blacklist-taken v h = fitted-list (inArray stringsIn v) (array-ok stringsIn strings-ok v h)
 
 pub unsupported-taken : (v : View) → ViewOk v → listParameterPart .Fit (unsupportedTaken v)
-unsupported-taken v h = fitted-list (inArray (some faultsIn) v) (array-ok (some faultsIn) some-ok v h)
+unsupported-taken v h = fitted-list (inArray (some errorReportsIn) v) (array-ok (some errorReportsIn) some-ok v h)
 
 -- ---- key sets
 abbrev KeyOk : Key → Type 0
-KeyOk k = AllBytes (k .value) × infoPart .Fit (k .info)
+KeyOk k = AllBytes (k .value) × additionalInfoPart .Fit (k .info)
 
 abbrev KeysOk : List Key → Type 0
 KeysOk [] = Always
@@ -240,14 +240,14 @@ abbrev GroupsOk : Groups → Type 0
 GroupsOk notGroups = Always
 GroupsOk (groupsOf ks) = KeysOk ks
 
-abbrev OptionOk : Option Info → Type 0
+abbrev OptionOk : Option AdditionalInfo → Type 0
 OptionOk none = Always
-OptionOk (option.some w) = infoPart .Fit w
+OptionOk (option.some w) = additionalInfoPart .Fit w
 
-absent-info : infoPart .Fit info.Absent
+absent-info : additionalInfoPart .Fit info.Absent
 absent-info = ((omega arith, (refl, under-zeros 256 8 (omega arith))), refl)
 
-info-ok : (w : List ℕ) → AllBytes w → OptionOk (infoIn w)
+info-ok : (w : List ℕ) → AllBytes w → OptionOk (additionalInfoIn w)
 info-ok [] b = refl
 info-ok (x ∷ []) b = refl
 info-ok (x ∷ y ∷ []) b = refl
@@ -260,12 +260,12 @@ info-ok (x ∷ y ∷ z ∷ u ∷ v ∷ w ∷ p ∷ []) b = refl
 info-ok (x ∷ y ∷ z ∷ u ∷ v ∷ w ∷ p ∷ q ∷ []) b = ((omega arith, (refl, b)), refl)
 info-ok (x ∷ y ∷ z ∷ u ∷ v ∷ w ∷ p ∷ q ∷ t ∷ r) b = refl
 
-group-ok : (i u : ℕ) (v : List ℕ) (w : Info) (gs : Groups) → AllBytes v → infoPart .Fit w → GroupsOk gs → GroupsOk (group i u v w gs)
+group-ok : (i u : ℕ) (v : List ℕ) (w : AdditionalInfo) (gs : Groups) → AllBytes v → additionalInfoPart .Fit w → GroupsOk gs → GroupsOk (group i u v w gs)
 group-ok i u v w notGroups b f g = refl
 group-ok i u v w (groupsOf ks) b f g = ((b, f), g)
 
-further-ok : (informed : Bool) (i u : ℕ) (v : List ℕ) (o : Option Info) (gs : Groups) → AllBytes v → OptionOk o → GroupsOk gs
-    → GroupsOk (further informed i u v o gs)
+further-ok : (allowed : Bool) (i u : ℕ) (v : List ℕ) (o : Option AdditionalInfo) (gs : Groups) → AllBytes v → OptionOk o → GroupsOk gs
+    → GroupsOk (further allowed i u v o gs)
 further-ok false i u v o gs b f g = refl
 further-ok true i u v none gs b f g = refl
 further-ok true i u v (option.some w) gs b f g = group-ok i u v w gs b f g
@@ -273,34 +273,34 @@ further-ok true i u v (option.some w) gs b f g = group-ok i u v w gs b f g
 mutual
   unfolding groups identified used valued
 
-  groups-ok : (ps : List Plain) (informed : Bool) → PlainsOk ps → GroupsOk (groups informed ps)
-  groups-ok [] informed h = refl
-  groups-ok (number i ∷ r) informed h = identified-ok r informed i (h .1)
-  groups-ok (minus n ∷ r) informed h = refl
-  groups-ok (string v ∷ r) informed h = refl
-  groups-ok (other ∷ r) informed h = refl
+  groups-ok : (ps : List Scalar) (allowed : Bool) → PlainsOk ps → GroupsOk (groups allowed ps)
+  groups-ok [] allowed h = refl
+  groups-ok (number i ∷ r) allowed h = identified-ok r allowed i (h .1)
+  groups-ok (minus n ∷ r) allowed h = refl
+  groups-ok (string v ∷ r) allowed h = refl
+  groups-ok (other ∷ r) allowed h = refl
 
-  identified-ok : (ps : List Plain) (informed : Bool) (i : ℕ) → PlainsOk ps → GroupsOk (identified informed i ps)
-  identified-ok [] informed i h = refl
-  identified-ok (number u ∷ r) informed i h = used-ok r informed i u (h .1)
-  identified-ok (minus n ∷ r) informed i h = refl
-  identified-ok (string v ∷ r) informed i h = valued-ok r informed i 0 v (h .0) (h .1)
-  identified-ok (other ∷ r) informed i h = refl
+  identified-ok : (ps : List Scalar) (allowed : Bool) (i : ℕ) → PlainsOk ps → GroupsOk (identified allowed i ps)
+  identified-ok [] allowed i h = refl
+  identified-ok (number u ∷ r) allowed i h = used-ok r allowed i u (h .1)
+  identified-ok (minus n ∷ r) allowed i h = refl
+  identified-ok (string v ∷ r) allowed i h = valued-ok r allowed i 0 v (h .0) (h .1)
+  identified-ok (other ∷ r) allowed i h = refl
 
-  used-ok : (ps : List Plain) (informed : Bool) (i u : ℕ) → PlainsOk ps → GroupsOk (used informed i u ps)
-  used-ok [] informed i u h = refl
-  used-ok (number n ∷ r) informed i u h = refl
-  used-ok (minus n ∷ r) informed i u h = refl
-  used-ok (string v ∷ r) informed i u h = valued-ok r informed i u v (h .0) (h .1)
-  used-ok (other ∷ r) informed i u h = refl
+  used-ok : (ps : List Scalar) (allowed : Bool) (i u : ℕ) → PlainsOk ps → GroupsOk (used allowed i u ps)
+  used-ok [] allowed i u h = refl
+  used-ok (number n ∷ r) allowed i u h = refl
+  used-ok (minus n ∷ r) allowed i u h = refl
+  used-ok (string v ∷ r) allowed i u h = valued-ok r allowed i u v (h .0) (h .1)
+  used-ok (other ∷ r) allowed i u h = refl
 
-  valued-ok : (ps : List Plain) (informed : Bool) (i u : ℕ) (v : List ℕ) → AllBytes v → PlainsOk ps → GroupsOk (valued informed i u v ps)
-  valued-ok [] informed i u v b h = ((b, absent-info), refl)
-  valued-ok (number n ∷ r) informed i u v b h = group-ok i u v info.Absent (identified informed n r) b absent-info (identified-ok r informed n (h .1))
-  valued-ok (minus n ∷ r) informed i u v b h = refl
-  valued-ok (string w ∷ r) informed i u v b h =
-      further-ok informed i u v (infoIn w) (groups informed r) b (info-ok w (h .0)) (groups-ok r informed (h .1))
-  valued-ok (other ∷ r) informed i u v b h = refl
+  valued-ok : (ps : List Scalar) (allowed : Bool) (i u : ℕ) (v : List ℕ) → AllBytes v → PlainsOk ps → GroupsOk (valued allowed i u v ps)
+  valued-ok [] allowed i u v b h = ((b, absent-info), refl)
+  valued-ok (number n ∷ r) allowed i u v b h = group-ok i u v info.Absent (identified allowed n r) b absent-info (identified-ok r allowed n (h .1))
+  valued-ok (minus n ∷ r) allowed i u v b h = refl
+  valued-ok (string w ∷ r) allowed i u v b h =
+      further-ok allowed i u v (additionalInfoIn w) (groups allowed r) b (info-ok w (h .0)) (groups-ok r allowed (h .1))
+  valued-ok (other ∷ r) allowed i u v b h = refl
 
 module _ (laws : KeyLaws) where
   key-fits : (k : Key) → KeyOk k → validKey k ≡ true → keyPart .Fit k
@@ -335,11 +335,11 @@ module _ (laws : KeyLaws) where
   keys-in notGroups h = refl
   keys-in (groupsOf ks) h = by-cond (JudgedOk (keySetPart .Fit)) (validKeys ks) (λ e. set-fits ks h e) (λ _. refl)
 
-  keys-judged : (informed : Bool) (v : View) → ViewOk v → JudgedOk (keySetPart .Fit) (keysJudgedAs informed v)
-  keys-judged informed (plain p) h = refl
-  keys-judged informed (list ps) h = keys-in (groups informed ps) (groups-ok ps informed h)
+  keys-judged : (allowed : Bool) (v : View) → ViewOk v → JudgedOk (keySetPart .Fit) (keysJudgedAs allowed v)
+  keys-judged allowed (scalar p) h = refl
+  keys-judged allowed (list ps) h = keys-in (groups allowed ps) (groups-ok ps allowed h)
 
-  pub keys-read : (informed : Bool) (v : View) → ViewOk v → ReadOk (keysParameterPart .Fit) (keysReadAs informed v)
-  keys-read informed v h =
-      concluded-ok (keysParameterPart .Fit) (keySetPart .Fit) _ (keysParameter Taken) (keysJudgedAs informed v)
-      refl (λ s f. (report-fits Taken, f)) (keys-judged informed v h)
+  pub keys-read : (allowed : Bool) (v : View) → ViewOk v → ReadOk (keysParameterPart .Fit) (keysReadAs allowed v)
+  keys-read allowed v h =
+      concluded-ok (keysParameterPart .Fit) (keySetPart .Fit) _ (keysParameter Taken) (keysJudgedAs allowed v)
+      refl (λ s f. (report-fits Taken, f)) (keys-judged allowed v h)

@@ -14,26 +14,26 @@ use Rattle.image.specs.Part.{number}
 use Rattle.key_image.specs.Key.{keyPart, keySetPart, countedSetPart}
 use Rattle.link_key.specs.Key.{noKey, sameSecret, covers}
 use Rattle.link_key.specs.declared.Key.{Key}
-use Rattle.link_key.specs.declared.info.Info.the-variants.{Absent}
+use Rattle.link_key.specs.declared.additional_info.AdditionalInfo.the-variants.{Absent}
 use Rattle.link_key_set.specs.KeySet.{noKeys, keysOf, named, findKey, validSet, sameKeys, shares}
 use Rattle.link_key_set.specs.declared.key_set.KeySet.{KeySet}
 use Rattle.link_key_usage.specs.Usage.{knownType}
-use Rattle.link_key_counters.specs.Counters.{Slot, arrived, noCounted, keptCounter, succeeded, spentOn, firstServing, serves, spend}
+use Rattle.link_key_counters.specs.Counters.{Slot, withZeroCounters, noCounted, keptCounter, inheritCounters, takenCounterOn, firstServing, serves, takeCounter}
 use Rattle.link_key_counters.specs.declared.CountedSet.{CountedSet}
-use Rattle.cojp.specs.Faults.{noFaults, faultOf, added}
+use Rattle.cojp.specs.ErrorReports.{noErrorReports, errorReportOf, added}
 use Rattle.cojp.specs.Reading.{ifTaken}
 use Rattle.cojp.specs.Reported.{badIn, badAt, reportsOn}
 use Rattle.cojp.specs.declared.configuration.Configuration.{Configuration}
-use Rattle.cojp.specs.declared.fault.Fault.{Fault}
-use Rattle.cojp.specs.declared.fault.Faults.{Faults}
-use Rattle.cojp.specs.declared.report.Report.{Report}
-use Rattle.cojp.specs.declared.report.Report.the-variants as report
+use Rattle.cojp.specs.declared.error_report.ErrorReport.{ErrorReport}
+use Rattle.cojp.specs.declared.error_report.ErrorReports.{ErrorReports}
+use Rattle.cojp.specs.declared.disposition.Disposition.{Disposition}
+use Rattle.cojp.specs.declared.disposition.Disposition.the-variants as report
 use Rattle.node_attempt.specs.Attempt.{isWaiting, timeoutAfter, valid}
 use Rattle.node_attempt.specs.Poll.{stepped, poll}
 use Rattle.node_attempt.specs.declared.attempt.Attempt.{Attempt}
 use Rattle.node_attempt.specs.declared.attempt.Phase.{Phase}
 use Rattle.node_attempt.specs.declared.attempt.Phase.the-variants as phase
-use Rattle.node_attempt.specs.declared.poll.Step.{Step}
+use Rattle.node_attempt.specs.declared.poll.AttemptResult.{AttemptResult}
 use Rattle.node_image.specs.Answers.{frameKeyImage}
 use Rattle.node_image.specs.Attempt.{phasePart, attemptPart}
 use Rattle.node_image.specs.Node.{setsPart}
@@ -41,13 +41,13 @@ use Rattle.node_key_sets.specs.Frames.{orElse, heldKey, ifCovers, receivingKey}
 use Rattle.node_key_sets.specs.Sets.{activeIn, pendingIn, install}
 use Rattle.node_key_sets.specs.declared.frames.KeyAnswer.{KeyAnswer}
 use Rattle.node_key_sets.specs.declared.sets.KeySets.{KeySets}
-use Rattle.node_key_sets.specs.declared.sets.Placement.{Placement}
-use Rattle.object_image.specs.Codes.{boolPart, reportPart}
-use Rattle.object_image.specs.Faults.{faultPart, faultsPart}
+use Rattle.node_key_sets.specs.declared.sets.InstallResult.{InstallResult}
+use Rattle.object_image.specs.Codes.{boolPart, dispositionPart}
+use Rattle.object_image.specs.ErrorReports.{errorReportPart, errorReportsPart}
 use Rattle.node_call_laws.specs.Fits.{Time}
 use Rattle.node_call_laws.proofs.Lists.{by-cond, Each, nobody, one-more, each-taken, Found, first-fits, SlotFits, slot-fits, fits-length, fits-set, fits-replicate, under-zeros, fits-under, kept-fit, kept-under, CanRise, first-rises}
 
-pub by-report : {A : Type 0} (P : A → Type 0) (r : Report) {x y : A} → P x → P y → P (ifTaken r x y)
+pub by-report : {A : Type 0} (P : A → Type 0) (r : Disposition) {x y : A} → P x → P y → P (ifTaken r x y)
 by-report P report.Absent f g = g
 by-report P report.Taken f g = f
 by-report P report.Discarded f g = g
@@ -56,7 +56,7 @@ pub bool-fits : (b : Bool) → boolPart .Fit b
 bool-fits true = (omega arith, refl)
 bool-fits false = (omega arith, refl)
 
-pub report-fits : (r : Report) → reportPart .Fit r
+pub report-fits : (r : Disposition) → dispositionPart .Fit r
 report-fits report.Absent = (omega arith, refl)
 report-fits report.Taken = (omega arith, refl)
 report-fits report.Discarded = (omega arith, refl)
@@ -74,14 +74,14 @@ no-key-fits = (omega arith, (omega arith, ((refl, under-zeros 256 16 (omega arit
 pub no-keys-fit : keySetPart .Fit noKeys
 no-keys-fit = (omega arith, fits-replicate keyPart 8 noKey no-key-fits)
 
-arrived-fits : (set : KeySet) → keySetPart .Fit set → countedSetPart .Fit (arrived set)
+arrived-fits : (set : KeySet) → keySetPart .Fit set → countedSetPart .Fit (withZeroCounters set)
 arrived-fits set h = (h, fits-replicate (number 4) 8 0 (omega arith))
 
 pub none-counted-fits : countedSetPart .Fit noCounted
 none-counted-fits = arrived-fits noKeys no-keys-fit
 
-succeeded-fits : (s : CountedSet) (set : KeySet) → countedSetPart .Fit s → keySetPart .Fit set → countedSetPart .Fit (succeeded s set)
-unfolding succeeded
+succeeded-fits : (s : CountedSet) (set : KeySet) → countedSetPart .Fit s → keySetPart .Fit set → countedSetPart .Fit (inheritCounters s set)
+unfolding inheritCounters
 succeeded-fits s set f h = (
   h,
   kept-fit (keptCounter s)
@@ -89,25 +89,25 @@ succeeded-fits s set f h = (
       (set .count) (set .keys) (fits-length keyPart 8 (set .keys) (h .1)),
 )
 
-spent-fits : (s : CountedSet) (o : Option Slot) → countedSetPart .Fit s → CanRise o → countedSetPart .Fit (spentOn s o .set)
+spent-fits : (s : CountedSet) (o : Option Slot) → countedSetPart .Fit s → CanRise o → countedSetPart .Fit (takenCounterOn s o .set)
 spent-fits s none f h = f
 spent-fits s (some x) f h = (f .0, fits-set (number 4) 8 (s .counters) (x .place) (x .counter + 1) h (f .1))
 
-pub spend-fits : (type : ℕ) (s : CountedSet) → countedSetPart .Fit s → countedSetPart .Fit (spend type s .set)
-unfolding spend
+pub spend-fits : (type : ℕ) (s : CountedSet) → countedSetPart .Fit s → countedSetPart .Fit (takeCounter type s .set)
+unfolding takeCounter
 spend-fits type s f =
     spent-fits s (firstServing type s) f (first-rises (s .counters) (fits-under (s .counters) (f .1)) type 0 (keysOf (s .set)))
 
 -- the key that a frame is sent with, and its counter
-spent-key : (s : CountedSet) (o : Option Slot) → Found SlotFits o → frameKeyImage .Fit (spentOn s o .key, spentOn s o .counter)
+spent-key : (s : CountedSet) (o : Option Slot) → Found SlotFits o → frameKeyImage .Fit (takenCounterOn s o .key, takenCounterOn s o .counter)
 spent-key s none h = (no-key-fits, omega arith)
 spent-key s (some x) h = h
 
 set-keys : (s : CountedSet) → countedSetPart .Fit s → Each keyPart (keysOf (s .set))
 set-keys s f = each-taken keyPart (s .set .count) 8 (s .set .keys) (f .0 .1)
 
-pub spend-key : (type : ℕ) (s : CountedSet) → countedSetPart .Fit s → frameKeyImage .Fit (spend type s .key, spend type s .counter)
-unfolding spend
+pub spend-key : (type : ℕ) (s : CountedSet) → countedSetPart .Fit s → frameKeyImage .Fit (takeCounter type s .key, takeCounter type s .counter)
+unfolding takeCounter
 spend-key type s f =
     spent-key s (firstServing type s) (slot-fits (s .counters) (fits-under (s .counters) (f .1)) (serves type) 0 (keysOf (s .set)) (set-keys s f))
 
@@ -133,7 +133,7 @@ receiving-key s type identifier f =
 pub install-fits : (border : Bool) (s : KeySets) (set : KeySet) → setsPart .Fit s → keySetPart .Fit set → setsPart .Fit (install border s set .sets)
 unfolding install
 install-fits border s set f h =
-    let P : Placement → Type 0 = λ p. setsPart .Fit (p .sets) in
+    let P : InstallResult → Type 0 = λ p. setsPart .Fit (p .sets) in
     by-cond P (validSet set)
     (λ _. by-cond P border (λ _. (succeeded-fits (s .active) set (f .0) h, none-counted-fits))
     (λ _. by-cond P (sameKeys (keysOf set) (activeIn s)) (λ _. (f .0, none-counted-fits))
@@ -164,7 +164,7 @@ waits-short a v w h =
 pub poll-fits : (a : Attempt) (time : ℕ) → Time time → attemptPart .Fit a → attemptPart .Fit (poll a time .attempt)
 unfolding poll stepped
 poll-fits a time t f =
-    let P : Step → Type 0 = λ s. attemptPart .Fit (s .attempt) in
+    let P : AttemptResult → Type 0 = λ s. attemptPart .Fit (s .attempt) in
     by-cond P (valid a)
     (λ v. by-cond P (leb (a .clock) time)
     (λ _. by-cond P (isWaiting (a .phase))
@@ -179,21 +179,21 @@ poll-fits a time t f =
     (λ _. f)
 
 -- ---- faults
-no-fault-fits : faultPart .Fit (faultOf 0 0)
+no-fault-fits : errorReportPart .Fit (errorReportOf 0 0)
 no-fault-fits = (omega arith, omega arith)
 
-pub no-faults-fit : faultsPart .Fit noFaults
-no-faults-fit = (omega arith, fits-replicate faultPart 5 (faultOf 0 0) no-fault-fits)
+pub no-faults-fit : errorReportsPart .Fit noErrorReports
+no-faults-fit = (omega arith, fits-replicate errorReportPart 5 (errorReportOf 0 0) no-fault-fits)
 
-pub added-fits : (f : Faults) (code label : ℕ) → code < 256 → label < 256 → faultsPart .Fit f → faultsPart .Fit (added f code label)
+pub added-fits : (f : ErrorReports) (code label : ℕ) → code < 256 → label < 256 → errorReportsPart .Fit f → errorReportsPart .Fit (added f code label)
 unfolding added
 added-fits f code label a b h =
-    by-cond (faultsPart .Fit) (ltb (f .count) 5)
-    (λ e. let less = ltb-true (f .count) 5 e in (omega arith, fits-set faultPart 5 (f .faults) (f .count) (faultOf code label) (a, b) (h .1)))
+    by-cond (errorReportsPart .Fit) (ltb (f .count) 5)
+    (λ e. let less = ltb-true (f .count) 5 e in (omega arith, fits-set errorReportPart 5 (f .reports) (f .count) (errorReportOf code label) (a, b) (h .1)))
     (λ _. h)
 
-pub reports-fit : (c : Configuration) (f : Faults) (xs : List Fault) → Each faultPart xs → faultsPart .Fit f → faultsPart .Fit (reportsOn (badIn c) f xs)
+pub reports-fit : (c : Configuration) (f : ErrorReports) (xs : List ErrorReport) → Each errorReportPart xs → errorReportsPart .Fit f → errorReportsPart .Fit (reportsOn (badIn c) f xs)
 reports-fit c f xs nobody h = h
 reports-fit c f xs (one-more {x = x} {xs = ys} g e) h =
     reports-fit c (cond (badAt (badIn c) (x .label)) (added f (x .code) (x .label)) f) ys e
-    (by-cond (faultsPart .Fit) (badAt (badIn c) (x .label)) (λ _. added-fits f (x .code) (x .label) (g .0) (g .1) h) (λ _. h))
+    (by-cond (errorReportsPart .Fit) (badAt (badIn c) (x .label)) (λ _. added-fits f (x .code) (x .label) (g .0) (g .1) h) (λ _. h))

@@ -14,7 +14,7 @@ use Rattle.cbor.specs.Strict.{headBy}
 use Rattle.cbor.specs.View.{View, labelOf, viewOf}
 use Rattle.cbor.specs.declared.value.Label.{Label}
 use Rattle.cbor.specs.declared.value.Label.the-variants as label
-use Rattle.cojp.specs.Reading.{Reading, refused, read, onward, put, following}
+use Rattle.cojp.specs.Reading.{Reading, refused, read, bind, mapReading, byVersionOf}
 use Rattle.cojp.specs.Walk.{Form, knownRead, pairRead, pairsRead, mapRead, scannedRead, payloadReadBy}
 use Rattle.cojp.specs.declared.version.Version.{Version}
 use Rattle.cojp.specs.declared.version.Version.the-variants.{Draft, Published}
@@ -22,16 +22,16 @@ use Rattle.node_call_laws.proofs.Items.{Word, ViewOk, PairsOk, no-pairs
 use Rattle.node_call_laws.proofs.Lists.{by-cond}
 use Rattle.node_call_laws.proofs.Parameters.{ReadOk}
 
-pub put-ok : {A B : Type 0} (P : A → Type 0) (Q : B → Type 0) (f : A → B) (r : Reading A) → ReadOk P r → ((a : A) → P a → Q (f a)) → ReadOk Q (put f r)
+pub put-ok : {A B : Type 0} (P : A → Type 0) (Q : B → Type 0) (f : A → B) (r : Reading A) → ReadOk P r → ((a : A) → P a → Q (f a)) → ReadOk Q (mapReading f r)
 put-ok P Q f (refused k) h g = refl
 put-ok P Q f (read a) h g = g a h
 
 pub onward-ok : {A B : Type 0} (P : A → Type 0) (Q : B → Type 0) (r : Reading A) (f : A → Reading B) → ReadOk P r → ((a : A) → P a → ReadOk Q (f a))
-    → ReadOk Q (onward r f)
+    → ReadOk Q (bind r f)
 onward-ok P Q (refused k) f h g = refl
 onward-ok P Q (read a) f h g = g a h
 
-pub following-ok : {A : Type 0} (P : A → Type 0) (v : Version) (bad : A) (r : Reading A) → P bad → ReadOk P r → ReadOk P (following v bad r)
+pub following-ok : {A : Type 0} (P : A → Type 0) (v : Version) (bad : A) (r : Reading A) → P bad → ReadOk P r → ReadOk P (byVersionOf v bad r)
 following-ok P Draft bad r b h = h
 following-ok P Published bad (refused k) b h = b
 following-ok P Published bad (read a) b h = h

@@ -10,7 +10,7 @@ use Rattle.cojp.specs.Request.{readRequestBy}
 use Rattle.cojp.specs.declared.version.Version.{Version}
 use Rattle.node.specs.declared.node.Node.{Node}
 use Rattle.node_calls.specs.Calls.{madeOf}
-use Rattle.node_image.specs.Answers.{reportsImage, frameKeyImage}
+use Rattle.node_image.specs.Answers.{dispositionsImage, frameKeyImage}
 use Rattle.node_image.specs.Node.{nodeImage}
 use Rattle.node_laws.specs.Calls.{NodeCall, starting, polling, delivering, asking, sending, receiving, reporting, perform}
 use Rattle.node_laws.specs.Calls.{Object, nothing, written, step, reports, state, key, counted, effect}
@@ -40,7 +40,7 @@ abbrev pub AnswerFits : Object → Type 0
 AnswerFits nothing = Unit {0}
 AnswerFits (written n) = Unit {0}
 AnswerFits (step d) = Unit {0}
-AnswerFits (reports r) = reportsImage .Fit r
+AnswerFits (reports r) = dispositionsImage .Fit r
 AnswerFits (state h) = Unit {0}
 AnswerFits (key k) = frameKeyImage .Fit (k, 0)
 AnswerFits (counted k n) = frameKeyImage .Fit (k, n)

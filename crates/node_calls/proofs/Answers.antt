@@ -9,7 +9,7 @@ use lib.ListN.{length, replicate}
 use Rattle.refusal.specs.Verdict.{verdictNumber}
 use Rattle.refusal.specs.declared.Verdict.{Verdict}
 use Rattle.refusal.specs.declared.Verdict.the-variants.{Accepted, Refused}
-use Rattle.image.specs.Left.{left}
+use Rattle.image.specs.Effects.{onAccept}
 use Rattle.image.specs.Lent.{hands-unfit, hands-none, hands-told}
 use Rattle.image.specs.Part.{isImage}
 use Rattle.node.specs.declared.node.Node.{Node}
@@ -29,12 +29,12 @@ empty-value (reporting type identifier) = refl
 
 module _ (demand1 : Demand1) where
   value-left : (c : NodeCall) (n : Node) (v : Verdict) → perform c n .verdict ≡ v
-      → valueOf (perform c n .object) ≡ left v 0 (valueOf (perform c n .object))
+      → valueOf (perform c n .object) ≡ onAccept v 0 (valueOf (perform c n .object))
   value-left c n Accepted e = refl
   value-left c n (Refused k) e = ap valueOf (demand1 .calls c n k e .object) ∙ empty-value c
 
   lent-left : (time timeout : ℕ) (d : List ℕ) (n : Node) (v : Verdict) → perform (starting time timeout d) n .verdict ≡ v
-      → perform (starting time timeout d) n .lent ≡ left v d (perform (starting time timeout d) n .lent)
+      → perform (starting time timeout d) n .lent ≡ onAccept v d (perform (starting time timeout d) n .lent)
   lent-left time timeout d n Accepted e = refl
   lent-left time timeout d n (Refused k) e = demand1 .calls (starting time timeout d) n k e .lent
 
@@ -51,7 +51,7 @@ module _ (c : NodeCall) (s : List ℕ) where
     tells e f = record { number = rw image e; value = rw image (f ∙ value-left demand1 c (nodeImage .get s) (performedIn c s .verdict) refl) }
 
     pub does : {r v : ℕ} {s′ : List ℕ} → r ≡ verdictNumber (performedIn c s .verdict)
-        → s′ ≡ left (performedIn c s .verdict) s (nodeImage .put (performedIn c s .node)) → v ≡ valueOf (performedIn c s .object) → Does c s r s′ v
+        → s′ ≡ onAccept (performedIn c s .verdict) s (nodeImage .put (performedIn c s .node)) → v ≡ valueOf (performedIn c s .object) → Does c s r s′ v
     does e g f = record { tells = tells e f; node = rw image g }
 
 module _ (time timeout : ℕ) (s d : List ℕ) where
@@ -80,10 +80,10 @@ module _ (n : ℕ) (c : NodeCall) (s w : List ℕ) where
       }
 
   pub gives : {r : ℕ} {w′ : List ℕ} → length w ≡ n → isImage nodeImage s ≡ true → r ≡ verdictNumber (performedIn c s .verdict)
-      → w′ ≡ left (performedIn c s .verdict) (replicate n 0) (structOf (performedIn c s .object)) → Gives n c s w r w′
+      → w′ ≡ onAccept (performedIn c s .verdict) (replicate n 0) (structOf (performedIn c s .object)) → Gives n c s w r w′
   gives h image e f = hands-told n (isImage nodeImage s) (performedIn c s .verdict) (structOf (performedIn c s .object)) w h image e f
 
   pub changes : {r : ℕ} {s′ w′ : List ℕ} → length w ≡ n → isImage nodeImage s ≡ true → r ≡ verdictNumber (performedIn c s .verdict)
-      → s′ ≡ left (performedIn c s .verdict) s (nodeImage .put (performedIn c s .node))
-      → w′ ≡ left (performedIn c s .verdict) (replicate n 0) (structOf (performedIn c s .object)) → Changes n c s w r s′ w′
+      → s′ ≡ onAccept (performedIn c s .verdict) s (nodeImage .put (performedIn c s .node))
+      → w′ ≡ onAccept (performedIn c s .verdict) (replicate n 0) (structOf (performedIn c s .object)) → Changes n c s w r s′ w′
   changes h image e g f = record { gives = gives h image e f; node = rw (eq-eqb (length w) n h, image) g }

@@ -3,7 +3,7 @@
 use Prim.Native.Nat.{ℕ}
 use mathlib.Core.List.{List}
 use mathlib.Core.Path.{_≡_}
-use Rattle.image.specs.Left.{zeroed}
+use Rattle.image.specs.Effects.{zeroed}
 use Rattle.node_laws.specs.Calls.{NodeCall}
 use Rattle.node_calls.specs.Calls.{Makes, Tells, Does, Starts, Gives, Changes}
 

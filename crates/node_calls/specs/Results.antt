@@ -1,11 +1,11 @@
 -- What a node's calls hand back to C beside their number: a code, a length, or a struct.
 use Prim.Native.Nat.{ℕ}
 use mathlib.Core.List.{List, []}
-use Rattle.node.specs.declared.lease.Holding.{Holding}
-use Rattle.node.specs.declared.lease.Holding.the-variants as holding
+use Rattle.node.specs.declared.lease.LeaseStatus.{LeaseStatus}
+use Rattle.node.specs.declared.lease.LeaseStatus.the-variants as holding
 use Rattle.node_attempt.specs.declared.poll.Due.{Due}
 use Rattle.node_attempt.specs.declared.poll.Due.the-variants as due
-use Rattle.node_image.specs.Answers.{reportsImage, frameKeyImage}
+use Rattle.node_image.specs.Answers.{dispositionsImage, frameKeyImage}
 use Rattle.node_key_sets.specs.declared.frames.Change.{Change}
 use Rattle.node_key_sets.specs.declared.frames.Change.the-variants as change
 use Rattle.node_laws.specs.Calls.{Object, nothing, written, step, reports, state, key, counted, effect}
@@ -17,10 +17,10 @@ dueCode due.NotYet = 1
 dueCode due.SendAgain = 2
 dueCode due.GaveUp = 3
 
-abbrev pub holdingCode : Holding → ℕ
-holdingCode (holding.Refused k) = 0
-holdingCode holding.Yes = 1
-holdingCode holding.No = 2
+abbrev pub leaseStatusCode : LeaseStatus → ℕ
+leaseStatusCode (holding.Refused k) = 0
+leaseStatusCode holding.Valid = 1
+leaseStatusCode holding.Expired = 2
 
 abbrev pub changeCode : Change → ℕ
 changeCode (change.Refused k) = 0
@@ -33,7 +33,7 @@ valueOf nothing = 0
 valueOf (written n) = n
 valueOf (step d) = dueCode d
 valueOf (reports r) = 0
-valueOf (state h) = holdingCode h
+valueOf (state h) = leaseStatusCode h
 valueOf (key k) = 0
 valueOf (counted k n) = 0
 valueOf (effect c) = changeCode c
@@ -43,7 +43,7 @@ abbrev pub structOf : Object → List ℕ
 structOf nothing = []
 structOf (written n) = []
 structOf (step d) = []
-structOf (reports r) = reportsImage .put r
+structOf (reports r) = dispositionsImage .put r
 structOf (state h) = []
 structOf (key k) = frameKeyImage .put (k, 0)
 structOf (counted k n) = frameKeyImage .put (k, n)

@@ -1,5 +1,5 @@
 // The join attempt.
-use crate::told::keep_attempt;
+use crate::store::store_attempt;
 use image::RANGE;
 use node_attempt::Due;
 use node_image::is_node;
@@ -16,7 +16,7 @@ pub fn node_start(node: &mut [u8], time: u64, timeout: u64, dst: &mut [u8], leng
     ensures { λ r. ⌜ Starts time timeout (now (node .entry)) (now (dst .entry)) r (now (node .exit)) (now (dst .exit)) (now (length .exit)) ⌝ }
 {
     node_laws::demand1();
-    node_image::changes();
+    node_image::partial_store_law();
     if !is_node(node) {
         *length = 0;
         return RANGE;
@@ -25,7 +25,7 @@ pub fn node_start(node: &mut [u8], time: u64, timeout: u64, dst: &mut [u8], leng
     let verdict = started.verdict;
     let after = started.node;
     *length = started.length as u64;
-    keep_attempt(verdict, after, node)
+    store_attempt(verdict, after, node)
 }
 
 fn due_verdict(due: Due) -> Verdict
@@ -55,7 +55,7 @@ pub fn node_poll(node: &mut [u8], time: u64, due: &mut u32) -> u32
     ensures { λ r. ⌜ Does (polling time) (now (node .entry)) r (now (node .exit)) (now (due .exit)) ⌝ }
 {
     node_laws::demand1();
-    node_image::changes();
+    node_image::partial_store_law();
     if !is_node(node) {
         *due = 0;
         return RANGE;
@@ -64,5 +64,5 @@ pub fn node_poll(node: &mut [u8], time: u64, due: &mut u32) -> u32
     let step = polled.due;
     let after = polled.node;
     *due = due_code(step);
-    keep_attempt(due_verdict(step), after, node)
+    store_attempt(due_verdict(step), after, node)
 }

@@ -1,7 +1,7 @@
 // Keys for frames.
-use crate::told::hand_key;
-use crate::told::keep_counters;
-use crate::told::keep_node;
+use crate::store::store_counters;
+use crate::store::store_key;
+use crate::store::store_node;
 use image::RANGE;
 use image::clear;
 use node_image::is_node;
@@ -18,7 +18,7 @@ ghost use Rattle.node_calls.specs.Results.{changeCode};
 pub fn node_send(node: &mut [u8], frame_type: u8, key: &mut [u8]) -> u32
     ensures { λ r. ⌜ Changes 33 (sending «frame_type») (now (node .entry)) (now (key .entry)) r (now (node .exit)) (now (key .exit)) ⌝ }
 {
-    node_image::changes();
+    node_image::partial_store_law();
     if key.len() != 33 {
         return RANGE;
     }
@@ -30,8 +30,8 @@ pub fn node_send(node: &mut [u8], frame_type: u8, key: &mut [u8]) -> u32
     let answer = sent.answer;
     let verdict = answer.verdict;
     let after = sent.node;
-    hand_key(verdict, answer.key, sent.counter, key);
-    keep_counters(verdict, after, node)
+    store_key(verdict, answer.key, sent.counter, key);
+    store_counters(verdict, after, node)
 }
 
 // The key to receive a frame with.
@@ -47,7 +47,7 @@ pub fn node_receive(node: &[u8], frame_type: u8, identifier: u8, key: &mut [u8])
     }
     let answer = node_in(node).receiving_key(frame_type, identifier);
     let verdict = answer.verdict;
-    hand_key(verdict, answer.key, 0, key)
+    store_key(verdict, answer.key, 0, key)
 }
 
 fn change_verdict(change: Change) -> Verdict
@@ -83,5 +83,5 @@ pub fn node_verified(node: &mut [u8], frame_type: u8, identifier: u8, change: &m
     let what = reported.change;
     let after = reported.node;
     *change = change_code(what);
-    keep_node(change_verdict(what), after, node)
+    store_node(change_verdict(what), after, node)
 }

@@ -1,28 +1,28 @@
 // Whether the short address holds.
 use image::RANGE;
-use node::Holding;
+use node::LeaseStatus;
 use node_image::is_node;
 use node_image::node_in;
 ghost use mathlib.Core.Path.{_≡_};
 ghost use Rattle.node.specs.Lease.{holdingNumber};
 ghost use Rattle.node_laws.specs.Calls.{asking};
 ghost use Rattle.node_calls.specs.Calls.{Tells};
-ghost use Rattle.node_calls.specs.Results.{holdingCode};
+ghost use Rattle.node_calls.specs.Results.{leaseStatusCode};
 
-fn tell_holding(holding: Holding, holds: &mut u32) -> u32
+fn store_lease_status(holding: LeaseStatus, holds: &mut u32) -> u32
     ensures number { λ r. ⌜ r ≡ holdingNumber holding ⌝ }
-    ensures holds { λ _. ⌜ now (holds .exit) ≡ holdingCode holding ⌝ }
+    ensures holds { λ _. ⌜ now (holds .exit) ≡ leaseStatusCode holding ⌝ }
 {
     match holding {
-        Holding::Refused(why) => {
+        LeaseStatus::Refused(why) => {
             *holds = 0;
             why.number() as u32
         }
-        Holding::Yes => {
+        LeaseStatus::Valid => {
             *holds = 1;
             0
         }
-        Holding::No => {
+        LeaseStatus::Expired => {
             *holds = 2;
             0
         }
@@ -38,5 +38,5 @@ pub fn node_holds(node: &[u8], time: u64, holds: &mut u32) -> u32
         *holds = 0;
         return RANGE;
     }
-    tell_holding(node_in(node).address_holds(time), holds)
+    store_lease_status(node_in(node).address_holds(time), holds)
 }

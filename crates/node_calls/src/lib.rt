@@ -5,7 +5,7 @@ mod delivery;
 mod frames;
 mod lease;
 mod made;
-mod told;
+mod store;
 
 pub use attempt::node_poll;
 pub use attempt::node_start;
@@ -19,6 +19,6 @@ pub use made::node_make;
 ghost use Rattle.node_calls.specs.Laws.{NodeRefusals};
 
 // A refused call leaves node and destination byte for byte, and its results all zero.
-pub fn refusals_keep()
+pub fn refusals_keep_law()
     ensures { λ _. ⌜ NodeRefusals ⌝ }
 {}

@@ -1,10 +1,10 @@
 // A node is made.
-use crate::told::hand_node;
+use crate::store::store_result_node;
 use cojp::Octets;
 use cojp::copied;
 use image::RANGE;
 use image::clear;
-use node::Made;
+use node::MakeResult;
 use node::Node;
 use node_parameters::HeldOctets;
 use node_parameters::octets::absent_octets;
@@ -27,7 +27,7 @@ fn network_of(has_network: u8, network: &[u8]) -> HeldOctets
 }
 
 // A node of the form that the number asks for.
-fn made_of(form: u8, role: u8, has_network: u8, network: &[u8]) -> Made
+fn made_of(form: u8, role: u8, has_network: u8, network: &[u8]) -> MakeResult
     ensures { λ r. ⌜ r ≡ madeOf form role «has_network» (now (network .entry)) ⌝ }
 {
     let held = network_of(has_network, network);
@@ -55,5 +55,5 @@ pub fn node_make(form: u8, role: u8, has_network: u8, network: &[u8], node: &mut
     let made = made_of(form, role, has_network, network);
     let verdict = made.verdict;
     let fresh = made.node;
-    hand_node(verdict, fresh, node)
+    store_result_node(verdict, fresh, node)
 }

@@ -2,9 +2,9 @@
 use mathlib.Core.Path.{_≡_, refl}
 use mathlib.Core.Bool.{true}
 use mathlib.Core.List.{List·Memᴰ·head as at, List·Memᴰ·tail as past}
-use Rattle.link_key.specs.Key.{validKey, plainKey, sameKey, sameSecret, covers}
+use Rattle.link_key.specs.Key.{validKey, hasNoAdditionalInfo, sameKey, sameSecret, covers}
 use Rattle.link_key_set.specs.KeySet.{validKeys, validSet}
-use Rattle.link_key_counters.specs.Counters.{spend, succeeded}
+use Rattle.link_key_counters.specs.Counters.{takeCounter, inheritCounters}
 use Rattle.cbor.specs.Decode.{payloadBy, decodeBy, heading, argument, next, digits, members, pairs, majorOf}
 use Rattle.cbor.specs.Encode.{bytesOf, infoOf, extraOf, shortest}
 use Rattle.cojp.specs.Octets.{padded, octetsJudged}
@@ -14,8 +14,8 @@ use Rattle.cojp.specs.Request.{owing}
 use Rattle.cojp.specs.Walk.{payloadReadBy}
 use Rattle.cojp.specs.Parameter.{laterParameter, parameterOf}
 use Rattle.cojp.specs.Configuration.{configurationTaking}
-use Rattle.cojp.specs.Faults.{faultsFit}
-use Rattle.cojp.specs.Reported.{faultsOf}
+use Rattle.cojp.specs.ErrorReports.{errorReportsValid}
+use Rattle.cojp.specs.Reported.{errorReportsOf}
 use Rattle.cojp.specs.Writing.{requestInRange, requestPlan}
 use Rattle.cojp.specs.declared.version.Version.the-variants.{Draft}
 use Rattle.cojp_list_read.specs.Listed.{listedIn}
@@ -24,9 +24,9 @@ use Rattle.node_key_sets.specs.Sets.{install}
 use Rattle.node_key_sets.specs.Frames as frames
 use Rattle.node_attempt.specs.Attempt as attempt
 use Rattle.node_attempt.specs.Attempt.{mayStart}
-use Rattle.node_parameters.specs.Reports.{reportsOf}
+use Rattle.node_parameters.specs.Dispositions.{dispositionsOf}
 use Rattle.node.specs.Node.{made}
-use Rattle.node.specs.Range.{formFits, valid}
+use Rattle.node.specs.Range.{versionValid, valid}
 use Rattle.node.specs.Timing.{requestOf, startVerdict, startPlan, start}
 use Rattle.node.specs.Delivery.{fitted, configured, apply, deliverVerdict, deliver}
 use Rattle.node.specs.Frames as node
@@ -34,16 +34,16 @@ use Rattle.node.specs.Frames.{send, sendCounter, afterSend}
 use Rattle.node_laws.specs.Calls.{perform}
 use Rattle.node_delivery.specs.Delivery.{mayCome}
 use Rattle.node_counter_laws.specs.Rising.{after, Answers, Stays, CountersRise}
-use Rattle.node_counter_laws.specs.Example.{cafe, key, joining, joined, sent, kept, left, Witness}
+use Rattle.node_counter_laws.specs.Example.{cafe, key, joining, joined, sent, kept, left, CountersExample}
 
 -- what computing unfolds: items, keys, objects and the node's calls
 computing : Unit {0}
 unfolding payloadBy decodeBy heading argument next digits members pairs majorOf bytesOf infoOf extraOf shortest
-    validKey plainKey sameKey sameSecret covers validKeys validSet spend succeeded
+    validKey hasNoAdditionalInfo sameKey sameSecret covers validKeys validSet takeCounter inheritCounters
     padded octetsJudged addressIn groups identified used valued owing payloadReadBy
-    laterParameter parameterOf configurationTaking faultsFit faultsOf listedIn requestInRange requestPlan
+    laterParameter parameterOf configurationTaking errorReportsValid errorReportsOf listedIn requestInRange requestPlan
     sets.valid sets.validAs install frames.sending attempt.valid mayStart
-    made formFits valid requestOf startVerdict startPlan start reportsOf fitted configured apply mayCome deliverVerdict deliver
+    made versionValid valid requestOf startVerdict startPlan start dispositionsOf fitted configured apply mayCome deliverVerdict deliver
     node.sending send sendCounter afterSend perform
 computing = tt
 
@@ -67,7 +67,7 @@ same : sameSecret key key ≡ true
 unfolding computing
 same = refl
 
-pub witness : CountersRise → Witness
+pub witness : CountersRise → CountersExample
 witness law = record {
   first = first;
   stays = stays;

@@ -9,16 +9,16 @@ use Rattle.refusal.specs.declared.Refusal.the-variants as refusal
 use Rattle.refusal.specs.declared.Verdict.{Verdict}
 use Rattle.refusal.specs.declared.Verdict.the-variants as verdict
 use Rattle.cbor.specs.Answer.{answer}
-use Rattle.cbor.specs.declared.write.Written.{Written}
-use Rattle.cbor.specs.declared.write.Written.the-variants as written
+use Rattle.cbor.specs.declared.write.WriteResult.{WriteResult}
+use Rattle.cbor.specs.declared.write.WriteResult.the-variants as written
 use Rattle.link_key_set.specs.KeySet.{has}
 use Rattle.link_key_set.specs.declared.key_set.KeySet.{KeySet}
 use Rattle.link_key_counters.specs.Counters.{Slot, firstServing, raised}
 use Rattle.cojp.specs.Reading.{ifTaken}
 use Rattle.cojp.specs.declared.configuration.Configuration.{Configuration}
 use Rattle.cojp.specs.declared.configuration.ConfigurationRead.{ConfigurationRead}
-use Rattle.cojp.specs.declared.report.Report.{Report}
-use Rattle.cojp.specs.declared.report.Report.the-variants.{Absent, Taken, Discarded}
+use Rattle.cojp.specs.declared.disposition.Disposition.{Disposition}
+use Rattle.cojp.specs.declared.disposition.Disposition.the-variants.{Absent, Taken, Discarded}
 use Rattle.node_key_sets.specs.Sets.{activeIn, twoSets, placed, install}
 use Rattle.node_key_sets.specs.Frames.{receivingKey, switched, effectBy, verifiedIn}
 use Rattle.node_key_sets.specs.declared.frames.Change.the-variants as change
@@ -43,7 +43,7 @@ pub data Move (border : Bool) (s t : KeySets) : Type 0 where
   switches : t ≡ switched s → Move border s t
 
 -- ---- starts and polls
-start-moves : (w : Written) (n : Node) (time timeout : ℕ) → startedBy w n (startedFrom n time timeout) .node .sets ≡ n .sets
+start-moves : (w : WriteResult) (n : Node) (time timeout : ℕ) → startedBy w n (startedFrom n time timeout) .node .sets ≡ n .sets
 start-moves (written.Refused k) n time timeout = refl
 start-moves (written.Length l) n time timeout = refl
 
@@ -60,7 +60,7 @@ module _ (delivery : Delivery) (n : Node) (time : ℕ) where
   abbrev Moved : KeySets → Type 0
   Moved t = Move (isBorder n) (n .sets) t
 
-  taken-moves : (r : Report) (set : KeySet) → Moved (ifTaken r (install (isBorder n) (n .sets) set) (placed (n .sets)) .sets)
+  taken-moves : (r : Disposition) (set : KeySet) → Moved (ifTaken r (install (isBorder n) (n .sets) set) (placed (n .sets)) .sets)
   taken-moves Absent set = stays refl
   taken-moves Discarded set = stays refl
   taken-moves Taken set = installs set refl
@@ -72,14 +72,14 @@ module _ (delivery : Delivery) (n : Node) (time : ℕ) where
 
   apply-moves : (c : Configuration) → Moved (apply delivery n time c .node .sets)
   unfolding apply
-  apply-moves c = go (owesIdentifier delivery n (c .network .report))
+  apply-moves c = go (owesIdentifier delivery n (c .network .disposition))
     where
       go :
           (b : Bool) →
           Moved
           (cond b (undelivered refusal.Owed n) (placedBy (placementOf n (c .keys) .verdict) delivery n time c (placementOf n (c .keys) .sets)) .node .sets)
       go true = stays refl
-      go false = placed-moves (placementOf n (c .keys) .verdict) c (placementOf n (c .keys) .sets) (taken-moves (c .keys .report) (c .keys .value))
+      go false = placed-moves (placementOf n (c .keys) .verdict) c (placementOf n (c .keys) .sets) (taken-moves (c .keys .disposition) (c .keys .value))
 
   read-moves : (v : Verdict) (c : Configuration) → Moved (applyRead v delivery n time c .node .sets)
   read-moves (verdict.Refused k) c = stays refl

@@ -20,10 +20,10 @@ use Rattle.link_key_counters.specs.Counters.{Slot, firstServing, raised, keptCo
 use Rattle.link_key_counters.specs.declared.CountedSet.{CountedSet}
 use Rattle.link_key_counter_laws.specs.Kept.{Holds, Sound, KeptLaws}
 use Rattle.node_key_sets.specs.Sets as sets
-use Rattle.node_key_sets.specs.Sets.{activeIn, twoSets, unplaced, place, install}
+use Rattle.node_key_sets.specs.Sets.{activeIn, twoSets, unplaced, decideInstall, install}
 use Rattle.node_key_sets.specs.declared.sets.KeySets.{KeySets}
 use Rattle.node_key_sets.proofs.Valid.{active-valid, member-valid, as-valid}
-use Rattle.cojp.specs.Version.{informed}
+use Rattle.cojp.specs.Version.{allowsAdditionalInfo}
 use Rattle.cojp.specs.declared.version.Version.{Version}
 use Rattle.node_parameters.specs.declared.octets.HeldOctets.{HeldOctets}
 use Rattle.node_attempt.specs.Attempt as attempt
@@ -43,8 +43,8 @@ use Rattle.node_counter_laws.proofs.Moves.{Move, stays, counts, install
 keys-valid : (n : Node) → Valid n → sets.valid (isBorder n) (n .sets) ≡ true
 unfolding valid
 keys-valid n v =
-    as-valid (informed (n .version)) (isBorder n) (n .sets)
-    (first (sets.validAs (informed (n .version)) (isBorder n) (n .sets)) (attempt.valid (n .attempt)) (validAddress (clockOf n) (n .address))
+    as-valid (allowsAdditionalInfo (n .version)) (isBorder n) (n .sets)
+    (first (sets.validAs (allowsAdditionalInfo (n .version)) (isBorder n) (n .sets)) (attempt.valid (n .attempt)) (validAddress (clockOf n) (n .address))
     (othersValid n) v)
 
 -- ---- both sets have eight counters
@@ -65,7 +65,7 @@ made-sized version role network = go (validRole role) (validOctets network)
 
 -- an install, by whether the set is within its limits and by the three questions of its placing
 abbrev placeBy : KeySets → KeySet → Bool → Bool → Bool → Bool → KeySets
-placeBy s set ok border equals shared = cond ok (place s set border equals shared) (unplaced refusal.Range s) .sets
+placeBy s set ok border equals shared = cond ok (decideInstall s set border equals shared) (unplaced refusal.Range s) .sets
 
 module _ (P : KeptLaws) where
   place-sized :

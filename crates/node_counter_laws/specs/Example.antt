@@ -46,7 +46,7 @@ kept = delivering Update 3000 beside ∷ []
 abbrev pub left : List NodeCall
 left = delivering Update 3000 without ∷ delivering Update 4000 alone ∷ []
 
-pub record Witness : Type 0 where
+pub record CountersExample : Type 0 where
   pub first : Answers joined 1 key 0
   pub stays : Stays key sent kept
   pub second : Answers (after sent kept) 1 key 1

@@ -1,21 +1,21 @@
 // What holds of a node's frame counters over whole lists of calls.
 ghost use Rattle.node_counter_laws.specs.Rising.{CountersRise};
-ghost use Rattle.node_counter_laws.specs.Example.{Witness};
+ghost use Rattle.node_counter_laws.specs.Example.{CountersExample};
 
 // From a fresh node on, sending answers no identifier, value and counter twice while the key stays in the active set.
-pub fn counters_rise()
+pub fn counters_rise_law()
     ensures { λ r. ⌜ CountersRise ⌝ }
 {
     link_key_set::laws();
     link_key_counters::laws();
-    link_key_counter_laws::kept();
+    link_key_counter_laws::kept_counters_law();
     node_laws::laws();
-    node_laws::answers_say();
+    node_laws::answers_law();
 }
 
 // The law is not empty, and says no more than it can: a key that leaves and comes back counts from 0.
-pub fn witness()
-    ensures { λ r. ⌜ Witness ⌝ }
+pub fn counters_example()
+    ensures { λ r. ⌜ CountersExample ⌝ }
 {
-    counters_rise();
+    counters_rise_law();
 }

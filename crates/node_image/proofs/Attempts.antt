@@ -12,8 +12,8 @@ use Rattle.cbor.specs.Answer.{Wrote}
 use Rattle.cbor.specs.Decode.{bigEndian}
 use Rattle.cbor.specs.Encode.{bytesOf}
 use Rattle.image.specs.Fields.{and-good, four-fields}
-use Rattle.image.specs.Lawful.{byte-lawful, number-lawful, both-lawful, viewed-lawful, code-lawful}
-use Rattle.image.specs.Part.{Lawful}
+use Rattle.image.specs.CodecLaws.{byte-lawful, number-lawful, both-lawful, viewed-lawful, code-lawful}
+use Rattle.image.specs.Part.{RoundTrips}
 use Rattle.node_attempt.specs.Attempt.{attempt}
 use Rattle.node_attempt.specs.declared.attempt.Attempt.{Attempt}
 use Rattle.node_attempt.specs.declared.attempt.Phase.{Phase}
@@ -40,7 +40,7 @@ phase-undone (suc zero) h = refl
 phase-undone (suc (suc zero)) h = refl
 phase-undone (suc (suc (suc n))) h = omega (arith, leb-true (suc (suc (suc n))) 3 h)
 
-phase-lawful : Lawful phasePart
+phase-lawful : RoundTrips phasePart
 phase-lawful = code-lawful phaseNumber phaseOf 3 phase-again phase-undone
 
 -- ---- the attempt
@@ -74,7 +74,7 @@ pub attempt-stored : (a : Attempt) {n : ℕ} {d d′ : List ℕ} → n ≡ phase
 attempt-stored a {n} e w =
     rw (four-fields (n ∷ []) (bytesOf 8 (a .clock)) (bytesOf 8 (a .sent)) (bytesOf 8 (a .timeout)) (a .count ∷ []), e) at w
 
-pub attempt-lawful : Lawful attemptPart
+pub attempt-lawful : RoundTrips attemptPart
 attempt-lawful =
     viewed-lawful attemptFields attemptTo attemptFrom (λ a. refl) (λ x h. refl)
     (both-lawful _ _ phase-lawful (both-lawful _ _ (number-lawful 8) (both-lawful _ _ (number-lawful 8) (both-lawful _ _ (number-lawful 8) byte-lawful))))

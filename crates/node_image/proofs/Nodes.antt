@@ -8,7 +8,7 @@ use lib.Dec.{eqb}
 use lib.ListN.{length, drop, getD}
 use lib.Seq.{drop-drop}
 use Rattle.cbor.specs.Answer.{Wrote}
-use Rattle.cojp.specs.declared.fault.Faults.{Faults}
+use Rattle.cojp.specs.declared.error_report.ErrorReports.{ErrorReports}
 use Rattle.cojp.specs.declared.version.Version.{Version}
 use Rattle.image.specs.Fields.{whole-struct, four-fields}
 use Rattle.image.specs.Part.{Part, byte, both, isHeaded, isImage}
@@ -21,7 +21,7 @@ use Rattle.node_parameters.specs.declared.blacklist.HeldList.{HeldList}
 use Rattle.node_parameters.specs.declared.octets.HeldOctets.{HeldOctets}
 use Rattle.node_parameters.specs.declared.rate.HeldRate.{HeldRate}
 use Rattle.object_image.specs.Codes.{boolPart}
-use Rattle.object_image.specs.Faults.{faultsPart}
+use Rattle.object_image.specs.ErrorReports.{errorReportsPart}
 use Rattle.node_image.proofs.Places.{first-at, next-got, next-good, not-good, held-good, then-good, then-not, pair-good, pair-not}
 use Rattle.node_image.specs.Attempt.{attemptPart}
 use Rattle.node_image.specs.Held.{heldAddressPart, heldOctetsPart, heldListPart, heldRatePart}
@@ -29,10 +29,10 @@ use Rattle.node_image.specs.Node.{FormFields, HeldFields, setsPart, form
 use Rattle.node_image.specs.Version.{versionPart}
 
 -- ---- what stands after a field
-abbrev afterList : Part (HeldRate × Faults)
-afterList = both heldRatePart faultsPart
+abbrev afterList : Part (HeldRate × ErrorReports)
+afterList = both heldRatePart errorReportsPart
 
-abbrev afterVersion : Part (HeldList × (HeldRate × Faults))
+abbrev afterVersion : Part (HeldList × (HeldRate × ErrorReports))
 afterVersion = both heldListPart afterList
 
 abbrev afterNetwork : Part (HeldOctets × FormFields)
@@ -117,12 +117,12 @@ module _ (s : List ℕ) where
           (after-role (pair-good attemptPart setsPart heldFields s 3 527 refl f u g))
 
   -- ---- read
-  pub form-got : {v : Version} {l : HeldList} {r : HeldRate} {f : Faults} → v ≡ versionPart .get (drop 601 s)
+  pub form-got : {v : Version} {l : HeldList} {r : HeldRate} {f : ErrorReports} → v ≡ versionPart .get (drop 601 s)
       → l ≡ heldListPart .get (drop 602 s)
-      → r ≡ heldRatePart .get (drop 858 s) → f ≡ faultsPart .get (drop 867 s) → (v, (l, (r, f))) ≡ formFields .get (drop 601 s)
+      → r ≡ heldRatePart .get (drop 858 s) → f ≡ errorReportsPart .get (drop 867 s) → (v, (l, (r, f))) ≡ formFields .get (drop 601 s)
   form-got e f g h =
       next-got versionPart afterVersion s 601 602 refl e
-      (next-got heldListPart afterList s 602 858 refl f (next-got heldRatePart faultsPart s 858 867 refl g h))
+      (next-got heldListPart afterList s 602 858 refl f (next-got heldRatePart errorReportsPart s 858 867 refl g h))
 
   pub held-got : {a : HeldAddress} {j n p : HeldOctets} {x : FormFields} → a ≡ heldAddressPart .get (drop 527 s)
       → j ≡ heldOctetsPart .get (drop 547 s)

@@ -10,25 +10,25 @@ use lib.ListN.{length, take, drop, length-append, length-drop, drop-of-length-le
 use lib.Seq.{take-all, take-at, drop-at}
 use Rattle.cbor.specs.Answer.{Wrote, answer}
 use Rattle.cbor.specs.Encode.{bytesOf}
-use Rattle.cbor.specs.declared.write.Written.{Written}
-use Rattle.cbor.specs.declared.write.Written.the-variants as written
-use Rattle.image.specs.Lawful.{number-lawful, times-lawful}
+use Rattle.cbor.specs.declared.write.WriteResult.{WriteResult}
+use Rattle.cbor.specs.declared.write.WriteResult.the-variants as written
+use Rattle.image.specs.CodecLaws.{number-lawful, times-lawful}
 use Rattle.image.specs.Lent.{long}
 use Rattle.image.specs.Numbers.{many-bytes}
-use Rattle.image.specs.Part.{AllBytes, Lawful, number, times, isImage}
+use Rattle.image.specs.Part.{AllBytes, RoundTrips, number, times, isImage}
 use Rattle.key_image.specs.Key.{keySetPart, countedSetPart}
 use Rattle.key_image.specs.Laws.{KeyImages}
-use Rattle.link_key_counters.specs.Counters.{Slot, spentOn, spend, firstServing}
+use Rattle.link_key_counters.specs.Counters.{Slot, takenCounterOn, takeCounter, firstServing}
 use Rattle.logic_facts.specs.Tests.{both-right}
 use Rattle.node.specs.Frames as frames
 use Rattle.node.specs.Frames.{sentBy, unsent}
 use Rattle.node.specs.Range.{valid}
 use Rattle.node.specs.Timing.{start, startedBy, startedFrom, startPlan, poll, polled}
 use Rattle.node.specs.declared.node.Node.{Node}
-use Rattle.node.specs.declared.timing.Polled.{Polled}
+use Rattle.node.specs.declared.timing.PollResult.{PollResult}
 use Rattle.node_attempt.specs.declared.attempt.Attempt.{Attempt}
 use Rattle.node_key_sets.specs.Frames as sets
-use Rattle.node_key_sets.specs.declared.frames.Sending.{Sending}
+use Rattle.node_key_sets.specs.declared.frames.SendKeyResult.{SendKeyResult}
 use Rattle.link_key_usage.specs.Usage.{knownType}
 use Rattle.node_attempt.specs.declared.poll.Due.{Due}
 use Rattle.node_attempt.specs.declared.poll.Due.the-variants.{Refused}
@@ -72,7 +72,7 @@ attempt-size a =
 around : (h a k c p q : List ℕ) → h ++ (a ++ (((k ++ c) ++ p) ++ q)) ≡ ((h ++ a) ++ k) ++ (c ++ (p ++ q))
 around h a k c p q = simp append-assoc
 
-module _ (l : Lawful nodeImage) (s : List ℕ) (b : AllBytes s) (image : isImage nodeImage s ≡ true) where
+module _ (l : RoundTrips nodeImage) (s : List ℕ) (b : AllBytes s) (image : isImage nodeImage s ≡ true) where
   abbrev n : Node
   n = nodeImage .get s
 
@@ -129,24 +129,24 @@ module _ (l : Lawful nodeImage) (s : List ℕ) (b : AllBytes s) (image : isImage
         ∙ ap (nodeImage .put) (sym only)
 
 -- ---- what the calls change
-by-poll : (n : Node) (b : Bool) (x : Polled) (k : Due) → Attempted n (x .node) → Attempted n (cond b x (polled k n) .node)
+by-poll : (n : Node) (b : Bool) (x : PollResult) (k : Due) → Attempted n (x .node) → Attempted n (cond b x (polled k n) .node)
 by-poll n true x k e = e
 by-poll n false x k e = refl
 
-by-start : (n : Node) (w : Written) (m : Node) → Attempted n m → Attempted n (startedBy w n m .node)
+by-start : (n : Node) (w : WriteResult) (m : Node) → Attempted n m → Attempted n (startedBy w n m .node)
 by-start n (written.Refused k) m e = refl
 by-start n (written.Length l) m e = e
 
-by-spend : (n : Node) (o : Option Slot) → Recounted n (sentBy n (sets.sentWith (n .sets) (spentOn (n .sets .active) o)) .node)
+by-spend : (n : Node) (o : Option Slot) → Recounted n (sentBy n (sets.sentWith (n .sets) (takenCounterOn (n .sets .active) o)) .node)
 by-spend n none = refl
 by-spend n (some x) = refl
 
-by-type : (n : Node) (b : Bool) (x : Sending) (k : Refusal) → Recounted n (sentBy n x .node)
+by-type : (n : Node) (b : Bool) (x : SendKeyResult) (k : Refusal) → Recounted n (sentBy n x .node)
     → Recounted n (sentBy n (cond b x (sets.unsent k (n .sets))) .node)
 by-type n true x k e = e
 by-type n false x k e = refl
 
-by-send : (n : Node) (b : Bool) (x : Sending) → Recounted n (sentBy n x .node) → Recounted n (cond b (sentBy n x) (unsent n) .node)
+by-send : (n : Node) (b : Bool) (x : SendKeyResult) → Recounted n (sentBy n x .node) → Recounted n (cond b (sentBy n x) (unsent n) .node)
 by-send n true x e = e
 by-send n false x e = refl
 
@@ -159,10 +159,10 @@ unfolding start
 start-changes n time timeout d = by-start n (answer (startPlan n time timeout) d) (startedFrom n time timeout) refl
 
 pub send-changes : (n : Node) (type : ℕ) → Recounted n (frames.sending n type .node)
-unfolding frames.sending sets.sending spend
+unfolding frames.sending sets.sending takeCounter
 send-changes n type =
     by-send n (valid n) (sets.sending (n .sets) type)
-    (by-type n (knownType type) (sets.sentWith (n .sets) (spend type (n .sets .active))) Range (by-spend n (firstServing type (n .sets .active))))
+    (by-type n (knownType type) (sets.sentWith (n .sets) (takeCounter type (n .sets .active))) Range (by-spend n (firstServing type (n .sets .active))))
 
 pub node-changes : NodeChanges
 node-changes = record { started = start-changes; polled = poll-changes; sent = send-changes }

@@ -7,8 +7,8 @@ use native.Mathlib.Omega.{arith}
 use borrow.Author.Tests.{leb-true}
 use lib.Dec.{leb}
 use lib.ListN.{drop, getD}
-use Rattle.image.specs.Lawful.{code-lawful}
-use Rattle.image.specs.Part.{Lawful}
+use Rattle.image.specs.CodecLaws.{code-lawful}
+use Rattle.image.specs.Part.{RoundTrips}
 use Rattle.cojp.specs.declared.version.Version.{Version}
 use Rattle.cojp.specs.declared.version.Version.the-variants.{Draft, Published}
 use Rattle.node_image.proofs.Places.{first-at}
@@ -32,5 +32,5 @@ version-undone : (n : ℕ) → leb n 1 ≡ true → versionNumber (versionOf n) 
 version-undone zero h = refl
 version-undone (suc n) h = omega (arith, leb-true (suc n) 1 h)
 
-pub version-lawful : Lawful versionPart
+pub version-lawful : RoundTrips versionPart
 version-lawful = code-lawful versionNumber versionOf 1 version-again version-undone

@@ -2,21 +2,21 @@
 -- prefix, blacklist and join rate 1 each, labels passed over 8. A frame's key, 33 bytes: kind K, layout, key 27, frame counter 4.
 use Prim.Native.Nat.{ℕ}
 use Rattle.image.specs.Part.{Part, number, both, viewed, headed}
-use Rattle.cojp.specs.declared.report.Report.{Report}
+use Rattle.cojp.specs.declared.disposition.Disposition.{Disposition}
 use Rattle.key_image.specs.Key.{keyPart}
 use Rattle.link_key.specs.declared.Key.{Key}
-use Rattle.node_parameters.specs.declared.reports.Reports.{Reports}
-use Rattle.object_image.specs.Codes.{reportPart}
+use Rattle.node_parameters.specs.declared.dispositions.Dispositions.{Dispositions}
+use Rattle.object_image.specs.Codes.{dispositionPart}
 
-abbrev pub ReportsFields : Type 0
-ReportsFields = Report × (Report × (Report × (Report × (Report × (Report × (Report × ℕ))))))
+abbrev pub DispositionsFields : Type 0
+DispositionsFields = Disposition × (Disposition × (Disposition × (Disposition × (Disposition × (Disposition × (Disposition × ℕ))))))
 
-abbrev pub reportsFields : Part ReportsFields
-reportsFields =
-    both reportPart (both reportPart (both reportPart (both reportPart (both reportPart (both reportPart (both reportPart (number 8)))))))
+abbrev pub dispositionsFields : Part DispositionsFields
+dispositionsFields =
+    both dispositionPart (both dispositionPart (both dispositionPart (both dispositionPart (both dispositionPart (both dispositionPart (both dispositionPart (number 8)))))))
 
-abbrev pub reportsTo : ReportsFields → Reports
-reportsTo x = record {
+abbrev pub dispositionsTo : DispositionsFields → Dispositions
+dispositionsTo x = record {
   keys = x .0;
   address = x .1 .0;
   jrc = x .1 .1 .0;
@@ -24,14 +24,14 @@ reportsTo x = record {
   prefix = x .1 .1 .1 .1 .0;
   blacklist = x .1 .1 .1 .1 .1 .0;
   rate = x .1 .1 .1 .1 .1 .1 .0;
-  passed = x .1 .1 .1 .1 .1 .1 .1;
+  unknown = x .1 .1 .1 .1 .1 .1 .1;
 }
 
-abbrev pub reportsFrom : Reports → ReportsFields
-reportsFrom r = (r .keys, (r .address, (r .jrc, (r .network, (r .prefix, (r .blacklist, (r .rate, r .passed)))))))
+abbrev pub dispositionsFrom : Dispositions → DispositionsFields
+dispositionsFrom r = (r .keys, (r .address, (r .jrc, (r .network, (r .prefix, (r .blacklist, (r .rate, r .unknown)))))))
 
-abbrev pub reportsImage : Part Reports
-reportsImage = headed 0x52 (viewed reportsFields reportsTo reportsFrom)
+abbrev pub dispositionsImage : Part Dispositions
+dispositionsImage = headed 0x52 (viewed dispositionsFields dispositionsTo dispositionsFrom)
 
 -- the key and the counter that a frame is sent with
 abbrev pub frameKeyImage : Part (Key × ℕ)

@@ -2,7 +2,7 @@
 -- JRC address 18, network identifier 18, prefix 18, form 1, blacklist 256, join rate 9, faults 11.
 use Prim.Native.Nat.{ℕ}
 use Rattle.image.specs.Part.{Part, byte, both, viewed, headed}
-use Rattle.cojp.specs.declared.fault.Faults.{Faults}
+use Rattle.cojp.specs.declared.error_report.ErrorReports.{ErrorReports}
 use Rattle.cojp.specs.declared.version.Version.{Version}
 use Rattle.key_image.specs.Key.{countedSetPart}
 use Rattle.link_key_counters.specs.declared.CountedSet.{CountedSet}
@@ -14,7 +14,7 @@ use Rattle.node_parameters.specs.declared.address.HeldAddress.{HeldAddress}
 use Rattle.node_parameters.specs.declared.blacklist.HeldList.{HeldList}
 use Rattle.node_parameters.specs.declared.octets.HeldOctets.{HeldOctets}
 use Rattle.node_parameters.specs.declared.rate.HeldRate.{HeldRate}
-use Rattle.object_image.specs.Faults.{faultsPart}
+use Rattle.object_image.specs.ErrorReports.{errorReportsPart}
 use Rattle.node_image.specs.Attempt.{attemptPart}
 use Rattle.node_image.specs.Held.{heldOctetsPart, heldAddressPart, heldListPart, heldRatePart}
 use Rattle.node_image.specs.Version.{versionPart}
@@ -31,10 +31,10 @@ setsPart = viewed (both countedSetPart countedSetPart) setsTo setsFrom
 
 -- ---- form, blacklist, join rate and faults, 277 bytes
 abbrev pub FormFields : Type 0
-FormFields = Version × (HeldList × (HeldRate × Faults))
+FormFields = Version × (HeldList × (HeldRate × ErrorReports))
 
 abbrev pub formFields : Part FormFields
-formFields = both versionPart (both heldListPart (both heldRatePart faultsPart))
+formFields = both versionPart (both heldListPart (both heldRatePart errorReportsPart))
 
 -- ---- short address, JRC address, network identifier, prefix, and those, 351 bytes
 abbrev pub HeldFields : Type 0
@@ -62,14 +62,14 @@ nodeOf role attempt sets x = record {
   version = x .1 .1 .1 .1 .0;
   blacklist = x .1 .1 .1 .1 .1 .0;
   rate = x .1 .1 .1 .1 .1 .1 .0;
-  faults = x .1 .1 .1 .1 .1 .1 .1;
+  errors = x .1 .1 .1 .1 .1 .1 .1;
 }
 
 abbrev pub nodeTo : NodeFields → Node
 nodeTo x = nodeOf (x .0) (x .1 .0) (x .1 .1 .0) (x .1 .1 .1)
 
 abbrev pub formOf : Node → FormFields
-formOf n = (n .version, (n .blacklist, (n .rate, n .faults)))
+formOf n = (n .version, (n .blacklist, (n .rate, n .errors)))
 
 abbrev pub heldOf : Node → HeldFields
 heldOf n = (n .address, (n .jrc, (n .network, (n .prefix, formOf n))))

@@ -1,52 +1,64 @@
 // The images of what node calls answer with.
-use cojp::Report;
+use cojp::Disposition;
 use image::put_head;
 use image::put_number;
 use key_image::put_key;
 use link_key::Key;
-use node_parameters::Reports;
-use object_image::put_report;
+use node_parameters::Dispositions;
+use object_image::put_disposition;
 ghost use mathlib.Core.List.{_++_};
 ghost use mathlib.Core.Path.{_≡_};
 ghost use Prim.Native.Nat.{_≤_};
 ghost use lib.ListN.{length};
 ghost use Rattle.cbor.specs.Answer.{Wrote};
 ghost use Rattle.cbor.specs.Encode.{bytesOf};
-ghost use Rattle.object_image.specs.Codes.{reportPart};
-ghost use Rattle.node_image.specs.Answers.{reportsImage, frameKeyImage};
+ghost use Rattle.object_image.specs.Codes.{dispositionPart};
+ghost use Rattle.node_image.specs.Answers.{dispositionsImage, frameKeyImage};
 
-const REPORTS_KIND: u8 = b'R';
+const DISPOSITIONS_KIND: u8 = b'R';
 
 const FRAME_KEY_KIND: u8 = b'K';
 
 // Writes the reports on prefix, blacklist and join rate, and how many labels were passed over.
-fn put_later(dst: &mut [u8], prefix: Report, blacklist: Report, rate: Report, passed: u64)
+fn put_later(
+    dst: &mut [u8],
+    prefix: Disposition,
+    blacklist: Disposition,
+    rate: Disposition,
+    passed: u64,
+)
     requires { ⌜ 11 ≤ length (now dst) ⌝ }
-    ensures { λ _. ⌜ Wrote (((reportPart .put prefix ++ reportPart .put blacklist) ++ reportPart .put rate) ++ bytesOf 8 passed)
+    ensures { λ _. ⌜ Wrote (((dispositionPart .put prefix ++ dispositionPart .put blacklist) ++ dispositionPart .put rate) ++ bytesOf 8 passed)
         (now (dst .entry)) 11 (now (dst .exit)) ⌝ }
 {
-    put_report(dst, prefix);
-    put_report(&mut dst[1..], blacklist);
-    put_report(&mut dst[2..], rate);
+    put_disposition(dst, prefix);
+    put_disposition(&mut dst[1..], blacklist);
+    put_disposition(&mut dst[2..], rate);
     put_number(&mut dst[3..], 8, passed);
 }
 
 // Writes the reports on key set, short address, JRC address and network identifier.
-fn put_first(dst: &mut [u8], keys: Report, address: Report, jrc: Report, network: Report)
+fn put_first(
+    dst: &mut [u8],
+    keys: Disposition,
+    address: Disposition,
+    jrc: Disposition,
+    network: Disposition,
+)
     requires { ⌜ 4 ≤ length (now dst) ⌝ }
-    ensures { λ _. ⌜ Wrote (((reportPart .put keys ++ reportPart .put address) ++ reportPart .put jrc) ++ reportPart .put network)
+    ensures { λ _. ⌜ Wrote (((dispositionPart .put keys ++ dispositionPart .put address) ++ dispositionPart .put jrc) ++ dispositionPart .put network)
         (now (dst .entry)) 4 (now (dst .exit)) ⌝ }
 {
-    put_report(dst, keys);
-    put_report(&mut dst[1..], address);
-    put_report(&mut dst[2..], jrc);
-    put_report(&mut dst[3..], network);
+    put_disposition(dst, keys);
+    put_disposition(&mut dst[1..], address);
+    put_disposition(&mut dst[2..], jrc);
+    put_disposition(&mut dst[3..], network);
 }
 
 // Stores reports.
-pub fn put_reports(dst: &mut [u8], reports: Reports)
+pub fn put_dispositions(dst: &mut [u8], reports: Dispositions)
     requires { ⌜ length (now dst) ≡ 17 ⌝ }
-    ensures { λ _. ⌜ now (dst .exit) ≡ reportsImage .put reports ⌝ }
+    ensures { λ _. ⌜ now (dst .exit) ≡ dispositionsImage .put reports ⌝ }
 {
     let keys = reports.keys;
     let address = reports.address;
@@ -55,9 +67,9 @@ pub fn put_reports(dst: &mut [u8], reports: Reports)
     let prefix = reports.prefix;
     let blacklist = reports.blacklist;
     let rate = reports.rate;
-    put_head(dst, REPORTS_KIND);
+    put_head(dst, DISPOSITIONS_KIND);
     put_first(&mut dst[2..], keys, address, jrc, network);
-    put_later(&mut dst[6..], prefix, blacklist, rate, reports.passed);
+    put_later(&mut dst[6..], prefix, blacklist, rate, reports.unknown);
 }
 
 // Stores a frame's key and its counter.

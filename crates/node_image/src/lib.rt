@@ -6,8 +6,8 @@ mod held;
 mod state;
 mod version;
 
+pub use answers::put_dispositions;
 pub use answers::put_frame_key;
-pub use answers::put_reports;
 pub use change::put_node_attempt;
 pub use change::put_node_counters;
 pub use state::is_node;
@@ -25,6 +25,6 @@ pub fn laws()
 }
 
 // What a start, a poll and a send may change of a node.
-pub fn changes()
+pub fn partial_store_law()
     ensures { λ _. ⌜ NodeChanges ⌝ }
 {}

@@ -14,7 +14,7 @@ use crate::held::put_held_rate;
 use crate::version::is_version;
 use crate::version::put_version;
 use crate::version::version_at;
-use cojp::Faults;
+use cojp::ErrorReports;
 use cojp::Version;
 use image::is_headed;
 use image::put_byte;
@@ -26,9 +26,9 @@ use node::Node;
 use node_key_sets::KeySets;
 use node_parameters::HeldList;
 use node_parameters::HeldRate;
-use object_image::faults_at;
+use object_image::error_reports_at;
 use object_image::is_bool;
-use object_image::put_faults;
+use object_image::put_error_reports;
 ghost use mathlib.Core.Path.{_≡_};
 ghost use Prim.Native.Nat.{_≤_};
 ghost use lib.ListN.{length, drop};
@@ -122,7 +122,7 @@ pub fn node_in(s: &[u8]) -> Node
         version: version_at(s, 601),
         blacklist: held_list_at(s, 602),
         rate: held_rate_at(s, 858),
-        faults: faults_at(s, 867),
+        errors: error_reports_at(s, 867),
     }
 }
 
@@ -137,14 +137,20 @@ fn put_sets(dst: &mut [u8], sets: KeySets)
 }
 
 // Writes form, blacklist, join rate and faults.
-fn put_form(dst: &mut [u8], version: Version, blacklist: HeldList, rate: HeldRate, faults: Faults)
+fn put_form(
+    dst: &mut [u8],
+    version: Version,
+    blacklist: HeldList,
+    rate: HeldRate,
+    faults: ErrorReports,
+)
     requires { ⌜ 277 ≤ length (now dst) ⌝ }
     ensures { λ _. ⌜ Wrote (formFields .put (version, (blacklist, (rate, faults)))) (now (dst .entry)) 277 (now (dst .exit)) ⌝ }
 {
     put_version(dst, version);
     put_held_list(&mut dst[1..], blacklist);
     put_held_rate(&mut dst[257..], rate);
-    put_faults(&mut dst[266..], faults);
+    put_error_reports(&mut dst[266..], faults);
 }
 
 // Writes what the node holds besides join attempt and key sets.
@@ -159,7 +165,7 @@ fn put_holding(dst: &mut [u8], node: Node)
     let prefix = node.prefix;
     let blacklist = node.blacklist;
     let rate = node.rate;
-    let faults = node.faults;
+    let faults = node.errors;
     put_held_address(dst, address);
     put_held_octets(&mut dst[20..], jrc);
     put_held_octets(&mut dst[38..], network);

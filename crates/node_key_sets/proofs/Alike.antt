@@ -7,15 +7,15 @@ use Rattle.link_key.specs.declared.Key.{Key}
 use Rattle.link_key_set.specs.declared.key_set.KeySet.{KeySet}
 use lib.ListN.{replicate}
 use Rattle.link_key_counters.specs.CounterLaws.{CounterLaws}
-use Rattle.link_key_counters.specs.Counters.{slotsFrom, slotsOf, keptCounters, succeeded}
+use Rattle.link_key_counters.specs.Counters.{slotsFrom, slotsOf, keptCounters, inheritCounters}
 use Rattle.link_key_counters.specs.declared.CountedSet.{CountedSet}
 use Rattle.node_key_sets.specs.Sets.{activeIn, pendingIn, install}
 use Rattle.node_key_sets.specs.declared.sets.KeySets.{KeySets}
-use Rattle.node_key_sets.specs.declared.sets.Placement.{Placement}
+use Rattle.node_key_sets.specs.declared.sets.InstallResult.{InstallResult}
 use Rattle.node_key_sets.proofs.Valid.{placeBy}
 
 -- two placements that differ at most in places that are never looked at
-abbrev SamePlace : Placement → Placement → Type 0
+abbrev SamePlace : InstallResult → InstallResult → Type 0
 SamePlace p q =
     (p .verdict ≡ q .verdict) × (activeIn (p .sets) ≡ activeIn (q .sets)) × (pendingIn (p .sets) ≡ pendingIn (q .sets))
     × (slotsOf (p .sets .active) ≡ slotsOf (q .sets .active)) × (slotsOf (p .sets .pending) ≡ slotsOf (q .sets .pending))
@@ -23,7 +23,7 @@ SamePlace p q =
 module _ (C : CounterLaws) where
   -- a border node's new set: its own keys, and the counters that they keep
   abbrev after : KeySets → KeySet → CountedSet
-  after s a = succeeded (s .active) a
+  after s a = inheritCounters (s .active) a
 
   same-keys : (s : KeySets) (a b : KeySet) → keysOf a ≡ keysOf b → keysOf (after s a .set) ≡ keysOf (after s b .set)
   same-keys s a b e = rw (C .succeeded-is (s .active) a, C .succeeded-is (s .active) b) e

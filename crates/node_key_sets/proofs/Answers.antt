@@ -16,11 +16,11 @@ use Rattle.node_key_sets.specs.Frames.{withKey, withoutKey, sentWith, se
 use Rattle.node_key_sets.specs.Frames.{switched, effect, verifiedIn}
 use Rattle.node_key_sets.specs.declared.frames.Change.the-variants as change
 use Rattle.node_key_sets.specs.declared.frames.KeyAnswer.{KeyAnswer}
-use Rattle.node_key_sets.specs.declared.frames.Sending.{Sending}
+use Rattle.node_key_sets.specs.declared.frames.SendKeyResult.{SendKeyResult}
 use Rattle.node_key_sets.specs.declared.sets.KeySets.{KeySets}
 use Rattle.link_key_usage.specs.Usage.{knownType}
-use Rattle.link_key_counters.specs.Counters.{Slot, firstServing, spentOn, spend}
-use Rattle.link_key_counters.specs.declared.Spent.{Spent}
+use Rattle.link_key_counters.specs.Counters.{Slot, firstServing, takenCounterOn, takeCounter}
+use Rattle.link_key_counters.specs.declared.TakenCounter.{TakenCounter}
 
 -- ---- a key that was looked for
 found-some : (o : Option Key) → foundKey o .found ≡ true → o ≡ some (foundKey o .key)
@@ -60,17 +60,17 @@ from-held s type identifier x e r h = rw (← if-covers (heldKey s identifier) x
 
 -- ---- a key that was spent
 -- as the code builds it: only the answer asks whether a key was found, since without one the counter is 0 and the set as it was
-abbrev sentFrom : KeySets → Spent → Sending
+abbrev sentFrom : KeySets → TakenCounter → SendKeyResult
 sentFrom s x =
     let answer = cond (x .found) (withKey (x .key)) (withoutKey refusal.Silent) in
     record { answer = answer; counter = x .counter; sets = twoSets (x .set) (s .pending) }
 
-sent-on : (s : KeySets) (o : Option Slot) → sentFrom s (spentOn (s .active) o) ≡ sentWith s (spentOn (s .active) o)
+sent-on : (s : KeySets) (o : Option Slot) → sentFrom s (takenCounterOn (s .active) o) ≡ sentWith s (takenCounterOn (s .active) o)
 sent-on s none = refl
 sent-on s (some x) = refl
 
-pub sent-spent : (s : KeySets) (type : ℕ) → knownType type ≡ true → (x : Spent) → x ≡ spend type (s .active) → sentFrom s x ≡ sending s type
-unfolding sending spend
+pub sent-spent : (s : KeySets) (type : ℕ) → knownType type ≡ true → (x : TakenCounter) → x ≡ takeCounter type (s .active) → sentFrom s x ≡ sending s type
+unfolding sending takeCounter
 sent-spent s type known x e = rw (known, e) (sent-on s (firstServing type (s .active)))
 
 -- ---- the verified report

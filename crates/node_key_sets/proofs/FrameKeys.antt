@@ -18,13 +18,13 @@ use Rattle.link_key_usage.specs.Usage.{knownType}
 use Rattle.link_key.specs.declared.Key.{Key}
 use Rattle.link_key_set.specs.KeyLaws.{KeyLaws}
 use Rattle.link_key_counters.specs.CounterLaws.{CounterLaws}
-use Rattle.link_key_counters.specs.declared.Spent.{Spent}
-use Rattle.link_key_counters.specs.Counters.{Slot, slotsOf, lastCounter, isUsedUp, serves, firstServing, raised, spentOn, spend}
+use Rattle.link_key_counters.specs.declared.TakenCounter.{TakenCounter}
+use Rattle.link_key_counters.specs.Counters.{Slot, slotsOf, lastCounter, isUsedUp, serves, firstServing, raised, takenCounterOn, takeCounter}
 use Rattle.node_key_sets.specs.Sets.{activeIn, pendingIn, twoSets, valid}
 use Rattle.node_key_sets.specs.Frames.{withKey, withoutKey, unsent, sentWith, sending, orElse, ifCovers, receivingKey, switched, effectBy, verifiedIn}
 use Rattle.node_key_sets.specs.declared.frames.Change.the-variants as change
 use Rattle.node_key_sets.specs.declared.frames.KeyAnswer.{KeyAnswer}
-use Rattle.node_key_sets.specs.declared.frames.Sending.{Sending}
+use Rattle.node_key_sets.specs.declared.frames.SendKeyResult.{SendKeyResult}
 use Rattle.node_key_sets.specs.declared.sets.KeySets.{KeySets}
 use Rattle.logic_facts.specs.Tests.{both, both-left}
 use Rattle.node_key_sets.proofs.Valid.{pending-valid, member-valid, same-valid}
@@ -54,7 +54,7 @@ pub record Serving (s : KeySets) (type : ℕ) : Type 0 where
   pub serving : serves type slot ≡ true
 
 -- an accepted sending: the first that serves, its key and counter, and the sets with that counter one higher
-pub record Counted (s : KeySets) (type : ℕ) (x : Sending) : Type 0 where
+pub record Counted (s : KeySets) (type : ℕ) (x : SendKeyResult) : Type 0 where
   pub slot : Slot
   pub first : firstServing type (s .active) ≡ some slot
   pub key : x .answer .key ≡ slot .key
@@ -87,15 +87,15 @@ module _ (C : CounterLaws) where
 
   -- what sending gives, by the answers to its tests: is the type known, does a key serve
   module _ (s : KeySets) (type : ℕ) where
-    abbrev sent : Bool → Bool → Sending
+    abbrev sent : Bool → Bool → SendKeyResult
     sent known found =
-        let x = spend type (s .active) in
+        let x = takeCounter type (s .active) in
         cond known
         (cond found (record { answer = withKey (x .key); counter = x .counter; sets = twoSets (x .set) (s .pending) }) (unsent refusal.Silent s))
         (unsent refusal.Range s)
 
     sent-by :
-        (t b : Bool) → spend type (s .active) .found ≡ b → sent t b .answer .verdict ≡ verdict.Accepted →
+        (t b : Bool) → takeCounter type (s .active) .found ≡ b → sent t b .answer .verdict ≡ verdict.Accepted →
         List·Memᴰ (sent t b .answer .key) (activeIn s) × (covers (sent t b .answer .key) type ≡ true)
     sent-by true true f a = C .spent-from type (s .active) f
     sent-by true false f a = refused-not refusal.Silent a
@@ -105,19 +105,19 @@ module _ (C : CounterLaws) where
         sending s type .answer .verdict ≡ verdict.Accepted →
         List·Memᴰ (sending s type .answer .key) (activeIn s) × (covers (sending s type .answer .key) type ≡ true)
     unfolding sending
-    sent-from a = sent-by (knownType type) (spend type (s .active) .found) refl a
+    sent-from a = sent-by (knownType type) (takeCounter type (s .active) .found) refl a
 
     counted-by :
         (t : Bool) (o : Option Slot) → firstServing type (s .active) ≡ o →
-        cond t (sentWith s (spentOn (s .active) o)) (unsent refusal.Range s) .answer .verdict ≡ verdict.Accepted →
-        Counted s type (cond t (sentWith s (spentOn (s .active) o)) (unsent refusal.Range s))
+        cond t (sentWith s (takenCounterOn (s .active) o)) (unsent refusal.Range s) .answer .verdict ≡ verdict.Accepted →
+        Counted s type (cond t (sentWith s (takenCounterOn (s .active) o)) (unsent refusal.Range s))
     counted-by true (some x) f a = record { slot = x; first = f; key = refl; counter = refl; sets = refl }
     counted-by true none f a = refused-not refusal.Silent a
     counted-by false o f a = refused-not refusal.Range a
 
-    sent-first : sending s type ≡ cond (knownType type) (sentWith s (spentOn (s .active) (firstServing type (s .active)))) (unsent refusal.Range s)
+    sent-first : sending s type ≡ cond (knownType type) (sentWith s (takenCounterOn (s .active) (firstServing type (s .active)))) (unsent refusal.Range s)
     unfolding sending
-    sent-first = ap (λ (x : Spent). cond (knownType type) (sentWith s x) (unsent refusal.Range s)) (C .spend-first type (s .active))
+    sent-first = ap (λ (x : TakenCounter). cond (knownType type) (sentWith s x) (unsent refusal.Range s)) (C .spend-first type (s .active))
 
     pub sent-counts : sending s type .answer .verdict ≡ verdict.Accepted → Counted s type (sending s type)
     sent-counts a = rw sent-first (counted-by (knownType type) (firstServing type (s .active)) refl (rw sent-first at a))
@@ -130,7 +130,7 @@ module _ (C : CounterLaws) where
 
     pub sent-keys : (sending s type .sets .active .set ≡ s .active .set) × (sending s type .sets .pending ≡ s .pending)
     unfolding sending
-    sent-keys = keys-by (knownType type) (spend type (s .active) .found)
+    sent-keys = keys-by (knownType type) (takeCounter type (s .active) .found)
 
   pub sent-valid : (border : Bool) (s : KeySets) (type : ℕ) → valid border s ≡ true → valid border (sending s type .sets) ≡ true
   sent-valid border s type e = let k = sent-keys s type in same-valid border s (sending s type .sets) (k .0) (k .1) e

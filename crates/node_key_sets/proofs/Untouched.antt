@@ -14,8 +14,8 @@ use Rattle.link_key_set.specs.KeySet.{keysOf, has, validSet, sameKeys, shares}
 use Rattle.link_key_set.specs.declared.key_set.KeySet.{KeySet}
 use Rattle.link_key_usage.specs.Usage.{knownType}
 use Rattle.link_key.specs.declared.Key.{Key}
-use Rattle.link_key_counters.specs.Counters.{spend}
-use Rattle.link_key_counters.specs.declared.Spent.{Spent}
+use Rattle.link_key_counters.specs.Counters.{takeCounter}
+use Rattle.link_key_counters.specs.declared.TakenCounter.{TakenCounter}
 use Rattle.node_key_sets.specs.Sets.{activeIn, install}
 use Rattle.node_key_sets.specs.Frames.{withKey, withoutKey, unsent, sentWith, sending, heldKey, ifCovers, receivingKey, effectBy, verifiedIn, changeVerdict}
 use Rattle.node_key_sets.specs.declared.frames.Change.the-variants as change
@@ -43,19 +43,19 @@ if-covers type none = without-key refusal.Silent
 if-covers type (some l) = cond-unanswered (covers l type) _ _ (with-key l) (without-key refusal.Silent)
 
 -- a refused sending: no key, counter 0, and the sets as they were
-unsent-by : (s : KeySets) (y : Spent) (b : Bool) (k : Refusal) → y .found ≡ b → sentWith s y .answer .verdict ≡ verdict.Refused k → Unsent s (sentWith s y)
+unsent-by : (s : KeySets) (y : TakenCounter) (b : Bool) (k : Refusal) → y .found ≡ b → sentWith s y .answer .verdict ≡ verdict.Refused k → Unsent s (sentWith s y)
 unsent-by s y true k f e = accepted-not k (rw f at e)
 unsent-by s y false k f e = rw f (record { key = refl; counter = refl; sets = refl })
 
 send-by :
-    (s : KeySets) (y : Spent) (t : Bool) (k : Refusal) → cond t (sentWith s y) (unsent refusal.Range s) .answer .verdict ≡ verdict.Refused k →
+    (s : KeySets) (y : TakenCounter) (t : Bool) (k : Refusal) → cond t (sentWith s y) (unsent refusal.Range s) .answer .verdict ≡ verdict.Refused k →
     Unsent s (cond t (sentWith s y) (unsent refusal.Range s))
 send-by s y true k e = unsent-by s y (y .found) k refl e
 send-by s y false k e = record { key = refl; counter = refl; sets = refl }
 
 pub send-untouched : (s : KeySets) (type : ℕ) (k : Refusal) → sending s type .answer .verdict ≡ verdict.Refused k → Unsent s (sending s type)
 unfolding sending
-send-untouched s type k e = send-by s (spend type (s .active)) (knownType type) k e
+send-untouched s type k e = send-by s (takeCounter type (s .active)) (knownType type) k e
 
 pub receive-untouched : (s : KeySets) (type identifier : ℕ) → Unanswered (receivingKey s type identifier)
 unfolding receivingKey

@@ -6,17 +6,17 @@ use borrow.Author.Tests.{eqb-true, not-true}
 use Rattle.refusal.specs.Verdict.{refused-not}
 use Rattle.refusal.specs.declared.Refusal.the-variants as refusal
 use Rattle.refusal.specs.declared.Verdict.the-variants as verdict
-use Rattle.link_key_set.specs.KeySet.{keysOf, validKeys, validSet, plainKeys, mayInform, sameKeys, shares}
+use Rattle.link_key_set.specs.KeySet.{keysOf, validKeys, validSet, noAdditionalInfos, additionalInfoAllowed, sameKeys, shares}
 use Rattle.link_key.specs.declared.Key.{Key}
 use Rattle.link_key_set.specs.declared.key_set.KeySet.{KeySet}
 use Rattle.link_key_set.specs.KeyLaws.{KeyLaws}
 use Rattle.link_key_counters.specs.CounterLaws.{CounterLaws}
-use Rattle.link_key_counters.specs.Counters.{arrived, noCounted, succeeded}
+use Rattle.link_key_counters.specs.Counters.{withZeroCounters, noCounted, inheritCounters}
 use Rattle.link_key_counters.specs.declared.CountedSet.{CountedSet}
-use Rattle.node_key_sets.specs.Sets.{activeIn, pendingIn, twoSets, isNone, noneOrValid, valid, plainIn, validAs, unplaced, place, install}
+use Rattle.node_key_sets.specs.Sets.{activeIn, pendingIn, twoSets, isNone, noneOrValid, valid, plainIn, validAs, unplaced, decideInstall, install}
 use Rattle.node_key_sets.specs.Frames.{switched}
 use Rattle.node_key_sets.specs.declared.sets.KeySets.{KeySets}
-use Rattle.node_key_sets.specs.declared.sets.Placement.{Placement}
+use Rattle.node_key_sets.specs.declared.sets.InstallResult.{InstallResult}
 use Rattle.logic_facts.specs.Tests.{both, both-left, both-right, never, first, second, third, fourth, all-four, then-so}
 
 -- whether keys may be informed is asked of each set, or of both after all else
@@ -69,18 +69,18 @@ same-valid border s t a p e = rw (a, p) e
 
 -- ---- a new set
 -- the answer, by whether the set is within its limits and by the three questions of its placing
-abbrev pub placeBy : KeySets → KeySet → Bool → Bool → Bool → Bool → Placement
-placeBy s set ok border equals shared = cond ok (place s set border equals shared) (unplaced refusal.Range s)
+abbrev pub placeBy : KeySets → KeySet → Bool → Bool → Bool → Bool → InstallResult
+placeBy s set ok border equals shared = cond ok (decideInstall s set border equals shared) (unplaced refusal.Range s)
 
 pub border-installs :
     (s : KeySets) (set : KeySet) → install true s set .verdict ≡ verdict.Accepted →
-    install true s set .sets ≡ twoSets (succeeded (s .active) set) noCounted
+    install true s set .sets ≡ twoSets (inheritCounters (s .active) set) noCounted
 unfolding install
 border-installs s set = go (validSet set)
   where
     go :
         (ok : Bool) → placeBy s set ok true false false .verdict ≡ verdict.Accepted →
-        placeBy s set ok true false false .sets ≡ twoSets (succeeded (s .active) set) noCounted
+        placeBy s set ok true false false .sets ≡ twoSets (inheritCounters (s .active) set) noCounted
     go true e = refl
     go false e = refused-not refusal.Range e
 
@@ -125,11 +125,11 @@ module _ (K : KeyLaws) where
         valid border (placeBy s set ok border same shared .sets) ≡ true
     place-valid false border same shared e ok h = e
     place-valid true true same shared e ok h =
-        alone-valid true (succeeded (s .active) set) (rw (C .succeeded-is (s .active) set) (set-valid ok))
+        alone-valid true (inheritCounters (s .active) set) (rw (C .succeeded-is (s .active) set) (set-valid ok))
     place-valid true false true shared e ok h = alone-valid false (s .active) (active-valid false s e)
     place-valid true false false true e ok h = e
     place-valid true false false false e ok h =
-        valid-by false (twoSets (s .active) (arrived set)) (active-valid false s e) (set-valid ok) (K .shares-turned (activeIn s) (keysOf set) ∙ h) refl
+        valid-by false (twoSets (s .active) (withZeroCounters set)) (active-valid false s e) (set-valid ok) (K .shares-turned (activeIn s) (keysOf set) ∙ h) refl
 
   pub install-valid :
       CounterLaws → (border : Bool) (s : KeySets) (set : KeySet) → valid border s ≡ true → valid border (install border s set .sets) ≡ true
@@ -138,18 +138,18 @@ module _ (K : KeyLaws) where
       place-valid C s set (validSet set) border (sameKeys (keysOf set) (activeIn s)) (shares (keysOf set) (activeIn s)) e refl refl
 
 -- ---- in a form in which keys may have additional information, or may not
-module _ (informed border : Bool) (s : KeySets) where
-  pub as-valid : validAs informed border s ≡ true → valid border s ≡ true
+module _ (allowed border : Bool) (s : KeySets) where
+  pub as-valid : validAs allowed border s ≡ true → valid border s ≡ true
   unfolding validAs
-  as-valid e = both-left (valid border s) (informed || plainIn s) e
+  as-valid e = both-left (valid border s) (allowed || plainIn s) e
 
-  pub as-plain : validAs informed border s ≡ true → (informed || plainIn s) ≡ true
+  pub as-plain : validAs allowed border s ≡ true → (allowed || plainIn s) ≡ true
   unfolding validAs
-  as-plain e = both-right (valid border s) (informed || plainIn s) e
+  as-plain e = both-right (valid border s) (allowed || plainIn s) e
 
-  pub as-by : valid border s ≡ true → (informed || plainIn s) ≡ true → validAs informed border s ≡ true
+  pub as-by : valid border s ≡ true → (allowed || plainIn s) ≡ true → validAs allowed border s ≡ true
   unfolding validAs
-  as-by e f = both (valid border s) (informed || plainIn s) e f
+  as-by e f = both (valid border s) (allowed || plainIn s) e f
 
 -- one of the two sets and no other, and the active one with a new one
 first-plain : (i p q : Bool) → (i || (p && q)) ≡ true → (i || (p && true)) ≡ true
@@ -167,20 +167,20 @@ new-plain true p q r e f = refl
 new-plain false true q r e f = f
 new-plain false false q r e f = e
 
-module _ (informed : Bool) (s : KeySets) (e : (informed || plainIn s) ≡ true) where
-  pub switched-plain : (informed || plainIn (switched s)) ≡ true
-  switched-plain = second-plain informed (plainKeys (activeIn s)) (plainKeys (pendingIn s)) e
+module _ (allowed : Bool) (s : KeySets) (e : (allowed || plainIn s) ≡ true) where
+  pub switched-plain : (allowed || plainIn (switched s)) ≡ true
+  switched-plain = second-plain allowed (noAdditionalInfos (activeIn s)) (noAdditionalInfos (pendingIn s)) e
 
-  module _ (C : CounterLaws) (set : KeySet) (f : mayInform informed (keysOf set) ≡ true) where
-    place-plain : (ok border equals shared : Bool) → (informed || plainIn (placeBy s set ok border equals shared .sets)) ≡ true
+  module _ (C : CounterLaws) (set : KeySet) (f : additionalInfoAllowed allowed (keysOf set) ≡ true) where
+    place-plain : (ok border equals shared : Bool) → (allowed || plainIn (placeBy s set ok border equals shared .sets)) ≡ true
     place-plain false border equals shared = e
     place-plain true true equals shared =
-        rw (C .succeeded-is (s .active) set) (first-plain informed (plainKeys (keysOf set)) true (rw (and-true (plainKeys (keysOf set))) f))
-    place-plain true false true shared = first-plain informed (plainKeys (activeIn s)) (plainKeys (pendingIn s)) e
+        rw (C .succeeded-is (s .active) set) (first-plain allowed (noAdditionalInfos (keysOf set)) true (rw (and-true (noAdditionalInfos (keysOf set))) f))
+    place-plain true false true shared = first-plain allowed (noAdditionalInfos (activeIn s)) (noAdditionalInfos (pendingIn s)) e
     place-plain true false false true = e
-    place-plain true false false false = new-plain informed (plainKeys (activeIn s)) (plainKeys (pendingIn s)) (plainKeys (keysOf set)) e f
+    place-plain true false false false = new-plain allowed (noAdditionalInfos (activeIn s)) (noAdditionalInfos (pendingIn s)) (noAdditionalInfos (keysOf set)) e f
 
-    pub install-plain : (border : Bool) → (informed || plainIn (install border s set .sets)) ≡ true
+    pub install-plain : (border : Bool) → (allowed || plainIn (install border s set .sets)) ≡ true
     unfolding install
     install-plain border =
         place-plain (validSet set) border (sameKeys (keysOf set) (activeIn s)) (shares (keysOf set) (activeIn s))

@@ -13,11 +13,11 @@ use Rattle.link_key_set.specs.KeySet.{validSet}
 use Rattle.link_key_set.specs.declared.key_set.KeySet.{KeySet}
 use Rattle.node_key_sets.specs.Sets.{install}
 use Rattle.node_key_sets.specs.Frames.{sending, receivingKey, verifiedIn, changeVerdict, changeNumber}
-use Rattle.node_key_sets.specs.declared.frames.Sending.{Sending}
+use Rattle.node_key_sets.specs.declared.frames.SendKeyResult.{SendKeyResult}
 use Rattle.node_key_sets.specs.declared.sets.KeySets.{KeySets}
 
 -- a refused sending: no key, counter 0, and the sets as they were
-pub record Unsent (s : KeySets) (x : Sending) : Type 0 where
+pub record Unsent (s : KeySets) (x : SendKeyResult) : Type 0 where
   pub key : x .answer .key ≡ noKey
   pub counter : x .counter ≡ 0
   pub sets : x .sets ≡ s

@@ -12,13 +12,13 @@ use Rattle.link_key.specs.Key.{noKey, covers}
 use Rattle.link_key_set.specs.KeySet.{has, findKey}
 use Rattle.link_key_usage.specs.Usage.{knownType}
 use Rattle.link_key.specs.declared.Key.{Key}
-use Rattle.link_key_counters.specs.Counters.{noCounted, spend}
-use Rattle.link_key_counters.specs.declared.Spent.{Spent}
+use Rattle.link_key_counters.specs.Counters.{noCounted, takeCounter}
+use Rattle.link_key_counters.specs.declared.TakenCounter.{TakenCounter}
 use Rattle.node_key_sets.specs.Sets.{activeIn, pendingIn, twoSets}
 use Rattle.node_key_sets.specs.declared.frames.Change.{Change}
 use Rattle.node_key_sets.specs.declared.frames.Change.the-variants as change
 use Rattle.node_key_sets.specs.declared.frames.KeyAnswer.{KeyAnswer}
-use Rattle.node_key_sets.specs.declared.frames.Sending.{Sending}
+use Rattle.node_key_sets.specs.declared.frames.SendKeyResult.{SendKeyResult}
 use Rattle.node_key_sets.specs.declared.sets.KeySets.{KeySets}
 
 abbrev pub withKey : Key → KeyAnswer
@@ -28,15 +28,15 @@ abbrev pub withoutKey : Refusal → KeyAnswer
 withoutKey k = record { verdict = verdict.Refused k; key = noKey }
 
 -- ---- sending: the first active key that covers the type and is not used up, with its counter, which rises; RANGE: the type; SILENT
-abbrev pub unsent : Refusal → KeySets → Sending
+abbrev pub unsent : Refusal → KeySets → SendKeyResult
 unsent k s = record { answer = withoutKey k; counter = 0; sets = s }
 
-abbrev pub sentWith : KeySets → Spent → Sending
+abbrev pub sentWith : KeySets → TakenCounter → SendKeyResult
 sentWith s x =
     cond (x .found) (record { answer = withKey (x .key); counter = x .counter; sets = twoSets (x .set) (s .pending) }) (unsent refusal.Silent s)
 
-unfoldable pub sending : KeySets → ℕ → Sending
-sending s type = cond (knownType type) (sentWith s (spend type (s .active))) (unsent refusal.Range s)
+unfoldable pub sending : KeySets → ℕ → SendKeyResult
+sending s type = cond (knownType type) (sentWith s (takeCounter type (s .active))) (unsent refusal.Range s)
 
 -- ---- receiving: the key with the identifier, active or else pending, which must cover the type; RANGE: the type, identifier 0; SILENT
 abbrev pub orElse : Option Key → Option Key → Option Key

@@ -5,17 +5,17 @@ use lib.Dec.{eqb}
 use Rattle.refusal.specs.declared.Refusal.{Refusal}
 use Rattle.refusal.specs.declared.Refusal.the-variants as refusal
 use Rattle.refusal.specs.declared.Verdict.the-variants as verdict
-use Rattle.link_key_set.specs.KeySet.{keysOf, validSet, plainKeys, sameKeys, shares}
+use Rattle.link_key_set.specs.KeySet.{keysOf, validSet, noAdditionalInfos, sameKeys, shares}
 use Rattle.link_key.specs.declared.Key.{Key}
 use Rattle.link_key_set.specs.declared.key_set.KeySet.{KeySet}
-use Rattle.link_key_counters.specs.Counters.{Slot, slotsOf, arrived, noCounted, succeeded}
+use Rattle.link_key_counters.specs.Counters.{Slot, slotsOf, withZeroCounters, noCounted, inheritCounters}
 use Rattle.link_key_counters.specs.declared.CountedSet.{CountedSet}
 use Rattle.node_key_sets.specs.declared.sets.KeySets.{KeySets}
-use Rattle.node_key_sets.specs.declared.sets.Place.{Place}
-use Rattle.node_key_sets.specs.declared.sets.Place.the-variants as at
-use Rattle.node_key_sets.specs.declared.sets.Placement.{Placement}
-use Rattle.node_key_sets.specs.declared.sets.Spot.{Spot}
-use Rattle.node_key_sets.specs.declared.sets.Spot.the-variants as spot
+use Rattle.node_key_sets.specs.declared.sets.InstallDecision.{InstallDecision}
+use Rattle.node_key_sets.specs.declared.sets.InstallDecision.the-variants as at
+use Rattle.node_key_sets.specs.declared.sets.InstallResult.{InstallResult}
+use Rattle.node_key_sets.specs.declared.sets.InstallSlot.{InstallSlot}
+use Rattle.node_key_sets.specs.declared.sets.InstallSlot.the-variants as spot
 
 -- the keys of the two, in order; no keys are no set
 abbrev pub activeIn : KeySets → List Key
@@ -50,44 +50,44 @@ valid border s =
 
 -- no key of the two has additional information
 abbrev pub plainIn : KeySets → Bool
-plainIn s = (plainKeys (activeIn s) && plainKeys (pendingIn s))
+plainIn s = (noAdditionalInfos (activeIn s) && noAdditionalInfos (pendingIn s))
 
 -- the same in a form in which a key may have additional information, or may not
 unfoldable pub validAs : Bool → Bool → KeySets → Bool
-validAs informed border s = (valid border s && (informed || plainIn s))
+validAs allowed border s = (valid border s && (allowed || plainIn s))
 
 -- ---- where a new set goes
-abbrev pub placed : KeySets → Placement
+abbrev pub placed : KeySets → InstallResult
 placed s = record { verdict = verdict.Accepted; sets = s }
 
 -- a refusal leaves the two
-abbrev pub unplaced : Refusal → KeySets → Placement
+abbrev pub unplaced : Refusal → KeySets → InstallResult
 unplaced k s = record { verdict = verdict.Refused k; sets = s }
 
 -- a border node's new set replaces its active set at once, and its keys keep the counters that they had there; at an ordinary node one
 -- that equals the active set empties the pending place, one that otherwise shares an identifier with the active set is CLASH, and any
 -- other replaces what is pending, its counters at 0
-abbrev pub place : KeySets → KeySet → Bool → Bool → Bool → Placement
-place s set border equals shared =
+abbrev pub decideInstall : KeySets → KeySet → Bool → Bool → Bool → InstallResult
+decideInstall s set border equals shared =
     cond border
-    (placed (twoSets (succeeded (s .active) set) noCounted))
+    (placed (twoSets (inheritCounters (s .active) set) noCounted))
     (cond equals
     (placed (twoSets (s .active) noCounted))
-    (cond shared (unplaced refusal.Clash s) (placed (twoSets (s .active) (arrived set)))))
+    (cond shared (unplaced refusal.Clash s) (placed (twoSets (s .active) (withZeroCounters set)))))
 
 -- RANGE: the new set; CLASH
-unfoldable pub install : Bool → KeySets → KeySet → Placement
+unfoldable pub install : Bool → KeySets → KeySet → InstallResult
 install border s set =
     cond (validSet set)
-    (place s set border (sameKeys (keysOf set) (activeIn s)) (shares (keysOf set) (activeIn s)))
+    (decideInstall s set border (sameKeys (keysOf set) (activeIn s)) (shares (keysOf set) (activeIn s)))
     (unplaced refusal.Range s)
 
 -- ---- the same, by where the new set goes
-abbrev pub setAt : Spot → KeySets → KeySet → KeySets
-setAt spot.Active s set = twoSets (succeeded (s .active) set) noCounted
+abbrev pub setAt : InstallSlot → KeySets → KeySet → KeySets
+setAt spot.Active s set = twoSets (inheritCounters (s .active) set) noCounted
 setAt spot.Same s set = twoSets (s .active) noCounted
-setAt spot.Pending s set = twoSets (s .active) (arrived set)
+setAt spot.Pending s set = twoSets (s .active) (withZeroCounters set)
 
-abbrev pub placing : Place → KeySets → KeySet → Placement
+abbrev pub placing : InstallDecision → KeySets → KeySet → InstallResult
 placing (at.Refused k) s set = unplaced k s
 placing (at.At spot) s set = placed (setAt spot s set)

@@ -22,7 +22,7 @@ pub struct KeyAnswer {
 }
 
 // What a frame is sent with: the key and its counter, and the sets with that counter one higher.
-pub struct Sending {
+pub struct SendKeyResult {
     pub answer: KeyAnswer,
     pub counter: u32,
     pub sets: KeySets,
@@ -79,11 +79,11 @@ fn chosen(found: bool, key: Key) -> KeyAnswer
 // The three calls for frames are parts of a node's calls, which judge the node with its key sets first: no set is judged twice.
 // They are total all the same: of sets outside their limits they answer the first key that is found.
 impl KeySets {
-    fn unsent(self, why: Refusal) -> Sending
+    fn unsent(self, why: Refusal) -> SendKeyResult
         ensures { λ r. ⌜ r ≡ unsent why self ⌝ }
     {
         let answer = without_key(why);
-        Sending {
+        SendKeyResult {
             answer,
             counter: 0,
             sets: self,
@@ -91,18 +91,18 @@ impl KeySets {
     }
 
     // The key to send a frame of this type with: the first active one that covers it and is not used up. RANGE: the type; SILENT.
-    // Found or not, the answer is built in one place: where none is found, `spend` gives the set as it was.
-    pub fn sending_key(self, frame_type: u8) -> Sending
+    // Found or not, the answer is built in one place: where none is found, `take_counter` gives the set as it was.
+    pub fn sending_key(self, frame_type: u8) -> SendKeyResult
         ensures { λ r. ⌜ r ≡ sending self «frame_type» ⌝ }
     {
         if 1 < frame_type {
             return self.unsent(Refusal::Range);
         }
-        let spent = self.active.spend(frame_type);
+        let spent = self.active.take_counter(frame_type);
         let active = spent.set;
         let waiting = self.pending;
         let answer = chosen(spent.found, spent.key);
-        Sending {
+        SendKeyResult {
             answer,
             counter: spent.counter,
             sets: KeySets {

@@ -4,12 +4,12 @@ pub mod sets;
 
 pub use frames::Change;
 pub use frames::KeyAnswer;
-pub use frames::Sending;
+pub use frames::SendKeyResult;
 pub use frames::without_key;
+pub use sets::InstallDecision;
+pub use sets::InstallResult;
+pub use sets::InstallSlot;
 pub use sets::KeySets;
-pub use sets::Place;
-pub use sets::Placement;
-pub use sets::Spot;
 pub use sets::no_sets;
 ghost use Rattle.node_key_sets.specs.Demand1.{KeySetsDemand1};
 

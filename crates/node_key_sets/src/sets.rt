@@ -1,13 +1,13 @@
 // The two sets: which may stand together, and where a new one goes.
 use link_key_counters::CountedSet;
-use link_key_counters::arrived;
 use link_key_counters::none_counted;
+use link_key_counters::with_zero_counters;
 use link_key_set::KeySet;
 use refusal::Refusal;
 use refusal::Verdict;
 ghost use mathlib.Core.Bool.{not, _&&_, _||_};
 ghost use mathlib.Core.Path.{_≡_};
-ghost use Rattle.link_key_set.specs.KeySet.{keysOf, mayInform, shares};
+ghost use Rattle.link_key_set.specs.KeySet.{keysOf, additionalInfoAllowed, shares};
 ghost use Rattle.node_key_sets.specs.Sets.{activeIn, pendingIn, isNone, noSets, noneOrValid, validAs, install, setAt, placing};
 
 // A set whose count is 0 stands for no set.
@@ -18,21 +18,21 @@ pub struct KeySets {
 
 // The sets after a new one came; beside a refusal they are as they were. The definitions' answer: the code gives the place alone, and
 // changes the sets where they stand.
-pub struct Placement {
+pub struct InstallResult {
     pub verdict: Verdict,
     pub sets: KeySets,
 }
 
 // Where a new set goes: it is the active one at once, it is the one that is active already, or it waits.
-pub enum Spot {
+pub enum InstallSlot {
     Active,
     Same,
     Pending,
 }
 
-pub enum Place {
+pub enum InstallDecision {
     Refused(Refusal),
-    At(Spot),
+    At(InstallSlot),
 }
 
 pub fn no_sets() -> KeySets
@@ -46,10 +46,10 @@ pub fn no_sets() -> KeySets
 }
 
 // A set within the limits of KEYS, or none; its keys may have additional information, or may not.
-fn none_or_valid(set: KeySet, informed: bool) -> bool
-    ensures { λ r. ⌜ r ≡ (noneOrValid set && mayInform informed (keysOf set)) ⌝ }
+fn none_or_valid(set: KeySet, allowed: bool) -> bool
+    ensures { λ r. ⌜ r ≡ (noneOrValid set && additionalInfoAllowed allowed (keysOf set)) ⌝ }
 {
-    set.count == 0 || set.valid_as(informed)
+    set.count == 0 || set.valid_as(allowed)
 }
 
 impl KeySets {
@@ -69,51 +69,51 @@ impl KeySets {
 
     // Whether a node may hold the two: each in range, no identifier in both, none pending at a border node, additional information only
     // where keys may have it.
-    pub fn valid(self, border: bool, informed: bool) -> bool
-        ensures { λ r. ⌜ r ≡ validAs informed border self ⌝ }
+    pub fn valid(self, border: bool, allowed: bool) -> bool
+        ensures { λ r. ⌜ r ≡ validAs allowed border self ⌝ }
     {
-        none_or_valid(self.active.set, informed)
-            && none_or_valid(self.pending.set, informed)
+        none_or_valid(self.active.set, allowed)
+            && none_or_valid(self.pending.set, allowed)
             && self.apart(border)
     }
 
     // Where a new set goes: a border node's is active at once; an ordinary node's is the active one, or waits as the pending one.
     // RANGE: the new set; CLASH. The two sets themselves are judged by the node's call that this is a part of.
-    pub fn place_of(self, border: bool, set: KeySet) -> Place
+    pub fn decide_install(self, border: bool, set: KeySet) -> InstallDecision
         ensures { λ r. ⌜ install border self set ≡ placing r self set ⌝ }
     {
         if !set.valid() {
-            return Place::Refused(Refusal::Range);
+            return InstallDecision::Refused(Refusal::Range);
         }
         if border {
-            return Place::At(Spot::Active);
+            return InstallDecision::At(InstallSlot::Active);
         }
         if set.same_keys(self.active.set) {
-            return Place::At(Spot::Same);
+            return InstallDecision::At(InstallSlot::Same);
         }
         if set.shares(self.active.set) {
-            return Place::Refused(Refusal::Clash);
+            return InstallDecision::Refused(Refusal::Clash);
         }
-        Place::At(Spot::Pending)
+        InstallDecision::At(InstallSlot::Pending)
     }
 
     // The sets with a new one at its place.
-    pub fn with_set(self, spot: Spot, set: KeySet) -> KeySets
+    pub fn with_set(self, spot: InstallSlot, set: KeySet) -> KeySets
         ensures { λ r. ⌜ r ≡ setAt spot self set ⌝ }
     {
         let active = self.active;
         match spot {
-            Spot::Active => KeySets {
-                active: active.succeeded(set),
+            InstallSlot::Active => KeySets {
+                active: active.inherit_counters(set),
                 pending: none_counted(),
             },
-            Spot::Same => KeySets {
+            InstallSlot::Same => KeySets {
                 active,
                 pending: none_counted(),
             },
-            Spot::Pending => KeySets {
+            InstallSlot::Pending => KeySets {
                 active,
-                pending: arrived(set),
+                pending: with_zero_counters(set),
             },
         }
     }

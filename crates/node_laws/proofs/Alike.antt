@@ -13,7 +13,7 @@ use Rattle.link_key_set.specs.declared.key_set.KeySet.{KeySet}
 use Rattle.link_key_counters.specs.CounterLaws.{CounterLaws}
 use Rattle.link_key_counters.specs.Counters.{slotsOf}
 use Rattle.node_key_sets.specs.Sets.{activeIn, pendingIn, placed, install}
-use Rattle.node_key_sets.specs.declared.sets.Placement.{Placement}
+use Rattle.node_key_sets.specs.declared.sets.InstallResult.{InstallResult}
 use Rattle.node_key_sets.proofs.Alike.{install-alike}
 use Rattle.node_parameters.specs.declared.address.HeldAddress.{HeldAddress}
 use Rattle.cojp.specs.Reading.{ifTaken}
@@ -28,15 +28,15 @@ use Rattle.cojp.specs.declared.configuration.Configuration.{Configuration}
 use Rattle.cojp.specs.declared.list.ListParameter.{ListParameter}
 use Rattle.cojp.specs.declared.octets.Octets.{Octets}
 use Rattle.cojp.specs.declared.rate.RateParameter.{RateParameter}
-use Rattle.cojp.specs.declared.report.Report.{Report}
-use Rattle.cojp.specs.declared.report.Report.the-variants.{Absent, Taken, Discarded}
+use Rattle.cojp.specs.declared.disposition.Disposition.{Disposition}
+use Rattle.cojp.specs.declared.disposition.Disposition.the-variants.{Absent, Taken, Discarded}
 use Rattle.cojp.specs.declared.version.Version.{Version}
 use Rattle.cojp.specs.declared.version.Version.the-variants.{Draft, Published}
 use Rattle.node_parameters.specs.Blacklist.{listAfter}
 use Rattle.node_parameters.specs.Lease.{addressAfter}
 use Rattle.node_parameters.specs.Octets.{octetsAfter}
 use Rattle.node_parameters.specs.Rate.{rateAfter}
-use Rattle.node_parameters.specs.Reports.{discarded, reportsOf}
+use Rattle.node_parameters.specs.Dispositions.{discarded, dispositionsOf}
 use Rattle.node.specs.Node.{isBorder}
 use Rattle.node.specs.Delivery.{placementOf, fittedBy, fitted, configured, undelivered, owesIdentifier, placedBy, apply}
 use Rattle.node_delivery.specs.Delivery.{asksIdentifier}
@@ -50,7 +50,7 @@ use Rattle.node_laws.proofs.Forms.{fitted-keys}
 
 -- ---- two parameters that agree in what is taken
 alike :
-    {A X : Type 0} (R : X → X → Type 0) (r s : Report) (a b : A) (x y k : X) → ifTaken r (some a) none ≡ ifTaken s (some b) none →
+    {A X : Type 0} (R : X → X → Type 0) (r s : Disposition) (a b : A) (x y k : X) → ifTaken r (some a) none ≡ ifTaken s (some b) none →
     (r ≡ Taken → s ≡ Taken → a ≡ b → R x y) → R k k → R (ifTaken r x k) (ifTaken s y k)
 alike R Absent Absent a b x y k e f g = g
 alike R Absent Discarded a b x y k e f g = g
@@ -63,7 +63,7 @@ alike R Taken Discarded a b x y k e f g = absurd (let z : _≡_ {A = ℕ} 0 1 = 
 alike R Taken Taken a b x y k e f g = f refl refl (cc)
 
 -- ---- key sets
-record SamePlace (p q : Placement) : Type 0 where
+record SamePlace (p q : InstallResult) : Type 0 where
   verdict : p .verdict ≡ q .verdict
   active : activeIn (p .sets) ≡ activeIn (q .sets)
   pending : pendingIn (p .sets) ≡ pendingIn (q .sets)
@@ -79,19 +79,19 @@ install-same C n u v p q e =
 
 -- ---- the other parameters
 octets-same :
-    (r s : Report) (o p : Octets) (old : HeldOctets) → ifTaken r (some (bytesIn o)) none ≡ ifTaken s (some (bytesIn p)) none →
+    (r s : Disposition) (o p : Octets) (old : HeldOctets) → ifTaken r (some (bytesIn o)) none ≡ ifTaken s (some (bytesIn p)) none →
     octetsHeld (octetsAfter r o old) ≡ octetsHeld (octetsAfter s p old)
 octets-same r s o p old e =
     alike (λ (h g : HeldOctets). octetsHeld h ≡ octetsHeld g) r s (bytesIn o) (bytesIn p) (record { held = true; value = o })
     (record { held = true; value = p }) old e (λ p q f. ap some f) refl
 
-discarded-keeps : {X : Type 0} (r : Report) (x k : X) → ifTaken (discarded r) x k ≡ k
+discarded-keeps : {X : Type 0} (r : Disposition) (x k : X) → ifTaken (discarded r) x k ≡ k
 discarded-keeps Absent x k = refl
 discarded-keeps Taken x k = refl
 discarded-keeps Discarded x k = refl
 
 border-same :
-    (border : Bool) (r s : Report) (o p : Octets) (old : HeldOctets) → ifTaken r (some (bytesIn o)) none ≡ ifTaken s (some (bytesIn p)) none →
+    (border : Bool) (r s : Disposition) (o p : Octets) (old : HeldOctets) → ifTaken r (some (bytesIn o)) none ≡ ifTaken s (some (bytesIn p)) none →
     octetsHeld (octetsAfter (cond border r (discarded r)) o old) ≡ octetsHeld (octetsAfter (cond border s (discarded s)) p old)
 border-same true r s o p old e = octets-same r s o p old e
 border-same false r s o p old e =
@@ -108,20 +108,20 @@ address-same :
     addressHeld (addressAfter time p old) ≡ addressHeld (addressAfter time q old)
 unfolding heldAs
 address-same time p q old e =
-    alike (λ (h g : HeldAddress). addressHeld h ≡ addressHeld g) (p .report) (q .report) (meant (p .value)) (meant (q .value))
+    alike (λ (h g : HeldAddress). addressHeld h ≡ addressHeld g) (p .disposition) (q .disposition) (meant (p .value)) (meant (q .value))
     (record { held = true; value = p .value; received = time }) (record { held = true; value = q .value; received = time }) old e
     (λ p q f. ap (λ (m : List ℕ × Option ℕ). heldAs m time) f) refl
 
 list-same :
     (p q : ListParameter) (old : HeldList) → listTaken p ≡ listTaken q → listHeld (listAfter p old) ≡ listHeld (listAfter q old)
 list-same p q old e =
-    alike (λ (h g : HeldList). listHeld h ≡ listHeld g) (p .report) (q .report) (p .value .count, listBytes (p .value))
+    alike (λ (h g : HeldList). listHeld h ≡ listHeld g) (p .disposition) (q .disposition) (p .value .count, listBytes (p .value))
     (q .value .count, listBytes (q .value)) (record { held = true; value = p .value }) (record { held = true; value = q .value }) old e
     (λ r s f. ap some f) refl
 
 rate-same : (p q : RateParameter) (old : HeldRate) → rateTaken p ≡ rateTaken q → rateHeld (rateAfter p old) ≡ rateHeld (rateAfter q old)
 rate-same p q old e =
-    alike (λ (h g : HeldRate). rateHeld h ≡ rateHeld g) (p .report) (q .report) (p .value) (q .value)
+    alike (λ (h g : HeldRate). rateHeld h ≡ rateHeld g) (p .disposition) (q .disposition) (p .value) (q .value)
     (record { held = true; value = p .value }) (record { held = true; value = q .value }) old e (λ r s f. ap some f) refl
 
 -- ---- applying
@@ -147,41 +147,41 @@ module _ (C : CounterLaws) (delivery : Delivery) (n : Node) (time : ℕ) (c d : 
     (p : keysInRange (c .keys) ≡ true) (q : keysInRange (d .keys) ≡ true) (h : SameConfiguration c d) where
   places : SamePlace (placementOf n (c .keys)) (placementOf n (d .keys))
   places =
-      alike SamePlace (c .keys .report) (d .keys .report) (keysOf (c .keys .value)) (keysOf (d .keys .value))
+      alike SamePlace (c .keys .disposition) (d .keys .disposition) (keysOf (c .keys .value)) (keysOf (d .keys .value))
       (install (isBorder n) (n .sets) (c .keys .value)) (install (isBorder n) (n .sets) (d .keys .value)) (placed (n .sets)) (h .keys)
       (λ e f. install-same C n (c .keys .value) (d .keys .value) (rw e at p) (rw f at q))
       (record { verdict = refl; active = refl; pending = refl; active-slots = refl; pending-slots = refl })
 
-  owing : ifTaken (c .network .report) true false ≡ ifTaken (d .network .report) true false
+  owing : ifTaken (c .network .disposition) true false ≡ ifTaken (d .network .disposition) true false
   owing =
-      alike (λ (x y : Bool). x ≡ y) (c .network .report) (d .network .report) (bytesIn (c .network .value)) (bytesIn (d .network .value))
+      alike (λ (x y : Bool). x ≡ y) (c .network .disposition) (d .network .disposition) (bytesIn (c .network .value)) (bytesIn (d .network .value))
       true true false (h .network) (λ p q f. refl) refl
 
-  owes-same : owesIdentifier delivery n (c .network .report) ≡ owesIdentifier delivery n (d .network .report)
+  owes-same : owesIdentifier delivery n (c .network .disposition) ≡ owesIdentifier delivery n (d .network .disposition)
   owes-same = ap (λ (b : Bool). asksIdentifier delivery && isBorder n && not (n .network .held) && not b) owing
 
   node-same :
-      SameNode (configured delivery n time c (placementOf n (c .keys) .sets) (reportsOf (isBorder n) c))
-      (configured delivery n time d (placementOf n (d .keys) .sets) (reportsOf (isBorder n) d))
-  unfolding configured reportsOf
+      SameNode (configured delivery n time c (placementOf n (c .keys) .sets) (dispositionsOf (isBorder n) c))
+      (configured delivery n time d (placementOf n (d .keys) .sets) (dispositionsOf (isBorder n) d))
+  unfolding configured dispositionsOf
   node-same = record {
     role = refl;
     attempt = refl;
     active = places .active;
     pending = places .pending;
     address = address-same time (c .address) (d .address) (n .address) (h .address);
-    jrc = octets-same (c .jrc .report) (d .jrc .report) (c .jrc .value) (d .jrc .value) (n .jrc) (h .jrc);
-    network = border-same (isBorder n) (c .network .report) (d .network .report) (c .network .value) (d .network .value) (n .network) (h .network);
-    prefix = border-same (isBorder n) (c .prefix .report) (d .prefix .report) (c .prefix .value) (d .prefix .value) (n .prefix) (h .prefix);
+    jrc = octets-same (c .jrc .disposition) (d .jrc .disposition) (c .jrc .value) (d .jrc .value) (n .jrc) (h .jrc);
+    network = border-same (isBorder n) (c .network .disposition) (d .network .disposition) (c .network .value) (d .network .value) (n .network) (h .network);
+    prefix = border-same (isBorder n) (c .prefix .disposition) (d .prefix .disposition) (c .prefix .value) (d .prefix .value) (n .prefix) (h .prefix);
     version = refl;
     blacklist = list-same (c .blacklist) (d .blacklist) (n .blacklist) (h .blacklist);
     rate = rate-same (c .rate) (d .rate) (n .rate) (h .rate);
   }
 
   counters-same :
-      SameCounters (configured delivery n time c (placementOf n (c .keys) .sets) (reportsOf (isBorder n) c))
-      (configured delivery n time d (placementOf n (d .keys) .sets) (reportsOf (isBorder n) d))
-  unfolding configured reportsOf
+      SameCounters (configured delivery n time c (placementOf n (c .keys) .sets) (dispositionsOf (isBorder n) c))
+      (configured delivery n time d (placementOf n (d .keys) .sets) (dispositionsOf (isBorder n) d))
+  unfolding configured dispositionsOf
   counters-same = record { active = places .active-slots; pending = places .pending-slots }
 
   outcomes :
@@ -195,7 +195,7 @@ module _ (C : CounterLaws) (delivery : Delivery) (n : Node) (time : ℕ) (c d : 
   applied-alike : SameOutcome (apply delivery n time c) (apply delivery n time d)
   unfolding apply
   applied-alike =
-      rw (owes-same, places .verdict) (outcomes (owesIdentifier delivery n (d .network .report)) (placementOf n (d .keys) .verdict))
+      rw (owes-same, places .verdict) (outcomes (owesIdentifier delivery n (d .network .disposition)) (placementOf n (d .keys) .verdict))
 
   -- a set that cannot be placed is left out of both
   fitted-same : SameConfiguration (fitted n c) (fitted n d)

@@ -20,20 +20,20 @@ use Rattle.link_key.specs.Key.{covers}
 use Rattle.link_key.specs.declared.Key.{Key}
 use Rattle.link_key_set.specs.KeySet.{has}
 use Rattle.cbor.specs.Answer.{Plan, answer}
-use Rattle.cbor.specs.declared.write.Written.{Written}
-use Rattle.cbor.specs.declared.write.Written.the-variants as written
+use Rattle.cbor.specs.declared.write.WriteResult.{WriteResult}
+use Rattle.cbor.specs.declared.write.WriteResult.the-variants as written
 use Rattle.cojp.specs.InRange.{ReadsInRange}
 use Rattle.cojp.specs.Version.{byVersion}
 use Rattle.cojp.specs.Writing.{keysInRange, requestPlan}
 use Rattle.cojp.specs.declared.configuration.Configuration.{Configuration}
 use Rattle.cojp.specs.declared.configuration.ConfigurationRead.{ConfigurationRead}
 use Rattle.cojp.specs.declared.key_set.KeysParameter.{KeysParameter}
-use Rattle.cojp.specs.declared.report.Report.the-variants.{Discarded}
+use Rattle.cojp.specs.declared.disposition.Disposition.the-variants.{Discarded}
 use Rattle.cojp.specs.declared.version.Version.{Version}
 use Rattle.cojp.specs.declared.version.Version.the-variants.{Draft, Published}
 use Rattle.link_key_counters.specs.CounterLaws.{CounterLaws}
-use Rattle.link_key_counters.specs.Counters.{Slot, firstServing, spentOn}
-use Rattle.link_key_counters.specs.declared.Spent.{Spent}
+use Rattle.link_key_counters.specs.Counters.{Slot, firstServing, takenCounterOn}
+use Rattle.link_key_counters.specs.declared.TakenCounter.{TakenCounter}
 use Rattle.node_key_sets.specs.Frames as sets
 use Rattle.node_key_sets.specs.Frames.{withKey, withoutKey, ifCovers, heldKey, receivingKey, effectBy, verifiedIn}
 use Rattle.node_key_sets.specs.Frames.{changeNumber, hasSwitched, hasKept}
@@ -53,9 +53,9 @@ use Rattle.node_delivery.specs.Delivery.{belongs, mayCome}
 use Rattle.node_delivery.specs.declared.Delivery.{Delivery}
 use Rattle.node_parameters.specs.Lease.{holdsAt}
 use Rattle.node_parameters.specs.Octets.{validOctets}
-use Rattle.node_parameters.specs.Reports.{reportsOf}
+use Rattle.node_parameters.specs.Dispositions.{dispositionsOf}
 use Rattle.node_parameters.specs.declared.octets.HeldOctets.{HeldOctets}
-use Rattle.node_parameters.specs.declared.reports.Reports.{Reports}
+use Rattle.node_parameters.specs.declared.dispositions.Dispositions.{Dispositions}
 use Rattle.node.specs.Delivery.{placementOf, fittedBy, fitted, placedBy, owesIdentifier, undelivered, apply, applyRead, deliverVerdict, deliverBy, readFor, deliver}
 use Rattle.node.specs.Frames as frames
 use Rattle.node.specs.Frames.{unsent, sentBy, send, receive, reported, reportedBy, verified}
@@ -63,9 +63,9 @@ use Rattle.node.specs.Lease.{holds, holdingNumber, holdsNow}
 use Rattle.node.specs.Node.{activeOf, clockOf, validRole, unmade, made}
 use Rattle.node.specs.Range.{valid}
 use Rattle.node.specs.Timing.{requestOf, startVerdict, planBy, startPlan, startedFrom, startedBy, start, polled, polledBy, poll}
-use Rattle.node.specs.declared.frames.Reported.{Reported}
-use Rattle.node.specs.declared.frames.Sent.{Sent}
-use Rattle.node.specs.declared.lease.Holding.the-variants as holding
+use Rattle.node.specs.declared.frames.VerifyResult.{VerifyResult}
+use Rattle.node.specs.declared.frames.SendResult.{SendResult}
+use Rattle.node.specs.declared.lease.LeaseStatus.the-variants as holding
 use Rattle.node.specs.declared.node.Node.{Node}
 use Rattle.cojp_list_read.specs.Laws.{ListLaws}
 use Rattle.cbor.specs.HeadLaws.{HeadLaws}
@@ -106,7 +106,7 @@ unfolding made
 made-number version role network = made-by (validRole role) (validOctets network) _
 
 -- ---- starting
-written-by : (w : Written) (n m : Node) → verdictNumber (startedBy w n m .verdict) ≡ inOrder (writtenNumber w ∷ [])
+written-by : (w : WriteResult) (n m : Node) → verdictNumber (startedBy w n m .verdict) ≡ inOrder (writtenNumber w ∷ [])
 written-by (written.Refused k) n m = sym (refused-first k [])
 written-by (written.Length l) n m = refl
 
@@ -157,7 +157,7 @@ start-number n time timeout d = go (valid n) refl
         (start-by n (startedFrom n time timeout) (requestPlan (n .version) (requestOf n)) d (leb (clockOf n) time) (waits n) (firstTimeout timeout))
 
 start-wrote :
-    (w : Written) (n m : Node) → startedBy w n m .verdict ≡ verdict.Accepted → w ≡ written.Length (startedBy w n m .length)
+    (w : WriteResult) (n m : Node) → startedBy w n m .verdict ≡ verdict.Accepted → w ≡ written.Length (startedBy w n m .length)
 start-wrote (written.Refused k) n m e = refused-not k e
 start-wrote (written.Length l) n m e = refl
 
@@ -303,16 +303,16 @@ placed-by verdict.Accepted delivery n time c s = refl
 module _ (delivery : Delivery) (n : Node) (time : ℕ) where
   abbrev last : Configuration → List ℕ
   last c =
-      refusedIf (owesIdentifier delivery n (c .network .report)) 9
+      refusedIf (owesIdentifier delivery n (c .network .disposition)) 9
       ∷ refusedIf (byVersion (n .version) (clashes n (c .keys)) false) 10
       ∷ []
 
   apply-number :
       (c : Configuration) → keysInRange (c .keys) ≡ true →
       verdictNumber (apply delivery n time c .verdict)
-      ≡ inOrder (refusedIf (owesIdentifier delivery n (c .network .report)) 9 ∷ refusedIf (clashes n (c .keys)) 10 ∷ [])
+      ≡ inOrder (refusedIf (owesIdentifier delivery n (c .network .disposition)) 9 ∷ refusedIf (clashes n (c .keys)) 10 ∷ [])
   unfolding apply
-  apply-number c h = go (owesIdentifier delivery n (c .network .report))
+  apply-number c h = go (owesIdentifier delivery n (c .network .disposition))
     where
       place :
           verdictNumber (placedBy (placementOf n (c .keys) .verdict) delivery n time c (placementOf n (c .keys) .sets) .verdict)
@@ -398,17 +398,17 @@ module _ (delivery : Delivery) (n : Node) (time : ℕ) where
 
   clash-discarded :
       ReadsInRange → (payload : List ℕ) → deliver delivery n time payload .verdict ≡ verdict.Accepted → n .version ≡ Published →
-      clashes n (readFor n payload .configuration .keys) ≡ true → deliver delivery n time payload .reports .keys ≡ Discarded
-  unfolding reportsOf
+      clashes n (readFor n payload .configuration .keys) ≡ true → deliver delivery n time payload .dispositions .keys ≡ Discarded
+  unfolding dispositionsOf
   clash-discarded R payload a p e =
-      ap (λ (r : Reports). r .keys) (accepted-reports delivery n time payload a)
-      ∙ ap (λ (k : KeysParameter). k .report)
+      ap (λ (r : Dispositions). r .keys) (accepted-reports delivery n time payload a)
+      ∙ ap (λ (k : KeysParameter). k .disposition)
       (clashing n (readFor n payload .configuration) (R (n .version) payload (accepted-reading delivery n time payload a) .keys) p e .keys)
 
 -- ---- the question whether the address holds
 held-number :
     (v l h : Bool) →
-    holdingNumber (cond v (cond l (cond h holding.Yes holding.No) (holding.Refused refusal.Clock)) (holding.Refused refusal.Range))
+    holdingNumber (cond v (cond l (cond h holding.Valid holding.Expired) (holding.Refused refusal.Clock)) (holding.Refused refusal.Range))
     ≡ inOrder (refusedIf (not v) 13 ∷ refusedIf (not l) 11 ∷ [])
 held-number false l h = refl
 held-number true false h = refl
@@ -417,7 +417,7 @@ held-number true true true = refl
 
 held-by :
     (v l h : Bool) →
-    holdsNow (cond v (cond l (cond h holding.Yes holding.No) (holding.Refused refusal.Clock)) (holding.Refused refusal.Range))
+    holdsNow (cond v (cond l (cond h holding.Valid holding.Expired) (holding.Refused refusal.Clock)) (holding.Refused refusal.Range))
     ≡ (v && not (not l) && h)
 held-by false l h = refl
 held-by true false h = refl
@@ -444,15 +444,15 @@ passed true false x e = refused-not refusal.Range e
 passed true true x e = (refl, e)
 
 -- sending, by the answers to its tests: is the node valid, is the type known, which key serves first
-abbrev sentAs : Node → Bool → Bool → Option Slot → Sent
+abbrev sentAs : Node → Bool → Bool → Option Slot → SendResult
 sentAs n v t o =
-    cond v (sentBy n (cond t (sets.sentWith (n .sets) (spentOn (n .sets .active) o)) (sets.unsent refusal.Range (n .sets)))) (unsent n)
+    cond v (sentBy n (cond t (sets.sentWith (n .sets) (takenCounterOn (n .sets .active) o)) (sets.unsent refusal.Range (n .sets)))) (unsent n)
 
 sent-is : CounterLaws → (n : Node) (type : ℕ) → frames.sending n type ≡ sentAs n (valid n) (knownType type) (firstServing type (n .sets .active))
 unfolding frames.sending sets.sending
 sent-is C n type =
     ap
-    (λ (x : Spent). cond (valid n) (sentBy n (cond (knownType type) (sets.sentWith (n .sets) x) (sets.unsent refusal.Range (n .sets)))) (unsent n))
+    (λ (x : TakenCounter). cond (valid n) (sentBy n (cond (knownType type) (sets.sentWith (n .sets) x) (sets.unsent refusal.Range (n .sets)))) (unsent n))
     (C .spend-first type (n .sets .active))
 
 sent-number :
@@ -471,7 +471,7 @@ send-number :
     (refusedIf (not (valid n)) 13 ∷ refusedIf (not (knownType type)) 13 ∷ refusedIf (isMissing (firstServing type (n .sets .active))) 14 ∷ [])
 unfolding send
 send-number C n type =
-    ap (λ (x : Sent). verdictNumber (x .answer .verdict)) (sent-is C n type)
+    ap (λ (x : SendResult). verdictNumber (x .answer .verdict)) (sent-is C n type)
     ∙ sent-number n (valid n) (knownType type) (firstServing type (n .sets .active))
 
 received-number :
@@ -536,7 +536,7 @@ module _ (n : Node) (type identifier : ℕ) where
   abbrev active : Bool
   active = has identifier (activeOf n)
 
-  abbrev reportBy : Bool → Reported
+  abbrev reportBy : Bool → VerifyResult
   reportBy b = cond b (reportedBy n (verifiedIn (n .sets) type identifier)) (reported (change.Refused refusal.Range) n)
 
   report-number : changeNumber (verified n type identifier .change) ≡ verdictNumber (receive n type identifier .verdict)

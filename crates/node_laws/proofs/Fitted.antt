@@ -12,8 +12,8 @@ use Rattle.cojp.specs.Reading.{ifTaken}
 use Rattle.cojp.specs.Version.{byVersion}
 use Rattle.cojp.specs.Writing.{keysInRange}
 use Rattle.cojp.specs.declared.configuration.Configuration.{Configuration}
-use Rattle.cojp.specs.declared.report.Report.{Report}
-use Rattle.cojp.specs.declared.report.Report.the-variants.{Absent, Taken, Discarded}
+use Rattle.cojp.specs.declared.disposition.Disposition.{Disposition}
+use Rattle.cojp.specs.declared.disposition.Disposition.the-variants.{Absent, Taken, Discarded}
 use Rattle.cojp.specs.declared.version.Version.{Version}
 use Rattle.cojp.specs.declared.version.Version.the-variants.{Draft, Published}
 use Rattle.node_key_sets.specs.Sets.{placed, install}
@@ -38,7 +38,7 @@ place-by s set false false true = refl
 place-by s set false false false = refl
 
 placed-as :
-    (n : Node) (r : Report) (set : KeySet) → ifTaken r (validSet set) true ≡ true →
+    (n : Node) (r : Disposition) (set : KeySet) → ifTaken r (validSet set) true ≡ true →
     ifTaken r (install (isBorder n) (n .sets) set) (placed (n .sets)) .verdict
     ≡ placedAs (ifTaken r (not (isBorder n) && not (sameKeys (keysOf set) (activeOf n)) && shares (keysOf set) (activeOf n)) false)
 unfolding install
@@ -51,7 +51,7 @@ placed-as n Taken set e =
 module _ (n : Node) (c : Configuration) where
   module _ (h : keysInRange (c .keys) ≡ true) where
     pub placed-verdict : placementOf n (c .keys) .verdict ≡ placedAs (clashes n (c .keys))
-    placed-verdict = placed-as n (c .keys .report) (c .keys .value) h
+    placed-verdict = placed-as n (c .keys .disposition) (c .keys .value) h
 
     pub fitted-as : fitted n c ≡ byVersion (n .version) c (fittedBy (placedAs (clashes n (c .keys))) c)
     unfolding fitted
@@ -71,7 +71,7 @@ module _ (n : Node) (c : Configuration) where
           prefix = refl;
           blacklist = refl;
           rate = refl;
-          came = refl;
+          met = refl;
           passed = refl;
         })
 

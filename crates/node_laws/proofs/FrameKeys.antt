@@ -17,7 +17,7 @@ use Rattle.link_key_counters.specs.CounterLaws.{CounterLaws}
 use Rattle.link_key_counters.specs.Counters.{Slot, slotsOf, lastCounter, isUsedUp, firstServing, raised}
 use Rattle.link_key_counters.specs.declared.CountedSet.{CountedSet}
 use Rattle.logic_facts.specs.Tests.{both-right}
-use Rattle.cojp.specs.Version.{informed}
+use Rattle.cojp.specs.Version.{allowsAdditionalInfo}
 use Rattle.node_key_sets.specs.Sets.{twoSets, plainIn}
 use Rattle.node_key_sets.specs.Frames as sets-spec
 use Rattle.node_key_sets.specs.Frames.{withKey, withoutKey, receivingKey, verifiedIn, switched}
@@ -28,11 +28,11 @@ use Rattle.link_key_set.specs.KeyLaws.{KeyLaws}
 use Rattle.node_key_sets.proofs.Valid.{switched-valid, switched-plain}
 use Rattle.node_key_sets.proofs.FrameKeys as sets
 use Rattle.node.specs.Node.{activeOf, pendingOf, isBorder, keyed}
-use Rattle.node.specs.Range.{formFits, valid, Valid}
+use Rattle.node.specs.Range.{versionValid, valid, Valid}
 use Rattle.node.specs.Frames.{unsent, sentBy, sending, send, sendCounter, afterSend, receive, reported, reportedBy, verified}
 use Rattle.node_laws.specs.Laws.{Without, KeysStay, Switched, Unspent, CanSend, Sends, Counts, Switching}
-use Rattle.node.specs.declared.frames.Reported.{Reported}
-use Rattle.node.specs.declared.frames.Sent.{Sent}
+use Rattle.node.specs.declared.frames.VerifyResult.{VerifyResult}
+use Rattle.node.specs.declared.frames.SendResult.{SendResult}
 use Rattle.node.specs.declared.node.Node.{Node}
 use Rattle.node_laws.proofs.Valid.{keys-valid, keys-plain, attempt-valid, address-valid, others-valid, valid-by}
 use Rattle.node_laws.proofs.KeysStay.{stay-self, stay-keyed}
@@ -49,7 +49,7 @@ same-plain i s t a p e = rw (a, p) e
 
 -- ---- sending, by the laws of counted sets
 module _ (C : CounterLaws) (n : Node) (type : ℕ) where
-  abbrev asked : Bool → Sent
+  abbrev asked : Bool → SendResult
   asked b = cond b (sentBy n (sets-spec.sending (n .sets) type)) (unsent n)
 
   send-is : Valid n → send n type ≡ sets-spec.sending (n .sets) type .answer
@@ -102,7 +102,7 @@ module _ (C : CounterLaws) (n : Node) (type : ℕ) where
 
   -- only a counter rises
   stay-sent : KeysStay n (keyed n (sets-spec.sending (n .sets) type .sets))
-  unfolding formFits
+  unfolding versionValid
   stay-sent =
       let k = sets.sent-keys C (n .sets) type in
       let after = keyed n (sets-spec.sending (n .sets) type .sets) in
@@ -112,7 +112,7 @@ module _ (C : CounterLaws) (n : Node) (type : ℕ) where
         role = refl;
         valid =
             λ v. valid-by after (sets.sent-valid C (isBorder n) (n .sets) type (keys-valid n v))
-            (same-plain (informed (n .version)) (n .sets) (after .sets) (k .0) (k .1) (keys-plain n v)) (attempt-valid n v) (address-valid n v)
+            (same-plain (allowsAdditionalInfo (n .version)) (n .sets) (after .sets) (k .0) (k .1) (keys-plain n v)) (attempt-valid n v) (address-valid n v)
             (others-valid n v);
       }
 
@@ -150,7 +150,7 @@ module _ (K : KeyLaws) where
 
   -- ---- the verified report
   switched-keyed : (n : Node) (s : KeySets) → s ≡ switched (n .sets) → Switched n (keyed n s)
-  unfolding formFits
+  unfolding versionValid
   switched-keyed n s e =
       rw e
       (record {
@@ -159,7 +159,7 @@ module _ (K : KeyLaws) where
         role = refl;
         valid =
             λ v. valid-by (keyed n (switched (n .sets))) (switched-valid K (isBorder n) (n .sets) (keys-valid n v))
-            (switched-plain (informed (n .version)) (n .sets) (keys-plain n v)) (attempt-valid n v) (address-valid n v) (others-valid n v);
+            (switched-plain (allowsAdditionalInfo (n .version)) (n .sets) (keys-plain n v)) (attempt-valid n v) (address-valid n v) (others-valid n v);
       })
 
   module _ (n : Node) (type identifier : ℕ) where
@@ -179,7 +179,7 @@ module _ (K : KeyLaws) where
         ⊎-elim (λ e. inl (stay-keyed n reportedSets e)) (λ s. inr (switching (s .0), switched-keyed n reportedSets (s .1)))
         (sets.verified-either K (n .sets) type identifier)
 
-    abbrev reportBy : Bool → Reported
+    abbrev reportBy : Bool → VerifyResult
     reportBy b = cond b (reportedBy n (verifiedIn (n .sets) type identifier)) (reported (change.Refused refusal.Range) n)
 
     pub verified-either : KeysStay n (verified n type identifier .node) ⊎ (Switching n type identifier × Switched n (verified n type identifier .node))

@@ -6,8 +6,8 @@ use Rattle.refusal.specs.Verdict.{refused-not}
 use Rattle.refusal.specs.declared.Verdict.{Verdict}
 use Rattle.refusal.specs.declared.Verdict.the-variants as verdict
 use Rattle.cbor.specs.Answer.{Plan, answer}
-use Rattle.cbor.specs.declared.write.Written.{Written}
-use Rattle.cbor.specs.declared.write.Written.the-variants as written
+use Rattle.cbor.specs.declared.write.WriteResult.{WriteResult}
+use Rattle.cbor.specs.declared.write.WriteResult.the-variants as written
 use Rattle.cojp.specs.Writing.{requestPlan}
 use Rattle.node_attempt.specs.Attempt.{waitingFrom}
 use Rattle.node_attempt.specs.Poll as attempt
@@ -27,7 +27,7 @@ begun-by :
 begun-by n m d (verdict.Refused k) p e = refused-not k e
 begun-by n m d verdict.Accepted p e = (refl, go (answer p d) e)
   where
-    go : (w : Written) → startedBy w n m .verdict ≡ verdict.Accepted → startedBy w n m .node ≡ m
+    go : (w : WriteResult) → startedBy w n m .verdict ≡ verdict.Accepted → startedBy w n m .node ≡ m
     go (written.Refused k) f = refused-not k f
     go (written.Length l) f = refl
 

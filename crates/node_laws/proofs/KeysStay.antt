@@ -7,7 +7,7 @@ use Rattle.node_attempt.specs.Attempt.{valid}
 use Rattle.node_attempt.specs.declared.attempt.Attempt.{Attempt}
 use Rattle.node_parameters.proofs.Leases.{later}
 use Rattle.node.specs.Node.{attempting, keyed, clockOf}
-use Rattle.node.specs.Range.{formFits, Valid}
+use Rattle.node.specs.Range.{versionValid, Valid}
 use Rattle.node_laws.specs.Laws.{KeysStay}
 use Rattle.node.specs.declared.node.Node.{Node}
 use Rattle.node_laws.proofs.Valid.{keys-valid, keys-plain, address-valid, others-valid, valid-by}
@@ -16,7 +16,7 @@ pub stay-self : (n : Node) → KeysStay n n
 stay-self n = record { active = refl; pending = refl; role = refl; valid = λ v. v }
 
 pub stay-attempt : (n : Node) (a : Attempt) → (Valid n → valid a ≡ true) → clockOf n ≤ a .clock → KeysStay n (attempting n a)
-unfolding formFits
+unfolding versionValid
 stay-attempt n a f h =
     record {
       active = refl;

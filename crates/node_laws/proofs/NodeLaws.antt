@@ -10,7 +10,7 @@ use Rattle.link_key_set.specs.KeySet.{Apart}
 use Rattle.node_key_sets.specs.Frames.{changeVerdict}
 use Rattle.link_key_set.specs.KeyLaws.{KeyLaws}
 use Rattle.link_key_counters.specs.CounterLaws.{CounterLaws}
-use Rattle.cojp.specs.InRange.{ReadsInRange, ReportsFit}
+use Rattle.cojp.specs.InRange.{ReadsInRange, ErrorReportsValid}
 use Rattle.node_key_sets.proofs.Valid.{sets-apart, border-empty}
 use Rattle.node.specs.Node.{activeOf, pendingOf, isBorder}
 use Rattle.node.specs.Range.{Valid}
@@ -46,7 +46,7 @@ version-stays c n =
     call-part (λ (m : Node). m .version) n (λ a. refl) (λ s. refl) (λ delivery time payload. deliver-version delivery n time payload) c
 
 -- ---- by the laws of keys, of counted sets, of what is read and of its reports
-module _ (K : KeyLaws) (C : CounterLaws) (R : ReadsInRange) (F : ReportsFit) where
+module _ (K : KeyLaws) (C : CounterLaws) (R : ReadsInRange) (F : ErrorReportsValid) where
   valid-apart : (n : Node) → Valid n → Apart (activeOf n) (pendingOf n)
   valid-apart n v = K .shares-apart (activeOf n) (pendingOf n) (sets-apart (isBorder n) (n .sets) (keys-valid n v))
 

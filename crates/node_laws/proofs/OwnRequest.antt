@@ -14,22 +14,22 @@ use Rattle.refusal.specs.declared.Refusal.the-variants.{Owed, Room}
 use Rattle.cbor.specs.Answer.{refuse, emit, answer}
 use Rattle.cbor.specs.Encode.{encode, encodePairs, shortest}
 use Rattle.cbor.specs.HeadLaws.{HeadLaws}
-use Rattle.cbor.specs.declared.write.Written.the-variants as written
+use Rattle.cbor.specs.declared.write.WriteResult.the-variants as written
 use Rattle.cbor.specs.Item.{Item, Pairs, unsigned, bytes, array, map, empty, pair, countPairs}
-use Rattle.cojp.specs.Faults.{faultList, faultsFit, validFault, validFaults}
-use Rattle.cojp.specs.Lists.{faultsIn, some, bytesIn, itemsIn, kept, noListParameter}
+use Rattle.cojp.specs.ErrorReports.{errorReportList, errorReportsValid, validErrorReport, validErrorReports}
+use Rattle.cojp.specs.Lists.{errorReportsIn, some, bytesIn, itemsIn, kept, noListParameter}
 use Rattle.cojp.specs.Octets as octets
 use Rattle.cojp.specs.Reading.{ifTaken}
 use Rattle.cojp.specs.Request.{owing}
 use Rattle.cojp.specs.Version.{byVersion}
 use Rattle.cojp.specs.Writing.{join, labelled, rolePairs, octetsPairs, listPairs, requestPairs}
 use Rattle.cojp.specs.Writing.{octetsInRange, listInRange, missing, requestInRange, requestPlan}
-use Rattle.cojp.specs.declared.fault.Faults.{Faults}
+use Rattle.cojp.specs.declared.error_report.ErrorReports.{ErrorReports}
 use Rattle.cojp.specs.declared.list.ListParameter.{ListParameter}
 use Rattle.cojp.specs.declared.octets.OctetsParameter.{OctetsParameter}
 use Rattle.cojp.specs.declared.request.JoinRequest.{JoinRequest}
-use Rattle.cojp.specs.declared.report.Report.{Report}
-use Rattle.cojp.specs.declared.report.Report.the-variants.{Absent, Taken, Discarded}
+use Rattle.cojp.specs.declared.disposition.Disposition.{Disposition}
+use Rattle.cojp.specs.declared.disposition.Disposition.the-variants.{Absent, Taken, Discarded}
 use Rattle.cojp.specs.declared.version.Version.{Version}
 use Rattle.cojp.specs.declared.version.Version.the-variants.{Draft, Published}
 use Rattle.cojp_list_read.specs.Laws.{ListLaws}
@@ -37,7 +37,7 @@ use Rattle.cojp_list_read.specs.Listed.{listing, listedIn}
 use Rattle.node_parameters.specs.Octets.{validOctets, validJrc, identifierIn}
 use Rattle.node_parameters.specs.declared.octets.HeldOctets.{HeldOctets}
 use Rattle.node.specs.Node.{validRole}
-use Rattle.node.specs.Range.{formFits, Valid}
+use Rattle.node.specs.Range.{versionValid, Valid}
 use Rattle.node.specs.Timing.{requestOf}
 use Rattle.node.specs.declared.node.Node.{Node}
 use Rattle.node_laws.specs.Answers.{writtenNumber}
@@ -83,9 +83,9 @@ module _ (H : HeadLaws) where
       go false = one-pair 1 (unsigned role) 1 (omega arith) (omega (arith, leb-true role 1 h, H .short-head 0 role (omega (arith, leb-true role 1 h))))
 
   octets-short : (p : OctetsParameter) → octetsInRange p ≡ true → Short 18 (octetsPairs 5 p)
-  octets-short p = go (p .report)
+  octets-short p = go (p .disposition)
     where
-      go : (r : Report) → ifTaken r (leb (p .value .len) 16) true ≡ true
+      go : (r : Disposition) → ifTaken r (leb (p .value .len) 16) true ≡ true
           → Short 18 (ifTaken r (labelled 5 (bytes (octets.bytesIn (p .value)))) empty)
       go Absent h = no-pair 18
       go Discarded h = no-pair 18
@@ -95,19 +95,19 @@ module _ (H : HeadLaws) where
           one-pair 5 (bytes s) 17 (omega arith)
           (omega (arith, few, H .short-head 2 (length s) (omega (arith, few)), length-append (shortest 2 (length s)) s))
 
-  list-short : ListLaws → (p : ListParameter) → listInRange (some faultsIn) p ≡ true → p .value .count ≤ 15 → p .value .len ≤ 15
-      → Short 17 (listPairs 8 (some faultsIn) p)
-  list-short L p = go (p .report)
+  list-short : ListLaws → (p : ListParameter) → listInRange (some errorReportsIn) p ≡ true → p .value .count ≤ 15 → p .value .len ≤ 15
+      → Short 17 (listPairs 8 (some errorReportsIn) p)
+  list-short L p = go (p .disposition)
     where
-      go : (r : Report) → ifTaken r (kept (some faultsIn) (p .value)) true ≡ true → p .value .count ≤ 15 → p .value .len ≤ 15
-          → Short 17 (ifTaken r (labelled 8 (array (itemsIn (some faultsIn) (p .value)))) empty)
+      go : (r : Disposition) → ifTaken r (kept (some errorReportsIn) (p .value)) true ≡ true → p .value .count ≤ 15 → p .value .len ≤ 15
+          → Short 17 (ifTaken r (labelled 8 (array (itemsIn (some errorReportsIn) (p .value)))) empty)
       go Absent h m l = no-pair 17
       go Discarded h m l = no-pair 17
       go Taken h m l =
           let e = L .unsupported-written (p .value) h in
           let s : List ℕ = bytesIn (p .value) in
           let n : ℕ = p .value .count in
-          one-pair 8 (array (itemsIn (some faultsIn) (p .value))) 16 (omega arith)
+          one-pair 8 (array (itemsIn (some errorReportsIn) (p .value))) 16 (omega arith)
           (omega
           (arith, ap length e, H .short-head 4 n (omega (arith, m)), length-append (shortest 4 n) s, length-take (p .value .len) (p .value .bytes), l))
 
@@ -120,27 +120,27 @@ identifier-in-range h = go (h .held)
     go true e = e
     go false e = refl
 
-no-reports : (f : Faults) → eqb (f .count) 0 ≡ true → listedIn f ≡ noListParameter Absent
+no-reports : (f : ErrorReports) → eqb (f .count) 0 ≡ true → listedIn f ≡ noListParameter Absent
 unfolding listedIn
-no-reports f e = ap (λ (n : ℕ). listing (take n (f .faults))) (eqb-true (f .count) 0 e)
+no-reports f e = ap (λ (n : ℕ). listing (take n (f .reports))) (eqb-true (f .count) 0 e)
 
-module _ (L : ListLaws) (f : Faults) where
-  reports-in-range : (v : Version) → faultsFit v f ≡ true
-      → byVersion v (missing (listedIn f .report)) (listInRange (some faultsIn) (listedIn f)) ≡ true
-  unfolding faultsFit
+module _ (L : ListLaws) (f : ErrorReports) where
+  reports-in-range : (v : Version) → errorReportsValid v f ≡ true
+      → byVersion v (missing (listedIn f .disposition)) (listInRange (some errorReportsIn) (listedIn f)) ≡ true
+  unfolding errorReportsValid
   reports-in-range Draft h = rw (no-reports f h)
   reports-in-range Published h = L .listed-in-range f h
 
   -- at most five of three members and bytes
   abbrev Limits : Type 0
-  Limits = (listInRange (some faultsIn) (listedIn f) ≡ true) × (listedIn f .value .count ≤ 15) × (listedIn f .value .len ≤ 15)
+  Limits = (listInRange (some errorReportsIn) (listedIn f) ≡ true) × (listedIn f .value .count ≤ 15) × (listedIn f .value .len ≤ 15)
 
-  list-limits : (v : Version) → faultsFit v f ≡ true → Limits
-  unfolding faultsFit validFaults
+  list-limits : (v : Version) → errorReportsValid v f ≡ true → Limits
+  unfolding errorReportsValid validErrorReports
   list-limits Draft h = (rw (no-reports f h), rw (no-reports f h) (omega arith), rw (no-reports f h) (omega arith))
   list-limits Published h =
-      let few = leb-true (f .count) 5 (both-left (leb (f .count) 5) (allOf validFault (faultList f)) h) in
-      let most : length (faultList f) ≤ 5 = omega (arith, few, length-take (f .count) (f .faults)) in
+      let few = leb-true (f .count) 5 (both-left (leb (f .count) 5) (allOf validErrorReport (errorReportList f)) h) in
+      let most : length (errorReportList f) ≤ 5 = omega (arith, few, length-take (f .count) (f .reports)) in
       (L .listed-in-range f h, omega (arith, most, L .listed-members f), omega (arith, most, L .listed-long f h))
 
 module _ (H : HeadLaws) (L : ListLaws) (n : Node) (v : Valid n) where
@@ -148,32 +148,32 @@ module _ (H : HeadLaws) (L : ListLaws) (n : Node) (v : Valid n) where
   q = requestOf n
 
   role-valid : validRole (n .role) ≡ true
-  role-valid = first (validRole (n .role)) (validJrc (n .jrc)) (validOctets (n .network)) (formFits n) (others-valid n v)
+  role-valid = first (validRole (n .role)) (validJrc (n .jrc)) (validOctets (n .network)) (versionValid n) (others-valid n v)
 
   network-valid : validOctets (n .network) ≡ true
-  network-valid = third (validRole (n .role)) (validJrc (n .jrc)) (validOctets (n .network)) (formFits n) (others-valid n v)
+  network-valid = third (validRole (n .role)) (validJrc (n .jrc)) (validOctets (n .network)) (versionValid n) (others-valid n v)
 
-  faults-fit : faultsFit (n .version) (n .faults) ≡ true
-  unfolding formFits
+  faults-fit : errorReportsValid (n .version) (n .errors) ≡ true
+  unfolding versionValid
   faults-fit =
-      both-left _ _ (fourth (validRole (n .role)) (validJrc (n .jrc)) (validOctets (n .network)) (formFits n) (others-valid n v))
+      both-left _ _ (fourth (validRole (n .role)) (validJrc (n .jrc)) (validOctets (n .network)) (versionValid n) (others-valid n v))
 
   in-range : requestInRange (n .version) q ≡ true
   unfolding requestInRange requestOf
   in-range =
       both _ _ (both _ _ role-valid (identifier-in-range (n .network) network-valid))
-      (reports-in-range L (n .faults) (n .version) faults-fit)
+      (reports-in-range L (n .errors) (n .version) faults-fit)
 
   pub short : length (encode (map (requestPairs q))) ≤ 38
   unfolding requestOf Short
   short =
       let a : Pairs = rolePairs (n .role) in
       let b : Pairs = octetsPairs 5 (identifierIn (n .network)) in
-      let c : Pairs = listPairs 8 (some faultsIn) (listedIn (n .faults)) in
-      let l = list-limits L (n .faults) (n .version) faults-fit in
+      let c : Pairs = listPairs 8 (some errorReportsIn) (listedIn (n .errors)) in
+      let l = list-limits L (n .errors) (n .version) faults-fit in
       let x = role-short H (n .role) role-valid in
       let y = octets-short H (identifierIn (n .network)) (identifier-in-range (n .network) network-valid) in
-      let z = list-short H L (listedIn (n .faults)) (l .0) (l .1) (l .2) in
+      let z = list-short H L (listedIn (n .errors)) (l .0) (l .1) (l .2) in
       let few : countPairs (requestPairs q) ≤ 23 = omega (arith, join-many (join a b) c, join-many a b, x .0, y .0, z .0) in
       omega (
         arith,
@@ -192,12 +192,12 @@ module _ (H : HeadLaws) (L : ListLaws) (n : Node) (v : Valid n) where
   pub request-number : (d : List ℕ) →
       writtenNumber (answer (requestPlan (n .version) q) d)
       ≡ inOrder
-      (refusedIf (owing (n .version) (n .role) (identifierIn (n .network) .report)) 9
+      (refusedIf (owing (n .version) (n .role) (identifierIn (n .network) .disposition)) 9
       ∷ refusedIf (not (leb (length (encode (map (requestPairs q)))) (length d))) 12
       ∷ [])
   unfolding requestPlan requestOf
   request-number d =
-      rw (in-range, le-leb (length payload) 256 (omega (arith, short))) (owed-first (owing (n .version) (n .role) (identifierIn (n .network) .report)))
+      rw (in-range, le-leb (length payload) 256 (omega (arith, short))) (owed-first (owing (n .version) (n .role) (identifierIn (n .network) .disposition)))
     where
       room : (b : Bool) → writtenNumber (cond b (written.Length (length payload)) (written.Refused Room)) ≡ inOrder (0 ∷ refusedIf (not b) 12 ∷ [])
       room true = refl

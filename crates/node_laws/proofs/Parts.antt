@@ -7,8 +7,8 @@ use mathlib.Core.List.{List}
 use Rattle.refusal.specs.declared.Refusal.the-variants as refusal
 use Rattle.refusal.specs.declared.Verdict.the-variants as verdict
 use Rattle.cbor.specs.Answer.{answer}
-use Rattle.cbor.specs.declared.write.Written.{Written}
-use Rattle.cbor.specs.declared.write.Written.the-variants as written
+use Rattle.cbor.specs.declared.write.WriteResult.{WriteResult}
+use Rattle.cbor.specs.declared.write.WriteResult.the-variants as written
 use Rattle.cojp.specs.declared.version.Version.{Version}
 use Rattle.node_attempt.specs.Attempt.{waitingFrom}
 use Rattle.node_attempt.specs.Poll as attempt
@@ -27,13 +27,13 @@ use Rattle.node.specs.Frames.{unsent, sentBy, afterSend, reported, reportedBy, 
 use Rattle.node.specs.Node.{validRole, freshNode, unmade, made, attempting, keyed}
 use Rattle.node.specs.Range.{valid}
 use Rattle.node.specs.Timing.{startPlan, startedFrom, startedBy, start, polled, polledBy, poll}
-use Rattle.node.specs.declared.node.Made.{Made}
+use Rattle.node.specs.declared.node.MakeResult.{MakeResult}
 use Rattle.node.specs.declared.node.Node.{Node}
 use Rattle.node_laws.specs.Calls.{NodeCall, starting, polling, delivering, asking, sending, receiving, reporting, perform}
 
 -- ---- making: a fresh node, or the refusal with the empty one
 pub made-cases :
-    (P : Made → Type 0) (version : Version) (role : ℕ) (network : HeldOctets) →
+    (P : MakeResult → Type 0) (version : Version) (role : ℕ) (network : HeldOctets) →
     (validRole role ≡ true → validOctets network ≡ true →
     P (record { verdict = verdict.Accepted; node = freshNode version role (knownOctets network) })) →
     P unmade → P (made version role network)
@@ -54,7 +54,7 @@ module _ {X : Type 0} (part : Node → X) (n : Node) where
     unfolding start
     start-part time timeout d = go (answer (startPlan n time timeout) d)
       where
-        go : (w : Written) → part (startedBy w n (startedFrom n time timeout) .node) ≡ part n
+        go : (w : WriteResult) → part (startedBy w n (startedFrom n time timeout) .node) ≡ part n
         go (written.Refused k) = refl
         go (written.Length l) = stays (waitingFrom time timeout)
 

@@ -9,13 +9,13 @@ use Rattle.refusal.specs.declared.Refusal.the-variants as refusal
 use Rattle.refusal.specs.declared.Verdict.{Verdict}
 use Rattle.refusal.specs.declared.Verdict.the-variants as verdict
 use Rattle.cbor.specs.Answer.{Plan, answer}
-use Rattle.cbor.specs.declared.write.Written.{Written}
-use Rattle.cbor.specs.declared.write.Written.the-variants as written
+use Rattle.cbor.specs.declared.write.WriteResult.{WriteResult}
+use Rattle.cbor.specs.declared.write.WriteResult.the-variants as written
 use Rattle.cojp.specs.Writing.{requestPlan}
 use Rattle.node_attempt.specs.Attempt.{mayStart, waitingFrom}
 use Rattle.node_attempt.specs.Poll as attempt
 use Rattle.node_attempt.specs.declared.poll.Due.the-variants as due
-use Rattle.node_attempt.specs.declared.poll.Step.{Step}
+use Rattle.node_attempt.specs.declared.poll.AttemptResult.{AttemptResult}
 use Rattle.node_attempt.proofs.Attempts.{waiting-valid, may-start, poll-valid, poll-later}
 use Rattle.node.specs.Node.{attempting}
 use Rattle.node.specs.Range.{valid, Valid}
@@ -49,7 +49,7 @@ module _ (n : Node) (time timeout : ℕ) where
   start-cases d (verdict.Refused k) p f = stay-self n
   start-cases d verdict.Accepted p f = go (answer p d)
     where
-      go : (w : Written) → KeysStay n (startedBy w n (startedFrom n time timeout) .node)
+      go : (w : WriteResult) → KeysStay n (startedBy w n (startedFrom n time timeout) .node)
       go (written.Refused k) = stay-self n
       go (written.Length l) = f refl
 
@@ -63,7 +63,7 @@ module _ (n : Node) (time : ℕ) where
   unfolding poll
   poll-is v = rw v
 
-  poll-cases : (b : Bool) (s : Step) → KeysStay n (attempting n (s .attempt)) → KeysStay n (cond b (polledBy n s) (polled (due.Refused refusal.Range) n) .node)
+  poll-cases : (b : Bool) (s : AttemptResult) → KeysStay n (attempting n (s .attempt)) → KeysStay n (cond b (polledBy n s) (polled (due.Refused refusal.Range) n) .node)
   poll-cases true s k = k
   poll-cases false s k = stay-self n
 

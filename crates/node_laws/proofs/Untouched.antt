@@ -10,7 +10,7 @@ use Rattle.refusal.specs.declared.Refusal.{Refusal}
 use Rattle.refusal.specs.declared.Refusal.the-variants as refusal
 use Rattle.refusal.specs.declared.Verdict.the-variants as verdict
 use Rattle.cbor.specs.Answer.{Plan, refuse, emit, answer, after}
-use Rattle.cbor.specs.declared.write.Written.the-variants as w
+use Rattle.cbor.specs.declared.write.WriteResult.the-variants as w
 use Rattle.link_key.specs.Key.{noKey}
 use Rattle.cojp.specs.declared.version.Version.{Version}
 use Rattle.node_key_sets.specs.Frames as sets-spec
@@ -30,12 +30,12 @@ use Rattle.node.specs.Frames.{unsent, sentBy, send, sendCounter, afterSend, rec
 use Rattle.node.specs.Lease.{holds, holdingVerdict}
 use Rattle.node_laws.specs.Calls.{NodeCall, starting, polling, delivering, asking, sending, receiving, reporting, nothing, written}
 use Rattle.node_laws.specs.Calls.{reports, key, counted, dueObject, holdingObject, changeObject, perform, Untouched, Demand1}
-use Rattle.node.specs.declared.frames.Reported.{Reported}
-use Rattle.node.specs.declared.frames.Sent.{Sent}
-use Rattle.node.specs.declared.lease.Holding.{Holding}
-use Rattle.node.specs.declared.lease.Holding.the-variants as holding
+use Rattle.node.specs.declared.frames.VerifyResult.{VerifyResult}
+use Rattle.node.specs.declared.frames.SendResult.{SendResult}
+use Rattle.node.specs.declared.lease.LeaseStatus.{LeaseStatus}
+use Rattle.node.specs.declared.lease.LeaseStatus.the-variants as holding
 use Rattle.node_parameters.specs.declared.octets.HeldOctets.{HeldOctets}
-use Rattle.node.specs.declared.node.Made.{Made}
+use Rattle.node.specs.declared.node.MakeResult.{MakeResult}
 use Rattle.node.specs.declared.node.Node.{Node}
 use Rattle.node_laws.proofs.Deliveries.{deliver-leaves}
 
@@ -69,10 +69,10 @@ node-polled n time k = go (valid n)
     go false e = (refl, refl)
 
 -- ---- the answers that are one of several
-holding-untouched : (h : Holding) (k : Refusal) → holdingVerdict h ≡ verdict.Refused k → holdingObject h ≡ nothing
+holding-untouched : (h : LeaseStatus) (k : Refusal) → holdingVerdict h ≡ verdict.Refused k → holdingObject h ≡ nothing
 holding-untouched (holding.Refused j) k e = refl
-holding-untouched holding.Yes k e = accepted-not k e
-holding-untouched holding.No k e = accepted-not k e
+holding-untouched holding.Valid k e = accepted-not k e
+holding-untouched holding.Expired k e = accepted-not k e
 
 abbrev Unanswered : KeyAnswer → Type 0
 Unanswered x = (k : Refusal) → x .verdict ≡ verdict.Refused k → x .key ≡ noKey
@@ -87,7 +87,7 @@ send-untouched :
 unfolding send sendCounter afterSend frames.sending
 send-untouched n type k = go (valid n)
   where
-    asked : Bool → Sent
+    asked : Bool → SendResult
     asked b = cond b (sentBy n (sets-spec.sending (n .sets) type)) (unsent n)
 
     go :
@@ -106,7 +106,7 @@ report-untouched :
 unfolding verified
 report-untouched n type identifier k = go (valid n)
   where
-    told : Bool → Reported
+    told : Bool → VerifyResult
     told b = cond b (reportedBy n (verifiedIn (n .sets) type identifier)) (reported (change.Refused refusal.Range) n)
 
     go : (b : Bool) → changeVerdict (told b .change) ≡ verdict.Refused k → (told b .node ≡ n) × (changeObject (told b .change) ≡ nothing)
@@ -131,7 +131,7 @@ untouched (reporting type identifier) n k e =
     record { node = u .0; lent = refl; object = u .1 }
 
 cond-made :
-    (b : Bool) (x y : Made) (k : Refusal) → (x .verdict ≡ verdict.Refused k → x .node ≡ emptyNode) →
+    (b : Bool) (x y : MakeResult) (k : Refusal) → (x .verdict ≡ verdict.Refused k → x .node ≡ emptyNode) →
     (y .verdict ≡ verdict.Refused k → y .node ≡ emptyNode) → cond b x y .verdict ≡ verdict.Refused k → cond b x y .node ≡ emptyNode
 cond-made true x y k p q e = p e
 cond-made false x y k p q e = q e

@@ -1,7 +1,7 @@
 -- What it says that a node is valid, part by part, and back.
 use mathlib.Core.Path.{_≡_}
 use mathlib.Core.Bool.{Bool, true, _||_}
-use Rattle.cojp.specs.Version.{informed}
+use Rattle.cojp.specs.Version.{allowsAdditionalInfo}
 use Rattle.node_key_sets.specs.Sets as sets
 use Rattle.node_key_sets.specs.Sets.{plainIn}
 use Rattle.node_key_sets.proofs.Valid.{as-valid, as-plain, as-by}
@@ -14,7 +14,7 @@ use Rattle.logic_facts.specs.Tests.{first, second, third, fourth, all-four}
 
 module _ (n : Node) where
   abbrev keys : Bool
-  keys = sets.validAs (informed (n .version)) (isBorder n) (n .sets)
+  keys = sets.validAs (allowsAdditionalInfo (n .version)) (isBorder n) (n .sets)
 
   abbrev attempted : Bool
   attempted = attempt.valid (n .attempt)
@@ -24,7 +24,7 @@ module _ (n : Node) where
 
   -- the keys are those of the node's form
   abbrev pub Plain : Type 0
-  Plain = (informed (n .version) || plainIn (n .sets)) ≡ true
+  Plain = (allowsAdditionalInfo (n .version) || plainIn (n .sets)) ≡ true
 
   module _ (v : Valid n) where
     form-valid : keys ≡ true
@@ -32,10 +32,10 @@ module _ (n : Node) where
     form-valid = first keys attempted addressed (othersValid n) v
 
     pub keys-valid : sets.valid (isBorder n) (n .sets) ≡ true
-    keys-valid = as-valid (informed (n .version)) (isBorder n) (n .sets) form-valid
+    keys-valid = as-valid (allowsAdditionalInfo (n .version)) (isBorder n) (n .sets) form-valid
 
     pub keys-plain : Plain
-    keys-plain = as-plain (informed (n .version)) (isBorder n) (n .sets) form-valid
+    keys-plain = as-plain (allowsAdditionalInfo (n .version)) (isBorder n) (n .sets) form-valid
 
     pub attempt-valid : attempt.valid (n .attempt) ≡ true
     unfolding valid
@@ -54,4 +54,4 @@ module _ (n : Node) where
       othersValid n ≡ true → Valid n
   unfolding valid
   valid-by k p a h o =
-      all-four keys attempted addressed (othersValid n) (as-by (informed (n .version)) (isBorder n) (n .sets) k p) a h o
+      all-four keys attempted addressed (othersValid n) (as-by (allowsAdditionalInfo (n .version)) (isBorder n) (n .sets) k p) a h o

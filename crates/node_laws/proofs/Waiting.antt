@@ -10,8 +10,8 @@ use Rattle.refusal.specs.declared.Refusal.the-variants as refusal
 use Rattle.refusal.specs.declared.Verdict.{Verdict}
 use Rattle.refusal.specs.declared.Verdict.the-variants as verdict
 use Rattle.cbor.specs.Answer.{answer}
-use Rattle.cbor.specs.declared.write.Written.{Written}
-use Rattle.cbor.specs.declared.write.Written.the-variants as written
+use Rattle.cbor.specs.declared.write.WriteResult.{WriteResult}
+use Rattle.cbor.specs.declared.write.WriteResult.the-variants as written
 use Rattle.refusal.specs.Verdict.{refused-not}
 use Rattle.cojp.specs.declared.configuration.Configuration.{Configuration}
 use Rattle.cojp.specs.declared.configuration.ConfigurationRead.{ConfigurationRead}
@@ -21,7 +21,7 @@ use Rattle.node_attempt.specs.Attempt as attempts
 use Rattle.node_attempt.specs.Poll as attempt
 use Rattle.node_attempt.specs.declared.attempt.Attempt.{Attempt}
 use Rattle.node_attempt.specs.declared.poll.Due.the-variants as due
-use Rattle.node_attempt.specs.declared.poll.Step.{Step}
+use Rattle.node_attempt.specs.declared.poll.AttemptResult.{AttemptResult}
 use Rattle.node_delivery.specs.Delivery.{attemptAfter, belongs, mayCome}
 use Rattle.node_delivery.specs.declared.Delivery.{Delivery}
 use Rattle.node_delivery.specs.declared.Delivery.the-variants.{JoinAnswer, Update}
@@ -32,8 +32,8 @@ use Rattle.node.specs.Range.{valid}
 use Rattle.node.specs.Timing.{startPlan, startedFrom, startedBy, start, polled, polledBy, poll}
 use Rattle.node.specs.Delivery.{placementOf, fitted, placedBy, configured, undelivered, owesIdentifier, apply, deliverVerdict, applyRead, deliverBy, readFor, deliver}
 use Rattle.node.specs.Frames.{afterSend, verified}
-use Rattle.node.specs.declared.delivery.Delivered.{Delivered}
-use Rattle.node.specs.declared.node.Made.{Made}
+use Rattle.node.specs.declared.delivery.DeliveryResult.{DeliveryResult}
+use Rattle.node.specs.declared.node.MakeResult.{MakeResult}
 use Rattle.node.specs.declared.node.Node.{Node}
 use Rattle.node_laws.specs.Phases.{waits, PhaseLaws}
 use Rattle.node_laws.proofs.Parts.{made-cases, send-part, report-part}
@@ -41,7 +41,7 @@ use Rattle.node_laws.proofs.Deliveries.{deliver-leaves}
 
 -- ---- making, starting, polling, verified frames
 made-idle : (version : Version) (role : ℕ) (network : HeldOctets) → waits (made version role network .node) ≡ false
-made-idle version role network = made-cases (λ (m : Made). waits (m .node) ≡ false) version role network (λ _ _. refl) refl
+made-idle version role network = made-cases (λ (m : MakeResult). waits (m .node) ≡ false) version role network (λ _ _. refl) refl
 
 start-refused :
     (n : Node) (time timeout : ℕ) (d : List ℕ) (k : Refusal) → start n time timeout d .verdict ≡ verdict.Refused k →
@@ -49,7 +49,7 @@ start-refused :
 unfolding start
 start-refused n time timeout d k e = go (answer (startPlan n time timeout) d) e
   where
-    go : (w : Written) → startedBy w n (startedFrom n time timeout) .verdict ≡ verdict.Refused k → waits (startedBy w n (startedFrom n time timeout) .node) ≡ waits n
+    go : (w : WriteResult) → startedBy w n (startedFrom n time timeout) .verdict ≡ verdict.Refused k → waits (startedBy w n (startedFrom n time timeout) .node) ≡ waits n
     go (written.Refused j) e = refl
     go (written.Length l) e = refused-not k (sym e)
 
@@ -69,7 +69,7 @@ poll-idle : (n : Node) (time : ℕ) → waits n ≡ false → waits (poll n time
 unfolding poll
 poll-idle n time w = go (valid n) (attempt.poll (n .attempt) time) (attempt-idle (n .attempt) time w)
   where
-    go : (v : Bool) (s : Step) → s .attempt ≡ n .attempt → waits (cond v (polledBy n s) (polled (due.Refused refusal.Range) n) .node) ≡ false
+    go : (v : Bool) (s : AttemptResult) → s .attempt ≡ n .attempt → waits (cond v (polledBy n s) (polled (due.Refused refusal.Range) n) .node) ≡ false
     go true s e = ap (λ (a : Attempt). isWaiting (a .phase)) e ∙ w
     go false s e = w
 
@@ -81,13 +81,13 @@ send-keeps n type = send-part waits n (λ s. refl) type
 
 -- ---- join answers and updates: an accepted one leaves the attempt that the call names
 module _ (call : Delivery) (n : Node) (time : ℕ) where
-  abbrev Moves : Delivered → Type 0
+  abbrev Moves : DeliveryResult → Type 0
   Moves m = m .verdict ≡ verdict.Accepted → m .node .attempt ≡ attemptAfter call (n .attempt) time
 
   no-moves : (k : Refusal) → Moves (undelivered k n)
   no-moves k e = refused-not k e
 
-  cond-moves : (b : Bool) (x y : Delivered) → Moves x → Moves y → Moves (cond b x y)
+  cond-moves : (b : Bool) (x y : DeliveryResult) → Moves x → Moves y → Moves (cond b x y)
   cond-moves true x y p q = p
   cond-moves false x y p q = q
 
@@ -99,7 +99,7 @@ module _ (call : Delivery) (n : Node) (time : ℕ) where
   apply-moves : (c : Configuration) → Moves (apply call n time c)
   unfolding apply
   apply-moves c =
-      cond-moves (owesIdentifier call n (c .network .report)) _ _ (no-moves refusal.Owed)
+      cond-moves (owesIdentifier call n (c .network .disposition)) _ _ (no-moves refusal.Owed)
       (placed-moves c (placementOf n (c .keys) .verdict) (placementOf n (c .keys) .sets))
 
   read-moves : (v : Verdict) (c : Configuration) → Moves (applyRead v call n time c)

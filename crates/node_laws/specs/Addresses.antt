@@ -8,7 +8,7 @@ use Rattle.refusal.specs.Verdict.{verdictNumber}
 use Rattle.refusal.specs.declared.Verdict.the-variants.{Accepted}
 use Rattle.short_address.specs.Address.{Reserved}
 use Rattle.cojp.specs.Octets.{octetsOf}
-use Rattle.cojp.specs.declared.report.Report.the-variants.{Discarded}
+use Rattle.cojp.specs.declared.disposition.Disposition.the-variants.{Discarded}
 use Rattle.cojp.specs.declared.version.Version.{Version}
 use Rattle.cojp.specs.declared.version.Version.the-variants.{Draft}
 use Rattle.node_delivery.specs.declared.Delivery.the-variants.{JoinAnswer, Update}
@@ -53,12 +53,12 @@ joined = afterCalls (starting 0 10000 (replicate 16 0) ∷ delivering JoinAnswer
 abbrev pub updates : List NodeCall
 updates = delivering Update 2000 leased ∷ delivering Update 3000 (addressed 0xFF) ∷ []
 
-pub record AddressesSeen : Type 0 where
+pub record AddressesExample : Type 0 where
   pub valid : Valid joined
   pub taken : joined .address .held ≡ true
   pub bytes : joined .address .value .bytes ≡ 0xFF ∷ 0xFD ∷ []
   -- accepted and reported as discarded; the address stays, with its time of receipt
   pub accepted : deliver Update joined 2000 leased .verdict ≡ Accepted
-  pub discarded : deliver Update joined 2000 leased .reports .address ≡ Discarded
+  pub discarded : deliver Update joined 2000 leased .dispositions .address ≡ Discarded
   pub kept : afterCalls updates joined .address ≡ joined .address
   pub received : afterCalls updates joined .address .received ≡ 1000

@@ -19,14 +19,14 @@ use Rattle.link_key_counters.specs.Counters.{Slot, firstServing}
 use Rattle.cbor.specs.Answer.{answer}
 use Rattle.cbor.specs.Encode.{encode}
 use Rattle.cbor.specs.Item.{map}
-use Rattle.cbor.specs.declared.write.Written.{Written}
-use Rattle.cbor.specs.declared.write.Written.the-variants as written
+use Rattle.cbor.specs.declared.write.WriteResult.{WriteResult}
+use Rattle.cbor.specs.declared.write.WriteResult.the-variants as written
 use Rattle.cojp.specs.Reading.{ifTaken}
 use Rattle.cojp.specs.Version.{byVersion}
 use Rattle.cojp.specs.Request.{owing}
 use Rattle.cojp.specs.Writing.{requestPlan, requestPairs}
 use Rattle.cojp.specs.declared.key_set.KeysParameter.{KeysParameter}
-use Rattle.cojp.specs.declared.report.Report.the-variants.{Discarded}
+use Rattle.cojp.specs.declared.disposition.Disposition.the-variants.{Discarded}
 use Rattle.cojp.specs.declared.version.Version.{Version}
 use Rattle.cojp.specs.declared.version.Version.the-variants.{Published}
 use Rattle.node_key_sets.specs.Frames.{heldKey, changeNumber, hasSwitched, hasKept}
@@ -36,7 +36,7 @@ use Rattle.node_delivery.specs.Delivery.{belongs}
 use Rattle.node_delivery.specs.declared.Delivery.{Delivery}
 use Rattle.node_parameters.specs.Lease.{holdsAt}
 use Rattle.node_parameters.specs.Octets.{validOctets, identifierIn}
-use Rattle.node_parameters.specs.Reports.{reportsOf}
+use Rattle.node_parameters.specs.Dispositions.{dispositionsOf}
 use Rattle.node_parameters.specs.declared.octets.HeldOctets.{HeldOctets}
 use Rattle.node.specs.Delivery.{owesIdentifier, readFor, deliver}
 use Rattle.node.specs.Frames.{send, receive, verified}
@@ -68,7 +68,7 @@ isDue n time = (isPolled n time && reached n time)
 -- CLASH: at an ordinary node, a set that is not the active one and shares an identifier with it
 abbrev pub clashes : Node → KeysParameter → Bool
 clashes n p =
-    ifTaken (p .report)
+    ifTaken (p .disposition)
     (not (isBorder n) && not (sameKeys (keysOf (p .value)) (activeOf n)) && shares (keysOf (p .value)) (activeOf n))
     false
 
@@ -82,7 +82,7 @@ isUncovered type none = true
 isUncovered type (some k) = not (covers k type)
 
 -- the number in a writer's answer
-abbrev pub writtenNumber : Written → ℕ
+abbrev pub writtenNumber : WriteResult → ℕ
 writtenNumber (written.Refused k) = numberOf k
 writtenNumber (written.Length l) = 0
 
@@ -109,7 +109,7 @@ pub record AnswersSay : Type 0 where
       (n : Node) (d : List ℕ) → valid n ≡ true →
       writtenNumber (answer (requestPlan (n .version) (requestOf n)) d)
       ≡ inOrder
-      (refusedIf (owing (n .version) (n .role) (identifierIn (n .network) .report)) 9
+      (refusedIf (owing (n .version) (n .role) (identifierIn (n .network) .disposition)) 9
       ∷ refusedIf (not (leb (length (encode (map (requestPairs (requestOf n))))) (length d))) 12
       ∷ [])
   pub request-short : (n : Node) → valid n ≡ true → length (encode (map (requestPairs (requestOf n)))) ≤ 38
@@ -126,7 +126,7 @@ pub record AnswersSay : Type 0 where
       ∷ refusedIf (early n time) 11
       ∷ refusedIf (not (belongs delivery (n .attempt .phase))) 16
       ∷ verdictNumber (readFor n payload .verdict)
-      ∷ refusedIf (owesIdentifier delivery n (readFor n payload .configuration .network .report)) 9
+      ∷ refusedIf (owesIdentifier delivery n (readFor n payload .configuration .network .disposition)) 9
       ∷ refusedIf (byVersion (n .version) (clashes n (readFor n payload .configuration .keys)) false) 10
       ∷ [])
   pub holding-number :
@@ -163,12 +163,12 @@ pub record AnswersSay : Type 0 where
   -- the report of an accepted configuration, in the published form without a set that cannot be placed
   pub delivery-reports :
       (delivery : Delivery) (n : Node) (time : ℕ) (payload : List ℕ) → deliver delivery n time payload .verdict ≡ Accepted →
-      deliver delivery n time payload .reports ≡ reportsOf (isBorder n) (configurationIn n payload)
+      deliver delivery n time payload .dispositions ≡ dispositionsOf (isBorder n) (configurationIn n payload)
   -- in that form a set that clashes is discarded
   pub clash-discarded :
       (delivery : Delivery) (n : Node) (time : ℕ) (payload : List ℕ) → deliver delivery n time payload .verdict ≡ Accepted →
       n .version ≡ Published → clashes n (readFor n payload .configuration .keys) ≡ true →
-      deliver delivery n time payload .reports .keys ≡ Discarded
+      deliver delivery n time payload .dispositions .keys ≡ Discarded
   -- yes
   pub holds-now : (n : Node) (time : ℕ) → holdsNow (holds n time) ≡ (valid n && not (early n time) && holdsAt (n .version) (n .address) time)
   -- the key, and sending's counter: the first active one that covers the type and is not used up; the active or else pending one with

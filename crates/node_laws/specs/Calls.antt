@@ -16,14 +16,14 @@ use Rattle.node_attempt.specs.Poll.{dueVerdict}
 use Rattle.node_attempt.specs.declared.poll.Due.{Due}
 use Rattle.node_attempt.specs.declared.poll.Due.the-variants as due
 use Rattle.node.specs.Timing.{start, startAfter, poll}
-use Rattle.node_parameters.specs.Reports.{noReports}
+use Rattle.node_parameters.specs.Dispositions.{noDispositions}
 use Rattle.node.specs.Delivery.{deliver}
 use Rattle.node.specs.Lease.{holds, holdingVerdict}
 use Rattle.node.specs.Frames.{send, sendCounter, afterSend, receive, verified}
 use Rattle.node_delivery.specs.declared.Delivery.{Delivery}
-use Rattle.node_parameters.specs.declared.reports.Reports.{Reports}
-use Rattle.node.specs.declared.lease.Holding.{Holding}
-use Rattle.node.specs.declared.lease.Holding.the-variants as holding
+use Rattle.node_parameters.specs.declared.dispositions.Dispositions.{Dispositions}
+use Rattle.node.specs.declared.lease.LeaseStatus.{LeaseStatus}
+use Rattle.node.specs.declared.lease.LeaseStatus.the-variants as holding
 use Rattle.node_parameters.specs.declared.octets.HeldOctets.{HeldOctets}
 use Rattle.node.specs.declared.node.Node.{Node}
 
@@ -48,8 +48,8 @@ pub data Object : Type 0 where
   nothing : Object
   written : ℕ → Object
   step : Due → Object
-  reports : Reports → Object
-  state : Holding → Object
+  reports : Dispositions → Object
+  state : LeaseStatus → Object
   key : Key → Object
   -- with its counter
   counted : Key → ℕ → Object
@@ -62,10 +62,10 @@ dueObject due.NotYet = step due.NotYet
 dueObject due.SendAgain = step due.SendAgain
 dueObject due.GaveUp = step due.GaveUp
 
-abbrev pub holdingObject : Holding → Object
+abbrev pub holdingObject : LeaseStatus → Object
 holdingObject (holding.Refused k) = nothing
-holdingObject holding.Yes = state holding.Yes
-holdingObject holding.No = state holding.No
+holdingObject holding.Valid = state holding.Valid
+holdingObject holding.Expired = state holding.Expired
 
 abbrev pub changeObject : Change → Object
 changeObject (change.Refused k) = nothing
@@ -76,7 +76,7 @@ changeObject change.Kept = effect change.Kept
 abbrev pub emptyObject : NodeCall → Object
 emptyObject (starting time timeout d) = written 0
 emptyObject (polling time) = nothing
-emptyObject (delivering delivery time payload) = reports noReports
+emptyObject (delivering delivery time payload) = reports noDispositions
 emptyObject (asking time) = nothing
 emptyObject (sending type) = counted noKey 0
 emptyObject (receiving type identifier) = key noKey
@@ -109,7 +109,7 @@ perform (starting time timeout d) n =
 perform (polling time) n = performed (dueVerdict (poll n time .due)) (poll n time .node) (dueObject (poll n time .due)) []
 perform (delivering delivery time payload) n =
     performed (deliver delivery n time payload .verdict) (deliver delivery n time payload .node)
-    (reports (deliver delivery n time payload .reports)) payload
+    (reports (deliver delivery n time payload .dispositions)) payload
 perform (asking time) n = performed (holdingVerdict (holds n time)) n (holdingObject (holds n time)) []
 perform (sending type) n = performed (send n type .verdict) (afterSend n type) (counted (send n type .key) (sendCounter n type)) []
 perform (receiving type identifier) n = performed (receive n type identifier .verdict) n (key (receive n type identifier .key)) []

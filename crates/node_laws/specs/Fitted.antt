@@ -6,7 +6,7 @@ use mathlib.Core.Bool.{true, false}
 use Rattle.cojp.specs.KeySet.{noKeysParameter}
 use Rattle.cojp.specs.Writing.{keysInRange}
 use Rattle.cojp.specs.declared.configuration.Configuration.{Configuration}
-use Rattle.cojp.specs.declared.report.Report.the-variants.{Discarded}
+use Rattle.cojp.specs.declared.disposition.Disposition.the-variants.{Discarded}
 use Rattle.cojp.specs.declared.version.Version.the-variants.{Draft, Published}
 use Rattle.node.specs.Delivery.{fitted}
 use Rattle.node.specs.declared.node.Node.{Node}
@@ -22,8 +22,8 @@ pub record KeysDiscarded (c d : Configuration) : Type 0 where
   pub blacklist : d .blacklist ≡ c .blacklist
   pub rate : d .rate ≡ c .rate
   -- the labels that came, in their order: the key set's report has its place among them
-  pub came : d .came ≡ c .came
-  pub passed : d .passed ≡ c .passed
+  pub met : d .labels ≡ c .labels
+  pub passed : d .unknown ≡ c .unknown
 
 pub record ClashLeavesRest : Type 0 where
   pub clashing :

@@ -20,7 +20,7 @@ use Rattle.node_attempt.specs.declared.attempt.Phase.the-variants as phase
 use Rattle.node_attempt.specs.declared.poll.Due.{Due}
 use Rattle.node_attempt.specs.declared.poll.Due.the-variants.{SendAgain, GaveUp}
 use Rattle.cojp.specs.declared.configuration.Configuration.{Configuration}
-use Rattle.cojp.specs.declared.report.Report.the-variants.{Taken}
+use Rattle.cojp.specs.declared.disposition.Disposition.the-variants.{Taken}
 use Rattle.cojp.specs.declared.version.Version.{Version}
 use Rattle.node_parameters.specs.declared.octets.HeldOctets.{HeldOctets}
 use Rattle.node.specs.Node.{activeOf, pendingOf, clockOf, keyed, made}
@@ -96,7 +96,7 @@ setIn n payload = readFor n payload .configuration .keys .value
 -- the node accepts the payload and takes the key set in it, which has the keys ks
 pub record Takes (delivery : Delivery) (n : Node) (time : ℕ) (payload : List ℕ) (ks : List Key) : Type 0 where
   pub accepted : deliver delivery n time payload .verdict ≡ Accepted
-  pub taken : deliver delivery n time payload .reports .keys ≡ Taken
+  pub taken : deliver delivery n time payload .dispositions .keys ≡ Taken
   pub set : keysOf (setIn n payload) ≡ ks
 
 -- the node m, which n became, has the keys active, and none pending
@@ -177,7 +177,7 @@ pub record NodeLaws : Type 0 where
       deliver delivery n time payload .node ≡ n
   -- one that takes no key set leaves both sets, with their counters: what was pending stays so
   pub untaken-stays :
-      (delivery : Delivery) (n : Node) (time : ℕ) (payload : List ℕ) → (deliver delivery n time payload .reports .keys ≡ Taken → ⊥) →
+      (delivery : Delivery) (n : Node) (time : ℕ) (payload : List ℕ) → (deliver delivery n time payload .dispositions .keys ≡ Taken → ⊥) →
       deliver delivery n time payload .node .sets ≡ n .sets
   -- a border node that accepts a payload and takes its key set has that set active
   pub border-takes :

@@ -6,9 +6,9 @@ use mathlib.Core.List.{List, [], _∷_, _++_}
 use lib.ListN.{replicate, take}
 use Rattle.refusal.specs.declared.Verdict.{Verdict}
 use Rattle.refusal.specs.declared.Verdict.the-variants.{Accepted, Refused}
-use Rattle.cojp.specs.Faults.{faultOf, noFaults, faultList}
-use Rattle.cojp.specs.Reported.{faultsOf}
-use Rattle.cojp.specs.declared.fault.Faults.{Faults}
+use Rattle.cojp.specs.ErrorReports.{errorReportOf, noErrorReports, errorReportList}
+use Rattle.cojp.specs.Reported.{errorReportsOf}
+use Rattle.cojp.specs.declared.error_report.ErrorReports.{ErrorReports}
 use Rattle.cojp.specs.declared.version.Version.{Version}
 use Rattle.cojp.specs.declared.version.Version.the-variants.{Published}
 use Rattle.cojp_list_read.specs.Listed.{listedIn}
@@ -25,43 +25,43 @@ use Rattle.node_laws.specs.Laws.{configurationIn}
 
 -- ---- the reports of a list of calls
 -- of one payload: its own where it was accepted, none else
-abbrev pub reportsWhere : Verdict → Faults → List Faults
+abbrev pub reportsWhere : Verdict → ErrorReports → List ErrorReports
 reportsWhere Accepted f = f ∷ []
 reportsWhere (Refused k) f = []
 
 -- only join answers and updates bring any
-abbrev pub reportsBy : NodeCall → Node → List Faults
+abbrev pub reportsBy : NodeCall → Node → List ErrorReports
 reportsBy (starting time timeout d) n = []
 reportsBy (polling time) n = []
 reportsBy (delivering delivery time payload) n =
-    reportsWhere (deliver delivery n time payload .verdict) (faultsOf (configurationIn n payload))
+    reportsWhere (deliver delivery n time payload .verdict) (errorReportsOf (configurationIn n payload))
 reportsBy (asking time) n = []
 reportsBy (sending type) n = []
 reportsBy (receiving type identifier) n = []
 reportsBy (reporting type identifier) n = []
 
 -- those of every accepted join answer and update among the calls, in their order
-abbrev pub reportsIn : List NodeCall → Node → List Faults
+abbrev pub reportsIn : List NodeCall → Node → List ErrorReports
 reportsIn [] n = []
 reportsIn (c ∷ cs) n = reportsBy c n ++ reportsIn cs (perform c n .node)
 
 -- the last of them, or what there was before
-abbrev pub lastOf : Faults → List Faults → Faults
+abbrev pub lastOf : ErrorReports → List ErrorReports → ErrorReports
 lastOf f [] = f
 lastOf f (g ∷ gs) = lastOf g gs
 
 pub record ReportsFollow : Type 0 where
   -- a fresh node reports nothing
-  pub made-none : (version : Version) (role : ℕ) (network : HeldOctets) → made version role network .node .faults ≡ noFaults
+  pub made-none : (version : Version) (role : ℕ) (network : HeldOctets) → made version role network .node .errors ≡ noErrorReports
   -- an accepted join answer or update leaves its own reports, which may be none; every other call, and a refused one, leaves those before
   pub brings :
       (delivery : Delivery) (n : Node) (time : ℕ) (payload : List ℕ) → deliver delivery n time payload .verdict ≡ Accepted →
-      deliver delivery n time payload .node .faults ≡ faultsOf (configurationIn n payload)
-  pub leaves : (c : NodeCall) (n : Node) → reportsBy c n ≡ [] → perform c n .node .faults ≡ n .faults
+      deliver delivery n time payload .node .errors ≡ errorReportsOf (configurationIn n payload)
+  pub leaves : (c : NodeCall) (n : Node) → reportsBy c n ≡ [] → perform c n .node .errors ≡ n .errors
   -- whatever calls come: the last accepted one's
-  pub last : (cs : List NodeCall) (n : Node) → afterCalls cs n .faults ≡ lastOf (n .faults) (reportsIn cs n)
+  pub last : (cs : List NodeCall) (n : Node) → afterCalls cs n .errors ≡ lastOf (n .errors) (reportsIn cs n)
   -- and the request of the next start lists them
-  pub listed : (cs : List NodeCall) (n : Node) → requestOf (afterCalls cs n) .unsupported ≡ listedIn (lastOf (n .faults) (reportsIn cs n))
+  pub listed : (cs : List NodeCall) (n : Node) → requestOf (afterCalls cs n) .unsupported ≡ listedIn (lastOf (n .errors) (reportsIn cs n))
 
 -- ---- a node of the published form joins with the key of identifier 1
 abbrev pub oneKey : ℕ → ℕ → List ℕ
@@ -87,13 +87,13 @@ clearNode = afterCalls (delivering Update 4000 (addressed 0xFD) ∷ []) reportin
 abbrev pub request : ℕ → Node → List ℕ
 request size n = take size (startAfter n 5000 10000 (replicate 32 0))
 
-pub record ReportsSeen : Type 0 where
+pub record ReportsExample : Type 0 where
   pub accepted : deliver Update member 2000 allBad .verdict ≡ Accepted
   -- JRC address, key set, short address: malformed, in payload order, and the refused update changes nothing
-  pub reported : faultList (reportingNode .faults) ≡ faultOf 1 4 ∷ faultOf 1 2 ∷ faultOf 1 3 ∷ []
+  pub reported : errorReportList (reportingNode .errors) ≡ errorReportOf 1 4 ∷ errorReportOf 1 2 ∷ errorReportOf 1 3 ∷ []
   pub written :
       request 16 reportingNode
       ≡ 0xA2 ∷ 0x05 ∷ 0x42 ∷ 0xCA ∷ 0xFE ∷ 0x08 ∷ 0x89 ∷ 0x01 ∷ 0x04 ∷ 0xF6 ∷ 0x01 ∷ 0x02 ∷ 0xF6 ∷ 0x01 ∷ 0x03 ∷ 0xF6 ∷ []
   -- after the good one there is nothing to report
-  pub cleared : faultList (clearNode .faults) ≡ []
+  pub cleared : errorReportList (clearNode .errors) ≡ []
   pub without : request 5 clearNode ≡ 0xA1 ∷ 0x05 ∷ 0x42 ∷ 0xCA ∷ 0xFE ∷ []

@@ -14,7 +14,7 @@ use Rattle.node_parameters.specs.declared.address.HeldAddress.{HeldAddress}
 use Rattle.node.specs.Node.{activeOf, pendingOf}
 use Rattle.node.specs.Delivery.{fitted, apply}
 use Rattle.node_delivery.specs.declared.Delivery.{Delivery}
-use Rattle.node.specs.declared.delivery.Delivered.{Delivered}
+use Rattle.node.specs.declared.delivery.DeliveryResult.{DeliveryResult}
 use Rattle.node_parameters.specs.declared.blacklist.HeldList.{HeldList}
 use Rattle.node_parameters.specs.declared.octets.HeldOctets.{HeldOctets}
 use Rattle.node_parameters.specs.declared.rate.HeldRate.{HeldRate}
@@ -54,7 +54,7 @@ pub record SameCounters (n m : Node) : Type 0 where
   pub active : slotsOf (n .sets .active) ≡ slotsOf (m .sets .active)
   pub pending : slotsOf (n .sets .pending) ≡ slotsOf (m .sets .pending)
 
-pub record SameOutcome (x y : Delivered) : Type 0 where
+pub record SameOutcome (x y : DeliveryResult) : Type 0 where
   pub verdict : x .verdict ≡ y .verdict
   pub node : SameNode (x .node) (y .node)
   pub counters : SameCounters (x .node) (y .node)

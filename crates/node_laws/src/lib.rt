@@ -4,12 +4,12 @@ pub mod addresses;
 pub mod published;
 pub mod reports;
 
-pub use addresses::addresses_alone;
-pub use addresses::addresses_seen;
-pub use published::clash_leaves_rest;
-pub use published::published_seen;
-pub use reports::reports_follow;
-pub use reports::reports_seen;
+pub use addresses::addresses_example;
+pub use addresses::addresses_law;
+pub use published::clash_law;
+pub use published::published_example;
+pub use reports::reports_example;
+pub use reports::reports_law;
 ghost use Rattle.node_laws.specs.Answers.{AnswersSay};
 ghost use Rattle.node_laws.specs.Calls.{Demand1};
 ghost use Rattle.node_laws.specs.Laws.{NodeLaws, GivesUp};
@@ -27,33 +27,33 @@ pub fn laws()
 {
     link_key_set::laws();
     link_key_counters::laws();
-    cojp::reads_in_range();
-    cojp::reports_fit();
+    cojp::reads_in_range_law();
+    cojp::error_reports_valid_law();
 }
 
 // Polled exactly when due, a join attempt with first timeout t gives up 31t after its start.
-pub fn gives_up()
+pub fn gives_up_law()
     ensures { λ r. ⌜ GivesUp ⌝ }
 {}
 
 // Applied to the same node, the same configurations give the same verdict and the same node.
-pub fn applies_alike()
+pub fn applies_alike_law()
     ensures { λ r. ⌜ AppliesAlike ⌝ }
 {
     link_key_counters::laws();
 }
 
 // The answers of the calls in document 01's numbers and values.
-pub fn answers_say()
+pub fn answers_law()
     ensures { λ r. ⌜ AnswersSay ⌝ }
 {
     link_key_counters::laws();
-    cojp::reads_in_range();
+    cojp::reads_in_range_law();
     cbor::head_laws();
     cojp_list_read::laws();
 }
 
 // When a node waits for its join answer: by an accepted start alone, and until an accepted join answer or giving up.
-pub fn phases()
+pub fn waiting_law()
     ensures { λ r. ⌜ PhaseLaws ⌝ }
 {}

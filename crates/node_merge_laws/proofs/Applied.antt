@@ -11,85 +11,85 @@ use Rattle.refusal.specs.declared.Verdict.the-variants.{Accepted, Refused}
 use Rattle.link_key_set.specs.KeySet.{keysOf, validSet, sameKeys, shares}
 use Rattle.link_key_set.specs.declared.key_set.KeySet.{KeySet}
 use Rattle.link_key_counters.specs.CounterLaws.{CounterLaws}
-use Rattle.link_key_counters.specs.Counters.{arrived, noCounted, succeeded}
+use Rattle.link_key_counters.specs.Counters.{withZeroCounters, noCounted, inheritCounters}
 use Rattle.link_key_counters.specs.declared.CountedSet.{CountedSet}
-use Rattle.cojp.specs.Faults.{noFaults}
+use Rattle.cojp.specs.ErrorReports.{noErrorReports}
 use Rattle.cojp.specs.Reading.{ifTaken}
-use Rattle.cojp.specs.Reported.{faultsOf}
+use Rattle.cojp.specs.Reported.{errorReportsOf}
 use Rattle.cojp.specs.Writing.{missing}
 use Rattle.cojp.specs.declared.address.AddressParameter.{AddressParameter}
 use Rattle.cojp.specs.declared.configuration.Configuration.{Configuration}
-use Rattle.cojp.specs.declared.fault.Faults.{Faults}
+use Rattle.cojp.specs.declared.error_report.ErrorReports.{ErrorReports}
 use Rattle.cojp.specs.declared.key_set.KeysParameter.{KeysParameter}
 use Rattle.cojp.specs.declared.list.ListParameter.{ListParameter}
 use Rattle.cojp.specs.declared.octets.Octets.{Octets}
 use Rattle.cojp.specs.declared.octets.OctetsParameter.{OctetsParameter}
 use Rattle.cojp.specs.declared.rate.RateParameter.{RateParameter}
-use Rattle.cojp.specs.declared.report.Report.{Report}
-use Rattle.cojp.specs.declared.report.Report.the-variants.{Absent, Taken, Discarded}
+use Rattle.cojp.specs.declared.disposition.Disposition.{Disposition}
+use Rattle.cojp.specs.declared.disposition.Disposition.the-variants.{Absent, Taken, Discarded}
 use Rattle.cojp_merge.specs.Merge.{merged}
 use Rattle.node_delivery.specs.Delivery.{attemptAfter}
 use Rattle.node_delivery.specs.declared.Delivery.the-variants.{Update}
 use Rattle.node_key_sets.specs.Sets.{activeIn, twoSets, placed, unplaced, install}
 use Rattle.node_key_sets.specs.declared.sets.KeySets.{KeySets}
-use Rattle.node_key_sets.specs.declared.sets.Placement.{Placement}
+use Rattle.node_key_sets.specs.declared.sets.InstallResult.{InstallResult}
 use Rattle.node_parameters.specs.Blacklist.{listAfter}
 use Rattle.node_parameters.specs.Lease.{addressAfter}
 use Rattle.node_parameters.specs.Octets.{octetsAfter}
 use Rattle.node_parameters.specs.Rate.{rateAfter}
-use Rattle.node_parameters.specs.Reports.{borderOnly, reportsOf}
+use Rattle.node_parameters.specs.Dispositions.{borderOnly, dispositionsOf}
 use Rattle.node_parameters.specs.declared.address.HeldAddress.{HeldAddress}
 use Rattle.node_parameters.specs.declared.blacklist.HeldList.{HeldList}
 use Rattle.node_parameters.specs.declared.octets.HeldOctets.{HeldOctets}
 use Rattle.node_parameters.specs.declared.rate.HeldRate.{HeldRate}
 use Rattle.node.specs.Delivery.{apply, configured, placementOf, placedBy, delivered}
 use Rattle.node.specs.Node.{isBorder, attempting, keyed}
-use Rattle.node.specs.declared.delivery.Delivered.{Delivered}
+use Rattle.node.specs.declared.delivery.DeliveryResult.{DeliveryResult}
 use Rattle.node.specs.declared.node.Node.{Node}
 use Rattle.node_merge_laws.specs.Merged.{uncounted, OfDraft, MergedApplies}
 
 -- ---- the parameters but the key set
-address-as-one : (time : ℕ) (f s : AddressParameter) (old : HeldAddress) (r : Report) → s .report ≡ r
-    → addressAfter time (ifTaken (s .report) s f) old ≡ addressAfter time s (addressAfter time f old)
+address-as-one : (time : ℕ) (f s : AddressParameter) (old : HeldAddress) (r : Disposition) → s .disposition ≡ r
+    → addressAfter time (ifTaken (s .disposition) s f) old ≡ addressAfter time s (addressAfter time f old)
 address-as-one time f s old Absent e = rw e
 address-as-one time f s old Taken e = rw e
 address-as-one time f s old Discarded e = rw e
 
 -- an ordinary node discards network identifier and prefix
-pub leaves : (o : Octets) (old : HeldOctets) (r : Report) → octetsAfter (borderOnly false r) o old ≡ old
+pub leaves : (o : Octets) (old : HeldOctets) (r : Disposition) → octetsAfter (borderOnly false r) o old ≡ old
 leaves o old Absent = refl
 leaves o old Taken = refl
 leaves o old Discarded = refl
 
-octets-as-one : (border : Bool) (f s : OctetsParameter) (old : HeldOctets) (r : Report) → s .report ≡ r
-    → octetsAfter (borderOnly border (ifTaken (s .report) s f .report)) (ifTaken (s .report) s f .value) old
-    ≡ octetsAfter (borderOnly border (s .report)) (s .value) (octetsAfter (borderOnly border (f .report)) (f .value) old)
+octets-as-one : (border : Bool) (f s : OctetsParameter) (old : HeldOctets) (r : Disposition) → s .disposition ≡ r
+    → octetsAfter (borderOnly border (ifTaken (s .disposition) s f .disposition)) (ifTaken (s .disposition) s f .value) old
+    ≡ octetsAfter (borderOnly border (s .disposition)) (s .value) (octetsAfter (borderOnly border (f .disposition)) (f .value) old)
 octets-as-one true f s old Absent e = rw e
 octets-as-one true f s old Taken e = rw e
 octets-as-one true f s old Discarded e = rw e
 octets-as-one false f s old Absent e = rw e
-octets-as-one false f s old Taken e = rw e (sym (leaves (f .value) old (f .report)))
+octets-as-one false f s old Taken e = rw e (sym (leaves (f .value) old (f .disposition)))
 octets-as-one false f s old Discarded e = rw e
 
-jrc-as-one : (f s : OctetsParameter) (old : HeldOctets) (r : Report) → s .report ≡ r
-    → octetsAfter (ifTaken (s .report) s f .report) (ifTaken (s .report) s f .value) old
-    ≡ octetsAfter (s .report) (s .value) (octetsAfter (f .report) (f .value) old)
+jrc-as-one : (f s : OctetsParameter) (old : HeldOctets) (r : Disposition) → s .disposition ≡ r
+    → octetsAfter (ifTaken (s .disposition) s f .disposition) (ifTaken (s .disposition) s f .value) old
+    ≡ octetsAfter (s .disposition) (s .value) (octetsAfter (f .disposition) (f .value) old)
 jrc-as-one f s old r e = octets-as-one true f s old r e
 
 -- ---- what the draft has not: nothing is taken of it, and nothing is reported
-not-taken : {X : Type 0} (r : Report) (x old : X) → missing r ≡ true → ifTaken r x old ≡ old
+not-taken : {X : Type 0} (r : Disposition) (x old : X) → missing r ≡ true → ifTaken r x old ≡ old
 not-taken Absent x old e = refl
 not-taken Discarded x old e = refl
 not-taken Taken x old e = absurd (let z : _≡_ {A = ℕ} 0 1 = cc in omega arith)
 
-list-stays : (p : ListParameter) (old : HeldList) → missing (p .report) ≡ true → listAfter p old ≡ old
-list-stays p old e = not-taken (p .report) (record { held = true; value = p .value }) old e
+list-stays : (p : ListParameter) (old : HeldList) → missing (p .disposition) ≡ true → listAfter p old ≡ old
+list-stays p old e = not-taken (p .disposition) (record { held = true; value = p .value }) old e
 
-rate-stays : (p : RateParameter) (old : HeldRate) → missing (p .report) ≡ true → rateAfter p old ≡ old
-rate-stays p old e = not-taken (p .report) (record { held = true; value = p .value }) old e
+rate-stays : (p : RateParameter) (old : HeldRate) → missing (p .disposition) ≡ true → rateAfter p old ≡ old
+rate-stays p old e = not-taken (p .disposition) (record { held = true; value = p .value }) old e
 
-pub none-reported : (c : Configuration) → c .came .count ≡ 0 → faultsOf c ≡ noFaults
-unfolding faultsOf
+pub none-reported : (c : Configuration) → c .labels .count ≡ 0 → errorReportsOf c ≡ noErrorReports
+unfolding errorReportsOf
 none-reported c e = rw e
 
 -- ---- the key set
@@ -99,26 +99,26 @@ record SameSets (border : Bool) (u v : KeySets) : Type 0 where
   pending : u .pending .set ≡ v .pending .set
   ordinary : border ≡ false → u ≡ v
 
-record SamePlace (border : Bool) (p q : Placement) : Type 0 where
+record SamePlace (border : Bool) (p q : InstallResult) : Type 0 where
   verdict : p .verdict ≡ q .verdict
   sets : SameSets border (p .sets) (q .sets)
 
-equal-place : (border : Bool) (p q : Placement) → p ≡ q → SamePlace border p q
+equal-place : (border : Bool) (p q : InstallResult) → p ≡ q → SamePlace border p q
 equal-place border p q e = record {
-  verdict = ap (λ (x : Placement). x .verdict) e;
+  verdict = ap (λ (x : InstallResult). x .verdict) e;
   sets =
       record {
-        active = ap (λ (x : Placement). x .sets .active .set) e;
-        pending = ap (λ (x : Placement). x .sets .pending .set) e;
-        ordinary = λ b. ap (λ (x : Placement). x .sets) e;
+        active = ap (λ (x : InstallResult). x .sets .active .set) e;
+        pending = ap (λ (x : InstallResult). x .sets .pending .set) e;
+        ordinary = λ b. ap (λ (x : InstallResult). x .sets) e;
       };
 }
 
 -- an ordinary node's answer to a set, by whether the set is within its limits, equal to the active one, or shares an identifier with it
-abbrev ordinaryPlace : KeySets → KeySet → Bool → Bool → Bool → Placement
+abbrev ordinaryPlace : KeySets → KeySet → Bool → Bool → Bool → InstallResult
 ordinaryPlace sets set allowed same shared =
     cond allowed
-    (cond same (placed (twoSets (sets .active) noCounted)) (cond shared (unplaced refusal.Clash sets) (placed (twoSets (sets .active) (arrived set)))))
+    (cond same (placed (twoSets (sets .active) noCounted)) (cond shared (unplaced refusal.Clash sets) (placed (twoSets (sets .active) (withZeroCounters set)))))
     (unplaced refusal.Range sets)
 
 -- an accepted set leaves an ordinary node's active set
@@ -152,16 +152,16 @@ install-alike a b set h e =
     let t = alike-by a b set (validSet set) (sameKeys (keysOf set) (activeIn a)) (shares (keysOf set) (activeIn a)) h
     in t (rw keys at e) ∙ rw keys
 
-accepted-placement : (p : Placement) → p .verdict ≡ Accepted → p ≡ placed (p .sets)
+accepted-placement : (p : InstallResult) → p .verdict ≡ Accepted → p ≡ placed (p .sets)
 accepted-placement p e = ap (λ (v : Verdict). record { verdict = v; sets = p .sets }) e
 
 module _ (C : CounterLaws) where
   -- a border router's set is the new one, whatever it held
   border-by :
       (a b : KeySets) (set : KeySet) (allowed : Bool) →
-      cond allowed (placed (twoSets (succeeded (b .active) set) noCounted)) (unplaced refusal.Range b) .verdict ≡ Accepted →
-      SamePlace true (cond allowed (placed (twoSets (succeeded (a .active) set) noCounted)) (unplaced refusal.Range a))
-      (cond allowed (placed (twoSets (succeeded (b .active) set) noCounted)) (unplaced refusal.Range b))
+      cond allowed (placed (twoSets (inheritCounters (b .active) set) noCounted)) (unplaced refusal.Range b) .verdict ≡ Accepted →
+      SamePlace true (cond allowed (placed (twoSets (inheritCounters (a .active) set) noCounted)) (unplaced refusal.Range a))
+      (cond allowed (placed (twoSets (inheritCounters (b .active) set) noCounted)) (unplaced refusal.Range b))
   border-by a b set true e = record {
     verdict = refl;
     sets =
@@ -188,15 +188,15 @@ module _ (C : CounterLaws) where
       (install-alike sets (install false sets f .sets) s (active-stays sets f e) h)
 
   -- what the first made of the sets, and what the second makes of those
-  abbrev once : Bool → KeySets → KeysParameter → Report → Placement
+  abbrev once : Bool → KeySets → KeysParameter → Disposition → InstallResult
   once border sets f q = ifTaken q (install border sets (f .value)) (placed sets)
 
-  abbrev twice : Bool → KeySets → KeysParameter → KeysParameter → Report → Report → Placement
+  abbrev twice : Bool → KeySets → KeysParameter → KeysParameter → Disposition → Disposition → InstallResult
   twice border sets f s q r =
       ifTaken r (install border (once border sets f q .sets) (s .value)) (placed (once border sets f q .sets))
 
   keys-by :
-      (border : Bool) (sets : KeySets) (f s : KeysParameter) (q r : Report) → once border sets f q .verdict ≡ Accepted →
+      (border : Bool) (sets : KeySets) (f s : KeysParameter) (q r : Disposition) → once border sets f q .verdict ≡ Accepted →
       twice border sets f s q r .verdict ≡ Accepted →
       SamePlace border (ifTaken r (install border sets (s .value)) (once border sets f q)) (twice border sets f s q r)
   keys-by border sets f s Absent Absent e h = equal-place border _ _ refl
@@ -209,9 +209,9 @@ module _ (C : CounterLaws) where
   keys-by border sets f s Discarded Discarded e h = equal-place border _ _ refl
   keys-by border sets f s Taken Discarded e h = equal-place border _ _ (accepted-placement (install border sets (f .value)) e)
 
-merged-place : (border : Bool) (sets : KeySets) (f s : KeysParameter) (r : Report) → s .report ≡ r
-    → ifTaken (ifTaken (s .report) s f .report) (install border sets (ifTaken (s .report) s f .value)) (placed sets)
-    ≡ ifTaken (s .report) (install border sets (s .value)) (ifTaken (f .report) (install border sets (f .value)) (placed sets))
+merged-place : (border : Bool) (sets : KeySets) (f s : KeysParameter) (r : Disposition) → s .disposition ≡ r
+    → ifTaken (ifTaken (s .disposition) s f .disposition) (install border sets (ifTaken (s .disposition) s f .value)) (placed sets)
+    ≡ ifTaken (s .disposition) (install border sets (s .value)) (ifTaken (f .disposition) (install border sets (f .value)) (placed sets))
 merged-place border sets f s Absent e = rw e
 merged-place border sets f s Taken e = rw e
 merged-place border sets f s Discarded e = rw e
@@ -226,14 +226,14 @@ unfolding apply
 placement-accepted n time c e = placed-accepted (placementOf n (c .keys) .verdict) n time c (placementOf n (c .keys) .sets) e
 
 abbrev pub after : Node → ℕ → Configuration → Node
-after n time c = configured Update n time c (placementOf n (c .keys) .sets) (reportsOf (isBorder n) c)
+after n time c = configured Update n time c (placementOf n (c .keys) .sets) (dispositionsOf (isBorder n) c)
 
 placed-by : (v : Verdict) (n : Node) (time : ℕ) (c : Configuration) (sets : KeySets) → v ≡ Accepted
-    → placedBy v Update n time c sets ≡ delivered (reportsOf (isBorder n) c) (configured Update n time c sets (reportsOf (isBorder n) c))
+    → placedBy v Update n time c sets ≡ delivered (dispositionsOf (isBorder n) c) (configured Update n time c sets (dispositionsOf (isBorder n) c))
 placed-by v n time c sets e = rw e
 
 pub apply-is : (n : Node) (time : ℕ) (c : Configuration) → placementOf n (c .keys) .verdict ≡ Accepted
-    → apply Update n time c ≡ delivered (reportsOf (isBorder n) c) (after n time c)
+    → apply Update n time c ≡ delivered (dispositionsOf (isBorder n) c) (after n time c)
 unfolding apply
 apply-is n time c e = placed-by (placementOf n (c .keys) .verdict) n time c (placementOf n (c .keys) .sets) e
 
@@ -248,7 +248,7 @@ version-stays n time c = go (placementOf n (c .keys) .verdict)
 
 -- two nodes that differ at most in these fields are equal where the fields are
 module _ (base : Node) where
-  abbrev pub nodeWith : KeySets → HeldAddress → HeldOctets → HeldOctets → HeldOctets → HeldList → HeldRate → Faults → Node
+  abbrev pub nodeWith : KeySets → HeldAddress → HeldOctets → HeldOctets → HeldOctets → HeldList → HeldRate → ErrorReports → Node
   nodeWith sets address jrc network prefix blacklist rate faults = record {
     role = base .role;
     attempt = base .attempt;
@@ -260,11 +260,11 @@ module _ (base : Node) where
     version = base .version;
     blacklist = blacklist;
     rate = rate;
-    faults = faults;
+    errors = faults;
   }
 
   pub node-of :
-      {u v : KeySets} {a b : HeldAddress} {j i n m p q : HeldOctets} {k l : HeldList} {r s : HeldRate} {f g : Faults} →
+      {u v : KeySets} {a b : HeldAddress} {j i n m p q : HeldOctets} {k l : HeldList} {r s : HeldRate} {f g : ErrorReports} →
       u ≡ v → a ≡ b → j ≡ i → n ≡ m → p ≡ q → k ≡ l → r ≡ s → f ≡ g → nodeWith u a j n p k r f ≡ nodeWith v b i m q l s g
   node-of e f g h o x y z = rw (e, f, g, h, o, x, y, z)
 
@@ -275,27 +275,27 @@ module _ (C : CounterLaws) (n : Node) (time : ℕ) (f s : Configuration) (x : Of
       SamePlace (isBorder n) (placementOf n (merged f s .keys)) (placementOf (after n time f) (s .keys))
   unfolding configured
   same-place h =
-      rw (merged-place (isBorder n) (n .sets) (f .keys) (s .keys) (s .keys .report) refl)
-      (keys-by C (isBorder n) (n .sets) (f .keys) (s .keys) (f .keys .report) (s .keys .report) e h)
+      rw (merged-place (isBorder n) (n .sets) (f .keys) (s .keys) (s .keys .disposition) refl)
+      (keys-by C (isBorder n) (n .sets) (f .keys) (s .keys) (f .keys .disposition) (s .keys .disposition) e h)
 
   module _ (sets : SameSets (isBorder n) (placementOf n (merged f s .keys) .sets) (placementOf (after n time f) (s .keys) .sets)) where
     -- the sets of the two nodes, seen as they are or with their counters at 0
     seen-alike :
         (seen : KeySets → KeySets) → seen (placementOf n (merged f s .keys) .sets) ≡ seen (placementOf (after n time f) (s .keys) .sets) →
         keyed (after n time (merged f s)) (seen (after n time (merged f s) .sets)) ≡ keyed (after (after n time f) time s) (seen (after (after n time f) time s .sets))
-    unfolding configured reportsOf
+    unfolding configured dispositionsOf
     seen-alike seen same =
         node-of (attempting n (attemptAfter Update (n .attempt) time)) same
-        (address-as-one time (f .address) (s .address) (n .address) (s .address .report) refl)
-        (jrc-as-one (f .jrc) (s .jrc) (n .jrc) (s .jrc .report) refl)
-        (octets-as-one (isBorder n) (f .network) (s .network) (n .network) (s .network .report) refl)
-        (octets-as-one (isBorder n) (f .prefix) (s .prefix) (n .prefix) (s .prefix .report) refl)
+        (address-as-one time (f .address) (s .address) (n .address) (s .address .disposition) refl)
+        (jrc-as-one (f .jrc) (s .jrc) (n .jrc) (s .jrc .disposition) refl)
+        (octets-as-one (isBorder n) (f .network) (s .network) (n .network) (s .network .disposition) refl)
+        (octets-as-one (isBorder n) (f .prefix) (s .prefix) (n .prefix) (s .prefix .disposition) refl)
         (sym (list-stays (s .blacklist) (listAfter (f .blacklist) (n .blacklist)) (y .blacklist) ∙ list-stays (f .blacklist) (n .blacklist) (x .blacklist)))
         (sym (rate-stays (s .rate) (rateAfter (f .rate) (n .rate)) (y .rate) ∙ rate-stays (f .rate) (n .rate) (x .rate)))
-        (none-reported (merged f s) refl ∙ sym (none-reported s (y .came)))
+        (none-reported (merged f s) refl ∙ sym (none-reported s (y .met)))
 
     same-after : uncounted (after n time (merged f s)) ≡ uncounted (after (after n time f) time s)
-    same-after = seen-alike (λ (x : KeySets). twoSets (arrived (x .active .set)) (arrived (x .pending .set))) (rw (sets .active, sets .pending))
+    same-after = seen-alike (λ (x : KeySets). twoSets (withZeroCounters (x .active .set)) (withZeroCounters (x .pending .set))) (rw (sets .active, sets .pending))
 
     ordinary-after : isBorder n ≡ false → after n time (merged f s) ≡ after (after n time f) time s
     ordinary-after b = seen-alike (λ (x : KeySets). x) (sets .ordinary b)
@@ -303,14 +303,14 @@ module _ (C : CounterLaws) (n : Node) (time : ℕ) (f s : Configuration) (x : Of
 pub merged-applies : CounterLaws → MergedApplies
 merged-applies C n time f s x y e h =
     let first = placement-accepted n time f e in
-    let between : apply Update n time f .node ≡ after n time f = ap (λ (d : Delivered). d .node) (apply-is n time f first) in
+    let between : apply Update n time f .node ≡ after n time f = ap (λ (d : DeliveryResult). d .node) (apply-is n time f first) in
     let second = placement-accepted (after n time f) time s (rw between at h) in
     let place = same-place C n time f s x y first second in
-    let joined = ap (λ (d : Delivered). d .node) (apply-is n time (merged f s) (place .verdict ∙ second)) in
+    let joined = ap (λ (d : DeliveryResult). d .node) (apply-is n time (merged f s) (place .verdict ∙ second)) in
     let parted : after (after n time f) time s ≡ apply Update (apply Update n time f .node) time s .node =
-    sym (ap (λ (d : Delivered). d .node) (apply-is (after n time f) time s second)) ∙ ap (λ (m : Node). apply Update m time s .node) (sym between) in
+    sym (ap (λ (d : DeliveryResult). d .node) (apply-is (after n time f) time s second)) ∙ ap (λ (m : Node). apply Update m time s .node) (sym between) in
     record {
-      accepted = ap (λ (d : Delivered). d .verdict) (apply-is n time (merged f s) (place .verdict ∙ second));
+      accepted = ap (λ (d : DeliveryResult). d .verdict) (apply-is n time (merged f s) (place .verdict ∙ second));
       node =
           record {
             but-counters = ap uncounted joined ∙ same-after C n time f s x y first (place .sets) ∙ ap uncounted parted;

@@ -15,13 +15,13 @@ use Rattle.cbor.specs.Answer.{emit}
 use Rattle.cbor.specs.Encode.{encode}
 use Rattle.cbor.specs.Item.{map}
 use Rattle.cojp.specs.Configuration.{readConfigurationAs, readConfiguration}
-use Rattle.cojp.specs.Faults.{faultsFit}
+use Rattle.cojp.specs.ErrorReports.{errorReportsValid}
 use Rattle.cojp.specs.Version.{byVersion}
 use Rattle.cojp_laws.specs.Largest.{LargestConfiguration, DraftWritten}
 use Rattle.cojp_laws.specs.RoundTrip.{ConfigurationRoundTrip}
 use Rattle.cojp.specs.Same.{SameConfiguration}
 use Rattle.cojp.specs.InRange.{InRange, ReadsInRange}
-use Rattle.cojp.specs.Writing.{missing, keysPlain, ofForm, configurationInRange, configurationPairs, configurationPlan}
+use Rattle.cojp.specs.Writing.{missing, keysWithoutAdditionalInfo, ofVersion, configurationInRange, configurationPairs, configurationPlan}
 use Rattle.cojp.specs.declared.configuration.Configuration.{Configuration}
 use Rattle.cojp.specs.declared.configuration.ConfigurationRead.{ConfigurationRead}
 use Rattle.cojp.specs.declared.version.Version.{Version}
@@ -34,7 +34,7 @@ use Rattle.node_delivery.specs.Delivery.{belongs, mayCome}
 use Rattle.node_delivery.specs.declared.Delivery.the-variants.{Update}
 use Rattle.node.specs.Delivery.{placementOf, fittedBy, fitted, apply, applyRead, deliver, deliverBy, deliverVerdict, readFor}
 use Rattle.node.specs.Range.{valid}
-use Rattle.node.specs.declared.delivery.Delivered.{Delivered}
+use Rattle.node.specs.declared.delivery.DeliveryResult.{DeliveryResult}
 use Rattle.node.specs.declared.node.Node.{Node}
 use Rattle.node_merge_laws.specs.Merged.{uncounted, OfDraft, MergedApplies, mergedPayload, MergedDelivers}
 use Rattle.node_merge_laws.proofs.Applied.{version-stays}
@@ -63,10 +63,10 @@ module _ (n : Node) (time : ℕ) where
     unfolding fitted
     all-fits c = ap (λ (v : Version). byVersion v c (fittedBy (placementOf n (c .keys) .verdict) c)) old
 
-    came : (p : List ℕ) → deliver Update n time p .verdict ≡ Accepted
+    met : (p : List ℕ) → deliver Update n time p .verdict ≡ Accepted
         → (deliverVerdict Update n time (length p) ≡ Accepted) × (readConfiguration p .verdict ≡ Accepted)
     unfolding deliver
-    came p e =
+    met p e =
         let both = both-accepted (deliverVerdict Update n time (length p)) (readFor n p) e in
         (both .0, subst (λ (r : ConfigurationRead). r .verdict ≡ Accepted) (read-so p) (both .1))
 
@@ -101,15 +101,15 @@ whole-range c i = rw (i .keys, i .address, i .jrc, i .network, i .prefix, i .for
 
 -- what a reading of the draft takes is of the draft
 of-draft : (c : Configuration) → InRange Draft c → OfDraft c
-unfolding ofForm faultsFit
+unfolding ofVersion errorReportsValid
 of-draft c i =
-    let list = missing (c .blacklist .report) in
-    let rate = missing (c .rate .report) in
-    let front = both-left (keysPlain (c .keys) && list) rate (i .form) in
+    let list = missing (c .blacklist .disposition) in
+    let rate = missing (c .rate .disposition) in
+    let front = both-left (keysWithoutAdditionalInfo (c .keys) && list) rate (i .form) in
     record {
-      blacklist = both-right (keysPlain (c .keys)) list front;
-      rate = both-right (keysPlain (c .keys) && list) rate (i .form);
-      came = eqb-true (c .came .count) 0 (i .came);
+      blacklist = both-right (keysWithoutAdditionalInfo (c .keys)) list front;
+      rate = both-right (keysWithoutAdditionalInfo (c .keys) && list) rate (i .form);
+      met = eqb-true (c .labels .count) 0 (i .met);
     }
 
 merge-is : (f s : Configuration) → configurationInRange Draft f ≡ true → configurationInRange Draft s ≡ true → mergeAnswer f s .configuration ≡ merged f s
@@ -125,23 +125,23 @@ module _ (applies : MergedApplies) (laws : MergeLaws) (in-range : ReadsInRange) 
 
   pub merged-delivers : MergedDelivers first second
   merged-delivers n time p q old reads-first reads-second e h =
-      let a = came n time old p e in
+      let a = met n time old p e in
       let m = deliver Update n time p .node in
       let once : deliver Update n time p ≡ apply Update n time first =
       applied n time old p (a .0) (a .1) ∙ ap (λ (c : Configuration). apply Update n time c) reads-first in
-      let old-too : m .version ≡ Draft = ap (λ (d : Delivered). d .node .version) once ∙ version-stays n time first ∙ old in
-      let b = came m time old-too q h in
+      let old-too : m .version ≡ Draft = ap (λ (d : DeliveryResult). d .node .version) once ∙ version-stays n time first ∙ old in
+      let b = met m time old-too q h in
       let x : InRange Draft first = subst (λ (c : Configuration). InRange Draft c) reads-first (in-range Draft p (a .1)) in
       let y : InRange Draft second = subst (λ (c : Configuration). InRange Draft c) reads-second (in-range Draft q (b .1)) in
       let i = whole-range first x in
       let j = whole-range second y in
       let twice : deliver Update m time q ≡ apply Update m time second =
       applied m time old-too q (b .0) (b .1) ∙ ap (λ (c : Configuration). apply Update m time c) reads-second in
-      let between : m ≡ apply Update n time first .node = ap (λ (d : Delivered). d .node) once in
+      let between : m ≡ apply Update n time first .node = ap (λ (d : DeliveryResult). d .node) once in
       let then : deliver Update m time q ≡ apply Update (apply Update n time first .node) time second =
       twice ∙ ap (λ (k : Node). apply Update k time second) between in
       let one =
-      applies n time first second (of-draft first x) (of-draft second y) (sym (ap (λ (d : Delivered). d .verdict) once) ∙ e) (sym (ap (λ (d : Delivered). d .verdict) then) ∙ h) in
+      applies n time first second (of-draft first x) (of-draft second y) (sym (ap (λ (d : DeliveryResult). d .verdict) once) ∙ e) (sym (ap (λ (d : DeliveryResult). d .verdict) then) ∙ h) in
       let good = laws .in-range first second i j in
       let is : mergeAnswer first second .configuration ≡ merged first second = merge-is first second i j in
       let w = mergedPayload first second in
@@ -155,14 +155,14 @@ module _ (applies : MergedApplies) (laws : MergeLaws) (in-range : ReadsInRange) 
       subst (λ (c : Configuration). SameConfiguration (readConfiguration w .configuration) c) is (read .same) in
       let equal : TakesEqual (readConfiguration w .configuration) (merged first second) = exact p q w first second reads-first reads-second same in
       let o = applies-exactly n time (readConfiguration w .configuration) (merged first second) equal
-      (of-draft (readConfiguration w .configuration) (in-range Draft w (read .accepted)) .came) refl (one .accepted) in
-      let comes = ap (λ (d : Delivered). d .node) arrives ∙ o .1 in
-      let left = ap (λ (d : Delivered). d .node) then in
+      (of-draft (readConfiguration w .configuration) (in-range Draft w (read .accepted)) .met) refl (one .accepted) in
+      let comes = ap (λ (d : DeliveryResult). d .node) arrives ∙ o .1 in
+      let left = ap (λ (d : DeliveryResult). d .node) then in
       record {
         merges = good .0;
         writes = writes;
         short = short;
-        accepted = ap (λ (d : Delivered). d .verdict) arrives ∙ o .0;
+        accepted = ap (λ (d : DeliveryResult). d .verdict) arrives ∙ o .0;
         node =
             record {
               but-counters = ap uncounted comes ∙ one .node .but-counters ∙ ap uncounted (sym left);

@@ -11,22 +11,22 @@ use Rattle.cojp.specs.declared.configuration.Configuration.{Configuration}
 use Rattle.cojp.specs.declared.list.ItemList.{ItemList}
 use Rattle.cojp.specs.declared.octets.Octets.{Octets}
 use Rattle.cojp.specs.declared.octets.OctetsParameter.{OctetsParameter}
-use Rattle.cojp.specs.declared.report.Report.{Report}
-use Rattle.cojp.specs.declared.report.Report.the-variants.{Absent, Taken, Discarded}
+use Rattle.cojp.specs.declared.disposition.Disposition.{Disposition}
+use Rattle.cojp.specs.declared.disposition.Disposition.the-variants.{Absent, Taken, Discarded}
 use Rattle.cojp_merge.specs.Laws.{TakesEqual}
 use Rattle.node_delivery.specs.Delivery.{attemptAfter}
 use Rattle.node_delivery.specs.declared.Delivery.the-variants.{Update}
 use Rattle.node_key_sets.specs.Sets.{placed, install}
-use Rattle.node_key_sets.specs.declared.sets.Placement.{Placement}
+use Rattle.node_key_sets.specs.declared.sets.InstallResult.{InstallResult}
 use Rattle.node_parameters.specs.Octets.{octetsAfter}
-use Rattle.node_parameters.specs.Reports.{borderOnly, reportsOf}
+use Rattle.node_parameters.specs.Dispositions.{borderOnly, dispositionsOf}
 use Rattle.node_parameters.specs.declared.address.HeldAddress.{HeldAddress}
 use Rattle.node_parameters.specs.declared.blacklist.HeldList.{HeldList}
 use Rattle.node_parameters.specs.declared.octets.HeldOctets.{HeldOctets}
 use Rattle.node_parameters.specs.declared.rate.HeldRate.{HeldRate}
 use Rattle.node.specs.Delivery.{apply, configured, placementOf}
 use Rattle.node.specs.Node.{isBorder, attempting}
-use Rattle.node.specs.declared.delivery.Delivered.{Delivered}
+use Rattle.node.specs.declared.delivery.DeliveryResult.{DeliveryResult}
 use Rattle.node.specs.declared.node.Node.{Node}
 use Rattle.node_merge_laws.proofs.Applied.{after, apply-is, node-of, placement-accepted, leaves, none-reported}
 
@@ -36,13 +36,13 @@ module _ {A B : Type 0} (made : A → B) (old : B) where
   act none = old
   act (some a) = made a
 
-  acts : (x : A) (r : Report) → act (ifTaken r (some x) none) ≡ ifTaken r (made x) old
+  acts : (x : A) (r : Disposition) → act (ifTaken r (some x) none) ≡ ifTaken r (made x) old
   unfolding act
   acts x Absent = refl
   acts x Taken = refl
   acts x Discarded = refl
 
-  alike : (x y : A) (r s : Report) → ifTaken r (some x) none ≡ ifTaken s (some y) none → ifTaken r (made x) old ≡ ifTaken s (made y) old
+  alike : (x y : A) (r s : Disposition) → ifTaken r (some x) none ≡ ifTaken s (some y) none → ifTaken r (made x) old ≡ ifTaken s (made y) old
   alike x y r s e = sym (acts x r) ∙ ap act e ∙ acts y s
 
 abbrev held : Octets → HeldOctets
@@ -59,35 +59,35 @@ received time a = record { held = true; value = a; received = time }
 
 -- an ordinary node leaves network identifier and prefix
 border-alike : (border : Bool) (old : HeldOctets) (p q : OctetsParameter)
-    → ifTaken (p .report) (some (p .value)) none ≡ ifTaken (q .report) (some (q .value)) none
-    → octetsAfter (borderOnly border (p .report)) (p .value) old ≡ octetsAfter (borderOnly border (q .report)) (q .value) old
-border-alike true old p q e = alike held old (p .value) (q .value) (p .report) (q .report) e
-border-alike false old p q e = leaves (p .value) old (p .report) ∙ sym (leaves (q .value) old (q .report))
+    → ifTaken (p .disposition) (some (p .value)) none ≡ ifTaken (q .disposition) (some (q .value)) none
+    → octetsAfter (borderOnly border (p .disposition)) (p .value) old ≡ octetsAfter (borderOnly border (q .disposition)) (q .value) old
+border-alike true old p q e = alike held old (p .value) (q .value) (p .disposition) (q .disposition) e
+border-alike false old p q e = leaves (p .value) old (p .disposition) ∙ sym (leaves (q .value) old (q .disposition))
 
-module _ (n : Node) (time : ℕ) (c d : Configuration) (t : TakesEqual c d) (x : c .came .count ≡ 0) (y : d .came .count ≡ 0) where
+module _ (n : Node) (time : ℕ) (c d : Configuration) (t : TakesEqual c d) (x : c .labels .count ≡ 0) (y : d .labels .count ≡ 0) where
   place-alike : placementOf n (c .keys) ≡ placementOf n (d .keys)
   place-alike =
-      alike (λ (s : KeySet). install (isBorder n) (n .sets) s) (placed (n .sets)) (c .keys .value) (d .keys .value) (c .keys .report) (d .keys .report)
+      alike (λ (s : KeySet). install (isBorder n) (n .sets) s) (placed (n .sets)) (c .keys .value) (d .keys .value) (c .keys .disposition) (d .keys .disposition)
       (t .keys)
 
   after-alike : after n time c ≡ after n time d
-  unfolding configured reportsOf
+  unfolding configured dispositionsOf
   after-alike =
-      node-of (attempting n (attemptAfter Update (n .attempt) time)) (ap (λ (p : Placement). p .sets) place-alike)
+      node-of (attempting n (attemptAfter Update (n .attempt) time)) (ap (λ (p : InstallResult). p .sets) place-alike)
       (alike (received time) (n .address) (c .address .value)
-      (d .address .value) (c .address .report) (d .address .report) (t .address))
-      (alike held (n .jrc) (c .jrc .value) (d .jrc .value) (c .jrc .report) (d .jrc .report) (t .jrc))
+      (d .address .value) (c .address .disposition) (d .address .disposition) (t .address))
+      (alike held (n .jrc) (c .jrc .value) (d .jrc .value) (c .jrc .disposition) (d .jrc .disposition) (t .jrc))
       (border-alike (isBorder n) (n .network) (c .network) (d .network) (t .network))
       (border-alike (isBorder n) (n .prefix) (c .prefix) (d .prefix) (t .prefix))
-      (alike heldList (n .blacklist) (c .blacklist .value) (d .blacklist .value) (c .blacklist .report) (d .blacklist .report) (t .blacklist))
-      (alike heldRate (n .rate) (c .rate .value) (d .rate .value) (c .rate .report) (d .rate .report) (t .rate))
+      (alike heldList (n .blacklist) (c .blacklist .value) (d .blacklist .value) (c .blacklist .disposition) (d .blacklist .disposition) (t .blacklist))
+      (alike heldRate (n .rate) (c .rate .value) (d .rate .value) (c .rate .disposition) (d .rate .disposition) (t .rate))
       (none-reported c x ∙ sym (none-reported d y))
 
   pub applies-exactly : apply Update n time d .verdict ≡ Accepted
       → (apply Update n time c .verdict ≡ Accepted) × (apply Update n time c .node ≡ apply Update n time d .node)
   applies-exactly e =
       let theirs = placement-accepted n time d e in
-      let ours = apply-is n time c (ap (λ (p : Placement). p .verdict) place-alike ∙ theirs) in (
-        ap (λ (x : Delivered). x .verdict) ours,
-        ap (λ (x : Delivered). x .node) ours ∙ after-alike ∙ sym (ap (λ (x : Delivered). x .node) (apply-is n time d theirs)),
+      let ours = apply-is n time c (ap (λ (p : InstallResult). p .verdict) place-alike ∙ theirs) in (
+        ap (λ (x : DeliveryResult). x .verdict) ours,
+        ap (λ (x : DeliveryResult). x .node) ours ∙ after-alike ∙ sym (ap (λ (x : DeliveryResult). x .node) (apply-is n time d theirs)),
       )

@@ -9,20 +9,20 @@ use Rattle.refusal.specs.declared.Refusal.the-variants.{Clash}
 use Rattle.refusal.specs.declared.Verdict.the-variants.{Accepted, Refused}
 use Rattle.link_key.specs.Key.{keyOf}
 use Rattle.cojp.specs.Configuration.{readConfiguration}
-use Rattle.cojp.specs.Faults.{noFaults}
+use Rattle.cojp.specs.ErrorReports.{noErrorReports}
 use Rattle.cojp.specs.KeySet.{keySetOf}
 use Rattle.cojp.specs.declared.version.Version.the-variants.{Draft}
 use Rattle.node_attempt.specs.Attempt.{attempt}
 use Rattle.node_attempt.specs.declared.attempt.Phase.the-variants.{Joined}
 use Rattle.node_delivery.specs.declared.Delivery.the-variants.{Update}
-use Rattle.link_key_counters.specs.Counters.{arrived, noCounted}
+use Rattle.link_key_counters.specs.Counters.{withZeroCounters, noCounted}
 use Rattle.node_key_sets.specs.Sets.{twoSets}
 use Rattle.node_parameters.specs.Blacklist.{absentList}
 use Rattle.node_parameters.specs.Lease.{absentAddress}
 use Rattle.node_parameters.specs.Octets.{absentOctets}
 use Rattle.node_parameters.specs.Rate.{absentRate}
 use Rattle.node.specs.Delivery.{deliver}
-use Rattle.node.specs.declared.delivery.Delivered.{Delivered}
+use Rattle.node.specs.declared.delivery.DeliveryResult.{DeliveryResult}
 use Rattle.node.specs.declared.node.Node.{Node}
 use Rattle.node_merge_laws.specs.Merged.{mergedPayload}
 
@@ -30,7 +30,7 @@ abbrev pub joined : Node
 joined = record {
   role = 0;
   attempt = attempt Joined 12000 10000 10000 0;
-  sets = twoSets (arrived (keySetOf (keyOf 1 0 (replicate 16 0x11) ∷ []))) noCounted;
+  sets = twoSets (withZeroCounters (keySetOf (keyOf 1 0 (replicate 16 0x11) ∷ []))) noCounted;
   address = absentAddress;
   jrc = absentOctets;
   network = absentOctets;
@@ -38,10 +38,10 @@ joined = record {
   version = Draft;
   blacklist = absentList;
   rate = absentRate;
-  faults = noFaults;
+  errors = noErrorReports;
 }
 
-abbrev pub updated : Node → List ℕ → Delivered
+abbrev pub updated : Node → List ℕ → DeliveryResult
 updated n payload = deliver Update n 20000 payload
 
 -- what is written of two payloads' configurations

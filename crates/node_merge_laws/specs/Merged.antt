@@ -17,7 +17,7 @@ use Rattle.cojp.specs.Writing.{missing, configurationPairs, configurationPlan}
 use Rattle.cojp.specs.declared.configuration.Configuration.{Configuration}
 use Rattle.cojp.specs.declared.version.Version.the-variants.{Draft}
 use Rattle.cojp_merge.specs.Merge.{merged, mergeAnswer}
-use Rattle.link_key_counters.specs.Counters.{arrived}
+use Rattle.link_key_counters.specs.Counters.{withZeroCounters}
 use Rattle.node_delivery.specs.declared.Delivery.the-variants.{Update}
 use Rattle.node_key_sets.specs.Sets.{twoSets}
 use Rattle.node.specs.Delivery.{apply, deliver}
@@ -27,7 +27,7 @@ use Rattle.node.specs.declared.node.Node.{Node}
 -- ---- the same node
 -- the node with all counters at 0
 abbrev pub uncounted : Node → Node
-uncounted n = keyed n (twoSets (arrived (n .sets .active .set)) (arrived (n .sets .pending .set)))
+uncounted n = keyed n (twoSets (withZeroCounters (n .sets .active .set)) (withZeroCounters (n .sets .pending .set)))
 
 -- two nodes that were made of n: equal in every field, the places that are never looked at among them; of a border router but for its counters
 pub record TheSame (n one two : Node) : Type 0 where
@@ -37,9 +37,9 @@ pub record TheSame (n one two : Node) : Type 0 where
 -- ---- configurations
 -- of the draft: no blacklist, no join rate, and no label noted
 pub record OfDraft (c : Configuration) : Type 0 where
-  pub blacklist : missing (c .blacklist .report) ≡ true
-  pub rate : missing (c .rate .report) ≡ true
-  pub came : c .came .count ≡ 0
+  pub blacklist : missing (c .blacklist .disposition) ≡ true
+  pub rate : missing (c .rate .disposition) ≡ true
+  pub met : c .labels .count ≡ 0
 
 pub record AppliedAsOne (n : Node) (time : ℕ) (first second : Configuration) : Type 0 where
   pub accepted : apply Update n time (merged first second) .verdict ≡ Accepted

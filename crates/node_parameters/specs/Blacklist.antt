@@ -14,4 +14,4 @@ validList h = cond (h .held) (kept stringsIn (h .value)) true
 
 -- after a configuration: the one taken, else the old one
 abbrev pub listAfter : ListParameter → HeldList → HeldList
-listAfter p old = ifTaken (p .report) (record { held = true; value = p .value }) old
+listAfter p old = ifTaken (p .disposition) (record { held = true; value = p .value }) old

@@ -8,7 +8,7 @@ use Rattle.cojp.specs.declared.address.AddressParameter.{AddressParameter}
 use Rattle.cojp.specs.declared.list.ListParameter.{ListParameter}
 use Rattle.cojp.specs.declared.octets.Octets.{Octets}
 use Rattle.cojp.specs.declared.rate.RateParameter.{RateParameter}
-use Rattle.cojp.specs.declared.report.Report.{Report}
+use Rattle.cojp.specs.declared.disposition.Disposition.{Disposition}
 use Rattle.node_parameters.specs.Blacklist.{listAfter}
 use Rattle.node_parameters.specs.Lease.{addressAfter}
 use Rattle.node_parameters.specs.Octets.{octetsAfter}
@@ -20,7 +20,7 @@ use Rattle.node_parameters.specs.declared.rate.HeldRate.{HeldRate}
 
 pub record ParametersDemand1 : Type 0 where
   pub address-stays :
-      (time : ℕ) (p : AddressParameter) (old : HeldAddress) → ifTaken (p .report) true false ≡ false → addressAfter time p old ≡ old
-  pub octets-stay : (r : Report) (o : Octets) (old : HeldOctets) → ifTaken r true false ≡ false → octetsAfter r o old ≡ old
-  pub list-stays : (p : ListParameter) (old : HeldList) → ifTaken (p .report) true false ≡ false → listAfter p old ≡ old
-  pub rate-stays : (p : RateParameter) (old : HeldRate) → ifTaken (p .report) true false ≡ false → rateAfter p old ≡ old
+      (time : ℕ) (p : AddressParameter) (old : HeldAddress) → ifTaken (p .disposition) true false ≡ false → addressAfter time p old ≡ old
+  pub octets-stay : (r : Disposition) (o : Octets) (old : HeldOctets) → ifTaken r true false ≡ false → octetsAfter r o old ≡ old
+  pub list-stays : (p : ListParameter) (old : HeldList) → ifTaken (p .disposition) true false ≡ false → listAfter p old ≡ old
+  pub rate-stays : (p : RateParameter) (old : HeldRate) → ifTaken (p .disposition) true false ≡ false → rateAfter p old ≡ old

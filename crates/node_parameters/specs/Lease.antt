@@ -31,4 +31,4 @@ holdsAt v a time = cond (a .held) (lasts v a time) false
 
 -- after a configuration: the one taken at this time, else the old one
 abbrev pub addressAfter : ℕ → AddressParameter → HeldAddress → HeldAddress
-addressAfter time p old = ifTaken (p .report) (record { held = true; value = p .value; received = time }) old
+addressAfter time p old = ifTaken (p .disposition) (record { held = true; value = p .value; received = time }) old

@@ -1,6 +1,6 @@
 pub mod Lease
 pub mod Octets
-pub mod Reports
+pub mod Dispositions
 pub mod Blacklist
 pub mod Rate
 pub mod Demand1

@@ -5,8 +5,8 @@ use Rattle.cojp.specs.Octets.{noOctets, octetsParameter, noOctetsParameter}
 use Rattle.cojp.specs.Reading.{ifTaken}
 use Rattle.cojp.specs.declared.octets.Octets.{Octets}
 use Rattle.cojp.specs.declared.octets.OctetsParameter.{OctetsParameter}
-use Rattle.cojp.specs.declared.report.Report.{Report}
-use Rattle.cojp.specs.declared.report.Report.the-variants.{Absent, Taken}
+use Rattle.cojp.specs.declared.disposition.Disposition.{Disposition}
+use Rattle.cojp.specs.declared.disposition.Disposition.the-variants.{Absent, Taken}
 use Rattle.node_parameters.specs.declared.octets.HeldOctets.{HeldOctets}
 
 abbrev pub absentOctets : HeldOctets
@@ -28,5 +28,5 @@ abbrev pub identifierIn : HeldOctets → OctetsParameter
 identifierIn h = cond (h .held) (octetsParameter Taken (h .value)) (noOctetsParameter Absent)
 
 -- after a configuration, by the node's report of the parameter: one absent or discarded leaves what is held
-abbrev pub octetsAfter : Report → Octets → HeldOctets → HeldOctets
+abbrev pub octetsAfter : Disposition → Octets → HeldOctets → HeldOctets
 octetsAfter r o old = ifTaken r (record { held = true; value = o }) old

@@ -9,4 +9,4 @@ absentRate = record { held = false; value = 0 }
 
 -- after a configuration: the one taken, else the old one
 abbrev pub rateAfter : RateParameter → HeldRate → HeldRate
-rateAfter p old = ifTaken (p .report) (record { held = true; value = p .value }) old
+rateAfter p old = ifTaken (p .disposition) (record { held = true; value = p .value }) old

@@ -1,6 +1,6 @@
 // A short address and its lease.
 use cojp::AddressParameter;
-use cojp::Report;
+use cojp::Disposition;
 use cojp::ShortAddress;
 use cojp::Version;
 use cojp::no_address;
@@ -20,7 +20,7 @@ pub struct HeldAddress {
 pub fn absent_address() -> HeldAddress
     ensures { λ r. ⌜ r ≡ absentAddress ⌝ }
 {
-    let none = no_address(Report::Absent);
+    let none = no_address(Disposition::Absent);
     let value = none.value;
     HeldAddress {
         held: false,
@@ -81,7 +81,7 @@ impl HeldAddress {
     pub fn after(self, time: u64, parameter: AddressParameter) -> HeldAddress
         ensures { λ r. ⌜ r ≡ addressAfter time parameter self ⌝ }
     {
-        let report = parameter.report;
+        let report = parameter.disposition;
         if is_taken(report) {
             let value = parameter.value;
             return HeldAddress {

@@ -1,7 +1,7 @@
 // The blacklist of RFC 9031.
+use cojp::Disposition;
 use cojp::ItemList;
 use cojp::ListParameter;
-use cojp::Report;
 use cojp::no_list;
 use cojp_list_read::is_blacklist;
 use cojp_range::is_taken;
@@ -17,7 +17,7 @@ pub struct HeldList {
 pub fn absent_list() -> HeldList
     ensures { λ r. ⌜ r ≡ absentList ⌝ }
 {
-    let none = no_list(Report::Absent);
+    let none = no_list(Disposition::Absent);
     let value = none.value;
     HeldList { held: false, value }
 }
@@ -37,7 +37,7 @@ impl HeldList {
     pub fn after(self, parameter: ListParameter) -> HeldList
         ensures { λ r. ⌜ r ≡ listAfter parameter self ⌝ }
     {
-        let report = parameter.report;
+        let report = parameter.disposition;
         if is_taken(report) {
             let value = parameter.value;
             return HeldList { held: true, value };

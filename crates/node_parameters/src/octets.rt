@@ -1,7 +1,7 @@
 // JRC address, network identifier and prefix.
+use cojp::Disposition;
 use cojp::Octets;
 use cojp::OctetsParameter;
-use cojp::Report;
 use cojp::no_octets;
 use cojp_range::is_taken;
 ghost use mathlib.Core.Path.{_≡_};
@@ -17,7 +17,7 @@ pub struct HeldOctets {
 pub fn absent_octets() -> HeldOctets
     ensures { λ r. ⌜ r ≡ absentOctets ⌝ }
 {
-    let none = no_octets(Report::Absent);
+    let none = no_octets(Disposition::Absent);
     let value = none.value;
     HeldOctets { held: false, value }
 }
@@ -62,15 +62,15 @@ impl HeldOctets {
         if self.held {
             let value = self.value;
             return OctetsParameter {
-                report: Report::Taken,
+                disposition: Disposition::Taken,
                 value,
             };
         }
-        no_octets(Report::Absent)
+        no_octets(Disposition::Absent)
     }
 
     // The byte string after a configuration, by the node's report of the parameter: the one taken, else this one.
-    pub fn after(self, report: Report, parameter: OctetsParameter) -> HeldOctets
+    pub fn after(self, report: Disposition, parameter: OctetsParameter) -> HeldOctets
         ensures { λ r. ⌜ r ≡ octetsAfter report (parameter .value) self ⌝ }
     {
         if is_taken(report) {

@@ -24,7 +24,7 @@ impl HeldRate {
     pub fn after(self, parameter: RateParameter) -> HeldRate
         ensures { λ r. ⌜ r ≡ rateAfter parameter self ⌝ }
     {
-        let report = parameter.report;
+        let report = parameter.disposition;
         if is_taken(report) {
             return HeldRate {
                 held: true,

@@ -11,17 +11,17 @@ use lib.Seq.{drop-drop, getD-drop}
 use Rattle.cbor.specs.Decode.{bigEndian}
 use Rattle.image.specs.Fields.{and-good}
 use Rattle.image.specs.Part.{Part}
-use Rattle.cojp.specs.declared.fault.Fault.{Fault}
-use Rattle.cojp.specs.declared.report.Report.{Report}
-use Rattle.cojp.specs.declared.report.Report.the-variants.{Discarded}
+use Rattle.cojp.specs.declared.error_report.ErrorReport.{ErrorReport}
+use Rattle.cojp.specs.declared.disposition.Disposition.{Disposition}
+use Rattle.cojp.specs.declared.disposition.Disposition.the-variants.{Discarded}
 use Rattle.object_image.specs.Address.{shortAddressTo, shortAddressPart}
-use Rattle.object_image.specs.Codes.{reportOf, reportPart, boolOf, boolPart}
-use Rattle.object_image.specs.Faults.{faultTo, faultPart, faultsTo, faultsPart}
+use Rattle.object_image.specs.Codes.{dispositionOf, dispositionPart, boolOf, boolPart}
+use Rattle.object_image.specs.ErrorReports.{errorReportTo, errorReportPart, errorReportsTo, errorReportsPart}
 use Rattle.object_image.specs.Lists.{listTo, listPart}
 use Rattle.object_image.specs.Octets.{octetsTo, octetsPart}
 
 -- ---- one byte
-pub discarded : (n : ℕ) → ¬ (n ≡ 0) → ¬ (n ≡ 1) → Discarded ≡ reportOf n
+pub discarded : (n : ℕ) → ¬ (n ≡ 0) → ¬ (n ≡ 1) → Discarded ≡ dispositionOf n
 discarded zero h k = absurd (h refl)
 discarded (suc zero) h k = absurd (k refl)
 discarded (suc (suc n)) h k = refl
@@ -42,8 +42,8 @@ module _ (s : List ℕ) (at : ℕ) where
 
   -- ---- fields one after the other
   -- a report, and the value after it
-  pub parameter-here : {X P : Type 0} (q : Part X) (to : Report × X → P) {r : Report} {v : X} → r ≡ reportPart .get (drop at s)
-      → v ≡ q .get (drop (at + 1) s) → to (r, v) ≡ to (reportPart .get (drop at s), q .get (drop 1 (drop at s)))
+  pub parameter-here : {X P : Type 0} (q : Part X) (to : Disposition × X → P) {r : Disposition} {v : X} → r ≡ dispositionPart .get (drop at s)
+      → v ≡ q .get (drop (at + 1) s) → to (r, v) ≡ to (dispositionPart .get (drop at s), q .get (drop 1 (drop at s)))
   parameter-here q to e f = rw (e, f, drop-drop 1 at s)
 
   pub octets-here : {n : ℕ} {b : List ℕ} → n ≡ bigEndian (take 1 (drop at s)) → b ≡ take 16 (drop (at + 1) s)
@@ -58,23 +58,23 @@ module _ (s : List ℕ) (at : ℕ) where
       → b ≡ take 253 (drop (at + 2) s) → listTo (n, (l, b)) ≡ listPart .get (drop at s)
   list-here e f g = rw (e, f, g, drop-drop 1 1 (drop at s), drop-drop 1 at s, drop-drop 2 at s)
 
-  pub fault-here : faultTo (getD s at 0, getD s (at + 1) 0) ≡ faultPart .get (drop at s)
-  fault-here = rw (here, drop-drop 1 at s) (ap (λ (x : ℕ). faultTo (getD (drop at s) 0 0, x)) next)
+  pub fault-here : errorReportTo (getD s at 0, getD s (at + 1) 0) ≡ errorReportPart .get (drop at s)
+  fault-here = rw (here, drop-drop 1 at s) (ap (λ (x : ℕ). errorReportTo (getD (drop at s) 0 0, x)) next)
     where
       next : getD s (at + 1) 0 ≡ getD (drop (at + 1) s) 0 0
       next = let e : at + 1 + 0 ≡ at + 1 = omega arith in sym (getD-drop (at + 1) s 0 0 ∙ ap (λ (i : ℕ). getD s i 0) e)
 
-  pub faults-here : {n : ℕ} {v w x y z : Fault} → n ≡ bigEndian (take 1 (drop at s)) → v ≡ faultPart .get (drop (at + 1) s)
-      → w ≡ faultPart .get (drop (at + 3) s) → x ≡ faultPart .get (drop (at + 5) s) → y ≡ faultPart .get (drop (at + 7) s)
-      → z ≡ faultPart .get (drop (at + 9) s) → faultsTo (n, v ∷ w ∷ x ∷ y ∷ z ∷ []) ≡ faultsPart .get (drop at s)
+  pub faults-here : {n : ℕ} {v w x y z : ErrorReport} → n ≡ bigEndian (take 1 (drop at s)) → v ≡ errorReportPart .get (drop (at + 1) s)
+      → w ≡ errorReportPart .get (drop (at + 3) s) → x ≡ errorReportPart .get (drop (at + 5) s) → y ≡ errorReportPart .get (drop (at + 7) s)
+      → z ≡ errorReportPart .get (drop (at + 9) s) → errorReportsTo (n, v ∷ w ∷ x ∷ y ∷ z ∷ []) ≡ errorReportsPart .get (drop at s)
   faults-here e f g h i j =
       let t = drop at s in
       rw (e, f, g, h, i, j, drop-drop 2 1 t, drop-drop 2 3 t, drop-drop 2 5 t, drop-drop 2 7 t)
       (rw (drop-drop 1 at s, drop-drop 3 at s, drop-drop 5 at s, drop-drop 7 at s, drop-drop 9 at s))
 
   -- ---- which bytes are good
-  pub good-if-report : {r : Bool} → r ≡ reportPart .good (drop at s) → r ≡ (reportPart .good (drop at s) && true)
-  good-if-report e = e ∙ and-good (reportPart .good (drop at s))
+  pub good-if-report : {r : Bool} → r ≡ dispositionPart .good (drop at s) → r ≡ (dispositionPart .good (drop at s) && true)
+  good-if-report e = e ∙ and-good (dispositionPart .good (drop at s))
 
   pub good-later : {A : Type 0} (p : Part A) (k : ℕ) {r : Bool} → r ≡ p .good (drop (at + k) s) → r ≡ p .good (drop k (drop at s))
   good-later p k e = e ∙ ap (p .good) (sym (drop-drop k at s))

@@ -15,7 +15,7 @@ use Rattle.image.specs.Fields.{and-good, two-fields, four-fields, whole-struct}
 use Rattle.image.specs.Part.{Part, headed, isHeaded, isImage}
 use Rattle.cojp.specs.declared.address.AddressParameter.{AddressParameter}
 use Rattle.cojp.specs.declared.configuration.Configuration.{Configuration}
-use Rattle.cojp.specs.declared.fault.Faults.{Faults}
+use Rattle.cojp.specs.declared.error_report.ErrorReports.{ErrorReports}
 use Rattle.cojp.specs.declared.key_set.KeysParameter.{KeysParameter}
 use Rattle.cojp.specs.declared.list.ListParameter.{ListParameter}
 use Rattle.cojp.specs.declared.octets.OctetsParameter.{OctetsParameter}
@@ -23,7 +23,7 @@ use Rattle.cojp.specs.declared.rate.RateParameter.{RateParameter}
 use Rattle.cojp.specs.declared.request.JoinRequest.{JoinRequest}
 use Rattle.object_image.specs.Address.{addressParameterPart}
 use Rattle.object_image.specs.Configuration.{keysParameterPart, earlierFields, earlierFrom, laterFields, laterFrom, configurationTo, configurationImage}
-use Rattle.object_image.specs.Faults.{faultsPart}
+use Rattle.object_image.specs.ErrorReports.{errorReportsPart}
 use Rattle.object_image.specs.Lists.{listParameterPart}
 use Rattle.object_image.specs.Octets.{octetsParameterPart}
 use Rattle.object_image.specs.Rate.{rateParameterPart}
@@ -59,8 +59,8 @@ module _ (s : List ℕ) where
       → r ≡ requestFields .good (drop 2 s)
   request-good e f = rw (drop-drop 1 2 s, drop-drop 18 3 s, e) (f ∙ and-good (listParameterPart .good (drop 21 s)))
 
-  pub request-got : {n : OctetsParameter} {u : ListParameter} {x : Faults} {k : ℕ} → n ≡ octetsParameterPart .get (drop 3 s)
-      → u ≡ listParameterPart .get (drop 21 s) → x ≡ faultsPart .get (drop 277 s) → k ≡ bigEndian (take 8 (drop 288 s))
+  pub request-got : {n : OctetsParameter} {u : ListParameter} {x : ErrorReports} {k : ℕ} → n ≡ octetsParameterPart .get (drop 3 s)
+      → u ≡ listParameterPart .get (drop 21 s) → x ≡ errorReportsPart .get (drop 277 s) → k ≡ bigEndian (take 8 (drop 288 s))
       → requestTo (getD s 2 0, (n, (u, (x, k)))) ≡ requestImage .get s
   request-got e f g h = rw (e, f, g, h, here s 2, drop-drop 1 2 s, drop-drop 18 3 s, drop-drop 256 21 s, drop-drop 11 277 s)
 
@@ -68,10 +68,10 @@ three-fields : (h a b c : List ℕ) → ((h ++ a) ++ b) ++ c ≡ h ++ (a ++ (b +
 three-fields h a b c = append-assoc (h ++ a) b c ∙ append-assoc h a (b ++ c)
 
 pub later-request-wrote : (q : JoinRequest) {d e : List ℕ} {n : ℕ}
-    → Wrote ((listParameterPart .put (q .unsupported) ++ faultsPart .put (q .faults)) ++ bytesOf 8 (q .passed)) d n e
+    → Wrote ((listParameterPart .put (q .unsupported) ++ errorReportsPart .put (q .errors)) ++ bytesOf 8 (q .unknown)) d n e
     → Wrote (request.laterFields .put (request.laterFrom q)) d n e
 later-request-wrote q w =
-    wrote-same (two-fields (listParameterPart .put (q .unsupported)) (faultsPart .put (q .faults)) (bytesOf 8 (q .passed))) w
+    wrote-same (two-fields (listParameterPart .put (q .unsupported)) (errorReportsPart .put (q .errors)) (bytesOf 8 (q .unknown))) w
 
 pub request-stored : (q : JoinRequest) {d e : List ℕ} → length d ≡ 296
     → (let later = request.laterFields .put (request.laterFrom q) in
@@ -153,9 +153,9 @@ module _ (s : List ℕ) where
   by-half p u = rw p (u ∙ ap (laterFields .good) (sym (drop-drop 284 2 s)))
 
   pub configuration-got : {k : KeysParameter} {a : AddressParameter} {j n p : OctetsParameter} {l : ListParameter} {r : RateParameter}
-      {c : Faults} {m : ℕ} → k ≡ keysParameterPart .get (drop 2 s) → a ≡ addressParameterPart .get (drop 220 s)
+      {c : ErrorReports} {m : ℕ} → k ≡ keysParameterPart .get (drop 2 s) → a ≡ addressParameterPart .get (drop 220 s)
       → j ≡ octetsParameterPart .get (drop 232 s) → n ≡ octetsParameterPart .get (drop 250 s) → p ≡ octetsParameterPart .get (drop 268 s)
-      → l ≡ listParameterPart .get (drop 286 s) → r ≡ rateParameterPart .get (drop 542 s) → c ≡ faultsPart .get (drop 551 s)
+      → l ≡ listParameterPart .get (drop 286 s) → r ≡ rateParameterPart .get (drop 542 s) → c ≡ errorReportsPart .get (drop 551 s)
       → m ≡ bigEndian (take 8 (drop 562 s))
       → configurationTo ((k, (a, (j, (n, p)))), (l, (r, (c, m)))) ≡ configurationImage .get s
   configuration-got e f g h i j k l m =
@@ -183,11 +183,11 @@ module _ (c : Configuration) where
   r = rateParameterPart .put (c .rate)
 
   abbrev f : List ℕ
-  f = faultsPart .put (c .came)
+  f = errorReportsPart .put (c .labels)
 
-  pub later-wrote : {d e : List ℕ} {n : ℕ} → Wrote (((l ++ r) ++ f) ++ bytesOf 8 (c .passed)) d n e
+  pub later-wrote : {d e : List ℕ} {n : ℕ} → Wrote (((l ++ r) ++ f) ++ bytesOf 8 (c .unknown)) d n e
       → Wrote (laterFields .put (laterFrom c)) d n e
-  later-wrote w = wrote-same (three-fields l r f (bytesOf 8 (c .passed))) w
+  later-wrote w = wrote-same (three-fields l r f (bytesOf 8 (c .unknown))) w
 
   abbrev earlier : List ℕ
   earlier = earlierFields .put (earlierFrom c)

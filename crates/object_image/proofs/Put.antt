@@ -9,13 +9,13 @@ use Rattle.cbor.specs.Answer.{Wrote}
 use Rattle.cbor.specs.Encode.{bytesOf}
 use Rattle.image.specs.Fields.{two-fields}
 use Rattle.image.specs.Part.{puts}
-use Rattle.cojp.specs.Faults.{faultOf}
+use Rattle.cojp.specs.ErrorReports.{errorReportOf}
 use Rattle.cojp.specs.declared.address.ShortAddress.{ShortAddress}
-use Rattle.cojp.specs.declared.fault.Fault.{Fault}
+use Rattle.cojp.specs.declared.error_report.ErrorReport.{ErrorReport}
 use Rattle.cojp.specs.declared.list.ItemList.{ItemList}
 use Rattle.object_image.specs.Address.{shortAddressPart}
 use Rattle.object_image.specs.Codes.{boolPart}
-use Rattle.object_image.specs.Faults.{faultPart}
+use Rattle.object_image.specs.ErrorReports.{errorReportPart}
 use Rattle.object_image.specs.Lists.{listPart}
 use Rattle.object_image.specs.Request as request
 
@@ -37,21 +37,21 @@ list-wrote l w = wrote-same (two-fields (bytesOf 1 (l .count)) (bytesOf 1 (l .le
 
 -- ---- five reports
 -- the one at a place
-abbrev pub at : List Fault → ℕ → Fault
-at xs i = getD xs i (faultOf 0 0)
+abbrev pub at : List ErrorReport → ℕ → ErrorReport
+at xs i = getD xs i (errorReportOf 0 0)
 
-all-five : (xs : List Fault) → length xs ≡ 5 → at xs 0 ∷ at xs 1 ∷ at xs 2 ∷ at xs 3 ∷ at xs 4 ∷ [] ≡ xs
+all-five : (xs : List ErrorReport) → length xs ≡ 5 → at xs 0 ∷ at xs 1 ∷ at xs 2 ∷ at xs 3 ∷ at xs 4 ∷ [] ≡ xs
 all-five xs e =
-    let z = faultOf 0 0 in
+    let z = errorReportOf 0 0 in
     rw (← drop-of-length-le xs {i = 5} (omega arith), ← drop-cons xs 4 z (omega arith), ← drop-cons xs 3 z (omega arith))
     (rw (← drop-cons xs 2 z (omega arith), ← drop-cons xs 1 z (omega arith), ← drop-cons xs 0 z (omega arith)))
 
-abbrev pub fiveBytes : Fault → Fault → Fault → Fault → Fault → List ℕ
-fiveBytes v w x y z = (((faultPart .put v ++ faultPart .put w) ++ faultPart .put x) ++ faultPart .put y) ++ faultPart .put z
+abbrev pub fiveBytes : ErrorReport → ErrorReport → ErrorReport → ErrorReport → ErrorReport → List ℕ
+fiveBytes v w x y z = (((errorReportPart .put v ++ errorReportPart .put w) ++ errorReportPart .put x) ++ errorReportPart .put y) ++ errorReportPart .put z
 
-pub five-wrote : (xs : List Fault) {v w x y z : Fault} {d e : List ℕ} {n : ℕ} → length xs ≡ 5 → v ≡ at xs 0 → w ≡ at xs 1 → x ≡ at xs 2
-    → y ≡ at xs 3 → z ≡ at xs 4 → Wrote (fiveBytes v w x y z) d n e → Wrote (puts faultPart xs) d n e
+pub five-wrote : (xs : List ErrorReport) {v w x y z : ErrorReport} {d e : List ℕ} {n : ℕ} → length xs ≡ 5 → v ≡ at xs 0 → w ≡ at xs 1 → x ≡ at xs 2
+    → y ≡ at xs 3 → z ≡ at xs 4 → Wrote (fiveBytes v w x y z) d n e → Wrote (puts errorReportPart xs) d n e
 five-wrote xs h f g i j k u =
-    let same : puts faultPart (at xs 0 ∷ at xs 1 ∷ at xs 2 ∷ at xs 3 ∷ at xs 4 ∷ []) ≡ puts faultPart xs =
-    ap (puts faultPart) (all-five xs h) in
+    let same : puts errorReportPart (at xs 0 ∷ at xs 1 ∷ at xs 2 ∷ at xs 3 ∷ at xs 4 ∷ []) ≡ puts errorReportPart xs =
+    ap (puts errorReportPart) (all-five xs h) in
     wrote-same (rw (f, g, i, j, k) same) u

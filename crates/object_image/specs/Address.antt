@@ -5,8 +5,8 @@ use mathlib.Core.List.{List}
 use Rattle.image.specs.Part.{Part, number, octets, both, viewed}
 use Rattle.cojp.specs.declared.address.AddressParameter.{AddressParameter}
 use Rattle.cojp.specs.declared.address.ShortAddress.{ShortAddress}
-use Rattle.cojp.specs.declared.report.Report.{Report}
-use Rattle.object_image.specs.Codes.{reportPart, boolPart}
+use Rattle.cojp.specs.declared.disposition.Disposition.{Disposition}
+use Rattle.object_image.specs.Codes.{dispositionPart, boolPart}
 
 abbrev pub shortAddressFields : Part (List ℕ × (Bool × ℕ))
 shortAddressFields = both (octets 2) (both boolPart (number 8))
@@ -20,11 +20,11 @@ shortAddressFrom a = (a .bytes, (a .leased, a .lease))
 abbrev pub shortAddressPart : Part ShortAddress
 shortAddressPart = viewed shortAddressFields shortAddressTo shortAddressFrom
 
-abbrev pub addressParameterTo : Report × ShortAddress → AddressParameter
-addressParameterTo x = record { report = x .0; value = x .1 }
+abbrev pub addressParameterTo : Disposition × ShortAddress → AddressParameter
+addressParameterTo x = record { disposition = x .0; value = x .1 }
 
-abbrev pub addressParameterFrom : AddressParameter → Report × ShortAddress
-addressParameterFrom p = (p .report, p .value)
+abbrev pub addressParameterFrom : AddressParameter → Disposition × ShortAddress
+addressParameterFrom p = (p .disposition, p .value)
 
 abbrev pub addressParameterPart : Part AddressParameter
-addressParameterPart = viewed (both reportPart shortAddressPart) addressParameterTo addressParameterFrom
+addressParameterPart = viewed (both dispositionPart shortAddressPart) addressParameterTo addressParameterFrom

@@ -2,22 +2,22 @@
 use Prim.Native.Nat.{ℕ, zero, suc}
 use mathlib.Core.Bool.{Bool, true, false}
 use Rattle.image.specs.Part.{Part, code}
-use Rattle.cojp.specs.declared.report.Report.{Report}
-use Rattle.cojp.specs.declared.report.Report.the-variants.{Absent, Taken, Discarded}
+use Rattle.cojp.specs.declared.disposition.Disposition.{Disposition}
+use Rattle.cojp.specs.declared.disposition.Disposition.the-variants.{Absent, Taken, Discarded}
 
-abbrev pub reportNumber : Report → ℕ
-reportNumber Absent = 0
-reportNumber Taken = 1
-reportNumber Discarded = 2
+abbrev pub dispositionNumber : Disposition → ℕ
+dispositionNumber Absent = 0
+dispositionNumber Taken = 1
+dispositionNumber Discarded = 2
 
 -- of a number over 2, which no image has, too
-abbrev pub reportOf : ℕ → Report
-reportOf zero = Absent
-reportOf (suc zero) = Taken
-reportOf (suc (suc n)) = Discarded
+abbrev pub dispositionOf : ℕ → Disposition
+dispositionOf zero = Absent
+dispositionOf (suc zero) = Taken
+dispositionOf (suc (suc n)) = Discarded
 
-abbrev pub reportPart : Part Report
-reportPart = code reportNumber reportOf 2
+abbrev pub dispositionPart : Part Disposition
+dispositionPart = code dispositionNumber dispositionOf 2
 
 abbrev pub boolNumber : Bool → ℕ
 boolNumber false = 0

@@ -6,28 +6,28 @@ use Rattle.key_image.specs.Key.{keySetPart}
 use Rattle.link_key_set.specs.declared.key_set.KeySet.{KeySet}
 use Rattle.cojp.specs.declared.address.AddressParameter.{AddressParameter}
 use Rattle.cojp.specs.declared.configuration.Configuration.{Configuration}
-use Rattle.cojp.specs.declared.fault.Faults.{Faults}
+use Rattle.cojp.specs.declared.error_report.ErrorReports.{ErrorReports}
 use Rattle.cojp.specs.declared.key_set.KeysParameter.{KeysParameter}
 use Rattle.cojp.specs.declared.list.ListParameter.{ListParameter}
 use Rattle.cojp.specs.declared.octets.OctetsParameter.{OctetsParameter}
 use Rattle.cojp.specs.declared.rate.RateParameter.{RateParameter}
-use Rattle.cojp.specs.declared.report.Report.{Report}
+use Rattle.cojp.specs.declared.disposition.Disposition.{Disposition}
 use Rattle.object_image.specs.Address.{addressParameterPart}
-use Rattle.object_image.specs.Codes.{reportPart}
-use Rattle.object_image.specs.Faults.{faultsPart}
+use Rattle.object_image.specs.Codes.{dispositionPart}
+use Rattle.object_image.specs.ErrorReports.{errorReportsPart}
 use Rattle.object_image.specs.Lists.{listParameterPart}
 use Rattle.object_image.specs.Octets.{octetsParameterPart}
 use Rattle.object_image.specs.Rate.{rateParameterPart}
 
-abbrev pub keysParameterTo : Report × KeySet → KeysParameter
-keysParameterTo x = record { report = x .0; value = x .1 }
+abbrev pub keysParameterTo : Disposition × KeySet → KeysParameter
+keysParameterTo x = record { disposition = x .0; value = x .1 }
 
-abbrev pub keysParameterFrom : KeysParameter → Report × KeySet
-keysParameterFrom p = (p .report, p .value)
+abbrev pub keysParameterFrom : KeysParameter → Disposition × KeySet
+keysParameterFrom p = (p .disposition, p .value)
 
 -- 218 bytes: its report stands in front of the key set
 abbrev pub keysParameterPart : Part KeysParameter
-keysParameterPart = viewed (both reportPart keySetPart) keysParameterTo keysParameterFrom
+keysParameterPart = viewed (both dispositionPart keySetPart) keysParameterTo keysParameterFrom
 
 -- ---- two halves of 284 bytes: the fields up to the prefix, and those from the blacklist on
 abbrev pub EarlierFields : Type 0
@@ -41,13 +41,13 @@ abbrev pub earlierFrom : Configuration → EarlierFields
 earlierFrom c = (c .keys, (c .address, (c .jrc, (c .network, c .prefix))))
 
 abbrev pub LaterFields : Type 0
-LaterFields = ListParameter × (RateParameter × (Faults × ℕ))
+LaterFields = ListParameter × (RateParameter × (ErrorReports × ℕ))
 
 abbrev pub laterFields : Part LaterFields
-laterFields = both listParameterPart (both rateParameterPart (both faultsPart (number 8)))
+laterFields = both listParameterPart (both rateParameterPart (both errorReportsPart (number 8)))
 
 abbrev pub laterFrom : Configuration → LaterFields
-laterFrom c = (c .blacklist, (c .rate, (c .came, c .passed)))
+laterFrom c = (c .blacklist, (c .rate, (c .labels, c .unknown)))
 
 -- ---- the whole
 abbrev pub configurationTo : EarlierFields × LaterFields → Configuration
@@ -60,8 +60,8 @@ configurationTo x =
       prefix = x .0 .1 .1 .1 .1;
       blacklist = x .1 .0;
       rate = x .1 .1 .0;
-      came = x .1 .1 .1 .0;
-      passed = x .1 .1 .1 .1;
+      labels = x .1 .1 .1 .0;
+      unknown = x .1 .1 .1 .1;
     }
 
 abbrev pub configurationFrom : Configuration → EarlierFields × LaterFields

@@ -3,7 +3,7 @@ pub mod Octets
 pub mod Address
 pub mod Lists
 pub mod Rate
-pub mod Faults
+pub mod ErrorReports
 pub mod Request
 pub mod Configuration
 pub mod Laws

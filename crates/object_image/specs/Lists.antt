@@ -4,8 +4,8 @@ use mathlib.Core.List.{List}
 use Rattle.image.specs.Part.{Part, number, octets, both, viewed}
 use Rattle.cojp.specs.declared.list.ItemList.{ItemList}
 use Rattle.cojp.specs.declared.list.ListParameter.{ListParameter}
-use Rattle.cojp.specs.declared.report.Report.{Report}
-use Rattle.object_image.specs.Codes.{reportPart}
+use Rattle.cojp.specs.declared.disposition.Disposition.{Disposition}
+use Rattle.object_image.specs.Codes.{dispositionPart}
 
 abbrev pub listFields : Part (ℕ × (ℕ × List ℕ))
 listFields = both (number 1) (both (number 1) (octets 253))
@@ -19,11 +19,11 @@ listFrom l = (l .count, (l .len, l .bytes))
 abbrev pub listPart : Part ItemList
 listPart = viewed listFields listTo listFrom
 
-abbrev pub listParameterTo : Report × ItemList → ListParameter
-listParameterTo x = record { report = x .0; value = x .1 }
+abbrev pub listParameterTo : Disposition × ItemList → ListParameter
+listParameterTo x = record { disposition = x .0; value = x .1 }
 
-abbrev pub listParameterFrom : ListParameter → Report × ItemList
-listParameterFrom p = (p .report, p .value)
+abbrev pub listParameterFrom : ListParameter → Disposition × ItemList
+listParameterFrom p = (p .disposition, p .value)
 
 abbrev pub listParameterPart : Part ListParameter
-listParameterPart = viewed (both reportPart listPart) listParameterTo listParameterFrom
+listParameterPart = viewed (both dispositionPart listPart) listParameterTo listParameterFrom

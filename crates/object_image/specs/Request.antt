@@ -2,23 +2,23 @@
 -- passed over 8.
 use Prim.Native.Nat.{ℕ}
 use Rattle.image.specs.Part.{Part, byte, number, both, viewed, headed}
-use Rattle.cojp.specs.declared.fault.Faults.{Faults}
+use Rattle.cojp.specs.declared.error_report.ErrorReports.{ErrorReports}
 use Rattle.cojp.specs.declared.list.ListParameter.{ListParameter}
 use Rattle.cojp.specs.declared.octets.OctetsParameter.{OctetsParameter}
 use Rattle.cojp.specs.declared.request.JoinRequest.{JoinRequest}
-use Rattle.object_image.specs.Faults.{faultsPart}
+use Rattle.object_image.specs.ErrorReports.{errorReportsPart}
 use Rattle.object_image.specs.Lists.{listParameterPart}
 use Rattle.object_image.specs.Octets.{octetsParameterPart}
 
 -- the fields after the network identifier
 abbrev pub LaterFields : Type 0
-LaterFields = ListParameter × (Faults × ℕ)
+LaterFields = ListParameter × (ErrorReports × ℕ)
 
 abbrev pub laterFields : Part LaterFields
-laterFields = both listParameterPart (both faultsPart (number 8))
+laterFields = both listParameterPart (both errorReportsPart (number 8))
 
 abbrev pub laterFrom : JoinRequest → LaterFields
-laterFrom q = (q .unsupported, (q .faults, q .passed))
+laterFrom q = (q .unsupported, (q .errors, q .unknown))
 
 -- the whole
 abbrev pub RequestFields : Type 0
@@ -28,7 +28,7 @@ abbrev pub requestFields : Part RequestFields
 requestFields = both byte (both octetsParameterPart laterFields)
 
 abbrev pub requestTo : RequestFields → JoinRequest
-requestTo x = record { role = x .0; network = x .1 .0; unsupported = x .1 .1 .0; faults = x .1 .1 .1 .0; passed = x .1 .1 .1 .1 }
+requestTo x = record { role = x .0; network = x .1 .0; unsupported = x .1 .1 .0; errors = x .1 .1 .1 .0; unknown = x .1 .1 .1 .1 }
 
 abbrev pub requestFrom : JoinRequest → RequestFields
 requestFrom q = (q .role, (q .network, laterFrom q))

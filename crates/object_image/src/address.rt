@@ -1,16 +1,16 @@
 // Short addresses, with their lease.
 use crate::codes::bool_at;
+use crate::codes::disposition_at;
 use crate::codes::is_bool;
-use crate::codes::is_report;
+use crate::codes::is_disposition;
 use crate::codes::put_bool;
-use crate::codes::put_report;
-use crate::codes::report_at;
+use crate::codes::put_disposition;
 use cojp::AddressParameter;
 use cojp::ShortAddress;
+use image::array_2_at;
 use image::number_at;
+use image::put_array_2;
 use image::put_number;
-use image::put_two;
-use image::two_at;
 ghost use mathlib.Core.Path.{_≡_};
 ghost use Prim.Native.Nat.{_+_, _≤_};
 ghost use lib.ListN.{length, drop};
@@ -31,7 +31,7 @@ pub fn short_address_at(s: &[u8], at: usize) -> ShortAddress
     ensures { λ r. ⌜ r ≡ shortAddressPart .get (drop at (now (s .entry))) ⌝ }
 {
     ShortAddress {
-        bytes: two_at(s, at),
+        bytes: array_2_at(s, at),
         leased: bool_at(s, at + 2),
         lease: number_at(s, at + 3, 8),
     }
@@ -43,7 +43,7 @@ pub fn put_short_address(dst: &mut [u8], address: ShortAddress)
     ensures { λ _. ⌜ Wrote (shortAddressPart .put address) (now (dst .entry)) 11 (now (dst .exit)) ⌝ }
 {
     let bytes = address.bytes;
-    put_two(dst, bytes);
+    put_array_2(dst, bytes);
     put_bool(&mut dst[2..], address.leased);
     put_number(&mut dst[3..], 8, address.lease);
 }
@@ -53,7 +53,7 @@ pub fn is_address_parameter(s: &[u8], at: usize) -> bool
     requires { ⌜ at + 12 ≤ length (now s) ⌝ }
     ensures { λ r. ⌜ r ≡ addressParameterPart .good (drop at (now (s .entry))) ⌝ }
 {
-    if is_report(s, at) {
+    if is_disposition(s, at) {
         return is_short_address(s, at + 1);
     }
     false
@@ -65,7 +65,7 @@ pub fn address_parameter_at(s: &[u8], at: usize) -> AddressParameter
     ensures { λ r. ⌜ r ≡ addressParameterPart .get (drop at (now (s .entry))) ⌝ }
 {
     AddressParameter {
-        report: report_at(s, at),
+        disposition: disposition_at(s, at),
         value: short_address_at(s, at + 1),
     }
 }
@@ -75,8 +75,8 @@ pub fn put_address_parameter(dst: &mut [u8], parameter: AddressParameter)
     requires { ⌜ 12 ≤ length (now dst) ⌝ }
     ensures { λ _. ⌜ Wrote (addressParameterPart .put parameter) (now (dst .entry)) 12 (now (dst .exit)) ⌝ }
 {
-    let report = parameter.report;
+    let report = parameter.disposition;
     let value = parameter.value;
-    put_report(dst, report);
+    put_disposition(dst, report);
     put_short_address(&mut dst[1..], value);
 }

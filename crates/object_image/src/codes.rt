@@ -1,54 +1,54 @@
 // Reports and truth values, a byte each.
-use cojp::Report;
+use cojp::Disposition;
 use image::put_byte;
 ghost use mathlib.Core.Path.{_≡_};
 ghost use Prim.Native.Nat.{_+_, _≤_};
 ghost use lib.ListN.{length, drop};
 ghost use Rattle.cbor.specs.Answer.{Wrote};
-ghost use Rattle.object_image.specs.Codes.{reportNumber, reportOf, reportPart, boolNumber, boolPart};
+ghost use Rattle.object_image.specs.Codes.{dispositionNumber, dispositionOf, dispositionPart, boolNumber, boolPart};
 
-fn report_of(n: u8) -> Report
-    ensures { λ r. ⌜ r ≡ reportOf n ⌝ }
+fn disposition_of(n: u8) -> Disposition
+    ensures { λ r. ⌜ r ≡ dispositionOf n ⌝ }
 {
     match n {
-        0 => Report::Absent,
-        1 => Report::Taken,
-        _ => Report::Discarded,
+        0 => Disposition::Absent,
+        1 => Disposition::Taken,
+        _ => Disposition::Discarded,
     }
 }
 
-fn report_number(report: Report) -> u8
-    ensures { λ r. ⌜ r ≡ reportNumber report ⌝ }
+fn disposition_number(report: Disposition) -> u8
+    ensures { λ r. ⌜ r ≡ dispositionNumber report ⌝ }
 {
     match report {
-        Report::Absent => 0,
-        Report::Taken => 1,
-        Report::Discarded => 2,
+        Disposition::Absent => 0,
+        Disposition::Taken => 1,
+        Disposition::Discarded => 2,
     }
 }
 
 // Whether the byte at a place is a report.
-pub fn is_report(s: &[u8], at: usize) -> bool
+pub fn is_disposition(s: &[u8], at: usize) -> bool
     requires { ⌜ at + 1 ≤ length (now s) ⌝ }
-    ensures { λ r. ⌜ r ≡ reportPart .good (drop at (now (s .entry))) ⌝ }
+    ensures { λ r. ⌜ r ≡ dispositionPart .good (drop at (now (s .entry))) ⌝ }
 {
     s[at] <= 2
 }
 
 // The report at a place.
-pub fn report_at(s: &[u8], at: usize) -> Report
+pub fn disposition_at(s: &[u8], at: usize) -> Disposition
     requires { ⌜ at + 1 ≤ length (now s) ⌝ }
-    ensures { λ r. ⌜ r ≡ reportPart .get (drop at (now (s .entry))) ⌝ }
+    ensures { λ r. ⌜ r ≡ dispositionPart .get (drop at (now (s .entry))) ⌝ }
 {
-    report_of(s[at])
+    disposition_of(s[at])
 }
 
 // Writes a report.
-pub fn put_report(dst: &mut [u8], report: Report)
+pub fn put_disposition(dst: &mut [u8], report: Disposition)
     requires { ⌜ 1 ≤ length (now dst) ⌝ }
-    ensures { λ _. ⌜ Wrote (reportPart .put report) (now (dst .entry)) 1 (now (dst .exit)) ⌝ }
+    ensures { λ _. ⌜ Wrote (dispositionPart .put report) (now (dst .entry)) 1 (now (dst .exit)) ⌝ }
 {
-    put_byte(dst, report_number(report));
+    put_byte(dst, disposition_number(report));
 }
 
 fn bool_number(truth: bool) -> u8

@@ -2,11 +2,11 @@
 use crate::address::address_parameter_at;
 use crate::address::is_address_parameter;
 use crate::address::put_address_parameter;
-use crate::codes::is_report;
-use crate::codes::put_report;
-use crate::codes::report_at;
-use crate::faults::faults_at;
-use crate::faults::put_faults;
+use crate::codes::disposition_at;
+use crate::codes::is_disposition;
+use crate::codes::put_disposition;
+use crate::error_reports::error_reports_at;
+use crate::error_reports::put_error_reports;
 use crate::list::is_list_parameter;
 use crate::list::list_parameter_at;
 use crate::list::put_list_parameter;
@@ -41,7 +41,7 @@ fn is_keys_parameter(s: &[u8], at: usize) -> bool
     requires { ⌜ at + 218 ≤ length (now s) ⌝ }
     ensures { λ r. ⌜ r ≡ keysParameterPart .good (drop at (now (s .entry))) ⌝ }
 {
-    if is_report(s, at) {
+    if is_disposition(s, at) {
         return is_key_set(s, at + 1);
     }
     false
@@ -53,7 +53,7 @@ fn keys_parameter_at(s: &[u8], at: usize) -> KeysParameter
     ensures { λ r. ⌜ r ≡ keysParameterPart .get (drop at (now (s .entry))) ⌝ }
 {
     KeysParameter {
-        report: report_at(s, at),
+        disposition: disposition_at(s, at),
         value: key_set_at(s, at + 1),
     }
 }
@@ -63,9 +63,9 @@ fn put_keys_parameter(dst: &mut [u8], parameter: KeysParameter)
     requires { ⌜ 218 ≤ length (now dst) ⌝ }
     ensures { λ _. ⌜ Wrote (keysParameterPart .put parameter) (now (dst .entry)) 218 (now (dst .exit)) ⌝ }
 {
-    let report = parameter.report;
+    let report = parameter.disposition;
     let value = parameter.value;
-    put_report(dst, report);
+    put_disposition(dst, report);
     put_key_set(&mut dst[1..], value);
 }
 
@@ -126,8 +126,8 @@ pub fn configuration_in(s: &[u8]) -> Configuration
         prefix: octets_parameter_at(s, 268),
         blacklist: list_parameter_at(s, 286),
         rate: rate_parameter_at(s, 542),
-        came: faults_at(s, 551),
-        passed: number_at(s, 562, 8),
+        labels: error_reports_at(s, 551),
+        unknown: number_at(s, 562, 8),
     }
 }
 
@@ -155,11 +155,11 @@ fn put_later(dst: &mut [u8], configuration: Configuration)
 {
     let blacklist = configuration.blacklist;
     let rate = configuration.rate;
-    let came = configuration.came;
+    let met = configuration.labels;
     put_list_parameter(dst, blacklist);
     put_rate_parameter(&mut dst[256..], rate);
-    put_faults(&mut dst[265..], came);
-    put_number(&mut dst[276..], 8, configuration.passed);
+    put_error_reports(&mut dst[265..], met);
+    put_number(&mut dst[276..], 8, configuration.unknown);
 }
 
 // Stores a configuration.

@@ -1,12 +1,12 @@
 // Arrays that are kept as they are written.
-use crate::codes::is_report;
-use crate::codes::put_report;
-use crate::codes::report_at;
+use crate::codes::disposition_at;
+use crate::codes::is_disposition;
+use crate::codes::put_disposition;
 use cojp::ItemList;
 use cojp::ListParameter;
-use image::bytes253_at;
+use image::array_253_at;
 use image::number_at;
-use image::put_bytes253;
+use image::put_array_253;
 use image::put_number;
 ghost use mathlib.Core.Path.{_≡_};
 ghost use Prim.Native.Nat.{_+_, _≤_};
@@ -22,7 +22,7 @@ pub fn list_at(s: &[u8], at: usize) -> ItemList
     ItemList {
         count: number_at(s, at, 1),
         len: number_at(s, at + 1, 1) as usize,
-        bytes: bytes253_at(s, at + 2),
+        bytes: array_253_at(s, at + 2),
     }
 }
 
@@ -34,7 +34,7 @@ pub fn put_list(dst: &mut [u8], list: ItemList)
     let bytes = list.bytes;
     put_number(dst, 1, list.count);
     put_number(&mut dst[1..], 1, list.len as u64);
-    put_bytes253(&mut dst[2..], bytes);
+    put_array_253(&mut dst[2..], bytes);
 }
 
 // Whether the bytes at a place are a list as a parameter.
@@ -42,7 +42,7 @@ pub fn is_list_parameter(s: &[u8], at: usize) -> bool
     requires { ⌜ at + 256 ≤ length (now s) ⌝ }
     ensures { λ r. ⌜ r ≡ listParameterPart .good (drop at (now (s .entry))) ⌝ }
 {
-    is_report(s, at)
+    is_disposition(s, at)
 }
 
 // The parameter at a place.
@@ -51,7 +51,7 @@ pub fn list_parameter_at(s: &[u8], at: usize) -> ListParameter
     ensures { λ r. ⌜ r ≡ listParameterPart .get (drop at (now (s .entry))) ⌝ }
 {
     ListParameter {
-        report: report_at(s, at),
+        disposition: disposition_at(s, at),
         value: list_at(s, at + 1),
     }
 }
@@ -61,8 +61,8 @@ pub fn put_list_parameter(dst: &mut [u8], parameter: ListParameter)
     requires { ⌜ 256 ≤ length (now dst) ⌝ }
     ensures { λ _. ⌜ Wrote (listParameterPart .put parameter) (now (dst .entry)) 256 (now (dst .exit)) ⌝ }
 {
-    let report = parameter.report;
+    let report = parameter.disposition;
     let value = parameter.value;
-    put_report(dst, report);
+    put_disposition(dst, report);
     put_list(&mut dst[1..], value);
 }

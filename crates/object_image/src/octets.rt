@@ -1,13 +1,13 @@
 // Byte strings of at most 16 bytes.
-use crate::codes::is_report;
-use crate::codes::put_report;
-use crate::codes::report_at;
+use crate::codes::disposition_at;
+use crate::codes::is_disposition;
+use crate::codes::put_disposition;
 use cojp::Octets;
 use cojp::OctetsParameter;
+use image::array_16_at;
 use image::number_at;
+use image::put_array_16;
 use image::put_number;
-use image::put_sixteen;
-use image::sixteen_at;
 ghost use mathlib.Core.Path.{_≡_};
 ghost use Prim.Native.Nat.{_+_, _≤_};
 ghost use lib.ListN.{length, drop};
@@ -21,7 +21,7 @@ pub fn octets_at(s: &[u8], at: usize) -> Octets
 {
     Octets {
         len: number_at(s, at, 1) as usize,
-        bytes: sixteen_at(s, at + 1),
+        bytes: array_16_at(s, at + 1),
     }
 }
 
@@ -32,7 +32,7 @@ pub fn put_octets(dst: &mut [u8], octets: Octets)
 {
     let bytes = octets.bytes;
     put_number(dst, 1, octets.len as u64);
-    put_sixteen(&mut dst[1..], bytes);
+    put_array_16(&mut dst[1..], bytes);
 }
 
 // Whether the bytes at a place are a byte string as a parameter.
@@ -40,7 +40,7 @@ pub fn is_octets_parameter(s: &[u8], at: usize) -> bool
     requires { ⌜ at + 18 ≤ length (now s) ⌝ }
     ensures { λ r. ⌜ r ≡ octetsParameterPart .good (drop at (now (s .entry))) ⌝ }
 {
-    is_report(s, at)
+    is_disposition(s, at)
 }
 
 // The parameter at a place.
@@ -49,7 +49,7 @@ pub fn octets_parameter_at(s: &[u8], at: usize) -> OctetsParameter
     ensures { λ r. ⌜ r ≡ octetsParameterPart .get (drop at (now (s .entry))) ⌝ }
 {
     OctetsParameter {
-        report: report_at(s, at),
+        disposition: disposition_at(s, at),
         value: octets_at(s, at + 1),
     }
 }
@@ -59,8 +59,8 @@ pub fn put_octets_parameter(dst: &mut [u8], parameter: OctetsParameter)
     requires { ⌜ 18 ≤ length (now dst) ⌝ }
     ensures { λ _. ⌜ Wrote (octetsParameterPart .put parameter) (now (dst .entry)) 18 (now (dst .exit)) ⌝ }
 {
-    let report = parameter.report;
+    let report = parameter.disposition;
     let value = parameter.value;
-    put_report(dst, report);
+    put_disposition(dst, report);
     put_octets(&mut dst[1..], value);
 }

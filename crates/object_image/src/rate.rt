@@ -1,7 +1,7 @@
 // Join rates.
-use crate::codes::is_report;
-use crate::codes::put_report;
-use crate::codes::report_at;
+use crate::codes::disposition_at;
+use crate::codes::is_disposition;
+use crate::codes::put_disposition;
 use cojp::RateParameter;
 use image::number_at;
 use image::put_number;
@@ -16,7 +16,7 @@ pub fn is_rate_parameter(s: &[u8], at: usize) -> bool
     requires { ⌜ at + 9 ≤ length (now s) ⌝ }
     ensures { λ r. ⌜ r ≡ rateParameterPart .good (drop at (now (s .entry))) ⌝ }
 {
-    is_report(s, at)
+    is_disposition(s, at)
 }
 
 // The parameter at a place.
@@ -25,7 +25,7 @@ pub fn rate_parameter_at(s: &[u8], at: usize) -> RateParameter
     ensures { λ r. ⌜ r ≡ rateParameterPart .get (drop at (now (s .entry))) ⌝ }
 {
     RateParameter {
-        report: report_at(s, at),
+        disposition: disposition_at(s, at),
         value: number_at(s, at + 1, 8),
     }
 }
@@ -35,7 +35,7 @@ pub fn put_rate_parameter(dst: &mut [u8], parameter: RateParameter)
     requires { ⌜ 9 ≤ length (now dst) ⌝ }
     ensures { λ _. ⌜ Wrote (rateParameterPart .put parameter) (now (dst .entry)) 9 (now (dst .exit)) ⌝ }
 {
-    let report = parameter.report;
-    put_report(dst, report);
+    let report = parameter.disposition;
+    put_disposition(dst, report);
     put_number(&mut dst[1..], 8, parameter.value);
 }

@@ -1,6 +1,6 @@
 // The image of a join request.
-use crate::faults::faults_at;
-use crate::faults::put_faults;
+use crate::error_reports::error_reports_at;
+use crate::error_reports::put_error_reports;
 use crate::list::is_list_parameter;
 use crate::list::list_parameter_at;
 use crate::list::put_list_parameter;
@@ -46,8 +46,8 @@ pub fn request_in(s: &[u8]) -> JoinRequest
         role: s[2],
         network: octets_parameter_at(s, 3),
         unsupported: list_parameter_at(s, 21),
-        faults: faults_at(s, 277),
-        passed: number_at(s, 288, 8),
+        errors: error_reports_at(s, 277),
+        unknown: number_at(s, 288, 8),
     }
 }
 
@@ -57,10 +57,10 @@ fn put_later(dst: &mut [u8], request: JoinRequest)
     ensures { λ _. ⌜ Wrote (laterFields .put (laterFrom request)) (now (dst .entry)) 275 (now (dst .exit)) ⌝ }
 {
     let unsupported = request.unsupported;
-    let faults = request.faults;
+    let faults = request.errors;
     put_list_parameter(dst, unsupported);
-    put_faults(&mut dst[256..], faults);
-    put_number(&mut dst[267..], 8, request.passed);
+    put_error_reports(&mut dst[256..], faults);
+    put_number(&mut dst[267..], 8, request.unknown);
 }
 
 // Stores a join request.

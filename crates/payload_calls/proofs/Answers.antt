@@ -10,37 +10,37 @@ use Rattle.refusal.specs.declared.Refusal.{Refusal}
 use Rattle.refusal.specs.declared.Verdict.{Verdict}
 use Rattle.cbor.specs.Answer.{Plan, Did}
 use Rattle.cbor.specs.Written.{writtenSays}
-use Rattle.cbor.specs.declared.write.Written.{Written}
-use Rattle.cbor.specs.declared.write.Written.the-variants as written
-use Rattle.image.specs.Left.{left, Hands}
+use Rattle.cbor.specs.declared.write.WriteResult.{WriteResult}
+use Rattle.cbor.specs.declared.write.WriteResult.the-variants as written
+use Rattle.image.specs.Effects.{onAccept, ResultSpec}
 use Rattle.image.specs.Lent.{hands-told}
 use Rattle.payload_calls.specs.Write.{Writes, rangeFirst}
 
 -- the answer a is the one, b, that the definition names
 module _ {A : Type 0} (n : ℕ) (right : Bool) (verdict : A → Verdict) (image : A → List ℕ) (s : List ℕ) where
   pub hands-as : (a b : A) {r : ℕ} {s′ : List ℕ} → length s ≡ n → right ≡ true → a ≡ b → r ≡ verdictNumber (verdict a)
-      → s′ ≡ left (verdict a) (replicate n 0) (image a) → Hands n right (verdict b) (image b) s r s′
+      → s′ ≡ onAccept (verdict a) (replicate n 0) (image a) → ResultSpec n right (verdict b) (image b) s r s′
   hands-as a b h k e f g =
       hands-told n right (verdict b) (image b) s h k
       (f ∙ ap (λ (x : A). verdictNumber (verdict x)) e)
-      (g ∙ ap (λ (x : A). left (verdict x) (replicate n 0) (image x)) e)
+      (g ∙ ap (λ (x : A). onAccept (verdict x) (replicate n 0) (image x)) e)
 
-pub length-refused : (w : Written) (k : Refusal) {r : ℕ} → w ≡ written.Refused k → r ≡ numberOf k → (r ≡ writtenSays w .0) × (0 ≡ writtenSays w .1)
+pub length-refused : (w : WriteResult) (k : Refusal) {r : ℕ} → w ≡ written.Refused k → r ≡ numberOf k → (r ≡ writtenSays w .0) × (0 ≡ writtenSays w .1)
 length-refused w k e g = rw e (g, refl)
 
 pub unfit : (right : Bool) (plan : Plan) (d : List ℕ) → right ≡ false → Writes (rangeFirst right plan) d 13 d 0
 unfit right plan d e = record { number = rw e; dst = rw e; long = rw e }
 
-module _ {A B : Type 0} (right : Bool) (plan : A → B → Plan) (d d′ : List ℕ) (w : Written) where
+module _ {A B : Type 0} (right : Bool) (plan : A → B → Plan) (d d′ : List ℕ) (w : WriteResult) where
   -- the plan for x and y is the one for a and b
   pub wrote-as : {x a : A} {y b : B} {r n : ℕ} → right ≡ true → x ≡ a → y ≡ b → Did (plan x y) d w d′ → r ≡ writtenSays w .0 → n ≡ writtenSays w .1
       → Writes (rangeFirst right (plan a b)) d r d′ n
   wrote-as {x} {a} {y} {b} e f g did h i =
       let own : Did (plan a b) d w d′ = rw (f, g) at did in
       record {
-        number = rw e (h ∙ ap (λ (v : Written). writtenSays v .0) (own .says));
+        number = rw e (h ∙ ap (λ (v : WriteResult). writtenSays v .0) (own .says));
         dst = rw e (own .holds);
-        long = rw e (i ∙ ap (λ (v : Written). writtenSays v .1) (own .says));
+        long = rw e (i ∙ ap (λ (v : WriteResult). writtenSays v .1) (own .says));
       }
 
 -- two tests, one after the other

@@ -3,13 +3,13 @@ use Prim.Native.Nat.{ℕ}
 use mathlib.Core.Path.{_≡_}
 use borrow.Author.Tests.{ne-eqb}
 use Rattle.cojp.specs.declared.version.Version.the-variants.{Draft, Published}
-use Rattle.payload_calls.specs.Asked.{formOf, byReading}
+use Rattle.payload_calls.specs.Asked.{versionOf, byReading}
 
 module _ (n : ℕ) where
-  pub draft : n ≡ 0 → Draft ≡ formOf n
+  pub draft : n ≡ 0 → Draft ≡ versionOf n
   draft e = rw e
 
-  pub published : ¬ (n ≡ 0) → Published ≡ formOf n
+  pub published : ¬ (n ≡ 0) → Published ≡ versionOf n
   published h = rw (ne-eqb n 0 h)
 
 module _ {A : Type 0} (n : ℕ) (a b : A) {r : A} where

@@ -6,14 +6,14 @@ use Rattle.cojp.specs.declared.version.Version.{Version}
 use Rattle.cojp.specs.declared.version.Version.the-variants.{Draft, Published}
 
 -- there is no third of either
-abbrev pub isForm : ℕ → Bool
-isForm form = leb form 1
+abbrev pub isVersion : ℕ → Bool
+isVersion form = leb form 1
 
 abbrev pub isReading : ℕ → ℕ → Bool
-isReading form reading = (isForm form && leb reading 1)
+isReading form reading = (isVersion form && leb reading 1)
 
-abbrev pub formOf : ℕ → Version
-formOf form = cond (eqb form 0) Draft Published
+abbrev pub versionOf : ℕ → Version
+versionOf form = cond (eqb form 0) Draft Published
 
 -- one for the ordinary reading, another for the strict one
 abbrev pub byReading : {A : Type 0} → ℕ → A → A → A

@@ -10,7 +10,7 @@ use Rattle.cojp.specs.Writing.{requestPlan, configurationPlan}
 use Rattle.image.specs.Part.{isImage}
 use Rattle.object_image.specs.Configuration.{configurationImage}
 use Rattle.object_image.specs.Request.{requestImage}
-use Rattle.payload_calls.specs.Asked.{isForm, formOf}
+use Rattle.payload_calls.specs.Asked.{isVersion, versionOf}
 
 -- the plan was followed: the number r, the destination d before and d′ afterwards, and the length n
 pub record Writes (plan : Plan) (d : List ℕ) (r : ℕ) (d′ : List ℕ) (n : ℕ) : Type 0 where
@@ -23,8 +23,8 @@ abbrev pub rangeFirst : Bool → Plan → Plan
 rangeFirst right plan = cond right plan (refuse Range)
 
 abbrev pub requestWriting : ℕ → List ℕ → Plan
-requestWriting form s = rangeFirst (isForm form && isImage requestImage s) (requestPlan (formOf form) (requestImage .get s))
+requestWriting form s = rangeFirst (isVersion form && isImage requestImage s) (requestPlan (versionOf form) (requestImage .get s))
 
 abbrev pub configurationWriting : ℕ → List ℕ → Plan
 configurationWriting form s =
-    rangeFirst (isForm form && isImage configurationImage s) (configurationPlan (formOf form) (configurationImage .get s))
+    rangeFirst (isVersion form && isImage configurationImage s) (configurationPlan (versionOf form) (configurationImage .get s))

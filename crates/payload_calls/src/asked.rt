@@ -7,12 +7,12 @@ use cojp_configuration_read::read_strict_configuration_as;
 use cojp_request_read::read_request_as;
 use cojp_request_read::read_strict_request_as;
 ghost use mathlib.Core.Path.{_≡_};
-ghost use Rattle.payload_calls.specs.Asked.{isForm, isReading, formOf};
+ghost use Rattle.payload_calls.specs.Asked.{isVersion, isReading, versionOf};
 ghost use Rattle.payload_calls.specs.Read.{requestAsked, configurationAsked};
 
 // Whether there is such a form.
-pub(crate) fn is_form(form: u8) -> bool
-    ensures { λ r. ⌜ r ≡ isForm form ⌝ }
+pub(crate) fn is_version(form: u8) -> bool
+    ensures { λ r. ⌜ r ≡ isVersion form ⌝ }
 {
     form <= 1
 }
@@ -21,15 +21,15 @@ pub(crate) fn is_form(form: u8) -> bool
 pub fn is_reading(form: u8, reading: u8) -> bool
     ensures { λ r. ⌜ r ≡ isReading form reading ⌝ }
 {
-    if !is_form(form) {
+    if !is_version(form) {
         return false;
     }
     reading <= 1
 }
 
 // 0 is document 01's form, 1 that of RFC 9031.
-pub fn form_of(form: u8) -> Version
-    ensures { λ r. ⌜ r ≡ formOf form ⌝ }
+pub fn version_of(form: u8) -> Version
+    ensures { λ r. ⌜ r ≡ versionOf form ⌝ }
 {
     if form == 0 {
         return Version::Draft;
@@ -41,7 +41,7 @@ pub fn form_of(form: u8) -> Version
 pub(crate) fn request_asked(form: u8, reading: u8, payload: &[u8]) -> RequestRead
     ensures { λ r. ⌜ r ≡ requestAsked form reading (now (payload .entry)) ⌝ }
 {
-    let version = form_of(form);
+    let version = version_of(form);
     if reading == 0 {
         return read_request_as(payload, version);
     }
@@ -51,7 +51,7 @@ pub(crate) fn request_asked(form: u8, reading: u8, payload: &[u8]) -> RequestRea
 pub(crate) fn configuration_asked(form: u8, reading: u8, payload: &[u8]) -> ConfigurationRead
     ensures { λ r. ⌜ r ≡ configurationAsked form reading (now (payload .entry)) ⌝ }
 {
-    let version = form_of(form);
+    let version = version_of(form);
     if reading == 0 {
         return read_configuration_as(payload, version);
     }

@@ -3,21 +3,21 @@
 mod asked;
 mod merge;
 mod read;
-mod told;
+mod store;
 mod write;
 
-pub use asked::form_of;
 pub use asked::is_reading;
+pub use asked::version_of;
 pub use merge::configuration_merge;
 pub use read::configuration_read;
 pub use read::request_read;
-pub use told::hand_configuration;
-pub use told::hand_request;
+pub use store::store_configuration;
+pub use store::store_request;
 pub use write::configuration_write;
 pub use write::request_write;
 ghost use Rattle.payload_calls.specs.Laws.{PayloadRefusals};
 
 // A refused call leaves its destination byte for byte, and its results all zero.
-pub fn refusals_keep()
+pub fn refusals_keep_law()
     ensures { λ _. ⌜ PayloadRefusals ⌝ }
 {}

@@ -1,5 +1,5 @@
 // Two configurations are joined.
-use crate::told::hand_configuration;
+use crate::store::store_configuration;
 use cojp_merge::merge;
 use image::RANGE;
 use image::clear;
@@ -25,5 +25,5 @@ pub fn configuration_merge(first: &[u8], second: &[u8], out: &mut [u8]) -> u32
     let merged = merge(configuration_in(first), configuration_in(second));
     let verdict = merged.verdict;
     let configuration = merged.configuration;
-    hand_configuration(verdict, configuration, out)
+    store_configuration(verdict, configuration, out)
 }

@@ -2,8 +2,8 @@
 use crate::asked::configuration_asked;
 use crate::asked::is_reading;
 use crate::asked::request_asked;
-use crate::told::hand_configuration;
-use crate::told::hand_request;
+use crate::store::store_configuration;
+use crate::store::store_request;
 use image::RANGE;
 use image::clear;
 ghost use Rattle.payload_calls.specs.Read.{ReadsRequest, ReadsConfiguration};
@@ -22,7 +22,7 @@ pub fn request_read(form: u8, reading: u8, payload: &[u8], out: &mut [u8]) -> u3
     let read = request_asked(form, reading, payload);
     let verdict = read.verdict;
     let request = read.request;
-    hand_request(verdict, request, out)
+    store_request(verdict, request, out)
 }
 
 // Reads a configuration.
@@ -39,5 +39,5 @@ pub fn configuration_read(form: u8, reading: u8, payload: &[u8], out: &mut [u8])
     let read = configuration_asked(form, reading, payload);
     let verdict = read.verdict;
     let configuration = read.configuration;
-    hand_configuration(verdict, configuration, out)
+    store_configuration(verdict, configuration, out)
 }

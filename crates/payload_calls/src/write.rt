@@ -1,7 +1,7 @@
 // Objects are written.
-use crate::asked::form_of;
-use crate::asked::is_form;
-use crate::told::tell_length;
+use crate::asked::is_version;
+use crate::asked::version_of;
+use crate::store::store_length;
 use cojp_configuration_write::write_configuration_as;
 use cojp_request_write::write_request_as;
 use image::RANGE;
@@ -15,7 +15,7 @@ ghost use Rattle.payload_calls.specs.Write.{Writes, requestWriting, conf
 pub fn request_write(form: u8, object: &[u8], dst: &mut [u8], length: &mut u64) -> u32
     ensures { λ r. ⌜ Writes (requestWriting form (now (object .entry))) (now (dst .entry)) r (now (dst .exit)) (now (length .exit)) ⌝ }
 {
-    if !is_form(form) {
+    if !is_version(form) {
         *length = 0;
         return RANGE;
     }
@@ -23,15 +23,15 @@ pub fn request_write(form: u8, object: &[u8], dst: &mut [u8], length: &mut u64) 
         *length = 0;
         return RANGE;
     }
-    let written = write_request_as(dst, request_in(object), form_of(form));
-    tell_length(written, length)
+    let written = write_request_as(dst, request_in(object), version_of(form));
+    store_length(written, length)
 }
 
 // Writes the configuration in an image.
 pub fn configuration_write(form: u8, object: &[u8], dst: &mut [u8], length: &mut u64) -> u32
     ensures { λ r. ⌜ Writes (configurationWriting form (now (object .entry))) (now (dst .entry)) r (now (dst .exit)) (now (length .exit)) ⌝ }
 {
-    if !is_form(form) {
+    if !is_version(form) {
         *length = 0;
         return RANGE;
     }
@@ -39,6 +39,6 @@ pub fn configuration_write(form: u8, object: &[u8], dst: &mut [u8], length: &mut
         *length = 0;
         return RANGE;
     }
-    let written = write_configuration_as(dst, configuration_in(object), form_of(form));
-    tell_length(written, length)
+    let written = write_configuration_as(dst, configuration_in(object), version_of(form));
+    store_length(written, length)
 }

@@ -9,7 +9,7 @@ use lib.Dec.{eqb}
 use lib.ListN.{length, replicate}
 use Rattle.cbor.specs.Answer.{Wrote}
 use Rattle.image.specs.Fields.{whole-struct}
-use Rattle.image.specs.Left.{zeroed}
+use Rattle.image.specs.Effects.{zeroed}
 use Rattle.refusal.specs.Refusal.{numberOf, nameOf, Numbered}
 use Rattle.refusal.specs.declared.Refusal.{Refusal}
 use Rattle.pothatch.specs.Library.{Names}

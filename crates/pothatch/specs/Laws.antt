@@ -9,13 +9,13 @@ use lib.ListN.{replicate}
 use Rattle.address_ledger.specs.Ledger.{emptyLedger}
 use Rattle.cojp.specs.Configuration.{emptyConfiguration}
 use Rattle.cojp.specs.Request.{emptyRequest}
-use Rattle.image.specs.Left.{zeroed}
+use Rattle.image.specs.Effects.{zeroed}
 use Rattle.image.specs.Part.{isImage}
 use Rattle.join_proxy.specs.Judging.{nobody}
 use Rattle.link_key.specs.Key.{noKey}
 use Rattle.node.specs.Node.{emptyNode}
-use Rattle.node_parameters.specs.Reports.{noReports}
-use Rattle.node_image.specs.Answers.{reportsImage, frameKeyImage}
+use Rattle.node_parameters.specs.Dispositions.{noDispositions}
+use Rattle.node_image.specs.Answers.{dispositionsImage, frameKeyImage}
 use Rattle.node_image.specs.Node.{nodeImage}
 use Rattle.object_image.specs.Configuration.{configurationImage}
 use Rattle.object_image.specs.Request.{requestImage}
@@ -48,7 +48,7 @@ pub record EmptiedIsNone : Type 0 where
   pub request : isImage requestImage (replicate 296 0) ≡ false
   pub configuration : isImage configurationImage (replicate 570 0) ≡ false
   pub node : isImage nodeImage (replicate 878 0) ≡ false
-  pub reports : isImage reportsImage (replicate 17 0) ≡ false
+  pub reports : isImage dispositionsImage (replicate 17 0) ≡ false
   pub frame-key : isImage frameKeyImage (replicate 33 0) ≡ false
   pub ledger : isImage ledgerImage (replicate 16 0) ≡ false
   pub proxy : isImage proxyImage (replicate 26 0) ≡ false
@@ -60,7 +60,7 @@ pub record EmptiedIsEmpty : Type 0 where
   pub request : requestImage .get (replicate 296 0) ≡ emptyRequest
   pub configuration : configurationImage .get (replicate 570 0) ≡ emptyConfiguration
   pub node : nodeImage .get (replicate 878 0) ≡ emptyNode
-  pub reports : reportsImage .get (replicate 17 0) ≡ noReports
+  pub reports : dispositionsImage .get (replicate 17 0) ≡ noDispositions
   pub frame-key : frameKeyImage .get (replicate 33 0) ≡ (noKey, 0)
   pub ledger : ledgerImage .get (replicate 16 0) ≡ emptyLedger
   pub pledge : pledgeImage .get (replicate 21 0) ≡ nobody

@@ -10,7 +10,7 @@ use Rattle.refusal.specs.declared.Refusal.{Refusal}
 use Rattle.object_image.specs.Request.{requestImage}
 use Rattle.object_image.specs.Configuration.{configurationImage}
 use Rattle.node_image.specs.Node.{nodeImage}
-use Rattle.node_image.specs.Answers.{reportsImage, frameKeyImage}
+use Rattle.node_image.specs.Answers.{dispositionsImage, frameKeyImage}
 use Rattle.state_image.specs.Ledger.{ledgerImage}
 use Rattle.state_image.specs.Proxy.{proxyImage, pledgeImage}
 use Rattle.serial_calls.specs.Serial.{serialImage}
@@ -23,7 +23,7 @@ sizeOf kind =
     cond (eqb kind 0x51) (requestImage .size)
     (cond (eqb kind 0x43) (configurationImage .size)
     (cond (eqb kind 0x4e) (nodeImage .size)
-    (cond (eqb kind 0x52) (reportsImage .size)
+    (cond (eqb kind 0x52) (dispositionsImage .size)
     (cond (eqb kind 0x4b) (frameKeyImage .size)
     (cond (eqb kind 0x4c) (ledgerImage .size)
     (cond (eqb kind 0x50) (proxyImage .size)

@@ -14,24 +14,24 @@ mod serial;
 ghost use Rattle.pothatch.specs.Laws.{RefusalsKeep, EmptiedIsNone, EmptiedIsEmpty};
 
 // A refused call leaves state and destination byte for byte, but for the two marks of a payload in parts, and its results all zero.
-pub fn refusals_keep()
+pub fn refusals_keep_law()
     ensures { λ _. ⌜ RefusalsKeep ⌝ }
 {
-    payload_calls::refusals_keep();
-    node_calls::refusals_keep();
-    serial_calls::refusals_keep();
-    replay_calls::refusals_keep();
-    ledger_calls::refusals_keep();
-    cipher_calls::refusals_keep();
-    proxy_calls::refusals_keep();
+    payload_calls::refusals_keep_law();
+    node_calls::refusals_keep_law();
+    serial_calls::refusals_keep_law();
+    replay_calls::refusals_keep_law();
+    ledger_calls::refusals_keep_law();
+    cipher_calls::refusals_keep_law();
+    proxy_calls::refusals_keep_law();
 }
 
 // An emptied result is no image, so every call refuses it.
-pub fn emptied_is_none()
+pub fn emptied_is_none_law()
     ensures { λ _. ⌜ EmptiedIsNone ⌝ }
 {}
 
 // An emptied result reads as the empty object.
-pub fn emptied_is_empty()
+pub fn emptied_is_empty_law()
     ensures { λ _. ⌜ EmptiedIsEmpty ⌝ }
 {}

@@ -1,7 +1,7 @@
 // The names of the refusals.
 use image::RANGE;
 use image::clear;
-use image::put_eight;
+use image::put_array_8;
 use refusal::Refusal;
 ghost use mathlib.Core.Path.{_≡_};
 ghost use Prim.Native.Nat.{_≤_};
@@ -13,7 +13,7 @@ ghost use Rattle.pothatch.specs.Library.{Names};
 pub extern "C" fn pothatch_refusal_name(number: u32, name: &mut [u8]) -> u32
     ensures { λ r. ⌜ Names number (now (name .entry)) r (now (name .exit)) ⌝ }
 {
-    refusal::numbers();
+    refusal::number_range_law();
     if name.len() != 8 {
         return RANGE;
     }
@@ -25,7 +25,7 @@ pub extern "C" fn pothatch_refusal_name(number: u32, name: &mut [u8]) -> u32
         clear(name);
         return RANGE;
     }
-    put_eight(name, refusal_of(number).name());
+    put_array_8(name, refusal_of(number).name());
     0
 }
 

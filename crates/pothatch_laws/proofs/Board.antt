@@ -4,9 +4,9 @@ use mathlib.Core.List.{List, [], _∷_}
 use mathlib.Core.Path.{_≡_, refl, ap, _∙_, subst}
 use native.Mathlib.Omega.{arith}
 use lib.ListN.{take, drop, replicate}
-use Rattle.link_key.specs.Key.{validKey, plainKey, sameKey, sameSecret, covers}
+use Rattle.link_key.specs.Key.{validKey, hasNoAdditionalInfo, sameKey, sameSecret, covers}
 use Rattle.link_key_set.specs.KeySet.{validKeys, validSet}
-use Rattle.link_key_counters.specs.Counters.{spend, succeeded}
+use Rattle.link_key_counters.specs.Counters.{takeCounter, inheritCounters}
 use Rattle.short_address.specs.Address.{isAddress}
 use Rattle.cbor.specs.Decode.{payloadBy, decodeBy, heading, argument, next, digits, members, pairs, majorOf}
 use Rattle.cbor.specs.Encode.{bytesOf, infoOf, extraOf, shortest}
@@ -17,8 +17,8 @@ use Rattle.cojp.specs.Request.{owing}
 use Rattle.cojp.specs.Walk.{payloadReadBy}
 use Rattle.cojp.specs.Parameter.{laterParameter, parameterOf}
 use Rattle.cojp.specs.Configuration.{configurationTaking}
-use Rattle.cojp.specs.Faults.{faultsFit}
-use Rattle.cojp.specs.Reported.{faultsOf}
+use Rattle.cojp.specs.ErrorReports.{errorReportsValid}
+use Rattle.cojp.specs.Reported.{errorReportsOf}
 use Rattle.cojp.specs.Writing.{requestInRange, requestPlan}
 use Rattle.cojp_list_read.specs.Listed.{listedIn}
 use Rattle.node_key_sets.specs.Sets as sets
@@ -28,11 +28,11 @@ use Rattle.node_attempt.specs.Attempt as attempt
 use Rattle.node_attempt.specs.Attempt.{mayStart}
 use Rattle.node_attempt.specs.Poll as poll
 use Rattle.node_parameters.specs.Lease.{holdsAt}
-use Rattle.node_parameters.specs.Reports.{reportsOf}
+use Rattle.node_parameters.specs.Dispositions.{dispositionsOf}
 use Rattle.node_delivery.specs.Delivery.{mayCome}
 use Rattle.node_delivery.specs.declared.Delivery.the-variants.{JoinAnswer}
 use Rattle.node.specs.Node.{made}
-use Rattle.node.specs.Range.{formFits, valid}
+use Rattle.node.specs.Range.{versionValid, valid}
 use Rattle.node.specs.Timing as timing
 use Rattle.node.specs.Timing.{requestOf, startVerdict, startPlan, start, startAfter}
 use Rattle.node.specs.Delivery.{fitted, configured, apply, deliverVerdict, deliver}
@@ -41,8 +41,8 @@ use Rattle.node.specs.Frames as node
 use Rattle.node.specs.Frames.{send, sendCounter, afterSend, receive, verified}
 use Rattle.node_laws.specs.Calls.{delivering, perform}
 use Rattle.node_call_laws.specs.Fits.{Callable}
-use Rattle.pothatch_laws.specs.Board.{network, configuration, calls, answered, BoardSeen}
-use Rattle.pothatch_laws.specs.Node.{Told, Did, no-node, tells, after, shown, NodeRuns}
+use Rattle.pothatch_laws.specs.NodeExample.{network, configuration, calls, answered, NodeExample}
+use Rattle.pothatch_laws.specs.Node.{NodeOutput, Did, no-node, tells, after, shown, NodeRuns}
 use Rattle.pothatch_laws.specs.Runs.{Runs, afterAll, answers, As}
 use Rattle.pothatch_laws.proofs.ByteLists.{bytes-by}
 use Rattle.pothatch_laws.proofs.NodeAnswers.{Can, one}
@@ -58,11 +58,11 @@ can =
 -- what computing unfolds: items, keys, objects and the node's calls
 computing : Unit {0}
 unfolding payloadBy decodeBy heading argument next digits members pairs majorOf bytesOf infoOf extraOf shortest
-    validKey plainKey sameKey sameSecret covers validKeys validSet spend succeeded isAddress
+    validKey hasNoAdditionalInfo sameKey sameSecret covers validKeys validSet takeCounter inheritCounters isAddress
     padded octetsJudged addressIn groups identified used valued owing payloadReadBy
-    laterParameter parameterOf configurationTaking faultsFit faultsOf listedIn requestInRange requestPlan
+    laterParameter parameterOf configurationTaking errorReportsValid errorReportsOf listedIn requestInRange requestPlan
     sets.valid sets.validAs install frames.sending frames.receivingKey frames.verifiedIn attempt.valid mayStart poll.stepped poll.poll
-    holdsAt made formFits valid requestOf startVerdict startPlan start startAfter timing.poll reportsOf fitted configured apply mayCome
+    holdsAt made versionValid valid requestOf startVerdict startPlan start startAfter timing.poll dispositionsOf fitted configured apply mayCome
     deliverVerdict deliver holds node.sending send sendCounter afterSend receive verified perform
 computing = tt
 
@@ -82,7 +82,7 @@ addressed : take 3 (drop 527 kept) ≡ 1 ∷ 0xFF ∷ 0xFD ∷ []
 unfolding computing
 addressed = refl
 
-pub board-seen : NodeRuns → BoardSeen
+pub board-seen : NodeRuns → NodeExample
 board-seen law =
     let zeros : List ℕ = replicate 878 0 in
     let r = ran Did Can one calls zeros can in
@@ -90,7 +90,7 @@ board-seen law =
     law .from-make 0 2 0 [] _ no-node zeros (r .told) (r .left) refl (r .runs) in
     record {
       image = r .left;
-      runs = subst (λ (ts : List Told). Runs Did calls zeros ts (r .left)) (s .answered ∙ told-so) (r .runs);
+      runs = subst (λ (ts : List NodeOutput). Runs Did calls zeros ts (r .left)) (s .answered ∙ told-so) (r .runs);
       counter = ap (λ (x : List ℕ). take 4 (drop 246 x)) (s .left) ∙ counted;
       address = ap (λ (x : List ℕ). take 3 (drop 527 x)) (s .left) ∙ addressed;
     }

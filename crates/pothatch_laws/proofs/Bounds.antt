@@ -14,10 +14,10 @@ use Rattle.refusal.specs.Verdict.{verdictNumber}
 use Rattle.refusal.specs.declared.Verdict.{Verdict}
 use Rattle.refusal.specs.declared.Verdict.the-variants as verdict
 use Rattle.short_address.specs.Address.{isAddress, bytesOf}
-use Rattle.address_places.specs.Marks.{bit, withMark, groupAt, groupOf, marksOf, anew, soughtBy}
-use Rattle.address_places.specs.Place.{Place, places, isFree, has, countFree, hold, freed, sought}
-use Rattle.address_places.specs.declared.place.Sought.{Sought}
-use Rattle.address_places.specs.declared.place.Sought.the-variants.{Held, Free, Nothing}
+use Rattle.address_places.specs.Marks.{bit, withMark, groupAt, groupOf, marksOf, refreshed, slotFoundBy}
+use Rattle.address_places.specs.Slot.{Slot, slots, isFree, has, countFree, hold, freed, slotFound}
+use Rattle.address_places.specs.declared.slot.SlotFound.{SlotFound}
+use Rattle.address_places.specs.declared.slot.SlotFound.the-variants.{Held, Free, Nothing}
 use Rattle.address_range.specs.Range.{inLimits, judged, counted}
 use Rattle.address_ledger.specs.Ledger.{countedOf, placesOf, judgedOf, cut, opened, openedBy, granted, grantedBy, granting, givenBack, givenBackBy, givingBack}
 use Rattle.address_ledger.specs.declared.ledger.Ledger.{Ledger}
@@ -28,7 +28,7 @@ record Fits (l : Ledger) : Type 0 where
   first : l .first < 65536
   size : l .size < 65536
   free : l .free < 65536
-  marks : l .marks < 2 ^ 64
+  marks : l .summary < 2 ^ 64
 
 by-image : (l : Ledger) → ledgerImage .Fit l → Fits l
 by-image l f = record { first = f .0; size = f .1 .0; free = f .1 .1 .0; marks = f .1 .1 .1 }
@@ -51,18 +51,18 @@ marked-below (suc g) (suc n) b x h k =
     let l : x < 2 ^ n * 2 = rw (pow-suc 2 n) at k in
     rw (pow-suc 2 n) (omega (arith, marked-below g n b (x / 2) (omega arith) (omega arith)))
 
-marks-below : (n : ℕ) (ps : List Place) → marksOf n ps < 2 ^ n
+marks-below : (n : ℕ) (ps : List Slot) → marksOf n ps < 2 ^ n
 unfolding marksOf
 marks-below zero ps = omega arith
 marks-below (suc n) ps = rw (pow-suc 2 n) (omega (arith, bit-most (has isFree (take 64 ps)), marks-below n (drop 64 ps)))
 
-anew-by : (t b : Bool) (x k : ℕ) → ltb k 4096 ≡ t → x < 2 ^ 64 → cond t (withMark (groupOf k) b x) x < 2 ^ 64
-anew-by true b x k e h = let l : k < 4096 = ltb-true k 4096 e in marked-below (k / 64) 64 b x (omega arith) h
-anew-by false b x k e h = h
+refreshed-by : (t b : Bool) (x k : ℕ) → ltb k 4096 ≡ t → x < 2 ^ 64 → cond t (withMark (groupOf k) b x) x < 2 ^ 64
+refreshed-by true b x k e h = let l : k < 4096 = ltb-true k 4096 e in marked-below (k / 64) 64 b x (omega arith) h
+refreshed-by false b x k e h = h
 
-anew-below : (x k : ℕ) (ps : List Place) → x < 2 ^ 64 → anew x k ps < 2 ^ 64
-unfolding anew
-anew-below x k ps h = anew-by (ltb k 4096) (has isFree (groupAt (groupOf k) ps)) x k refl h
+refreshed-below : (x k : ℕ) (ps : List Slot) → x < 2 ^ 64 → refreshed x k ps < 2 ^ 64
+unfolding refreshed
+refreshed-below x k ps h = refreshed-by (ltb k 4096) (has isFree (groupAt (groupOf k) ps)) x k refl h
 
 -- ---- counts
 counted-most : (first n : ℕ) → counted first n ≤ n
@@ -74,12 +74,12 @@ counted-most first (suc n) = pick (isAddress (bytesOf first)) (counted-most (suc
     pick true h = omega arith
     pick false h = omega arith
 
-places-many : (n : ℕ) (m : List ℕ) → length (places n m) ≡ n
-unfolding places
+places-many : (n : ℕ) (m : List ℕ) → length (slots n m) ≡ n
+unfolding slots
 places-many zero m = refl
 places-many (suc n) m = ap suc (places-many n (drop 9 m))
 
-free-most : (ps : List Place) → countFree ps ≤ length ps
+free-most : (ps : List Slot) → countFree ps ≤ length ps
 unfolding countFree
 free-most [] = omega arith
 free-most (p ∷ ps) = pick (isFree p) (free-most ps)
@@ -97,7 +97,7 @@ cut-most n x = by (leb x n) refl
 
 -- ---- the calls
 module _ (l : Ledger) (m b : List ℕ) (f : Fits l) where
-  granting-fits : (n : ℕ) (s : Sought) → n < 65536 → Fits (granting n l m b s .ledger)
+  granting-fits : (n : ℕ) (s : SlotFound) → n < 65536 → Fits (granting n l m b s .ledger)
   unfolding granting
   granting-fits n (Held k) h = f
   granting-fits n (Free k) h =
@@ -105,18 +105,18 @@ module _ (l : Ledger) (m b : List ℕ) (f : Fits l) where
         first = f .first;
         size = f .size;
         free = omega (arith, cut-most n (l .free - 1));
-        marks = anew-below (l .marks) k (places n (hold m k b)) (f .marks);
+        marks = refreshed-below (l .summary) k (slots n (hold m k b)) (f .marks);
       }
   granting-fits n Nothing h = f
 
-  giving-fits : (n : ℕ) (s : Sought) → n < 65536 → Fits (givingBack n l m s .ledger)
+  giving-fits : (n : ℕ) (s : SlotFound) → n < 65536 → Fits (givingBack n l m s .ledger)
   unfolding givingBack
   giving-fits n (Held k) h =
       record {
         first = f .first;
         size = f .size;
         free = omega (arith, cut-most n (l .free + 1));
-        marks = anew-below (l .marks) k (places n (freed m k)) (f .marks);
+        marks = refreshed-below (l .summary) k (slots n (freed m k)) (f .marks);
       }
   giving-fits n (Free k) h = f
   giving-fits n Nothing h = f
@@ -126,7 +126,7 @@ module _ (l : Ledger) (m b : List ℕ) (f : Fits l) where
 
   granted-by : (v : Verdict) → Fits (grantedBy v l m b .ledger)
   unfolding grantedBy
-  granted-by verdict.Accepted = granting-fits (countedOf l) (soughtBy (l .marks) b (placesOf l m)) few
+  granted-by verdict.Accepted = granting-fits (countedOf l) (slotFoundBy (l .summary) b (placesOf l m)) few
   granted-by (verdict.Refused r) = f
 
   granted-fits : Fits (granted l m b .ledger)
@@ -135,7 +135,7 @@ module _ (l : Ledger) (m b : List ℕ) (f : Fits l) where
 
   given-by : (v : Verdict) → Fits (givenBackBy v l m b .ledger)
   unfolding givenBackBy
-  given-by verdict.Accepted = giving-fits (countedOf l) (sought b (placesOf l m)) few
+  given-by verdict.Accepted = giving-fits (countedOf l) (slotFound b (placesOf l m)) few
   given-by (verdict.Refused r) = f
 
   given-fits : Fits (givenBack l m b .ledger)
@@ -170,8 +170,8 @@ module _ (first size : ℕ) (m : List ℕ) where
         first = omega (arith, h .some, h .end);
         size = omega (arith, h .few);
         free =
-            omega (arith, h .few, counted-most first size, places-many (counted first size) m, free-most (places (counted first size) m));
-        marks = marks-below 64 (places (counted first size) m);
+            omega (arith, h .few, counted-most first size, places-many (counted first size) m, free-most (slots (counted first size) m));
+        marks = marks-below 64 (slots (counted first size) m);
       }
   opened-by (verdict.Refused r) e = record { first = omega arith; size = omega arith; free = omega arith; marks = omega arith }
 

@@ -7,14 +7,14 @@ use borrow.Author.Tests.{eq-eqb}
 use lib.ListN.{length, replicate}
 use Rattle.refusal.specs.Verdict.{verdictNumber}
 use Rattle.refusal.specs.declared.Verdict.{Verdict}
-use Rattle.image.specs.Left.{left, Hands}
+use Rattle.image.specs.Effects.{onAccept, ResultSpec}
 
-module _ {n : ℕ} {right : Bool} {v : Verdict} {image s : List ℕ} {r : ℕ} {s′ : List ℕ} (d : Hands n right v image s r s′)
+module _ {n : ℕ} {right : Bool} {v : Verdict} {image s : List ℕ} {r : ℕ} {s′ : List ℕ} (d : ResultSpec n right v image s r s′)
     (l : length s ≡ n) where
   pub right-number : right ≡ true → r ≡ verdictNumber v
   right-number e = rw (eq-eqb (length s) n l, e) at (d .number)
 
-  pub right-result : right ≡ true → s′ ≡ left v (replicate n 0) image
+  pub right-result : right ≡ true → s′ ≡ onAccept v (replicate n 0) image
   right-result e = rw (eq-eqb (length s) n l, e) at (d .result)
 
   -- RANGE, and zeros

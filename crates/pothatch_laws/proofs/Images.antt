@@ -10,9 +10,9 @@ use lib.ListN.{length}
 use lib.Seq.{take-all}
 use Rattle.logic_facts.specs.Tests.{both-right}
 use Rattle.image.specs.Lent.{long}
-use Rattle.image.specs.Part.{Part, AllBytes, Lawful, isImage}
+use Rattle.image.specs.Part.{Part, AllBytes, RoundTrips, isImage}
 
-module _ {A : Type 0} (p : Part A) (laws : Lawful p) (a : A) (fit : p .Fit a) where
+module _ {A : Type 0} (p : Part A) (laws : RoundTrips p) (a : A) (fit : p .Fit a) where
   pub put-long : length (p .put a) ≡ p .size
   put-long = laws .sized a fit
 
@@ -22,7 +22,7 @@ module _ {A : Type 0} (p : Part A) (laws : Lawful p) (a : A) (fit : p .Fit a) wh
   pub put-got : p .get (p .put a) ≡ a
   put-got = ap (p .get) (sym (append-nil (p .put a))) ∙ laws .loaded a [] fit
 
-module _ {A : Type 0} (p : Part A) (laws : Lawful p) (s : List ℕ) (b : AllBytes s) (i : isImage p s ≡ true) where
+module _ {A : Type 0} (p : Part A) (laws : RoundTrips p) (s : List ℕ) (b : AllBytes s) (i : isImage p s ≡ true) where
   enough : p .size ≤ length s
   enough = omega (arith, long p s i)
 

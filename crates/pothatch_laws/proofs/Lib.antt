@@ -15,6 +15,6 @@ mod ProxyAnswers
 mod Proxied
 mod Cases
 mod Records
-mod Nights
+mod Statistics
 mod Pledges
 mod Results

@@ -7,14 +7,14 @@ use lib.Dec.{leb}
 use lib.ListN.{replicate, length-replicate}
 use Rattle.refusal.specs.Verdict.{verdictNumber}
 use Rattle.refusal.specs.declared.Verdict.{Verdict}
-use Rattle.image.specs.Left.{left, handVerdict, handed}
+use Rattle.image.specs.Effects.{onAccept, handVerdict, resultBytes}
 use Rattle.image.specs.Part.{AllBytes}
 use Rattle.node_image.specs.Node.{nodeImage}
 use Rattle.node_laws.specs.Calls.{NodeCall, starting, polling, delivering, asking, sending, receiving, reporting, lentTo}
 use Rattle.node_calls.specs.Calls.{madeOf, performedIn, callVerdict, giveVerdict}
 use Rattle.node_calls.specs.Results.{valueOf, structOf}
 use Rattle.node_call_laws.specs.Fits.{Callable}
-use Rattle.pothatch_laws.specs.Node.{Call, making, calling, Told, told, Done, Asked, Changed, Given, CallDid, Did}
+use Rattle.pothatch_laws.specs.Node.{Call, making, calling, NodeOutput, nodeOutput, Done, Asked, Changed, Given, CallDid, Did}
 use Rattle.pothatch_laws.proofs.Running.{Answer}
 
 -- times of eight bytes, payloads of bytes
@@ -24,10 +24,10 @@ Can (calling c) = Callable c
 
 module _ (c : NodeCall) (s : List ℕ) where
   abbrev stored : Verdict → List ℕ
-  stored v = left v s (nodeImage .put (performedIn c s .node))
+  stored v = onAccept v s (nodeImage .put (performedIn c s .node))
 
-  abbrev valued : List ℕ → Told
-  valued d = told (verdictNumber (callVerdict c s)) (left (callVerdict c s) 0 (valueOf (performedIn c s .object))) [] d
+  abbrev valued : List ℕ → NodeOutput
+  valued d = nodeOutput (verdictNumber (callVerdict c s)) (onAccept (callVerdict c s) 0 (valueOf (performedIn c s .object))) [] d
 
   does : Answer (Done c s)
   does = record {
@@ -50,8 +50,8 @@ module _ (c : NodeCall) (s : List ℕ) where
     abbrev verdict : Verdict
     verdict = giveVerdict n c s empty
 
-    abbrev handing : Told
-    handing = told (verdictNumber verdict) 0 (handed n verdict (structOf (performedIn c s .object)) empty) (lentTo c)
+    abbrev handing : NodeOutput
+    handing = nodeOutput (verdictNumber verdict) 0 (resultBytes n verdict (structOf (performedIn c s .object)) empty) (lentTo c)
 
     changes : Answer (Changed n c s)
     changes = record {
@@ -84,7 +84,7 @@ called : (c : NodeCall) (s : List ℕ) → Answer (CallDid c s)
 called (starting time timeout d) s =
     let c = starting time timeout d in
     record {
-      answer = valued c s (left (callVerdict c s) d (performedIn c s .lent));
+      answer = valued c s (onAccept (callVerdict c s) d (performedIn c s .lent));
       after = stored c s (callVerdict c s);
       did = record {
         starts = record { does = record { tells = record { number = refl; value = refl }; node = refl }; dst = refl };
@@ -103,8 +103,8 @@ one (making form role has x) s can =
     let m = madeOf form role has x in
     let v = handVerdict 878 (leb form 1 && leb has 1) (m .verdict) s in
     record {
-      answer = told (verdictNumber v) 0 [] x;
-      after = handed 878 v (nodeImage .put (m .node)) s;
+      answer = nodeOutput (verdictNumber v) 0 [] x;
+      after = resultBytes 878 v (nodeImage .put (m .node)) s;
       did = record { bytes = can; makes = record { number = refl; result = refl }; value = refl; struct = refl; lent = refl };
     }
 one (calling c) s can = let a = called c s in record { answer = a .answer; after = a .after; did = record { callable = can; did = a .did } }

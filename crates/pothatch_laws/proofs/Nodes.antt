@@ -12,16 +12,16 @@ use Rattle.refusal.specs.Verdict.{verdictNumber}
 use Rattle.refusal.specs.declared.Refusal.the-variants.{Range}
 use Rattle.refusal.specs.declared.Verdict.{Verdict}
 use Rattle.refusal.specs.declared.Verdict.the-variants.{Accepted, Refused}
-use Rattle.image.specs.Left.{left, judgedFirst}
+use Rattle.image.specs.Effects.{onAccept, checkedFirst}
 use Rattle.image.specs.Lent.{then-not, then-so}
-use Rattle.image.specs.Part.{Lawful, isImage}
+use Rattle.image.specs.Part.{RoundTrips, isImage}
 use Rattle.node.specs.Frames.{verified}
 use Rattle.node.specs.Lease.{holds}
 use Rattle.node.specs.Node.{unmade}
 use Rattle.node.specs.Timing.{poll}
-use Rattle.node.specs.declared.lease.Holding.{Holding}
-use Rattle.node.specs.declared.lease.Holding.the-variants as holding
-use Rattle.node.specs.declared.node.Made.{Made}
+use Rattle.node.specs.declared.lease.LeaseStatus.{LeaseStatus}
+use Rattle.node.specs.declared.lease.LeaseStatus.the-variants as holding
+use Rattle.node.specs.declared.node.MakeResult.{MakeResult}
 use Rattle.node.specs.declared.node.Node.{Node}
 use Rattle.node_attempt.specs.declared.poll.Due.{Due}
 use Rattle.node_attempt.specs.declared.poll.Due.the-variants as due
@@ -32,7 +32,7 @@ use Rattle.node_laws.specs.Calls.{NodeCall, starting, polling, delivering, aski
 use Rattle.node_calls.specs.Calls.{madeOf, performedIn, callVerdict, giveVerdict, Tells, Does, Gives}
 use Rattle.node_calls.specs.Results.{valueOf, structOf}
 use Rattle.node_call_laws.specs.Fits.{Callable, CallsFit}
-use Rattle.pothatch_laws.specs.Node.{Told, told, NodeMade, Asked, Changed, Given, CallDid, making, calling, Call, Did, Held, no-node, node, asked, structSize, tells, after, shown, NodeRuns}
+use Rattle.pothatch_laws.specs.Node.{NodeOutput, nodeOutput, NodeMade, Asked, Changed, Given, CallDid, making, calling, Call, Did, Held, no-node, node, asked, structSize, tells, after, shown, NodeRuns}
 use Rattle.pothatch_laws.proofs.Following.{Step, runs, runs-from}
 use Rattle.pothatch_laws.proofs.Handing.{right-number, right-result, wrong-number, wrong-result}
 use Rattle.pothatch_laws.proofs.Images.{put-long, put-is, put-got, got-fits, got-put}
@@ -46,16 +46,16 @@ seen : (h : Held) (s : List ℕ) → Stands h s → s ≡ shown h
 seen h s (stored f e) = e
 seen h s (zeros e) = e
 
-left-same : {A : Type 0} (v : Verdict) (x : A) → left v x x ≡ x
+left-same : {A : Type 0} (v : Verdict) (x : A) → onAccept v x x ≡ x
 left-same Accepted x = refl
 left-same (Refused k) x = refl
 
-range-left : {A : Type 0} (v : Verdict) (before after : A) {x : A} → v ≡ Refused Range → x ≡ left v before after → x ≡ before
-range-left v b a e h = h ∙ ap (λ (u : Verdict). left u b a) e
+range-left : {A : Type 0} (v : Verdict) (before after : A) {x : A} → v ≡ Refused Range → x ≡ onAccept v before after → x ≡ before
+range-left v b a e h = h ∙ ap (λ (u : Verdict). onAccept u b a) e
 
-told-as : (t : Told) {n v : ℕ} {w d : List ℕ} → t .number ≡ n → t .value ≡ v → t .struct ≡ w → t .lent ≡ d → t ≡ told n v w d
+told-as : (t : NodeOutput) {n v : ℕ} {w d : List ℕ} → t .number ≡ n → t .value ≡ v → t .struct ≡ w → t .lent ≡ d → t ≡ nodeOutput n v w d
 told-as t {n} {v} a b e f =
-    ap₂ (λ (x y : ℕ). told x y (t .struct) (t .lent)) a b ∙ ap₂ (λ (x y : List ℕ). told n v x y) e f
+    ap₂ (λ (x y : ℕ). nodeOutput x y (t .struct) (t .lent)) a b ∙ ap₂ (λ (x y : List ℕ). nodeOutput n v x y) e f
 
 -- ---- a refused call's value is 0; an answer that is a number is no struct
 empty-value : (c : NodeCall) → valueOf (emptyObject c) ≡ 0
@@ -73,10 +73,10 @@ due-struct due.NotYet = refl
 due-struct due.SendAgain = refl
 due-struct due.GaveUp = refl
 
-holding-struct : (h : Holding) → structOf (holdingObject h) ≡ []
+holding-struct : (h : LeaseStatus) → structOf (holdingObject h) ≡ []
 holding-struct (holding.Refused k) = refl
-holding-struct holding.Yes = refl
-holding-struct holding.No = refl
+holding-struct holding.Valid = refl
+holding-struct holding.Expired = refl
 
 change-struct : (h : Change) → structOf (changeObject h) ≡ []
 change-struct (change.Refused k) = refl
@@ -89,9 +89,9 @@ module _ (c : NodeCall) (s : List ℕ) (e : s ≡ replicate 878 0) where
   none = ap (isImage nodeImage) e
 
   none-verdict : callVerdict c s ≡ Refused Range
-  none-verdict = ap (λ (b : Bool). judgedFirst b (performedIn c s .verdict)) none
+  none-verdict = ap (λ (b : Bool). checkedFirst b (performedIn c s .verdict)) none
 
-  module _ (t : Told) (s′ : List ℕ) where
+  module _ (t : NodeOutput) (s′ : List ℕ) where
     none-step : t .number ≡ 13 → t .value ≡ 0 → t .struct ≡ replicate (structSize c) 0 → t .lent ≡ lentTo c → s′ ≡ s
         → Step tells after Stands (calling c) no-node t s′
     none-step a b g h i = record { same = told-as t a b g h; stands = zeros (i ∙ e) }
@@ -118,11 +118,11 @@ module _ (c : NodeCall) (s : List ℕ) (e : s ≡ replicate 878 0) where
         let w = d .before in
         none-gives k w z (d .fits) (d .value) (d .lent)
         (range-left (giveVerdict k c s w) s (nodeImage .put (performedIn c s .node))
-        (ap (λ (b : Bool). judgedFirst b (performedIn c s .verdict)) (then-not w k (isImage nodeImage s) (d .fits) none))
+        (ap (λ (b : Bool). checkedFirst b (performedIn c s .verdict)) (then-not w k (isImage nodeImage s) (d .fits) none))
         (d .changes .node))
         (d .changes .gives)
 
-none-called : (c : NodeCall) (s : List ℕ) (t : Told) (s′ : List ℕ) → s ≡ replicate 878 0 → CallDid c s t s′
+none-called : (c : NodeCall) (s : List ℕ) (t : NodeOutput) (s′ : List ℕ) → s ≡ replicate 878 0 → CallDid c s t s′
     → Step tells after Stands (calling c) no-node t s′
 none-called (starting time timeout d) s t s′ e w =
     let c = starting time timeout d in
@@ -150,16 +150,16 @@ asks (suc zero) role (suc zero) x = for-node refl refl
 asks (suc zero) role (suc (suc n)) x = for-none (lt-leb (suc (suc n)) 1 (omega arith)) refl
 asks (suc (suc f)) role has x = for-none (rw (lt-leb (suc (suc f)) 1 (omega arith))) refl
 
-made-stands : (v : Verdict) (n : Node) (s′ : List ℕ) → nodeImage .Fit n → s′ ≡ left v (replicate 878 0) (nodeImage .put n)
-    → Stands (left v no-node (node n)) s′
+made-stands : (v : Verdict) (n : Node) (s′ : List ℕ) → nodeImage .Fit n → s′ ≡ onAccept v (replicate 878 0) (nodeImage .put n)
+    → Stands (onAccept v no-node (node n)) s′
 made-stands Accepted n s′ f e = stored f e
 made-stands (Refused k) n s′ f e = zeros e
 
 -- what a make comes to, where it asks for m
-abbrev MadeSo : ℕ → List ℕ → Made → Type 0
-MadeSo r s′ m = (r ≡ verdictNumber (m .verdict)) × Stands (left (m .verdict) no-node (node (m .node))) s′
+abbrev MadeSo : ℕ → List ℕ → MakeResult → Type 0
+MadeSo r s′ m = (r ≡ verdictNumber (m .verdict)) × Stands (onAccept (m .verdict) no-node (node (m .node))) s′
 
-module _ (follow : CallsFit) (form role has : ℕ) (x s : List ℕ) (t : Told) (s′ : List ℕ) (l : length s ≡ 878)
+module _ (follow : CallsFit) (form role has : ℕ) (x s : List ℕ) (t : NodeOutput) (s′ : List ℕ) (l : length s ≡ 878)
     (d : NodeMade form role has x s t s′) where
   made-so : Asks form role has x → MadeSo (t .number) s′ (asked form role has x)
   made-so (for-node e g) =
@@ -175,7 +175,7 @@ module _ (follow : CallsFit) (form role has : ℕ) (x s : List ℕ) (t : Told) (
       let p = made-so (asks form role has x) in
       record { same = told-as t (p .0) (d .value) (d .struct) (d .lent); stands = p .1 }
 
-module _ (demand1 : Demand1) (follow : CallsFit) (lawful : Lawful nodeImage) where
+module _ (demand1 : Demand1) (follow : CallsFit) (lawful : RoundTrips nodeImage) where
   -- ---- a call that finds the image of a node
   module _ (c : NodeCall) (n : Node) (s : List ℕ) (can : Callable c) (f : nodeImage .Fit n) (e : s ≡ nodeImage .put n) where
     is : isImage nodeImage s ≡ true
@@ -188,25 +188,25 @@ module _ (demand1 : Demand1) (follow : CallsFit) (lawful : Lawful nodeImage) whe
     verdict-so = ap (λ (m : Node). perform c m .verdict) got
 
     call-so : callVerdict c s ≡ perform c n .verdict
-    call-so = ap (λ (b : Bool). judgedFirst b (performedIn c s .verdict)) is ∙ verdict-so
+    call-so = ap (λ (b : Bool). checkedFirst b (performedIn c s .verdict)) is ∙ verdict-so
 
-    value-left : (v : Verdict) → perform c n .verdict ≡ v → left v 0 (valueOf (perform c n .object)) ≡ valueOf (perform c n .object)
+    value-left : (v : Verdict) → perform c n .verdict ≡ v → onAccept v 0 (valueOf (perform c n .object)) ≡ valueOf (perform c n .object)
     value-left Accepted h = refl
     value-left (Refused k) h = sym (ap valueOf (demand1 .calls c n k h .object) ∙ empty-value c)
 
     image-left : (v : Verdict) → perform c n .verdict ≡ v
-        → left v s (nodeImage .put (perform c n .node)) ≡ nodeImage .put (perform c n .node)
+        → onAccept v s (nodeImage .put (perform c n .node)) ≡ nodeImage .put (perform c n .node)
     image-left Accepted h = refl
     image-left (Refused k) h = e ∙ ap (nodeImage .put) (sym (demand1 .calls c n k h .node))
 
-    lent-left : (v : Verdict) → perform c n .verdict ≡ v → left v (lentTo c) (perform c n .lent) ≡ perform c n .lent
+    lent-left : (v : Verdict) → perform c n .verdict ≡ v → onAccept v (lentTo c) (perform c n .lent) ≡ perform c n .lent
     lent-left Accepted h = refl
     lent-left (Refused k) h = sym (demand1 .calls c n k h .lent)
 
     told-value : {r v : ℕ} → Tells c s r v → v ≡ valueOf (perform c n .object)
     told-value d =
         d .value
-        ∙ ap₂ (λ (u : Verdict) (m : Node). left u 0 (valueOf (perform c m .object))) call-so got
+        ∙ ap₂ (λ (u : Verdict) (m : Node). onAccept u 0 (valueOf (perform c m .object))) call-so got
         ∙ value-left (perform c n .verdict) refl
 
     told-number : {r v : ℕ} → Tells c s r v → r ≡ verdictNumber (perform c n .verdict)
@@ -216,25 +216,25 @@ module _ (demand1 : Demand1) (follow : CallsFit) (lawful : Lawful nodeImage) whe
     stays g = stored (follow .keeps-fit c n can f) g
 
     -- what is stored by a verdict u that is the call's
-    kept-as : {s′ : List ℕ} (u : Verdict) → u ≡ perform c n .verdict → s′ ≡ left u s (nodeImage .put (performedIn c s .node))
+    kept-as : {s′ : List ℕ} (u : Verdict) → u ≡ perform c n .verdict → s′ ≡ onAccept u s (nodeImage .put (performedIn c s .node))
         → Stands (node (perform c n .node)) s′
     kept-as u g h =
         stays
         (h
-        ∙ ap₂ (λ (w : Verdict) (m : Node). left w s (nodeImage .put (perform c m .node))) g got
+        ∙ ap₂ (λ (w : Verdict) (m : Node). onAccept w s (nodeImage .put (perform c m .node))) g got
         ∙ image-left (perform c n .verdict) refl)
 
-    dst-as : {d′ : List ℕ} → d′ ≡ left (callVerdict c s) (lentTo c) (performedIn c s .lent) → d′ ≡ perform c n .lent
+    dst-as : {d′ : List ℕ} → d′ ≡ onAccept (callVerdict c s) (lentTo c) (performedIn c s .lent) → d′ ≡ perform c n .lent
     dst-as h =
         h
-        ∙ ap₂ (λ (w : Verdict) (m : Node). left w (lentTo c) (perform c m .lent)) call-so got
+        ∙ ap₂ (λ (w : Verdict) (m : Node). onAccept w (lentTo c) (perform c m .lent)) call-so got
         ∙ lent-left (perform c n .verdict) refl
 
     no-struct : structSize c ≡ 0 → structOf (perform c n .object) ≡ []
-        → [] ≡ left (perform c n .verdict) (replicate (structSize c) 0) (structOf (perform c n .object))
+        → [] ≡ onAccept (perform c n .verdict) (replicate (structSize c) 0) (structOf (perform c n .object))
     no-struct h g = rw (h, g) (sym (left-same (perform c n .verdict) []))
 
-    module _ (t : Told) (s′ : List ℕ) where
+    module _ (t : NodeOutput) (s′ : List ℕ) where
       does-step : structSize c ≡ 0 → structOf (perform c n .object) ≡ [] → t .lent ≡ perform c n .lent → t .struct ≡ []
           → Does c s (t .number) s′ (t .value) → Step tells after Stands (calling c) (node n) t s′
       does-step k o g h d =
@@ -256,8 +256,8 @@ module _ (demand1 : Demand1) (follow : CallsFit) (lawful : Lawful nodeImage) whe
       gives-same k w z l o g d h i =
           told-as t (right-number d l is ∙ ap verdictNumber verdict-so) (h ∙ sym o)
           (right-result d l is
-          ∙ ap (λ (m : Node). left (perform c m .verdict) (replicate k 0) (structOf (perform c m .object))) got
-          ∙ ap (λ (j : ℕ). left (perform c n .verdict) (replicate j 0) (structOf (perform c n .object))) (sym z))
+          ∙ ap (λ (m : Node). onAccept (perform c m .verdict) (replicate k 0) (structOf (perform c m .object))) got
+          ∙ ap (λ (j : ℕ). onAccept (perform c n .verdict) (replicate j 0) (structOf (perform c n .object))) (sym z))
           (i ∙ sym g)
 
       change-step : (k : ℕ) → structSize c ≡ k → valueOf (perform c n .object) ≡ 0 → perform c n .lent ≡ lentTo c → Changed k c s t s′
@@ -268,7 +268,7 @@ module _ (demand1 : Demand1) (follow : CallsFit) (lawful : Lawful nodeImage) whe
             same = gives-same k w z (d .fits) o g (d .changes .gives) (d .value) (d .lent);
             stands =
                 kept-as (giveVerdict k c s w)
-                (ap (λ (b : Bool). judgedFirst b (performedIn c s .verdict)) (then-so w k (isImage nodeImage s) (d .fits) is) ∙ verdict-so)
+                (ap (λ (b : Bool). checkedFirst b (performedIn c s .verdict)) (then-so w k (isImage nodeImage s) (d .fits) is) ∙ verdict-so)
                 (d .changes .node);
           }
 
@@ -281,7 +281,7 @@ module _ (demand1 : Demand1) (follow : CallsFit) (lawful : Lawful nodeImage) whe
           }
 
   -- ---- any call, and then lists
-  called : (c : NodeCall) (n : Node) (s : List ℕ) (t : Told) (s′ : List ℕ) → Callable c → nodeImage .Fit n → s ≡ nodeImage .put n
+  called : (c : NodeCall) (n : Node) (s : List ℕ) (t : NodeOutput) (s′ : List ℕ) → Callable c → nodeImage .Fit n → s ≡ nodeImage .put n
       → CallDid c s t s′ → Step tells after Stands (calling c) (node n) t s′
   unfolding perform
   called (starting time timeout d) n s t s′ can f e w =
@@ -305,7 +305,7 @@ module _ (demand1 : Demand1) (follow : CallsFit) (lawful : Lawful nodeImage) whe
   stands-long h s (stored {n = n} f e) = ap length e ∙ put-long nodeImage lawful n f
   stands-long h s (zeros e) = ap length e
 
-  step : (c : Call) (h : Held) (s : List ℕ) (t : Told) (s′ : List ℕ) → Stands h s → Did c s t s′ → Step tells after Stands c h t s′
+  step : (c : Call) (h : Held) (s : List ℕ) (t : NodeOutput) (s′ : List ℕ) → Stands h s → Did c s t s′ → Step tells after Stands c h t s′
   step (making form role has x) h s t s′ a d = made-step follow form role has x s t s′ (stands-long h s a) d h
   step (calling c) h s t s′ (stored {n = n} f e) d = called c n s t s′ (d .callable) f e (d .did)
   step (calling c) h s t s′ (zeros e) d = none-called c s t s′ e (d .did)

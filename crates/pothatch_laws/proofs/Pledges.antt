@@ -13,7 +13,7 @@ use Rattle.aes_ccm.specs.Plan.{Plan, refuse, emit}
 use Rattle.byte_lists.specs.Table.{length-table}
 use Rattle.join_proxy.specs.Body.{numberOf, nonceWith}
 use Rattle.join_proxy.specs.Judging.{nobody, isFresh, pledgeIn, judgeText, judgePlan, opening, judgeBody}
-use Rattle.join_proxy.specs.declared.judging.Judgement.{Judgement}
+use Rattle.join_proxy.specs.declared.judging.JudgeResult.{JudgeResult}
 use Rattle.join_proxy.specs.declared.proxy.Issued.{Issued}
 use Rattle.join_proxy.specs.declared.proxy.Proxy.{Proxy}
 use Rattle.state_image.specs.Proxy.{proxyImage, pledgeImage}
@@ -40,7 +40,7 @@ pledge-fits t b =
     )
 
 -- ---- by what the sealed part opens to
-abbrev JudgedFits : Judgement → Type 0
+abbrev JudgedFits : JudgeResult → Type 0
 JudgedFits j = pledgeImage .Fit (j .pledge)
 
 text-fits : (issued : Issued) (n : ℕ) (t : List ℕ) → AllBytes t → JudgedFits (judgeText issued n t)

@@ -6,10 +6,10 @@ use lib.ListN.{replicate}
 use Rattle.byte_lists.specs.Same.{same}
 use Rattle.cbor.specs.Encode.{bytesOf}
 use Rattle.join_proxy.specs.Body.{bodyOf}
-use Rattle.join_proxy.specs.Day.{key}
+use Rattle.join_proxy.specs.Example.{key}
 use Rattle.join_proxy.specs.Issuing.{issuePlan}
 use Rattle.join_proxy.specs.Judging.{judgeBody}
-use Rattle.pothatch_laws.specs.Proxied.{calls, firsts, answered, kept, ProxySeen}
+use Rattle.pothatch_laws.specs.ProxyExample.{calls, firsts, answered, kept, ProxyExample}
 use Rattle.pothatch_laws.specs.Proxy.{Did, no-proxy, tells, after, shown, ProxyRuns}
 use Rattle.pothatch_laws.specs.Runs.{Runs, afterAll, answers, As}
 use Rattle.pothatch_laws.proofs.ByteLists.{bytes-by}
@@ -27,7 +27,7 @@ left-so : shown (afterAll after calls no-proxy) ≡ kept
 unfolding same issuePlan bytesOf
 left-so = refl
 
-pub proxy-seen : ProxyRuns → ProxySeen
+pub proxy-seen : ProxyRuns → ProxyExample
 proxy-seen law =
     let before : List ℕ = replicate 26 0 in
     let r = ran Did Can one calls before can in

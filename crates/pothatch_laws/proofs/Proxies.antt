@@ -14,8 +14,8 @@ use Rattle.refusal.specs.Verdict.{verdictNumber}
 use Rattle.refusal.specs.declared.Refusal.the-variants.{Range}
 use Rattle.refusal.specs.declared.Verdict.{Verdict}
 use Rattle.refusal.specs.declared.Verdict.the-variants.{Accepted, Refused}
-use Rattle.image.specs.Left.{left, judgedFirst, Hands}
-use Rattle.image.specs.Part.{AllBytes, Lawful, isImage}
+use Rattle.image.specs.Effects.{onAccept, checkedFirst, ResultSpec}
+use Rattle.image.specs.Part.{AllBytes, RoundTrips, isImage}
 use Rattle.aes_ccm.specs.Plan as plan
 use Rattle.aes_ccm.specs.Plan.{Plan, refuse, emit, answer, numberIn}
 use Rattle.byte_lists.specs.Same.{same}
@@ -28,12 +28,12 @@ use Rattle.join_proxy.specs.Keys.{fresh, setKey}
 use Rattle.join_proxy.specs.Laws.{ProxyLaws}
 use Rattle.join_proxy.specs.declared.proxy.Issued.{Issued}
 use Rattle.join_proxy.specs.declared.proxy.Issued.the-variants.{Count, All}
-use Rattle.join_proxy.specs.declared.proxy.Keyed.{Keyed}
+use Rattle.join_proxy.specs.declared.proxy.SetKeyResult.{SetKeyResult}
 use Rattle.join_proxy.specs.declared.proxy.Proxy.{Proxy}
 use Rattle.state_image.specs.Proxy as state
 use Rattle.state_image.specs.Proxy.{proxyImage, pledgeImage}
 use Rattle.proxy_calls.specs.Proxy.{keyVerdict, issueOf, Makes, JudgesIn}
-use Rattle.pothatch_laws.specs.Proxy.{OwnCall, setting, issuing, judging, Call, making, calling, Told, told, ProxyMade, KeySet, BodyIssued, BodyJudged, OwnDid, Did, Held, no-proxy, proxy, isKey, fit, callOf, structOf, lentAfter, ranged, tells, after, shown, callsOf, allOwn, ProxyRuns}
+use Rattle.pothatch_laws.specs.Proxy.{OwnCall, setting, issuing, judging, Call, making, calling, ProxyOutput, proxyOutput, ProxyMade, KeySet, BodyIssued, BodyJudged, OwnDid, Did, Held, no-proxy, proxy, isKey, fit, callOf, structOf, lentAfter, ranged, tells, after, shown, callsOf, allOwn, ProxyRuns}
 use Rattle.pothatch_laws.specs.Runs.{Runs, afterAll, answers, As}
 use Rattle.pothatch_laws.proofs.Following.{Step, runs, runs-from}
 use Rattle.pothatch_laws.proofs.Handing.{right-number, right-result, wrong-number, wrong-result}
@@ -49,18 +49,18 @@ seen : (h : Held) (s : List ℕ) → Stands h s → s ≡ shown h
 seen h s (stored f e) = e
 seen h s (zeros e) = e
 
-cons-tail : {t u : Told} {ts us : List Told} → t ∷ ts ≡ u ∷ us → ts ≡ us
+cons-tail : {t u : ProxyOutput} {ts us : List ProxyOutput} → t ∷ ts ≡ u ∷ us → ts ≡ us
 cons-tail e = cc
 
-told-as : (t : Told) {n : ℕ} {w d : List ℕ} → t .number ≡ n → t .struct ≡ w → t .lent ≡ d → t ≡ told n w d
-told-as t {n} a e f = ap₂ (λ (x : ℕ) (y : List ℕ). told x y (t .lent)) a e ∙ ap (told n _) f
+told-as : (t : ProxyOutput) {n : ℕ} {w d : List ℕ} → t .number ≡ n → t .struct ≡ w → t .lent ≡ d → t ≡ proxyOutput n w d
+told-as t {n} a e f = ap₂ (λ (x : ℕ) (y : List ℕ). proxyOutput x y (t .lent)) a e ∙ ap (proxyOutput n _) f
 
 -- ---- every call leaves a proxy that has an image
 fresh-fits : (key : List ℕ) → length key ≡ 16 → AllBytes key → proxyImage .Fit (fresh key)
 fresh-fits key l b = ((l, b), omega arith)
 
 -- what setting a key answers, by whether it is the key in use
-abbrev keyed : Bool → Proxy → List ℕ → Keyed
+abbrev keyed : Bool → Proxy → List ℕ → SetKeyResult
 keyed inUse p key = cond inUse (record { verdict = Refused Range; proxy = p }) (record { verdict = Accepted; proxy = fresh key })
 
 keyed-fits : (b : Bool) (p : Proxy) (key : List ℕ) → length key ≡ 16 → AllBytes key → proxyImage .Fit p
@@ -69,7 +69,7 @@ keyed-fits true p key l b f = f
 keyed-fits false p key l b f = fresh-fits key l b
 
 keyed-left : (b : Bool) (p : Proxy) (key s : List ℕ) → s ≡ proxyImage .put p
-    → left (keyed b p key .verdict) s (proxyImage .put (keyed b p key .proxy)) ≡ proxyImage .put (keyed b p key .proxy)
+    → onAccept (keyed b p key .verdict) s (proxyImage .put (keyed b p key .proxy)) ≡ proxyImage .put (keyed b p key .proxy)
 keyed-left true p key s e = e
 keyed-left false p key s e = refl
 
@@ -93,39 +93,39 @@ issue-fits p (refuse k) f = f
 issue-fits p (emit b) f = (f .0, raised-from-held (p .issued) (f .1))
 
 issue-left : (q : Plan) (p : Proxy) (s : List ℕ) → s ≡ proxyImage .put p
-    → left (planVerdict q) s (proxyImage .put (afterIssue q p)) ≡ proxyImage .put (afterIssue q p)
+    → onAccept (planVerdict q) s (proxyImage .put (afterIssue q p)) ≡ proxyImage .put (afterIssue q p)
 issue-left (refuse k) p s e = e
 issue-left (emit b) p s e = refl
 
 -- ---- what a call answers and leaves, by the verdict or plan that it comes to; a judging and a make hand back a struct
-module _ {key s : List ℕ} {t : Told} {s′ : List ℕ} (d : KeySet key s t s′) {v : Verdict} (so : keyVerdict s key ≡ v) where
-  set-told : t ≡ told (verdictNumber v) [] key
+module _ {key s : List ℕ} {t : ProxyOutput} {s′ : List ℕ} (d : KeySet key s t s′) {v : Verdict} (so : keyVerdict s key ≡ v) where
+  set-told : t ≡ proxyOutput (verdictNumber v) [] key
   set-told = told-as t (d .sets .number ∙ ap verdictNumber so) (d .struct) (d .lent)
 
-  set-left : s′ ≡ left v s (proxyImage .put (setKey (proxyImage .get s) key .proxy))
-  set-left = d .sets .proxy ∙ ap (λ (u : Verdict). left u s (proxyImage .put (setKey (proxyImage .get s) key .proxy))) so
+  set-left : s′ ≡ onAccept v s (proxyImage .put (setKey (proxyImage .get s) key .proxy))
+  set-left = d .sets .proxy ∙ ap (λ (u : Verdict). onAccept u s (proxyImage .put (setKey (proxyImage .get s) key .proxy))) so
 
-module _ {interface : List ℕ} {port : ℕ} {token d s : List ℕ} {t : Told} {s′ : List ℕ} (w : BodyIssued interface port token d s t s′)
+module _ {interface : List ℕ} {port : ℕ} {token d s : List ℕ} {t : ProxyOutput} {s′ : List ℕ} (w : BodyIssued interface port token d s t s′)
     {q : Plan} (so : issueOf s interface port token (length d) ≡ q) where
-  issue-told : t ≡ told (numberIn (answer q)) [] (plan.after q d)
+  issue-told : t ≡ proxyOutput (numberIn (answer q)) [] (plan.after q d)
   issue-told =
       told-as t (w .issues .number ∙ ap (λ (r : Plan). numberIn (answer r)) so) (w .struct)
       (w .issues .dst ∙ ap (λ (r : Plan). plan.after r d) so)
 
-  issue-kept : s′ ≡ left (planVerdict q) s (proxyImage .put (afterIssue q (proxyImage .get s)))
-  issue-kept = w .issues .proxy ∙ ap (λ (r : Plan). left (planVerdict r) s (proxyImage .put (afterIssue r (proxyImage .get s)))) so
+  issue-kept : s′ ≡ onAccept (planVerdict q) s (proxyImage .put (afterIssue q (proxyImage .get s)))
+  issue-kept = w .issues .proxy ∙ ap (λ (r : Plan). onAccept (planVerdict r) s (proxyImage .put (afterIssue r (proxyImage .get s)))) so
 
 judge-hands : {s body w : List ℕ} {r : ℕ} {w′ : List ℕ} → JudgesIn s body w r w′
     → (let j = judgeBody (proxyImage .get s) body in
-    Hands 21 (isImage proxyImage s) (j .verdict) (pledgeImage .put (j .pledge)) w r w′)
+    ResultSpec 21 (isImage proxyImage s) (j .verdict) (pledgeImage .put (j .pledge)) w r w′)
 judge-hands d = record { number = d .number; result = d .pledge }
 
-make-hands : {key s : List ℕ} {r : ℕ} {s′ : List ℕ} → Makes key s r s′ → Hands 26 (isKey key) Accepted (proxyImage .put (fresh key)) s r s′
+make-hands : {key s : List ℕ} {r : ℕ} {s′ : List ℕ} → Makes key s r s′ → ResultSpec 26 (isKey key) Accepted (proxyImage .put (fresh key)) s r s′
 make-hands d = record { number = d .number; result = d .proxy }
 
 -- ---- where the call has its lengths, and where not
-module _ (c : OwnCall) (h : History) {t : Told} {s′ : List ℕ} where
-  step-fit : fit c ≡ true → t ≡ told (answered (callOf c) h) (structOf c h) (lentAfter c h) → Stands (proxy (called (callOf c) h)) s′
+module _ (c : OwnCall) (h : History) {t : ProxyOutput} {s′ : List ℕ} where
+  step-fit : fit c ≡ true → t ≡ proxyOutput (answered (callOf c) h) (structOf c h) (lentAfter c h) → Stands (proxy (called (callOf c) h)) s′
       → Step tells after Stands (calling c) (proxy h) t s′
   step-fit g e a = record { same = rw g e; stands = rw g a }
 
@@ -133,7 +133,7 @@ module _ (c : OwnCall) (h : History) {t : Told} {s′ : List ℕ} where
   step-unfit g e a = record { same = rw g e; stands = rw g a }
 
 -- ---- a call that finds the image of a proxy
-module _ (lawful : Lawful proxyImage) (h : History) (s : List ℕ) (f : proxyImage .Fit (h .proxy)) (e : s ≡ proxyImage .put (h .proxy)) where
+module _ (lawful : RoundTrips proxyImage) (h : History) (s : List ℕ) (f : proxyImage .Fit (h .proxy)) (e : s ≡ proxyImage .put (h .proxy)) where
   is : isImage proxyImage s ≡ true
   is = ap (isImage proxyImage) e ∙ put-is proxyImage lawful (h .proxy) f
 
@@ -143,16 +143,16 @@ module _ (lawful : Lawful proxyImage) (h : History) (s : List ℕ) (f : proxyIma
   stays : {s′ : List ℕ} → s′ ≡ s → Stands (proxy h) s′
   stays i = stored f (i ∙ e)
 
-  module _ (key : List ℕ) (t : Told) (s′ : List ℕ) (d : KeySet key s t s′) where
+  module _ (key : List ℕ) (t : ProxyOutput) (s′ : List ℕ) (d : KeySet key s t s′) where
     set-step : (b : Bool) → isKey key ≡ b → Step tells after Stands (calling (setting key)) (proxy h) t s′
     set-step true g =
         let p = h .proxy in
         let so : keyVerdict s key ≡ setKey p key .verdict =
-        ap (λ (b : Bool). judgedFirst b (setKey (proxyImage .get s) key .verdict)) (both (isKey key) (isImage proxyImage s) g is)
+        ap (λ (b : Bool). checkedFirst b (setKey (proxyImage .get s) key .verdict)) (both (isKey key) (isImage proxyImage s) g is)
         ∙ ap (λ (q : Proxy). setKey q key .verdict) got in
         let image : s′ ≡ proxyImage .put (setKey p key .proxy) =
         set-left d so
-        ∙ ap (λ (q : Proxy). left (setKey p key .verdict) s (proxyImage .put (setKey q key .proxy))) got
+        ∙ ap (λ (q : Proxy). onAccept (setKey p key .verdict) s (proxyImage .put (setKey q key .proxy))) got
         ∙ keyed-left (same (p .key) key) p key s e in
         let goes : setKey p key .proxy ≡ called (history.setting key) h .proxy =
         sym (settled-proxy (setKey p key .verdict) (setKey p key .proxy) key h) in
@@ -162,10 +162,10 @@ module _ (lawful : Lawful proxyImage) (h : History) (s : List ℕ) (f : proxyIma
         (image ∙ ap (proxyImage .put) goes))
     set-step false g =
         let so : keyVerdict s key ≡ Refused Range =
-        ap (λ (b : Bool). judgedFirst (b && isImage proxyImage s) (setKey (proxyImage .get s) key .verdict)) g in
+        ap (λ (b : Bool). checkedFirst (b && isImage proxyImage s) (setKey (proxyImage .get s) key .verdict)) g in
         step-unfit (setting key) h g (set-told d so) (stays (set-left d so))
 
-  module _ (interface : List ℕ) (port : ℕ) (token d : List ℕ) (t : Told) (s′ : List ℕ) (w : BodyIssued interface port token d s t s′) where
+  module _ (interface : List ℕ) (port : ℕ) (token d : List ℕ) (t : ProxyOutput) (s′ : List ℕ) (w : BodyIssued interface port token d s t s′) where
     issue-step : (b : Bool) → eqb (length interface) 8 ≡ b
         → Step tells after Stands (calling (issuing interface port token d)) (proxy h) t s′
     issue-step true g =
@@ -177,24 +177,24 @@ module _ (lawful : Lawful proxyImage) (h : History) (s : List ℕ) (f : proxyIma
         ∙ ap (λ (r : Proxy). issuePlan r interface port token (length d)) got in
         step-fit (issuing interface port token d) h g (issue-told w so)
         (stored (issue-fits p q f)
-        (issue-kept w so ∙ ap (λ (y : Proxy). left (planVerdict q) s (proxyImage .put (afterIssue q y))) got ∙ issue-left q p s e))
+        (issue-kept w so ∙ ap (λ (y : Proxy). onAccept (planVerdict q) s (proxyImage .put (afterIssue q y))) got ∙ issue-left q p s e))
     issue-step false g =
         let so : issueOf s interface port token (length d) ≡ refuse Range =
         ap (λ (b : Bool). rangeFirst (b && isImage proxyImage s) (issuePlan (proxyImage .get s) interface port token (length d))) g in
         step-unfit (issuing interface port token d) h g (issue-told w so) (stays (issue-kept w so))
 
-  judge-step : (body : List ℕ) (t : Told) (s′ : List ℕ) → BodyJudged body s t s′
+  judge-step : (body : List ℕ) (t : ProxyOutput) (s′ : List ℕ) → BodyJudged body s t s′
       → Step tells after Stands (calling (judging body)) (proxy h) t s′
   judge-step body t s′ d =
       let hands = judge-hands (d .judges) in
       step-fit (judging body) h refl
       (told-as t (right-number hands (d .fits) is ∙ ap (λ (p : Proxy). verdictNumber (judgeBody p body .verdict)) got)
       (right-result hands (d .fits) is
-      ∙ ap (λ (p : Proxy). left (judgeBody p body .verdict) (replicate 21 0) (pledgeImage .put (judgeBody p body .pledge))) got)
+      ∙ ap (λ (p : Proxy). onAccept (judgeBody p body .verdict) (replicate 21 0) (pledgeImage .put (judgeBody p body .pledge))) got)
       (d .lent))
       (stays (d .image))
 
-  own-step : (c : OwnCall) (t : Told) (s′ : List ℕ) → OwnDid c s t s′ → Step tells after Stands (calling c) (proxy h) t s′
+  own-step : (c : OwnCall) (t : ProxyOutput) (s′ : List ℕ) → OwnDid c s t s′ → Step tells after Stands (calling c) (proxy h) t s′
   own-step (setting key) t s′ d = set-step key t s′ d (isKey key) refl
   own-step (issuing interface port token d) t s′ w = issue-step interface port token d t s′ w (eqb (length interface) 8) refl
   own-step (judging body) t s′ d = judge-step body t s′ d
@@ -207,10 +207,10 @@ module _ (s : List ℕ) (e : s ≡ replicate 26 0) where
   neither : (a : Bool) → (a && isImage proxyImage s) ≡ false
   neither a = rw none (and-false a)
 
-  none-step : (c : OwnCall) (t : Told) (s′ : List ℕ) → OwnDid c s t s′ → Step tells after Stands (calling c) no-proxy t s′
+  none-step : (c : OwnCall) (t : ProxyOutput) (s′ : List ℕ) → OwnDid c s t s′ → Step tells after Stands (calling c) no-proxy t s′
   none-step (setting key) t s′ d =
       let so : keyVerdict s key ≡ Refused Range =
-      ap (λ (b : Bool). judgedFirst b (setKey (proxyImage .get s) key .verdict)) (neither (isKey key)) in
+      ap (λ (b : Bool). checkedFirst b (setKey (proxyImage .get s) key .verdict)) (neither (isKey key)) in
       record { same = set-told d so; stands = zeros (set-left d so ∙ e) }
   none-step (issuing interface port token d) t s′ w =
       let so : issueOf s interface port token (length d) ≡ refuse Range =
@@ -225,7 +225,7 @@ module _ (s : List ℕ) (e : s ≡ replicate 26 0) where
       }
 
 -- ---- a make
-make-step : (key : List ℕ) (h : Held) (s : List ℕ) (t : Told) (s′ : List ℕ) (b : Bool) → isKey key ≡ b → length s ≡ 26
+make-step : (key : List ℕ) (h : Held) (s : List ℕ) (t : ProxyOutput) (s′ : List ℕ) (b : Bool) → isKey key ≡ b → length s ≡ 26
     → ProxyMade key s t s′ → Step tells after Stands (making key) h t s′
 make-step key h s t s′ true g l d =
     let hands = make-hands (d .makes) in
@@ -257,12 +257,12 @@ own-history : (cs : List OwnCall) (h : History) → Follows cs h
 own-history [] h = refl
 own-history (c ∷ cs) h = own-next c cs h (λ k. own-history cs k)
 
-module _ (lawful : Lawful proxyImage) where
+module _ (lawful : RoundTrips proxyImage) where
   stands-long : (h : Held) (s : List ℕ) → Stands h s → length s ≡ 26
   stands-long h s (stored {h = k} f e) = ap length e ∙ put-long proxyImage lawful (k .proxy) f
   stands-long h s (zeros e) = ap length e
 
-  step : (c : Call) (h : Held) (s : List ℕ) (t : Told) (s′ : List ℕ) → Stands h s → Did c s t s′ → Step tells after Stands c h t s′
+  step : (c : Call) (h : Held) (s : List ℕ) (t : ProxyOutput) (s′ : List ℕ) → Stands h s → Did c s t s′ → Step tells after Stands c h t s′
   step (making key) h s t s′ a d = make-step key h s t s′ (isKey key) refl (stands-long h s a) d
   step (calling c) h s t s′ (stored {h = k} f e) d = own-step lawful k s f e c t s′ d
   step (calling c) h s t s′ (zeros e) d = none-step s e c t s′ d
@@ -272,13 +272,13 @@ module _ (lawful : Lawful proxyImage) where
       stored (subst (proxyImage .Fit) (sym g) (got-fits proxyImage lawful s b i))
       (sym (ap (proxyImage .put) g ∙ got-put proxyImage lawful s b i))
 
-  from-make : (key : List ℕ) (cs : List Call) (h : Held) (s : List ℕ) (ts : List Told) (z : List ℕ) → length s ≡ 26
+  from-make : (key : List ℕ) (cs : List Call) (h : Held) (s : List ℕ) (ts : List ProxyOutput) (z : List ℕ) → length s ≡ 26
       → Runs Did (making key ∷ cs) s ts z → As tells after shown (making key ∷ cs) h ts z
   from-make key cs h s ts z l r =
       runs-from Did tells after Stands shown seen step (making key) cs h s ts z (λ t s′ d. make-step key h s t s′ (isKey key) refl l d) r
 
   -- what the calls after an accepted make answered
-  answered-then : (key : List ℕ) (cs : List Call) (s : List ℕ) (t : Told) (ts : List Told) (z : List ℕ) → length s ≡ 26 → length key ≡ 16
+  answered-then : (key : List ℕ) (cs : List Call) (s : List ℕ) (t : ProxyOutput) (ts : List ProxyOutput) (z : List ℕ) → length s ≡ 26 → length key ≡ 16
       → Runs Did (making key ∷ cs) s (t ∷ ts) z → ts ≡ answers tells after cs (proxy (history.after key []))
   answered-then key cs s t ts z l k r =
       cons-tail (from-make key cs no-proxy s (t ∷ ts) z l r .answered)

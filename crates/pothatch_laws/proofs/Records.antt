@@ -16,9 +16,9 @@ use Rattle.cojp.specs.Octets.{octetsOf}
 use Rattle.node_calls.specs.Calls.{networkOf}
 use Rattle.node_parameters.specs.Octets.{absentOctets}
 use Rattle.node_parameters.specs.declared.octets.HeldOctets.{HeldOctets}
-use Rattle.trace.specs.Night.{Record, newNode, start, joinAnswer, update, verified, poll, sizeOf, Reading, end, bad, got, networkIn, readingOf, reading}
-use Rattle.trace.specs.Night.{Night, over, stop, then, recordsIn, endOf}
-use Rattle.trace.specs.Stands.{StandsFrom}
+use Rattle.trace.specs.Trace.{Record, newNode, start, joinAnswer, update, verified, poll, sizeOf, Reading, end, bad, got, networkIn, readingOf, reading}
+use Rattle.trace.specs.Trace.{Trace, over, stop, then, recordsIn, endOf}
+use Rattle.trace.specs.Contiguous.{ContiguousFrom}
 use Rattle.trace_record.specs.Layout as layout
 use Rattle.trace_record.specs.Layout.{bigEndianOn, number, blank, bodySize, isNetworkLength, networkUsed, delivery, deliveryOf, fields, entry}
 use Rattle.trace_record.specs.declared.entries.Entry.{Entry}
@@ -152,18 +152,18 @@ pub data AllFit : List Record → Type 0 where
   none-read : AllFit []
   next-read : {r : Record} {rs : List Record} → RecordFits r → AllFit rs → AllFit (r ∷ rs)
 
-pub record NightFits (t : List ℕ) (at : ℕ) (n : Night) : Type 0 where
+pub record TraceValid (t : List ℕ) (at : ℕ) (n : Trace) : Type 0 where
   pub records : AllFit (recordsIn n)
   pub few : at + length (recordsIn n) ≤ length t
   pub inside : endOf n ≤ length t
 
 module _ (t : List ℕ) (b : AllBytes t) where
-  pub night-fits : (n : Night) (made : Bool) (at : ℕ) → at ≤ length t → StandsFrom t made at n → NightFits t at n
-  night-fits (over place) made at h s = record { records = none-read; few = omega arith; inside = omega (arith, s .0) }
-  night-fits (stop place) made at h s = record { records = none-read; few = omega arith; inside = omega (arith, s .0) }
-  night-fits (then place r rest) made at h s =
+  pub trace-fits : (n : Trace) (made : Bool) (at : ℕ) → at ≤ length t → ContiguousFrom t made at n → TraceValid t at n
+  trace-fits (over place) made at h s = record { records = none-read; few = omega arith; inside = omega (arith, s .0) }
+  trace-fits (stop place) made at h s = record { records = none-read; few = omega arith; inside = omega (arith, s .0) }
+  trace-fits (then place r rest) made at h s =
       let here : ReadingFits (length (drop at t)) (got r) =
       subst (ReadingFits (length (drop at t))) (s .1) (reading-fits (drop at t) (dropped at t b)) in
       let size = here .1 .1 in
-      let after = night-fits rest true (at + sizeOf r) (omega (arith, size, length-drop at t)) (s .3) in
+      let after = trace-fits rest true (at + sizeOf r) (omega (arith, size, length-drop at t)) (s .3) in
       record { records = next-read (here .0) (after .records); few = omega (arith, after .few, here .1 .0); inside = after .inside }

@@ -9,7 +9,7 @@ use borrow.Author.Tests.{eqb-true, eqb-false}
 use lib.Dec.{eqb}
 use lib.ListN.{length, take}
 use Rattle.logic_facts.specs.Tests.{both-left, both-right}
-use Rattle.image.specs.Part.{Part, AllBytes, Lawful}
+use Rattle.image.specs.Part.{Part, AllBytes, RoundTrips}
 use Rattle.aes_ccm.specs.Laws.{CcmLaws}
 use Rattle.aes_ccm.specs.Plan.{Plan, refuse, emit}
 use Rattle.byte_lists.specs.Same.{same}
@@ -22,20 +22,20 @@ use Rattle.cojp.specs.Writing.{configurationInRange}
 use Rattle.cojp.specs.declared.configuration.Configuration.{Configuration}
 use Rattle.cojp.specs.declared.configuration.ConfigurationRead.{ConfigurationRead}
 use Rattle.cojp.specs.declared.octets.OctetsParameter.{OctetsParameter}
-use Rattle.cojp.specs.declared.report.Report.{Report}
-use Rattle.cojp.specs.declared.report.Report.the-variants.{Absent, Taken, Discarded}
+use Rattle.cojp.specs.declared.disposition.Disposition.{Disposition}
+use Rattle.cojp.specs.declared.disposition.Disposition.the-variants.{Absent, Taken, Discarded}
 use Rattle.cojp.specs.declared.request.RequestRead.{RequestRead}
 use Rattle.cojp.specs.declared.version.Version.the-variants.{Draft}
 use Rattle.cojp_merge.specs.Merge.{mergeAnswer}
-use Rattle.cojp_merge.specs.declared.Merged.{Merged}
-use Rattle.cojp_serial.specs.Arrival.{courseOf, endRead, endArrival}
-use Rattle.cojp_serial.specs.declared.arrival.Course.{Course}
-use Rattle.cojp_serial.specs.declared.arrival.Course.the-variants.{Outside, Overrun, Ended, Open}
+use Rattle.cojp_merge.specs.declared.MergeResult.{MergeResult}
+use Rattle.cojp_serial.specs.State.{decisionOf, endRead, endState}
+use Rattle.cojp_serial.specs.declared.state.PartDecision.{PartDecision}
+use Rattle.cojp_serial.specs.declared.state.PartDecision.the-variants.{Outside, Overrun, Ended, Open}
 use Rattle.join_proxy.specs.Issuing.{raisedFrom, afterIssue}
 use Rattle.join_proxy.specs.Keys.{fresh, setKey}
 use Rattle.join_proxy.specs.declared.proxy.Issued.{Issued}
 use Rattle.join_proxy.specs.declared.proxy.Issued.the-variants.{Count, All}
-use Rattle.join_proxy.specs.declared.proxy.Keyed.{Keyed}
+use Rattle.join_proxy.specs.declared.proxy.SetKeyResult.{SetKeyResult}
 use Rattle.join_proxy.specs.declared.proxy.Proxy.{Proxy}
 use Rattle.node_call_laws.specs.Fits.{CallsFit}
 use Rattle.node_image.specs.Node.{nodeImage}
@@ -43,45 +43,45 @@ use Rattle.object_image.specs.Address.{addressParameterPart}
 use Rattle.object_image.specs.Configuration.{keysParameterPart, configurationImage}
 use Rattle.object_image.specs.Octets.{octetsParameterPart}
 use Rattle.object_image.specs.Request.{requestImage}
-use Rattle.payload_calls.specs.Asked.{formOf}
+use Rattle.payload_calls.specs.Asked.{versionOf}
 use Rattle.payload_calls.specs.Read.{requestAsked, configurationAsked}
 use Rattle.serial_calls.specs.Serial.{serialImage}
 use Rattle.state_image.specs.Ledger.{ledgerImage}
 use Rattle.state_image.specs.Proxy.{Held, proxyImage}
-use Rattle.trace.specs.Stands.{NightStands}
+use Rattle.trace.specs.Contiguous.{RecordsContiguous}
 use Rattle.pothatch_laws.specs.Results.{Holds, IsKey, ResultsFit}
 use Rattle.pothatch_laws.proofs.Arriving.{none-fits, part-fits, end-fits}
 use Rattle.pothatch_laws.proofs.Bounds.{opened-fits, asked-fits, returned-fits}
 use Rattle.pothatch_laws.proofs.Cases.{either}
-use Rattle.pothatch_laws.proofs.Nights.{replayed-node-fits, replayed-fits}
+use Rattle.pothatch_laws.proofs.Statistics.{replayed-node-fits, replayed-fits}
 use Rattle.pothatch_laws.proofs.Pledges.{judged-fits}
 use Rattle.pothatch_laws.proofs.Records.{taken}
 
 -- what an image holds fits
-held-fits : {A : Type 0} (p : Part A) (s : List ℕ) → Lawful p → Holds p s → p .Fit (p .get s)
+held-fits : {A : Type 0} (p : Part A) (s : List ℕ) → RoundTrips p → Holds p s → p .Fit (p .get s)
 held-fits p s l h =
     let long = eqb-true (length s) (p .size) (both-left (eqb (length s) (p .size)) (p .good s) (h .image)) in
     l .fits s (h .bytes) (omega arith) (both-right (eqb (length s) (p .size)) (p .good s) (h .image))
 
-by-report : {A : Type 0} (P : A → Type 0) (r : Report) {x y : A} → P x → P y → P (ifTaken r x y)
+by-report : {A : Type 0} (P : A → Type 0) (r : Disposition) {x y : A} → P x → P y → P (ifTaken r x y)
 by-report P Absent f g = g
 by-report P Taken f g = f
 by-report P Discarded f g = g
 
 -- the later of two byte strings
-octets : (x y : OctetsParameter) → octetsParameterPart .Fit x → octetsParameterPart .Fit y → octetsParameterPart .Fit (ifTaken (y .report) y x)
-octets x y f g = by-report (octetsParameterPart .Fit) (y .report) g f
+octets : (x y : OctetsParameter) → octetsParameterPart .Fit x → octetsParameterPart .Fit y → octetsParameterPart .Fit (ifTaken (y .disposition) y x)
+octets x y f g = by-report (octetsParameterPart .Fit) (y .disposition) g f
 
 -- ---- payloads
 module _ (follow : CallsFit) where
   requests : (form reading : ℕ) (p : List ℕ) → AllBytes p → requestImage .Fit (requestAsked form reading p .request)
   requests form reading p b =
-      let fit = follow .reads-fit p b .request (formOf form) in
+      let fit = follow .reads-fit p b .request (versionOf form) in
       either (λ (r : RequestRead). requestImage .Fit (r .request)) (eqb reading 0) (λ _. fit false) (λ _. fit true)
 
   configurations : (form reading : ℕ) (p : List ℕ) → AllBytes p → configurationImage .Fit (configurationAsked form reading p .configuration)
   configurations form reading p b =
-      let fit = follow .reads-fit p b .configuration (formOf form) in
+      let fit = follow .reads-fit p b .configuration (versionOf form) in
       either (λ (r : ConfigurationRead). configurationImage .Fit (r .configuration)) (eqb reading 0) (λ _. fit false) (λ _. fit true)
 
   empty-fits : configurationImage .Fit emptyConfiguration
@@ -93,14 +93,14 @@ module _ (follow : CallsFit) where
   no-request = follow .reads-fit [] (λ i. omega arith) .request Draft false
 
   -- at the end of the parts, where that comes to its reading
-  request-by : (course : Course) (form reading : ℕ) (p : List ℕ) → AllBytes p
+  request-by : (course : PartDecision) (form reading : ℕ) (p : List ℕ) → AllBytes p
       → requestImage .Fit (endRead refuseRequest (requestAsked form reading) course p .request)
   request-by Outside form reading p b = no-request
   request-by Overrun form reading p b = no-request
   request-by Ended form reading p b = no-request
   request-by Open form reading p b = requests form reading p b
 
-  configuration-by : (course : Course) (form reading : ℕ) (p : List ℕ) → AllBytes p
+  configuration-by : (course : PartDecision) (form reading : ℕ) (p : List ℕ) → AllBytes p
       → configurationImage .Fit (endRead refuseConfiguration (configurationAsked form reading) course p .configuration)
   configuration-by Outside form reading p b = empty-fits
   configuration-by Overrun form reading p b = empty-fits
@@ -112,12 +112,12 @@ module _ (follow : CallsFit) where
   merged-fits c d f g =
       let a = f .0 in
       let b = g .0 in
-      either (λ (m : Merged). configurationImage .Fit (m .configuration)) (configurationInRange Draft c && configurationInRange Draft d)
+      either (λ (m : MergeResult). configurationImage .Fit (m .configuration)) (configurationInRange Draft c && configurationInRange Draft d)
       (λ _. (
         (
-          by-report (keysParameterPart .Fit) (d .keys .report) (b .0) (a .0),
+          by-report (keysParameterPart .Fit) (d .keys .disposition) (b .0) (a .0),
           (
-            by-report (addressParameterPart .Fit) (d .address .report) (b .1 .0) (a .1 .0),
+            by-report (addressParameterPart .Fit) (d .address .disposition) (b .1 .0) (a .1 .0),
             (
               octets (c .jrc) (d .jrc) (a .1 .1 .0) (b .1 .1 .0),
               (octets (c .network) (d .network) (a .1 .1 .1 .0) (b .1 .1 .1 .0), octets (c .prefix) (d .prefix) (a .1 .1 .1 .1) (b .1 .1 .1 .1)),
@@ -133,7 +133,7 @@ fresh-fits : (key : List ℕ) → IsKey key → proxyImage .Fit (fresh key)
 fresh-fits key k = ((k .long, k .bytes), omega arith)
 
 keyed-fits : (p : Proxy) (key : List ℕ) → proxyImage .Fit p → IsKey key → proxyImage .Fit (setKey p key .proxy)
-keyed-fits p key f k = either (λ (x : Keyed). proxyImage .Fit (x .proxy)) (same (p .key) key) (λ _. f) (λ _. fresh-fits key k)
+keyed-fits p key f k = either (λ (x : SetKeyResult). proxyImage .Fit (x .proxy)) (same (p .key) key) (λ _. f) (λ _. fresh-fits key k)
 
 raised-fits : (i : Issued) → Held i → Held (raisedFrom i)
 raised-fits (Count n) h =
@@ -145,21 +145,21 @@ issued-fits (refuse k) p f = f
 issued-fits (emit body) p f = (f .0, raised-fits (p .issued) (f .1))
 
 -- ---- arrivals: whatever the end reads
-ended-fits : (s m : List ℕ) → Lawful serialImage → Holds serialImage s
-    → serialImage .Fit (endArrival (courseOf (serialImage .get s) (length m) 0) (serialImage .get s))
-ended-fits s m laws f = end-fits (courseOf (serialImage .get s) (length m) 0) (serialImage .get s) (held-fits serialImage s laws f)
+ended-fits : (s m : List ℕ) → RoundTrips serialImage → Holds serialImage s
+    → serialImage .Fit (endState (decisionOf (serialImage .get s) (length m) 0) (serialImage .get s))
+ended-fits s m laws f = end-fits (decisionOf (serialImage .get s) (length m) 0) (serialImage .get s) (held-fits serialImage s laws f)
 
-module _ (follow : CallsFit) (stands : NightStands) (ccm : CcmLaws) (configurationLaws : Lawful configurationImage) (nodeLaws : Lawful nodeImage) (proxyLaws : Lawful proxyImage) (ledgerLaws : Lawful ledgerImage) (serialLaws : Lawful serialImage) where
+module _ (follow : CallsFit) (stands : RecordsContiguous) (ccm : CcmLaws) (configurationLaws : RoundTrips configurationImage) (nodeLaws : RoundTrips nodeImage) (proxyLaws : RoundTrips proxyImage) (ledgerLaws : RoundTrips ledgerImage) (serialLaws : RoundTrips serialImage) where
   pub results-fit : ResultsFit
   results-fit = record {
     request = requests follow;
     configuration = configurations follow;
     request-end = λ s m form reading b.
         let a = serialImage .get s in
-        request-by follow (courseOf a (length m) 0) form reading (take (a .arrived) m) (taken (a .arrived) m b);
+        request-by follow (decisionOf a (length m) 0) form reading (take (a .arrived) m) (taken (a .arrived) m b);
     configuration-end = λ s m form reading b.
         let a = serialImage .get s in
-        configuration-by follow (courseOf a (length m) 0) form reading (take (a .arrived) m) (taken (a .arrived) m b);
+        configuration-by follow (decisionOf a (length m) 0) form reading (take (a .arrived) m) (taken (a .arrived) m b);
     merged = λ s t f g.
         merged-fits follow (configurationImage .get s) (configurationImage .get t)
         (held-fits configurationImage s configurationLaws f) (held-fits configurationImage t configurationLaws g);
@@ -174,7 +174,7 @@ module _ (follow : CallsFit) (stands : NightStands) (ccm : CcmLaws) (configurati
     arrival = none-fits;
     part = λ s m p f.
         let a = serialImage .get s in
-        part-fits (courseOf a (length m) (length p)) a (length m) (length p) refl (held-fits serialImage s serialLaws f);
+        part-fits (decisionOf a (length m) (length p)) a (length m) (length p) refl (held-fits serialImage s serialLaws f);
     ended-request = λ s m form reading f. ended-fits s m serialLaws f;
     ended-configuration = λ s m form reading f. ended-fits s m serialLaws f;
     proxy = fresh-fits;

@@ -26,7 +26,7 @@ use Rattle.join_proxy.specs.Laws.{ProxyLaws}
 use Rattle.join_proxy.specs.declared.proxy.Issued.{Issued}
 use Rattle.join_proxy.specs.declared.proxy.Issued.the-variants.{Count, All}
 use Rattle.join_proxy.specs.declared.proxy.Proxy.{Proxy}
-use Rattle.pothatch_laws.specs.Proxy.{OwnCall, setting, issuing, judging, Told, told, proxy, fit, callOf, structOf, lentAfter, ranged, tells, after, callsOf, allOwn, sealedBy, sealedSince}
+use Rattle.pothatch_laws.specs.Proxy.{OwnCall, setting, issuing, judging, ProxyOutput, proxyOutput, proxy, fit, callOf, structOf, lentAfter, ranged, tells, after, callsOf, allOwn, sealedBy, sealedSince}
 use Rattle.pothatch_laws.specs.Runs.{answers}
 
 -- ---- the numbers of the bodies that were sent
@@ -94,7 +94,7 @@ module _ (numbers : Numbered) where
       ap (λ (b : List ℕ). numbersOf ss ++ (numberOf b ∷ [])) (take-append-le 4 p (drop (length p) d) (l p refl)) ∙ sym (one-more ss _)
 
   own-sealed : (c : OwnCall) (h : History) (b : Bool)
-      → sealedBy c (cond b (told (answered (callOf c) h) (structOf c h) (lentAfter c h)) (ranged c)) (numbersOf (h .sent))
+      → sealedBy c (cond b (proxyOutput (answered (callOf c) h) (structOf c h) (lentAfter c h)) (ranged c)) (numbersOf (h .sent))
       ≡ numbersOf (cond b (called (callOf c) h) h .sent)
   own-sealed (setting key) h true = set-sealed (setKey (h .proxy) key .verdict) (setKey (h .proxy) key .proxy) key h
   own-sealed (setting key) h false = refl
@@ -127,9 +127,9 @@ module _ (numbers : Numbered) where
       apart i j (omega arith) (omega arith)
       (sym (ap (λ (xs : List ℕ). getD xs i 0) e ∙ numbers-at ss i) ∙ h ∙ ap (λ (xs : List ℕ). getD xs j 0) e ∙ numbers-at ss j)
 
-  pub no-twice : ProxyLaws → (key : List ℕ) (cs : List OwnCall) (ts : List Told)
+  pub no-twice : ProxyLaws → (key : List ℕ) (cs : List OwnCall) (ts : List ProxyOutput)
       → ts ≡ answers tells after (allOwn cs) (proxy (history.after key [])) → (i j : ℕ) → (let ns = sealedSince cs ts [] in
       i < length ns → j < length ns → getD ns i 0 ≡ getD ns j 0 → i ≡ j)
   no-twice laws key cs ts e =
       differing (history.after key (callsOf cs) .sent) (laws .no-number-twice key (callsOf cs)) (sealedSince cs ts [])
-      (ap (λ (us : List Told). sealedSince cs us []) e ∙ all-sealed cs (history.after key []))
+      (ap (λ (us : List ProxyOutput). sealedSince cs us []) e ∙ all-sealed cs (history.after key []))

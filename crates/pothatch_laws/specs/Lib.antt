@@ -2,7 +2,7 @@ pub mod Runs
 pub mod Ledger
 pub mod Serial
 pub mod Node
-pub mod Board
+pub mod NodeExample
 pub mod Proxy
-pub mod Proxied
+pub mod ProxyExample
 pub mod Results

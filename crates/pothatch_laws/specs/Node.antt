@@ -9,12 +9,12 @@ use lib.ListN.{length, replicate}
 use Rattle.refusal.specs.Verdict.{verdictNumber}
 use Rattle.refusal.specs.declared.Refusal.the-variants.{Range}
 use Rattle.refusal.specs.declared.Verdict.the-variants.{Refused}
-use Rattle.image.specs.Left.{left}
+use Rattle.image.specs.Effects.{onAccept}
 use Rattle.image.specs.Part.{AllBytes, isImage}
 use Rattle.cojp.specs.Octets.{copiedFrom}
 use Rattle.cojp.specs.declared.version.Version.the-variants.{Draft, Published}
 use Rattle.node.specs.Node.{made, unmade}
-use Rattle.node.specs.declared.node.Made.{Made}
+use Rattle.node.specs.declared.node.MakeResult.{MakeResult}
 use Rattle.node.specs.declared.node.Node.{Node}
 use Rattle.node_parameters.specs.Octets.{absentOctets}
 use Rattle.node_parameters.specs.declared.octets.HeldOctets.{HeldOctets}
@@ -32,47 +32,47 @@ pub data Call : Type 0 where
 
 -- what a call answered: the number; the value, 0 where it has none; what stands in the struct for its result, nothing where it has none;
 -- and what the bytes that it was lent hold afterwards (a start's destination, a payload, a network identifier)
-pub record Told : Type 0 where
+pub record NodeOutput : Type 0 where
   pub number : ℕ
   pub value : ℕ
   pub struct : List ℕ
   pub lent : List ℕ
 
-abbrev pub told : ℕ → ℕ → List ℕ → List ℕ → Told
-told n v w d = record { number = n; value = v; struct = w; lent = d }
+abbrev pub nodeOutput : ℕ → ℕ → List ℕ → List ℕ → NodeOutput
+nodeOutput n v w d = record { number = n; value = v; struct = w; lent = d }
 
 -- ---- a call from C on the struct s, by the contract of its function; s′ is the struct afterwards. What is only read stays
-pub record NodeMade (form role has : ℕ) (x s : List ℕ) (t : Told) (s′ : List ℕ) : Type 0 where
+pub record NodeMade (form role has : ℕ) (x s : List ℕ) (t : NodeOutput) (s′ : List ℕ) : Type 0 where
   pub bytes : AllBytes x
   pub makes : Makes form role has x s (t .number) s′
   pub value : t .value ≡ 0
   pub struct : t .struct ≡ []
   pub lent : t .lent ≡ x
 
-pub record Started (time timeout : ℕ) (d s : List ℕ) (t : Told) (s′ : List ℕ) : Type 0 where
+pub record Started (time timeout : ℕ) (d s : List ℕ) (t : NodeOutput) (s′ : List ℕ) : Type 0 where
   pub starts : Starts time timeout s d (t .number) s′ (t .lent) (t .value)
   pub struct : t .struct ≡ []
 
-pub record Done (c : NodeCall) (s : List ℕ) (t : Told) (s′ : List ℕ) : Type 0 where
+pub record Done (c : NodeCall) (s : List ℕ) (t : NodeOutput) (s′ : List ℕ) : Type 0 where
   pub does : Does c s (t .number) s′ (t .value)
   pub struct : t .struct ≡ []
   pub lent : t .lent ≡ lentTo c
 
-pub record Asked (c : NodeCall) (s : List ℕ) (t : Told) (s′ : List ℕ) : Type 0 where
+pub record Asked (c : NodeCall) (s : List ℕ) (t : NodeOutput) (s′ : List ℕ) : Type 0 where
   pub tells : Tells c s (t .number) (t .value)
   pub image : s′ ≡ s
   pub struct : t .struct ≡ []
   pub lent : t .lent ≡ lentTo c
 
 -- a call that hands back a struct of n bytes is lent one, whatever stood there
-pub record Changed (n : ℕ) (c : NodeCall) (s : List ℕ) (t : Told) (s′ : List ℕ) : Type 0 where
+pub record Changed (n : ℕ) (c : NodeCall) (s : List ℕ) (t : NodeOutput) (s′ : List ℕ) : Type 0 where
   pub before : List ℕ
   pub fits : length before ≡ n
   pub changes : Changes n c s before (t .number) s′ (t .struct)
   pub value : t .value ≡ 0
   pub lent : t .lent ≡ lentTo c
 
-pub record Given (n : ℕ) (c : NodeCall) (s : List ℕ) (t : Told) (s′ : List ℕ) : Type 0 where
+pub record Given (n : ℕ) (c : NodeCall) (s : List ℕ) (t : NodeOutput) (s′ : List ℕ) : Type 0 where
   pub before : List ℕ
   pub fits : length before ≡ n
   pub gives : Gives n c s before (t .number) (t .struct)
@@ -81,7 +81,7 @@ pub record Given (n : ℕ) (c : NodeCall) (s : List ℕ) (t : Told) (s′ : List
   pub lent : t .lent ≡ lentTo c
 
 -- reports have 17 bytes, a frame's key 33
-abbrev pub CallDid : NodeCall → List ℕ → Told → List ℕ → Type 0
+abbrev pub CallDid : NodeCall → List ℕ → NodeOutput → List ℕ → Type 0
 CallDid (starting time timeout d) = Started time timeout d
 CallDid (polling time) = Done (polling time)
 CallDid (delivering delivery time payload) = Changed 17 (delivering delivery time payload)
@@ -91,11 +91,11 @@ CallDid (receiving type identifier) = Given 33 (receiving type identifier)
 CallDid (reporting type identifier) = Done (reporting type identifier)
 
 -- a program can make it: times of eight bytes, payloads of bytes
-pub record Called (c : NodeCall) (s : List ℕ) (t : Told) (s′ : List ℕ) : Type 0 where
+pub record Called (c : NodeCall) (s : List ℕ) (t : NodeOutput) (s′ : List ℕ) : Type 0 where
   pub callable : Callable c
   pub did : CallDid c s t s′
 
-abbrev pub Did : Call → List ℕ → Told → List ℕ → Type 0
+abbrev pub Did : Call → List ℕ → NodeOutput → List ℕ → Type 0
 Did (making form role has x) = NodeMade form role has x
 Did (calling c) = Called c
 
@@ -108,7 +108,7 @@ abbrev pub identifier : List ℕ → HeldOctets
 identifier x = record { held = true; value = record { len = length x; bytes = copiedFrom x 0 (length x) } }
 
 -- what a make asks for: form 0 is the draft and 1 the published one, 0 says that there is no network identifier and 1 that there is one
-abbrev pub asked : ℕ → ℕ → ℕ → List ℕ → Made
+abbrev pub asked : ℕ → ℕ → ℕ → List ℕ → MakeResult
 asked zero role zero x = made Draft role absentOctets
 asked zero role (suc zero) x = made Draft role (identifier x)
 asked zero role (suc (suc n)) x = unmade
@@ -128,18 +128,18 @@ structSize (receiving type identifier) = 33
 structSize (reporting type identifier) = 0
 
 -- the number of the verdict, the value or struct of the object (refused, all zero), and the lent bytes
-abbrev pub toldOf : NodeCall → Performed → Told
+abbrev pub toldOf : NodeCall → Performed → NodeOutput
 toldOf c p =
-    told (verdictNumber (p .verdict)) (valueOf (p .object)) (left (p .verdict) (replicate (structSize c) 0) (structOf (p .object)))
+    nodeOutput (verdictNumber (p .verdict)) (valueOf (p .object)) (onAccept (p .verdict) (replicate (structSize c) 0) (structOf (p .object)))
     (p .lent)
 
-abbrev pub tells : Call → Held → Told
-tells (making form role has x) h = told (verdictNumber (asked form role has x .verdict)) 0 [] x
-tells (calling c) no-node = told (verdictNumber (Refused Range)) 0 (replicate (structSize c) 0) (lentTo c)
+abbrev pub tells : Call → Held → NodeOutput
+tells (making form role has x) h = nodeOutput (verdictNumber (asked form role has x .verdict)) 0 [] x
+tells (calling c) no-node = nodeOutput (verdictNumber (Refused Range)) 0 (replicate (structSize c) 0) (lentTo c)
 tells (calling c) (node n) = toldOf c (perform c n)
 
 abbrev pub after : Call → Held → Held
-after (making form role has x) h = left (asked form role has x .verdict) no-node (node (asked form role has x .node))
+after (making form role has x) h = onAccept (asked form role has x .verdict) no-node (node (asked form role has x .node))
 after (calling c) no-node = no-node
 after (calling c) (node n) = node (perform c n .node)
 
@@ -150,8 +150,8 @@ shown (node n) = nodeImage .put n
 
 pub record NodeRuns : Type 0 where
   -- from a make on, which goes by no earlier node, so any may stand in h
-  pub from-make : (form role has : ℕ) (x : List ℕ) (cs : List Call) (h : Held) (s : List ℕ) (ts : List Told) (z : List ℕ) → length s ≡ 878
+  pub from-make : (form role has : ℕ) (x : List ℕ) (cs : List Call) (h : Held) (s : List ℕ) (ts : List NodeOutput) (z : List ℕ) → length s ≡ 878
       → Runs Did (making form role has x ∷ cs) s ts z → As tells after shown (making form role has x ∷ cs) h ts z
   -- from any image on, whoever stored it
-  pub from-image : (cs : List Call) (s : List ℕ) (ts : List Told) (z : List ℕ) → AllBytes s → isImage nodeImage s ≡ true
+  pub from-image : (cs : List Call) (s : List ℕ) (ts : List NodeOutput) (z : List ℕ) → AllBytes s → isImage nodeImage s ≡ true
       → Runs Did cs s ts z → As tells after shown cs (node (nodeImage .get s)) ts z

@@ -10,7 +10,7 @@ use lib.ListN.{length, getD, take, replicate}
 use Rattle.refusal.specs.Verdict.{verdictNumber}
 use Rattle.refusal.specs.declared.Refusal.the-variants.{Range}
 use Rattle.refusal.specs.declared.Verdict.the-variants.{Refused}
-use Rattle.image.specs.Left.{left}
+use Rattle.image.specs.Effects.{onAccept}
 use Rattle.image.specs.Part.{AllBytes, isImage}
 use Rattle.aes_ccm.specs.Plan as plan
 use Rattle.join_proxy.specs.Body.{numberOf}
@@ -38,45 +38,45 @@ pub data Call : Type 0 where
 
 -- what a call answered: the number; what stands in the struct for its result, nothing where it has none; and what the bytes that it was
 -- lent hold afterwards (a key, an issue's destination, a body)
-pub record Told : Type 0 where
+pub record ProxyOutput : Type 0 where
   pub number : ℕ
   pub struct : List ℕ
   pub lent : List ℕ
 
-abbrev pub told : ℕ → List ℕ → List ℕ → Told
-told n w d = record { number = n; struct = w; lent = d }
+abbrev pub proxyOutput : ℕ → List ℕ → List ℕ → ProxyOutput
+proxyOutput n w d = record { number = n; struct = w; lent = d }
 
 -- ---- a call from C on the struct s, by the contract of its function; s′ is the struct afterwards. What is only read stays
-pub record ProxyMade (key s : List ℕ) (t : Told) (s′ : List ℕ) : Type 0 where
+pub record ProxyMade (key s : List ℕ) (t : ProxyOutput) (s′ : List ℕ) : Type 0 where
   pub bytes : AllBytes key
   pub makes : Makes key s (t .number) s′
   pub struct : t .struct ≡ []
   pub lent : t .lent ≡ key
 
-pub record KeySet (key s : List ℕ) (t : Told) (s′ : List ℕ) : Type 0 where
+pub record KeySet (key s : List ℕ) (t : ProxyOutput) (s′ : List ℕ) : Type 0 where
   pub bytes : AllBytes key
   pub sets : SetsKey s key (t .number) s′
   pub struct : t .struct ≡ []
   pub lent : t .lent ≡ key
 
-pub record BodyIssued (interface : List ℕ) (port : ℕ) (token d s : List ℕ) (t : Told) (s′ : List ℕ) : Type 0 where
+pub record BodyIssued (interface : List ℕ) (port : ℕ) (token d s : List ℕ) (t : ProxyOutput) (s′ : List ℕ) : Type 0 where
   pub issues : IssuesIn s interface port token d (t .number) s′ (t .lent)
   pub struct : t .struct ≡ []
 
 -- a judging is lent a struct for the pledge, whatever stood there
-pub record BodyJudged (body s : List ℕ) (t : Told) (s′ : List ℕ) : Type 0 where
+pub record BodyJudged (body s : List ℕ) (t : ProxyOutput) (s′ : List ℕ) : Type 0 where
   pub before : List ℕ
   pub fits : length before ≡ 21
   pub judges : JudgesIn s body before (t .number) (t .struct)
   pub image : s′ ≡ s
   pub lent : t .lent ≡ body
 
-abbrev pub OwnDid : OwnCall → List ℕ → Told → List ℕ → Type 0
+abbrev pub OwnDid : OwnCall → List ℕ → ProxyOutput → List ℕ → Type 0
 OwnDid (setting key) = KeySet key
 OwnDid (issuing interface port token d) = BodyIssued interface port token d
 OwnDid (judging body) = BodyJudged body
 
-abbrev pub Did : Call → List ℕ → Told → List ℕ → Type 0
+abbrev pub Did : Call → List ℕ → ProxyOutput → List ℕ → Type 0
 Did (making key) = ProxyMade key
 Did (calling c) = OwnDid c
 
@@ -104,7 +104,7 @@ abbrev pub structOf : OwnCall → History → List ℕ
 structOf (setting key) h = []
 structOf (issuing interface port token d) h = []
 structOf (judging body) h =
-    left (judgeBody (h .proxy) body .verdict) (replicate 21 0) (pledgeImage .put (judgeBody (h .proxy) body .pledge))
+    onAccept (judgeBody (h .proxy) body .verdict) (replicate 21 0) (pledgeImage .put (judgeBody (h .proxy) body .pledge))
 
 abbrev pub lentAfter : OwnCall → History → List ℕ
 lentAfter (setting key) h = key
@@ -112,15 +112,15 @@ lentAfter (issuing interface port token d) h = plan.after (issuePlan (h .proxy) 
 lentAfter (judging body) h = body
 
 -- RANGE: no pledge, and the lent bytes as they were
-abbrev pub ranged : OwnCall → Told
-ranged (setting key) = told (verdictNumber (Refused Range)) [] key
-ranged (issuing interface port token d) = told (verdictNumber (Refused Range)) [] d
-ranged (judging body) = told (verdictNumber (Refused Range)) (replicate 21 0) body
+abbrev pub ranged : OwnCall → ProxyOutput
+ranged (setting key) = proxyOutput (verdictNumber (Refused Range)) [] key
+ranged (issuing interface port token d) = proxyOutput (verdictNumber (Refused Range)) [] d
+ranged (judging body) = proxyOutput (verdictNumber (Refused Range)) (replicate 21 0) body
 
-abbrev pub tells : Call → Held → Told
-tells (making key) h = told (cond (isKey key) 0 (verdictNumber (Refused Range))) [] key
+abbrev pub tells : Call → Held → ProxyOutput
+tells (making key) h = proxyOutput (cond (isKey key) 0 (verdictNumber (Refused Range))) [] key
 tells (calling c) no-proxy = ranged c
-tells (calling c) (proxy h) = cond (fit c) (told (answered (callOf c) h) (structOf c h) (lentAfter c h)) (ranged c)
+tells (calling c) (proxy h) = cond (fit c) (proxyOutput (answered (callOf c) h) (structOf c h) (lentAfter c h)) (ranged c)
 
 abbrev pub after : Call → Held → Held
 after (making key) h = cond (isKey key) (proxy (history.after key [])) no-proxy
@@ -142,27 +142,27 @@ allOwn [] = []
 allOwn (c ∷ cs) = calling c ∷ allOwn cs
 
 -- the numbers that were sealed since the key was set last, told from the calls and what they answered: they stand in front of the bodies
-abbrev pub sealedBy : OwnCall → Told → List ℕ → List ℕ
+abbrev pub sealedBy : OwnCall → ProxyOutput → List ℕ → List ℕ
 sealedBy (setting key) t ns = cond (eqb (t .number) 0) [] ns
 sealedBy (issuing interface port token d) t ns = cond (eqb (t .number) 0) (ns ++ (numberOf (take 4 (t .lent)) ∷ [])) ns
 sealedBy (judging body) t ns = ns
 
-abbrev pub sealedSince : List OwnCall → List Told → List ℕ → List ℕ
+abbrev pub sealedSince : List OwnCall → List ProxyOutput → List ℕ → List ℕ
 sealedSince [] ts ns = ns
 sealedSince (c ∷ cs) [] ns = ns
 sealedSince (c ∷ cs) (t ∷ ts) ns = sealedSince cs ts (sealedBy c t ns)
 
 pub record ProxyRuns : Type 0 where
   -- from a make on, which goes by no earlier proxy, so any may stand in h
-  pub from-make : (key : List ℕ) (cs : List Call) (h : Held) (s : List ℕ) (ts : List Told) (z : List ℕ) → length s ≡ 26
+  pub from-make : (key : List ℕ) (cs : List Call) (h : Held) (s : List ℕ) (ts : List ProxyOutput) (z : List ℕ) → length s ≡ 26
       → Runs Did (making key ∷ cs) s ts z → As tells after shown (making key ∷ cs) h ts z
   -- from any image on, whatever is told of the proxy in it
-  pub from-image : (cs : List Call) (h : History) (s : List ℕ) (ts : List Told) (z : List ℕ) → AllBytes s → isImage proxyImage s ≡ true
+  pub from-image : (cs : List Call) (h : History) (s : List ℕ) (ts : List ProxyOutput) (z : List ℕ) → AllBytes s → isImage proxyImage s ≡ true
       → h .proxy ≡ proxyImage .get s → Runs Did cs s ts z → As tells after shown cs (proxy h) ts z
   -- so what holds of every history (which bodies are issued and forwarded) holds of these calls
   pub histories : (key : List ℕ) (cs : List OwnCall)
       → afterAll after (allOwn cs) (proxy (history.after key [])) ≡ proxy (history.after key (callsOf cs))
   -- and between two settings of a key no number is sealed twice, so no nonce is used twice
-  pub no-number-twice : (key : List ℕ) (cs : List OwnCall) (s : List ℕ) (t : Told) (ts : List Told) (z : List ℕ) → length s ≡ 26
+  pub no-number-twice : (key : List ℕ) (cs : List OwnCall) (s : List ℕ) (t : ProxyOutput) (ts : List ProxyOutput) (z : List ℕ) → length s ≡ 26
       → length key ≡ 16 → Runs Did (making key ∷ allOwn cs) s (t ∷ ts) z → (i j : ℕ) → (let ns = sealedSince cs ts [] in
       i < length ns → j < length ns → getD ns i 0 ≡ getD ns j 0 → i ≡ j)

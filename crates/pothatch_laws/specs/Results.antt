@@ -1,5 +1,5 @@
 -- Whatever a call from C hands back in a struct is stored without loss: each value that a contract puts there fits its image, wherever what was
--- lent are bytes and images; and what fits is loaded as it was (`Lawful`). Where a call is refused, a result is zeros and a state stays; only an
+-- lent are bytes and images; and what fits is loaded as it was (`RoundTrips`). Where a call is refused, a result is zeros and a state stays; only an
 -- arrival is stored then too, since an overrun and an end stay marked.
 use Prim.Native.Nat.{ℕ, _^_, _<_}
 use mathlib.Core.Bool.{true}
@@ -11,7 +11,7 @@ use Rattle.address_ledger.specs.Ledger.{opened}
 use Rattle.address_ledger_laws.specs.Demand1.{asking, returning}
 use Rattle.aes_ccm.specs.Plan.{Plan}
 use Rattle.cojp_merge.specs.Merge.{mergeAnswer}
-use Rattle.cojp_serial.specs.Arrival.{nothingArrived}
+use Rattle.cojp_serial.specs.State.{emptyState}
 use Rattle.join_proxy.specs.Issuing.{afterIssue}
 use Rattle.join_proxy.specs.Judging.{judgeBody}
 use Rattle.join_proxy.specs.Keys.{fresh, setKey}
@@ -62,11 +62,11 @@ pub record ResultsFit : Type 0 where
   pub granted : (board s m : List ℕ) → Holds ledgerImage s → ledgerImage .Fit (ledgers.performedIn (asking board) s m .ledger)
   pub given-back : (board s m : List ℕ) → Holds ledgerImage s → ledgerImage .Fit (ledgers.performedIn (returning board) s m .ledger)
   -- ---- arrivals: reset, and after a part or an end, over any store
-  pub arrival : serialImage .Fit nothingArrived
-  pub part : (s m p : List ℕ) → Holds serialImage s → serialImage .Fit (partIn s m p .arrival)
-  pub ended-request : (s m : List ℕ) (form reading : ℕ) → Holds serialImage s → serialImage .Fit (requestEnded s m form reading .arrival)
+  pub arrival : serialImage .Fit emptyState
+  pub part : (s m p : List ℕ) → Holds serialImage s → serialImage .Fit (partIn s m p .state)
+  pub ended-request : (s m : List ℕ) (form reading : ℕ) → Holds serialImage s → serialImage .Fit (requestEnded s m form reading .state)
   pub ended-configuration : (s m : List ℕ) (form reading : ℕ) → Holds serialImage s
-      → serialImage .Fit (configurationEnded s m form reading .arrival)
+      → serialImage .Fit (configurationEnded s m form reading .state)
   -- ---- proxies: made, with another key, and after whatever an issue comes to; and the pledge that a body names
   pub proxy : (key : List ℕ) → IsKey key → proxyImage .Fit (fresh key)
   pub keyed : (s key : List ℕ) → Holds proxyImage s → IsKey key → proxyImage .Fit (setKey (proxyImage .get s) key .proxy)

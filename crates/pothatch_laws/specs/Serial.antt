@@ -9,7 +9,7 @@ use lib.ListN.{length, replicate}
 use Rattle.refusal.specs.Verdict.{verdictNumber}
 use Rattle.refusal.specs.declared.Refusal.the-variants.{Range}
 use Rattle.refusal.specs.declared.Verdict.the-variants.{Refused}
-use Rattle.image.specs.Left.{left}
+use Rattle.image.specs.Effects.{onAccept}
 use Rattle.image.specs.Part.{AllBytes, isImage}
 use Rattle.cojp.specs.declared.version.Version.{Version}
 use Rattle.cojp.specs.declared.version.Version.the-variants.{Draft, Published}
@@ -30,37 +30,37 @@ pub data Call : Type 0 where
   ending-configuration : ℕ → ℕ → Call
 
 -- what a call answered: the number, and what stands in the struct for its result, nothing where it has none
-pub record Told : Type 0 where
+pub record SerialOutput : Type 0 where
   pub number : ℕ
   pub result : List ℕ
 
-abbrev pub told : ℕ → List ℕ → Told
-told n s = record { number = n; result = s }
+abbrev pub serialOutput : ℕ → List ℕ → SerialOutput
+serialOutput n s = record { number = n; result = s }
 
 -- ---- a call from C, by the contract of its function
-pub record Begun (x : Lent) (t : Told) (y : Lent) : Type 0 where
+pub record Begun (x : Lent) (t : SerialOutput) (y : Lent) : Type 0 where
   pub resets : Resets (x .image) (t .number) (y .image)
   pub result : t .result ≡ []
   pub memory : y .memory ≡ x .memory
 
-pub record Sent (p : List ℕ) (x : Lent) (t : Told) (y : Lent) : Type 0 where
+pub record Sent (p : List ℕ) (x : Lent) (t : SerialOutput) (y : Lent) : Type 0 where
   pub parts : Parts (x .image) (x .memory) p (t .number) (y .image) (y .memory)
   pub result : t .result ≡ []
 
 -- an end is lent a struct of its size, whatever stood there
-pub record EndedRequest (form reading : ℕ) (x : Lent) (t : Told) (y : Lent) : Type 0 where
+pub record EndedRequest (form reading : ℕ) (x : Lent) (t : SerialOutput) (y : Lent) : Type 0 where
   pub struct : List ℕ
   pub fits : length struct ≡ 296
   pub ends : EndsRequest (x .image) (x .memory) form reading struct (t .number) (y .image) (t .result)
   pub memory : y .memory ≡ x .memory
 
-pub record EndedConfiguration (form reading : ℕ) (x : Lent) (t : Told) (y : Lent) : Type 0 where
+pub record EndedConfiguration (form reading : ℕ) (x : Lent) (t : SerialOutput) (y : Lent) : Type 0 where
   pub struct : List ℕ
   pub fits : length struct ≡ 570
   pub ends : EndsConfiguration (x .image) (x .memory) form reading struct (t .number) (y .image) (t .result)
   pub memory : y .memory ≡ x .memory
 
-abbrev pub Did : Call → Lent → Told → Lent → Type 0
+abbrev pub Did : Call → Lent → SerialOutput → Lent → Type 0
 Did resetting = Begun
 Did (sending p) = Sent p
 Did (ending-request form reading) = EndedRequest form reading
@@ -94,22 +94,22 @@ structSize (sending p) = 0
 structSize (ending-request form reading) = 296
 structSize (ending-configuration form reading) = 570
 
-abbrev pub resultOf : calls.Told → List ℕ
+abbrev pub resultOf : calls.SerialResult → List ℕ
 resultOf begun = []
 resultOf (part a) = []
-resultOf (joinRequest r) = left (r .verdict) (replicate 296 0) (requestImage .put (r .request))
-resultOf (update r) = left (r .verdict) (replicate 570 0) (configurationImage .put (r .configuration))
+resultOf (joinRequest r) = onAccept (r .verdict) (replicate 296 0) (requestImage .put (r .request))
+resultOf (update r) = onAccept (r .verdict) (replicate 570 0) (configurationImage .put (r .configuration))
 
 -- RANGE, zeros, and nothing moved where it comes to none
-abbrev pub toldBy : Own → ℕ → Held → Told
-toldBy none n h = told (verdictNumber (Refused Range)) (replicate n 0)
-toldBy (own c) n h = told (verdictNumber (calls.verdictIn (calls.told c h))) (resultOf (calls.told c h))
+abbrev pub toldBy : Own → ℕ → Held → SerialOutput
+toldBy none n h = serialOutput (verdictNumber (Refused Range)) (replicate n 0)
+toldBy (own c) n h = serialOutput (verdictNumber (calls.verdictIn (calls.told c h))) (resultOf (calls.told c h))
 
 abbrev pub leftBy : Own → Held → Held
 leftBy none h = h
 leftBy (own c) h = calls.left c h
 
-abbrev pub tells : Call → Held → Told
+abbrev pub tells : Call → Held → SerialOutput
 tells c h = toldBy (ownOf c) (structSize c) h
 
 abbrev pub after : Call → Held → Held
@@ -117,15 +117,15 @@ after c h = leftBy (ownOf c) h
 
 -- what an image and a store hold
 abbrev pub holding : List ℕ → List ℕ → Held
-holding s m = record { arrival = serialImage .get s; store = m }
+holding s m = record { state = serialImage .get s; store = m }
 
 abbrev pub shown : Held → Lent
-shown h = lent (serialImage .put (h .arrival)) (h .store)
+shown h = lent (serialImage .put (h .state)) (h .store)
 
 pub record SerialRuns : Type 0 where
   -- from a reset on, which goes by no earlier arrival, so any may stand in h
-  pub from-reset : (cs : List Call) (h : Held) (x : Lent) (ts : List Told) (z : Lent) → length (x .image) ≡ 6 → x .memory ≡ h .store
+  pub from-reset : (cs : List Call) (h : Held) (x : Lent) (ts : List SerialOutput) (z : Lent) → length (x .image) ≡ 6 → x .memory ≡ h .store
       → Runs Did (resetting ∷ cs) x ts z → As tells after shown (resetting ∷ cs) h ts z
   -- from any image on, whoever stored it, and over any store
-  pub from-image : (cs : List Call) (x : Lent) (ts : List Told) (z : Lent) → AllBytes (x .image) → isImage serialImage (x .image) ≡ true
+  pub from-image : (cs : List Call) (x : Lent) (ts : List SerialOutput) (z : Lent) → AllBytes (x .image) → isImage serialImage (x .image) ≡ true
       → Runs Did cs x ts z → As tells after shown cs (holding (x .image) (x .memory)) ts z

@@ -1,13 +1,13 @@
 // The answers to commands, by the library's calls.
 use crate::verb::Verb;
-use aes_ccm::Written;
+use aes_ccm::WriteResult;
 use join_proxy::Issued;
-use join_proxy::Judgement;
+use join_proxy::JudgeResult;
 use join_proxy::Pledge;
 use join_proxy::Proxy;
 use refusal::Verdict;
 use tool_notation::put_refusal;
-use tool_text::fault::put_fault;
+use tool_text::line_error::put_line_error;
 use tool_text::output::Buffer;
 use tool_text::output::Output;
 use tool_words::copies::eight;
@@ -67,7 +67,7 @@ fn put_question(
         Verb::Show => put_proxy(out, proxy, buffer),
         Verb::Room => out.text(b"lent ", buffer).number(room as u64, buffer),
         Verb::Destination => out.octets(tool_text::first(dst, room), buffer),
-        Verb::Wrong(fault) => put_fault(out, fault, buffer),
+        Verb::Wrong(fault) => put_line_error(out, fault, buffer),
         _ => out,
     }
 }
@@ -101,15 +101,15 @@ fn put_issue(
 }
 
 // The body that was written to the destination, or why none was.
-fn put_body(out: Output, written: Written, dst: &[u8], buffer: &mut Buffer) -> Output {
+fn put_body(out: Output, written: WriteResult, dst: &[u8], buffer: &mut Buffer) -> Output {
     match written {
-        Written::Length(len) => out.text(b"body ", buffer)
+        WriteResult::Length(len) => out.text(b"body ", buffer)
             .octets(tool_text::first(dst, len), buffer),
-        Written::Refused(refusal) => put_refusal(out, refusal, buffer),
+        WriteResult::Refused(refusal) => put_refusal(out, refusal, buffer),
     }
 }
 
-fn put_judgement(out: Output, judgement: Judgement, buffer: &mut Buffer) -> Output {
+fn put_judgement(out: Output, judgement: JudgeResult, buffer: &mut Buffer) -> Output {
     let verdict = judgement.verdict;
     let pledge = judgement.pledge;
     match verdict {

@@ -25,7 +25,7 @@ use verb::verb_of;
 pub type Destination = [u8; 64];
 
 // What is kept from line to line, beside the destination: the proxies, and how much of the destination is lent.
-struct Desk {
+struct ToolState {
     session: Session,
     proxies: Proxies,
     made: Made,
@@ -34,18 +34,18 @@ struct Desk {
 
 // Answers the next line; an empty one and a comment are not answered.
 fn answer_line(
-    desk: Desk,
+    desk: ToolState,
     bytes: &mut Buffer,
     store: &mut Store,
     dst: &mut Destination,
     buffer: &mut Buffer,
-) -> Desk {
+) -> ToolState {
     let made = desk.made;
     let proxies = desk.proxies;
     let asked = next_line(desk.session, 2, bytes, store, buffer);
     let words = asked.words;
     let session = asked.session;
-    let same = Desk {
+    let same = ToolState {
         session,
         proxies,
         made,
@@ -54,18 +54,18 @@ fn answer_line(
     if words.is_silent() {
         return same;
     }
-    obey(same, judged(words, made), words, store, dst, buffer)
+    execute(same, judged(words, made), words, store, dst, buffer)
 }
 
 // The desk after a command, its answer written.
-fn obey(
-    desk: Desk,
+fn execute(
+    desk: ToolState,
     verb: Verb,
     words: Words,
     store: &[u8],
     dst: &mut [u8],
     buffer: &mut Buffer,
-) -> Desk {
+) -> ToolState {
     let number = words.first.value();
     let made = desk.made;
     let proxies = desk.proxies;
@@ -74,7 +74,7 @@ fn obey(
     let proxy = load(proxies, number);
     let done = answer(proxy, verb, words, room, store, dst, session.out, buffer);
     session.out = done.out.byte(b'\n', buffer);
-    Desk {
+    ToolState {
         session,
         proxies: stored(proxies, number, done.proxy),
         made: marked(made, verb, number),
@@ -101,7 +101,7 @@ fn room_after(room: usize, verb: Verb, words: Words) -> usize {
 
 // Answers line after line until the input ends or nobody reads the answers.
 fn run(
-    mut desk: Desk,
+    mut desk: ToolState,
     bytes: &mut Buffer,
     store: &mut Store,
     dst: &mut Destination,
@@ -125,7 +125,7 @@ fn main() {
 proxy I KEY, key I KEY, issue I INTERFACE PORT TOKEN, judge I HEX, show I, issued I N, room N, destination\n",
         &mut buffer,
     );
-    let desk = Desk {
+    let desk = ToolState {
         session,
         proxies: no_proxies(),
         made: [false; 16],

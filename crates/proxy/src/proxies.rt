@@ -1,7 +1,7 @@
 // The proxies of the desk, by number.
 use crate::verb::Verb;
 use join_proxy::Proxy;
-use tool_text::fault::Fault;
+use tool_text::line_error::LineError;
 
 // The proxies 0 to 15; one that was not made stands there too, and no command calls it.
 pub type Proxies = [Proxy; 16];
@@ -46,5 +46,5 @@ fn where_there(verb: Verb, there: bool) -> Verb {
     if there {
         return verb;
     }
-    Verb::Wrong(Fault::Node)
+    Verb::Wrong(LineError::Node)
 }

@@ -1,5 +1,5 @@
 // The commands by their first words, and which words stand after each.
-use tool_text::fault::Fault;
+use tool_text::line_error::LineError;
 use tool_text::word::Word;
 use tool_words::shape::Kind;
 use tool_words::shape::Shape;
@@ -7,7 +7,7 @@ use tool_words::shape::of_words;
 
 pub enum Verb {
     // a line that is no command
-    Wrong(Fault),
+    Wrong(LineError),
     Make,
     Key,
     Issue,
@@ -32,11 +32,11 @@ pub fn verb_of(word: Word) -> Verb {
     if word.is(b"key") {
         return Verb::Key;
     }
-    of_desk(word)
+    of_tool(word)
 }
 
 // A command that calls nothing of the library, or else none at all.
-fn of_desk(word: Word) -> Verb {
+fn of_tool(word: Word) -> Verb {
     if word.is(b"show") {
         return Verb::Show;
     }
@@ -49,7 +49,7 @@ fn of_desk(word: Word) -> Verb {
     if word.is(b"destination") {
         return Verb::Destination;
     }
-    Verb::Wrong(Fault::Command)
+    Verb::Wrong(LineError::Command)
 }
 
 pub fn shape_of(verb: Verb) -> Shape {

@@ -6,7 +6,7 @@ use lib.ListN.{length}
 use Rattle.aes_ccm.specs.Plan.{Plan, refuse, emit, answer, numberIn, lengthIn}
 use Rattle.cipher_calls.specs.Cipher.{Wrote, planVerdict}
 use Rattle.cipher_calls.specs.Laws.{CipherRefusals}
-use Rattle.image.specs.Left.{left}
+use Rattle.image.specs.Effects.{onAccept}
 use Rattle.image.specs.Lent.{kept, emptied}
 use Rattle.join_proxy.specs.Issuing.{afterIssue}
 use Rattle.join_proxy.specs.Judging.{judgeBody}
@@ -15,7 +15,7 @@ use Rattle.state_image.specs.Proxy.{proxyImage, pledgeImage}
 use Rattle.proxy_calls.specs.Laws.{ProxyRefusals}
 use Rattle.proxy_calls.specs.Proxy.{makeVerdict, keyVerdict, issueOf, judgeVerdict}
 
-kept-state : (plan : Plan) (image : List ℕ) {s s′ : List ℕ} {r : ℕ} → r ≡ numberIn (answer plan) → (r ≡ 0 → ⊥) → s′ ≡ left (planVerdict plan) s image → s′ ≡ s
+kept-state : (plan : Plan) (image : List ℕ) {s s′ : List ℕ} {r : ℕ} → r ≡ numberIn (answer plan) → (r ≡ 0 → ⊥) → s′ ≡ onAccept (planVerdict plan) s image → s′ ≡ s
 kept-state (emit p) image e h f = absurd (h e)
 kept-state (refuse k) image e h f = f
 

@@ -11,18 +11,18 @@ use Rattle.refusal.specs.Refusal.{numberOf}
 use Rattle.refusal.specs.Verdict.{verdictNumber}
 use Rattle.refusal.specs.declared.Refusal.{Refusal}
 use Rattle.aes_ccm.specs.Plan.{Plan, refuse, emit, answer, after, numberIn}
-use Rattle.aes_ccm.specs.declared.Written.the-variants as written
+use Rattle.aes_ccm.specs.declared.WriteResult.the-variants as written
 use Rattle.image.specs.Part.{isImage}
 use Rattle.join_proxy.specs.Issuing.{issuePlan, afterIssue, Issues}
 use Rattle.join_proxy.specs.Judging.{judgeBody}
 use Rattle.join_proxy.specs.Keys.{fresh, setKey}
-use Rattle.join_proxy.specs.declared.issuing.Issue.{Issue}
-use Rattle.join_proxy.specs.declared.judging.Judgement.{Judgement}
-use Rattle.join_proxy.specs.declared.proxy.Keyed.{Keyed}
+use Rattle.join_proxy.specs.declared.issuing.IssueResult.{IssueResult}
+use Rattle.join_proxy.specs.declared.judging.JudgeResult.{JudgeResult}
+use Rattle.join_proxy.specs.declared.proxy.SetKeyResult.{SetKeyResult}
 use Rattle.join_proxy.specs.declared.proxy.Proxy.{Proxy}
 use Rattle.state_image.specs.Proxy.{proxyImage, pledgeImage}
 use Rattle.cipher_calls.specs.Cipher.{planVerdict}
-use Rattle.image.specs.Left.{left}
+use Rattle.image.specs.Effects.{onAccept}
 use Rattle.proxy_calls.specs.Proxy.{Makes, SetsKey, issueOf, IssuesIn, JudgesIn}
 
 -- ---- making
@@ -52,13 +52,13 @@ module _ (s key : List ℕ) where
   pub key-unfit : Right ≡ false → SetsKey s key 13 s
   key-unfit e = record { number = rw e; proxy = rw e }
 
-  pub key-told : (k : Keyed) {r : ℕ} {s′ : List ℕ} → Right ≡ true → k ≡ setKey (proxyImage .get s) key → r ≡ verdictNumber (k .verdict)
-      → s′ ≡ left (k .verdict) s (proxyImage .put (k .proxy)) → SetsKey s key r s′
+  pub key-told : (k : SetKeyResult) {r : ℕ} {s′ : List ℕ} → Right ≡ true → k ≡ setKey (proxyImage .get s) key → r ≡ verdictNumber (k .verdict)
+      → s′ ≡ onAccept (k .verdict) s (proxyImage .put (k .proxy)) → SetsKey s key r s′
   key-told k e f a b = record { number = rw (e, ← f) a; proxy = rw (e, ← f) b }
 
 -- ---- issuing
 -- by the proxy in the image, and the interface identifier as it was lent
-pub issue-as : {p q : Proxy} {x y : List ℕ} {port : ℕ} {token d d′ : List ℕ} {i : Issue} → p ≡ q → x ≡ y → Issues p x port token d i d′
+pub issue-as : {p q : Proxy} {x y : List ℕ} {port : ℕ} {token d d′ : List ℕ} {i : IssueResult} → p ≡ q → x ≡ y → Issues p x port token d i d′
     → Issues q y port token d i d′
 issue-as e f did = rw (e, f) at did
 
@@ -69,12 +69,12 @@ module _ (s interface : List ℕ) (port : ℕ) (token d : List ℕ) where
   pub issue-unfit : Fits ≡ false → IssuesIn s interface port token d 13 s d
   issue-unfit e = record { number = rw e; proxy = rw e; dst = rw e }
 
-  by-plan : (plan : Plan) (i : Issue) (d′ : List ℕ) {r : ℕ} {s′ : List ℕ} → issueOf s interface port token (length d) ≡ plan
+  by-plan : (plan : Plan) (i : IssueResult) (d′ : List ℕ) {r : ℕ} {s′ : List ℕ} → issueOf s interface port token (length d) ≡ plan
       → i .proxy ≡ afterIssue plan (proxyImage .get s) → d′ ≡ after plan d → r ≡ numberIn (answer plan)
-      → s′ ≡ left (planVerdict plan) s (proxyImage .put (i .proxy)) → IssuesIn s interface port token d r s′ d′
+      → s′ ≡ onAccept (planVerdict plan) s (proxyImage .put (i .proxy)) → IssuesIn s interface port token d r s′ d′
   by-plan plan i d′ e g h a b = record { number = rw e a; proxy = rw (e, ← g) b; dst = rw e h }
 
-  module _ (i : Issue) (d′ : List ℕ) (e : Fits ≡ true) (did : Issues (proxyImage .get s) interface port token d i d′) where
+  module _ (i : IssueResult) (d′ : List ℕ) (e : Fits ≡ true) (did : Issues (proxyImage .get s) interface port token d i d′) where
     here : (plan : Plan) → issuePlan (proxyImage .get s) interface port token (length d) ≡ plan → issueOf s interface port token (length d) ≡ plan
     here plan f = rw e f
 
@@ -116,7 +116,7 @@ module _ (s body w : List ℕ) where
         pledge = rw (eq-eqb (length w) 21 h, k) (e ∙ ap (λ (n : ℕ). replicate n 0) h);
       }
 
-  pub judge-told : (j : Judgement) {r : ℕ} {w′ : List ℕ} → length w ≡ 21 → isImage proxyImage s ≡ true → j ≡ judgeBody (proxyImage .get s) body
-      → r ≡ verdictNumber (j .verdict) → w′ ≡ left (j .verdict) (replicate 21 0) (pledgeImage .put (j .pledge)) → JudgesIn s body w r w′
+  pub judge-told : (j : JudgeResult) {r : ℕ} {w′ : List ℕ} → length w ≡ 21 → isImage proxyImage s ≡ true → j ≡ judgeBody (proxyImage .get s) body
+      → r ≡ verdictNumber (j .verdict) → w′ ≡ onAccept (j .verdict) (replicate 21 0) (pledgeImage .put (j .pledge)) → JudgesIn s body w r w′
   judge-told j h k e a b =
       record { number = rw (eq-eqb (length w) 21 h, k, ← e) a; pledge = rw (eq-eqb (length w) 21 h, k, ← e) b }

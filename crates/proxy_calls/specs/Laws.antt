@@ -2,7 +2,7 @@
 use Prim.Native.Nat.{ℕ}
 use mathlib.Core.List.{List}
 use mathlib.Core.Path.{_≡_}
-use Rattle.image.specs.Left.{zeroed}
+use Rattle.image.specs.Effects.{zeroed}
 use Rattle.proxy_calls.specs.Proxy.{Makes, SetsKey, IssuesIn, JudgesIn}
 
 pub record ProxyRefusals : Type 0 where

@@ -1,11 +1,11 @@
 // The join proxy.
-use crate::told::hand_pledge;
-use crate::told::keep_proxy;
-use aes_ccm::Written;
+use crate::store::store_pledge;
+use crate::store::store_proxy;
+use aes_ccm::WriteResult;
 use image::RANGE;
+use image::array_8_at;
+use image::array_16_at;
 use image::clear;
-use image::eight_at;
-use image::sixteen_at;
 use join_proxy::Proxy;
 use state_image::is_proxy;
 use state_image::proxy_in;
@@ -23,7 +23,7 @@ pub fn proxy_make(key: &[u8], proxy: &mut [u8]) -> u32
         clear(proxy);
         return RANGE;
     }
-    put_proxy(proxy, Proxy::new(sixteen_at(key, 0)));
+    put_proxy(proxy, Proxy::new(array_16_at(key, 0)));
     0
 }
 
@@ -37,10 +37,10 @@ pub fn proxy_set_key(proxy: &mut [u8], key: &[u8]) -> u32
     if !is_proxy(proxy) {
         return RANGE;
     }
-    let done = proxy_in(proxy).set_key(sixteen_at(key, 0));
+    let done = proxy_in(proxy).set_key(array_16_at(key, 0));
     let verdict = done.verdict;
     let after = done.proxy;
-    keep_proxy(verdict, after, proxy)
+    store_proxy(verdict, after, proxy)
 }
 
 // Issues the option body for a pledge's interface identifier, port and token.
@@ -59,15 +59,15 @@ pub fn proxy_issue(
     if !is_proxy(proxy) {
         return RANGE;
     }
-    let done = proxy_in(proxy).issue(eight_at(interface, 0), port, token, dst);
+    let done = proxy_in(proxy).issue(array_8_at(interface, 0), port, token, dst);
     let written = done.written;
     let after = done.proxy;
     match written {
-        Written::Length(_) => {
+        WriteResult::Length(_) => {
             put_proxy(proxy, after);
             0
         }
-        Written::Refused(why) => why.number() as u32,
+        WriteResult::Refused(why) => why.number() as u32,
     }
 }
 
@@ -85,5 +85,5 @@ pub fn proxy_judge(proxy: &[u8], body: &[u8], pledge: &mut [u8]) -> u32
     let judged = proxy_in(proxy).judge(body);
     let verdict = judged.verdict;
     let named = judged.pledge;
-    hand_pledge(verdict, named, pledge)
+    store_pledge(verdict, named, pledge)
 }

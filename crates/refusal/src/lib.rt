@@ -102,6 +102,6 @@ impl Refusal {
 }
 
 // Every refusal has a number from 1 to 22.
-pub fn numbers()
+pub fn number_range_law()
     ensures { λ r. ⌜ Numbered ⌝ }
 {}

@@ -3,11 +3,11 @@ use replay_answers::Trace;
 use replay_answers::answer_files;
 use replay_answers::are_named;
 use replay_answers::put_trace;
-use tool_text::fault::Fault;
-use tool_text::fault::put_fault;
 use tool_text::hex::Hex;
 use tool_text::hex::Payload;
 use tool_text::line::Form;
+use tool_text::line_error::LineError;
+use tool_text::line_error::put_line_error;
 use tool_text::output::Buffer;
 use tool_text::output::Output;
 use tool_text::session::Session;
@@ -23,10 +23,10 @@ const FORM: Form = Form {
 
 fn answer(command: Word, hex: Hex, trace: &[u8], out: Output, buffer: &mut Buffer) -> Output {
     if !command.is(b"trace") {
-        return put_fault(out, Fault::Command, buffer);
+        return put_line_error(out, LineError::Command, buffer);
     }
     let Payload::Bytes(len) = hex.payload() else {
-        return put_fault(out, Fault::Hex, buffer);
+        return put_line_error(out, LineError::Hex, buffer);
     };
     put_trace(out, tool_text::first(trace, len), buffer)
 }
@@ -68,7 +68,7 @@ fn main() {
     }
     let session = Session::begin(
         b"replay: what a unit did in a recorded night (docs/TOOLS.md).\n\
-trace HEX; or replay FILE .., each file a recorded night\n",
+trace HEX; or replay FILE .., each file a recorded trace\n",
         &mut buffer,
     );
     run(session, &mut bytes, &mut trace, &mut buffer);

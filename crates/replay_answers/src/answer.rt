@@ -1,25 +1,25 @@
 // A replay on one line.
 use crate::LONGEST;
 use simulate_answers::put_node;
-use tool_text::fault::Fault;
-use tool_text::fault::put_fault;
+use tool_text::line_error::LineError;
+use tool_text::line_error::put_line_error;
 use tool_text::output::Buffer;
 use tool_text::output::Output;
-use trace::Replayed;
-use trace::Report;
+use trace::ReplayResult;
+use trace::ReplayStatistics;
 use trace_walker::replay;
 
 // Replays the trace and writes its answer; one that is too long is not replayed.
 pub fn put_trace(out: Output, trace: &[u8], buffer: &mut Buffer) -> Output {
     if LONGEST < trace.len() {
-        return put_fault(out, Fault::Long, buffer);
+        return put_line_error(out, LineError::Long, buffer);
     }
     put_replayed(out, replay(trace), buffer)
 }
 
-fn put_replayed(out: Output, replayed: Replayed, buffer: &mut Buffer) -> Output {
-    let out = put_end(out, replayed.complete, replayed.place, buffer);
-    let out = put_report(out, replayed.report, buffer);
+fn put_replayed(out: Output, replayed: ReplayResult, buffer: &mut Buffer) -> Output {
+    let out = put_end(out, replayed.complete, replayed.offset, buffer);
+    let out = put_report(out, replayed.statistics, buffer);
     if !replayed.made {
         return out.text(b" node=none", buffer);
     }
@@ -33,7 +33,7 @@ fn put_end(out: Output, complete: bool, place: usize, buffer: &mut Buffer) -> Ou
     put_number(out, b"stopped ", place as u64, buffer)
 }
 
-fn put_report(out: Output, report: Report, buffer: &mut Buffer) -> Output {
+fn put_report(out: Output, report: ReplayStatistics, buffer: &mut Buffer) -> Output {
     let kinds = report.kinds;
     let refusals = report.refusals;
     let out = put_kinds(out.text(b" records=", buffer), kinds, buffer);

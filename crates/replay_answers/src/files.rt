@@ -1,8 +1,8 @@
 // Nights from files: each argument names one.
 use crate::Trace;
 use crate::answer::put_trace;
-use tool_text::fault::Fault;
-use tool_text::fault::put_fault;
+use tool_text::line_error::LineError;
+use tool_text::line_error::put_line_error;
 use tool_text::output::Buffer;
 use tool_text::output::Output;
 
@@ -34,7 +34,7 @@ enum Read {
 
 fn answer_file(i: usize, trace: &mut Trace, out: Output, buffer: &mut Buffer) -> Output {
     match read_file(i, trace) {
-        Read::Nothing => put_fault(out, Fault::File, buffer),
+        Read::Nothing => put_line_error(out, LineError::File, buffer),
         Read::Bytes(len) => put_trace(out, tool_text::first(trace, len), buffer),
     }
 }

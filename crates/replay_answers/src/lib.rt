@@ -1,4 +1,4 @@
-// What the desk tool replay answers: a night's replay on one line, from HEX or from files (docs/TOOLS.md).
+// What the desk tool replay answers: a trace's replay on one line, from HEX or from files (docs/TOOLS.md).
 pub mod answer;
 pub mod files;
 

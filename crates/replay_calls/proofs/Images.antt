@@ -10,12 +10,12 @@ use lib.Seq.{take-suc, take-all}
 use Rattle.cbor.specs.Answer.{Wrote}
 use Rattle.cbor.specs.Encode.{bytesOf}
 use Rattle.image.specs.Fields.{next-field, whole-struct, two-fields}
-use Rattle.image.specs.Lawful.{number-lawful, both-lawful, times-lawful, viewed-lawful, headed-lawful}
-use Rattle.image.specs.Part.{Part, Lawful, number, puts, viewed}
-use Rattle.trace.specs.declared.state.Report.{Report}
+use Rattle.image.specs.CodecLaws.{number-lawful, both-lawful, times-lawful, viewed-lawful, headed-lawful}
+use Rattle.image.specs.Part.{Part, RoundTrips, number, puts, viewed}
+use Rattle.trace.specs.declared.state.ReplayStatistics.{ReplayStatistics}
 use Rattle.object_image.specs.Codes.{boolPart}
 use Rattle.replay_calls.specs.Laws.{ReplayedImages}
-use Rattle.replay_calls.specs.Replayed.{nightFields, nightTo, nightFrom, nightPart, walk, walkFields, walkTo, walkFrom, replayedImage}
+use Rattle.replay_calls.specs.Replayed.{statisticsFields, statisticsTo, statisticsFrom, statisticsPart, walk, walkFields, walkTo, walkFrom, replayedImage}
 
 -- ---- counts
 puts-one : {A : Type 0} (p : Part A) (xs : List A) (a : A) → puts p (xs ++ (a ∷ [])) ≡ puts p xs ++ p .put a
@@ -41,36 +41,36 @@ all-counts xs i e w =
 pub so-many : {p d d′ : List ℕ} (k : ℕ) {n : ℕ} → n ≡ k → Wrote p d (8 * n) d′ → Wrote p d (8 * k) d′
 so-many k e w = rw e at w
 
-pub night-written : (p : Report) {d d′ : List ℕ}
+pub trace-written : (p : ReplayStatistics) {d d′ : List ℕ}
     → Wrote (((puts (number 8) (p .kinds) ++ puts (number 8) (p .refusals)) ++ bytesOf 8 (p .switches)) ++ bytesOf 8 (p .longest)) d 240 d′
-    → Wrote (nightPart .put p) d 240 d′
-night-written p w =
+    → Wrote (statisticsPart .put p) d 240 d′
+trace-written p w =
     let kinds = puts (number 8) (p .kinds) in
     let refusals = puts (number 8) (p .refusals) in
-    let e : ((kinds ++ refusals) ++ bytesOf 8 (p .switches)) ++ bytesOf 8 (p .longest) ≡ nightPart .put p =
+    let e : ((kinds ++ refusals) ++ bytesOf 8 (p .switches)) ++ bytesOf 8 (p .longest) ≡ statisticsPart .put p =
     two-fields (kinds ++ refusals) (bytesOf 8 (p .switches)) (bytesOf 8 (p .longest))
     ∙ append-assoc kinds refusals (bytesOf 8 (p .switches) ++ bytesOf 8 (p .longest)) in
     rw e at w
 
 -- ---- the image
-pub replayed-stored : (p : Report) (stopped : Bool) (place : ℕ) {d d′ : List ℕ} → length d ≡ 251
-    → Wrote ((((0x54 ∷ 1 ∷ []) ++ nightPart .put p) ++ boolPart .put stopped) ++ bytesOf 8 place) d 251 d′
+pub replayed-stored : (p : ReplayStatistics) (stopped : Bool) (place : ℕ) {d d′ : List ℕ} → length d ≡ 251
+    → Wrote ((((0x54 ∷ 1 ∷ []) ++ statisticsPart .put p) ++ boolPart .put stopped) ++ bytesOf 8 place) d 251 d′
     → d′ ≡ replayedImage .put (walk p stopped place)
 replayed-stored p stopped place e w =
-    whole-struct e w ∙ two-fields ((0x54 ∷ 1 ∷ []) ++ nightPart .put p) (boolPart .put stopped) (bytesOf 8 place)
+    whole-struct e w ∙ two-fields ((0x54 ∷ 1 ∷ []) ++ statisticsPart .put p) (boolPart .put stopped) (bytesOf 8 place)
 
-night-lawful : Lawful nightPart
-night-lawful =
-    viewed-lawful nightFields nightTo nightFrom (λ p. refl) (λ x h. refl)
+trace-lawful : RoundTrips statisticsPart
+trace-lawful =
+    viewed-lawful statisticsFields statisticsTo statisticsFrom (λ p. refl) (λ x h. refl)
     (both-lawful _ _ (times-lawful (number 8) (number-lawful 8) 6)
     (both-lawful _ _ (times-lawful (number 8) (number-lawful 8) 22) (both-lawful _ _ (number-lawful 8) (number-lawful 8))))
 
-pub replayed-images : Lawful boolPart → ReplayedImages
+pub replayed-images : RoundTrips boolPart → ReplayedImages
 replayed-images bool =
     record {
       replayed-size = refl;
       replayed =
           headed-lawful 0x54 (viewed walkFields walkTo walkFrom)
           (viewed-lawful walkFields walkTo walkFrom (λ w. refl) (λ x h. refl)
-          (both-lawful _ _ night-lawful (both-lawful _ _ bool (number-lawful 8))));
+          (both-lawful _ _ trace-lawful (both-lawful _ _ bool (number-lawful 8))));
     }

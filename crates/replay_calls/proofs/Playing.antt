@@ -8,13 +8,13 @@ use lib.Dec.{eqb}
 use lib.ListN.{length, replicate}
 use Rattle.refusal.specs.declared.Verdict.{Verdict}
 use Rattle.refusal.specs.declared.Verdict.the-variants.{Accepted, Refused}
-use Rattle.image.specs.Left.{left}
+use Rattle.image.specs.Effects.{onAccept}
 use Rattle.image.specs.Lent.{emptied}
 use Rattle.image.specs.Part.{isImage}
 use Rattle.node.specs.declared.node.Node.{Node}
 use Rattle.node_image.specs.Node.{nodeImage}
 use Rattle.trace.specs.Replay.{replay}
-use Rattle.trace.specs.declared.state.Replayed.{Replayed}
+use Rattle.trace.specs.declared.state.ReplayResult.{ReplayResult}
 use Rattle.replay_calls.specs.Laws.{ReplayRefusals}
 use Rattle.replay_calls.specs.Replayed.{walkOf, replayedImage}
 use Rattle.replay_calls.specs.Replays.{nodeLeft, replayVerdict, Replays}
@@ -56,21 +56,21 @@ module _ (t n out : List ℕ) where
         told = rw (eq-eqb (length n) 878 h, ne-eqb (length out) 251 k);
       }
 
-  pub replayed-told : (x : Replayed) {n′ out′ : List ℕ} → x ≡ replay t → length n ≡ 878 → length out ≡ 251 → n′ ≡ nodeLeft x
+  pub replayed-told : (x : ReplayResult) {n′ out′ : List ℕ} → x ≡ replay t → length n ≡ 878 → length out ≡ 251 → n′ ≡ nodeLeft x
       → out′ ≡ replayedImage .put (walkOf x) → Replays t n out 0 n′ out′
   replayed-told x e h k f g =
       record {
         number = rw (eq-eqb (length n) 878 h, eq-eqb (length out) 251 k);
         node = rw (eq-eqb (length n) 878 h, eq-eqb (length out) 251 k) (f ∙ ap nodeLeft e);
-        told = rw (eq-eqb (length n) 878 h, eq-eqb (length out) 251 k) (g ∙ ap (λ (y : Replayed). replayedImage .put (walkOf y)) e);
+        told = rw (eq-eqb (length n) 878 h, eq-eqb (length out) 251 k) (g ∙ ap (λ (y : ReplayResult). replayedImage .put (walkOf y)) e);
       }
 
 -- ---- what a refused replay leaves, and one that made no node
-either-way : {A : Type 0} (v : Verdict) (a : A) → left v a a ≡ a
+either-way : {A : Type 0} (v : Verdict) (a : A) → onAccept v a a ≡ a
 either-way Accepted a = refl
 either-way (Refused k) a = refl
 
-zeros-there : (t n out n′ : List ℕ) (v : Verdict) → n′ ≡ cond (eqb (length n) 878) (left v (replicate 878 0) (nodeLeft (replay t))) n
+zeros-there : (t n out n′ : List ℕ) (v : Verdict) → n′ ≡ cond (eqb (length n) 878) (onAccept v (replicate 878 0) (nodeLeft (replay t))) n
     → length n ≡ 878
     → replay t .made ≡ false → n′ ≡ replicate 878 0
 zeros-there t n out n′ v f h e = (rw (eq-eqb (length n) 878 h, e) at f) ∙ either-way v (replicate 878 0)

@@ -4,8 +4,8 @@ use mathlib.Core.Bool.{false}
 use mathlib.Core.List.{List}
 use mathlib.Core.Path.{_≡_}
 use lib.ListN.{length}
-use Rattle.image.specs.Left.{zeroed}
-use Rattle.image.specs.Part.{Lawful, isImage}
+use Rattle.image.specs.Effects.{zeroed}
+use Rattle.image.specs.Part.{RoundTrips, isImage}
 use Rattle.node_image.specs.Node.{nodeImage}
 use Rattle.trace.specs.Replay.{replay}
 use Rattle.replay_calls.specs.Replayed.{replayedImage}
@@ -14,7 +14,7 @@ use Rattle.replay_calls.specs.Replays.{Replays}
 -- what was stored is loaded as it was, and stored as it stood
 pub record ReplayedImages : Type 0 where
   pub replayed-size : replayedImage .size ≡ 251
-  pub replayed : Lawful replayedImage
+  pub replayed : RoundTrips replayedImage
 
 -- refused, both structs are all zero; one of another length is not touched
 pub record ReplayRefusals : Type 0 where

@@ -9,21 +9,21 @@ use lib.ListN.{length, replicate}
 use Rattle.refusal.specs.Verdict.{verdictNumber}
 use Rattle.refusal.specs.declared.Verdict.{Verdict}
 use Rattle.refusal.specs.declared.Verdict.the-variants.{Accepted}
-use Rattle.image.specs.Left.{judgedFirst, handed}
+use Rattle.image.specs.Effects.{checkedFirst, resultBytes}
 use Rattle.node_image.specs.Node.{nodeImage}
 use Rattle.trace.specs.Replay.{replay}
-use Rattle.trace.specs.declared.state.Replayed.{Replayed}
+use Rattle.trace.specs.declared.state.ReplayResult.{ReplayResult}
 use Rattle.replay_calls.specs.Replayed.{walkOf, replayedImage}
 
 -- all zero, which is no image, where the trace made none
-abbrev pub nodeLeft : Replayed → List ℕ
+abbrev pub nodeLeft : ReplayResult → List ℕ
 nodeLeft x = cond (x .made) (nodeImage .put (x .node)) (replicate 878 0)
 
 abbrev pub replayVerdict : List ℕ → List ℕ → Verdict
-replayVerdict n out = judgedFirst (eqb (length n) 878 && eqb (length out) 251) Accepted
+replayVerdict n out = checkedFirst (eqb (length n) 878 && eqb (length out) 251) Accepted
 
 -- the trace t was replayed: the number r was answered, and the structs n and out hold n′ and out′ afterwards
 pub record Replays (t n out : List ℕ) (r : ℕ) (n′ out′ : List ℕ) : Type 0 where
   pub number : r ≡ verdictNumber (replayVerdict n out)
-  pub node : n′ ≡ handed 878 (replayVerdict n out) (nodeLeft (replay t)) n
-  pub told : out′ ≡ handed 251 (replayVerdict n out) (replayedImage .put (walkOf (replay t))) out
+  pub node : n′ ≡ resultBytes 878 (replayVerdict n out) (nodeLeft (replay t)) n
+  pub told : out′ ≡ resultBytes 251 (replayVerdict n out) (replayedImage .put (walkOf (replay t))) out

@@ -1,4 +1,4 @@
-// A recorded night replayed, for C: the node that the calls of its records give, and the report, as images in lent bytes.
+// A recorded trace replayed, for C: the node that the calls of its records give, and the report, as images in lent bytes.
 mod counts;
 mod replayed;
 mod replays;
@@ -15,6 +15,6 @@ pub fn laws()
 }
 
 // A refused replay leaves its results all zero.
-pub fn refusals_keep()
+pub fn refusals_keep_law()
     ensures { λ _. ⌜ ReplayRefusals ⌝ }
 {}

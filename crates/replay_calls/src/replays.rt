@@ -11,7 +11,7 @@ ghost use Rattle.node_image.specs.Node.{nodeImage};
 ghost use Rattle.replay_calls.specs.Replays.{Replays};
 
 // A node where the trace made one; else zeros.
-fn hand_node(made: bool, node: Node, out: &mut [u8])
+fn store_node(made: bool, node: Node, out: &mut [u8])
     requires { ⌜ length (now out) ≡ 878 ⌝ }
     ensures { λ _. ⌜ now (out .exit) ≡ cond made (nodeImage .put node) (replicate 878 0) ⌝ }
 {
@@ -22,7 +22,7 @@ fn hand_node(made: bool, node: Node, out: &mut [u8])
     }
 }
 
-// Replays a recorded night: the node that the calls of its records give, and what is told beside it.
+// Replays a recorded trace: the node that the calls of its records give, and what is told beside it.
 pub fn replay(trace: &[u8], node: &mut [u8], out: &mut [u8]) -> u32
     ensures { λ r. ⌜ Replays (now (trace .entry)) (now (node .entry)) (now (out .entry)) r (now (node .exit)) (now (out .exit)) ⌝ }
 {
@@ -38,8 +38,8 @@ pub fn replay(trace: &[u8], node: &mut [u8], out: &mut [u8]) -> u32
     }
     let played = trace_walker::replay(trace);
     let made = played.node;
-    let report = played.report;
-    hand_node(played.made, made, node);
-    put_replayed(out, report, !played.complete, played.place);
+    let report = played.statistics;
+    store_node(played.made, made, node);
+    put_replayed(out, report, !played.complete, played.offset);
     0
 }

@@ -13,10 +13,10 @@ use Rattle.cbor.specs.Decode.{bigEndian}
 use Rattle.cbor.specs.Encode.{bytesOf}
 use Rattle.logic_facts.specs.Tests.{both-left, both-right}
 use Rattle.image.specs.Fields.{whole-struct, two-fields}
-use Rattle.image.specs.Lawful.{number-lawful, both-lawful, viewed-lawful, headed-lawful}
+use Rattle.image.specs.CodecLaws.{number-lawful, both-lawful, viewed-lawful, headed-lawful}
 use Rattle.image.specs.Lent.{long}
-use Rattle.image.specs.Part.{AllBytes, Lawful, viewed, isHeaded, isImage}
-use Rattle.cojp_serial.specs.declared.arrival.Arrival.{Arrival}
+use Rattle.image.specs.Part.{AllBytes, RoundTrips, viewed, isHeaded, isImage}
+use Rattle.cojp_serial.specs.declared.state.SerialState.{SerialState}
 use Rattle.object_image.specs.Codes.{boolPart}
 use Rattle.serial_calls.specs.Laws.{SerialImages}
 use Rattle.serial_calls.specs.Serial.{serialFields, serialTo, serialFrom, serialImage}
@@ -55,15 +55,15 @@ module _ (s : List ℕ) where
       → serialTo (n, (x, y)) ≡ serialImage .get s
   serial-got e f g = rw (e, f, g, drop-drop 2 2 s, drop-drop 1 4 s)
 
-pub serial-stored : (a : Arrival) {d d′ : List ℕ} → length d ≡ 6
+pub serial-stored : (a : SerialState) {d d′ : List ℕ} → length d ≡ 6
     → Wrote ((((0x53 ∷ 1 ∷ []) ++ bytesOf 2 (a .arrived)) ++ boolPart .put (a .overrun)) ++ boolPart .put (a .ended)) d 6 d′
     → d′ ≡ serialImage .put a
 serial-stored a e w =
     whole-struct e w ∙ two-fields ((0x53 ∷ 1 ∷ []) ++ bytesOf 2 (a .arrived)) (boolPart .put (a .overrun)) (boolPart .put (a .ended))
 
 -- ---- the law, by that of a truth value
-module _ (bool : Lawful boolPart) where
-  serial-lawful : Lawful serialImage
+module _ (bool : RoundTrips boolPart) where
+  serial-lawful : RoundTrips serialImage
   serial-lawful =
       headed-lawful 0x53 (viewed serialFields serialTo serialFrom)
       (viewed-lawful serialFields serialTo serialFrom (λ a. refl) (λ x h. refl)

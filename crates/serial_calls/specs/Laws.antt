@@ -9,10 +9,10 @@ use lib.Dec.{eqb}
 use lib.ListN.{length}
 use Rattle.refusal.specs.Refusal.{numberOf}
 use Rattle.refusal.specs.declared.Refusal.the-variants.{Long}
-use Rattle.image.specs.Left.{zeroed}
-use Rattle.image.specs.Part.{AllBytes, Lawful}
-use Rattle.cojp_serial.specs.Arrival.{courseOf, overran, endMarked}
-use Rattle.cojp_serial.specs.declared.arrival.Course.the-variants.{Open}
+use Rattle.image.specs.Effects.{zeroed}
+use Rattle.image.specs.Part.{AllBytes, RoundTrips}
+use Rattle.cojp_serial.specs.State.{decisionOf, overran, endMarked}
+use Rattle.cojp_serial.specs.declared.state.PartDecision.the-variants.{Open}
 use Rattle.serial_calls.specs.Ends.{mayEnd, EndsRequest, EndsConfiguration}
 use Rattle.serial_calls.specs.Parts.{Resets, Parts}
 use Rattle.serial_calls.specs.Serial.{serialImage}
@@ -20,11 +20,11 @@ use Rattle.serial_calls.specs.Serial.{serialImage}
 -- what was stored is loaded as it was, and stored as it stood
 pub record SerialImages : Type 0 where
   pub serial-size : serialImage .size ≡ 6
-  pub serial : Lawful serialImage
+  pub serial : RoundTrips serialImage
 
 -- whether the end gets to its reading
 abbrev pub GetsToReading : List ℕ → List ℕ → Type 0
-GetsToReading s m = courseOf (serialImage .get s) (length m) 0 ≡ Open
+GetsToReading s m = decisionOf (serialImage .get s) (length m) 0 ≡ Open
 
 pub record SerialRefusals : Type 0 where
   pub reset : (s : List ℕ) (r : ℕ) (s′ : List ℕ) → Resets s r s′ → (r ≡ 0 → ⊥) → s′ ≡ s

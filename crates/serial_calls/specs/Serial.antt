@@ -2,17 +2,17 @@
 use Prim.Native.Nat.{ℕ}
 use mathlib.Core.Bool.{Bool}
 use Rattle.image.specs.Part.{Part, number, both, viewed, headed}
-use Rattle.cojp_serial.specs.declared.arrival.Arrival.{Arrival}
+use Rattle.cojp_serial.specs.declared.state.SerialState.{SerialState}
 use Rattle.object_image.specs.Codes.{boolPart}
 
 abbrev pub serialFields : Part (ℕ × (Bool × Bool))
 serialFields = both (number 2) (both boolPart boolPart)
 
-abbrev pub serialTo : ℕ × (Bool × Bool) → Arrival
+abbrev pub serialTo : ℕ × (Bool × Bool) → SerialState
 serialTo x = record { arrived = x .0; overrun = x .1 .0; ended = x .1 .1 }
 
-abbrev pub serialFrom : Arrival → ℕ × (Bool × Bool)
+abbrev pub serialFrom : SerialState → ℕ × (Bool × Bool)
 serialFrom a = (a .arrived, (a .overrun, a .ended))
 
-abbrev pub serialImage : Part Arrival
+abbrev pub serialImage : Part SerialState
 serialImage = headed 0x53 (viewed serialFields serialTo serialFrom)

@@ -2,21 +2,21 @@
 use crate::serial::is_serial;
 use crate::serial::put_serial;
 use crate::serial::serial_in;
-use cojp_serial::Arrival;
 use cojp_serial::ConfigurationEnd;
 use cojp_serial::RequestEnd;
+use cojp_serial::SerialState;
 use cojp_serial::end_configuration_as;
 use cojp_serial::end_request_as;
 use cojp_serial::end_strict_configuration_as;
 use cojp_serial::end_strict_request_as;
 use image::RANGE;
 use image::clear;
-use payload_calls::form_of;
-use payload_calls::hand_configuration;
-use payload_calls::hand_request;
 use payload_calls::is_reading;
+use payload_calls::store_configuration;
+use payload_calls::store_request;
+use payload_calls::version_of;
 ghost use mathlib.Core.Path.{_≡_};
-ghost use Rattle.cojp_serial.specs.Arrival.{requestEnd, configurationEnd};
+ghost use Rattle.cojp_serial.specs.State.{requestEnd, configurationEnd};
 ghost use Rattle.payload_calls.specs.Read.{requestAsked, configurationAsked};
 ghost use Rattle.serial_calls.specs.Ends.{mayEnd, EndsRequest, EndsConfiguration};
 
@@ -48,18 +48,18 @@ pub fn serial_end_request(
         return RANGE;
     }
     let end = request_end(serial_in(serial), store, form, reading);
-    let arrival = end.arrival;
+    let arrival = end.state;
     let read = end.read;
     let verdict = read.verdict;
     let request = read.request;
     put_serial(serial, arrival);
-    hand_request(verdict, request, out)
+    store_request(verdict, request, out)
 }
 
-fn request_end(arrival: Arrival, store: &[u8], form: u8, reading: u8) -> RequestEnd
+fn request_end(arrival: SerialState, store: &[u8], form: u8, reading: u8) -> RequestEnd
     ensures { λ r. ⌜ r ≡ requestEnd (requestAsked form reading) arrival (now (store .entry)) ⌝ }
 {
-    let version = form_of(form);
+    let version = version_of(form);
     if reading == 0 {
         return end_request_as(arrival, store, version);
     }
@@ -84,18 +84,18 @@ pub fn serial_end_configuration(
         return RANGE;
     }
     let end = configuration_end(serial_in(serial), store, form, reading);
-    let arrival = end.arrival;
+    let arrival = end.state;
     let read = end.read;
     let verdict = read.verdict;
     let configuration = read.configuration;
     put_serial(serial, arrival);
-    hand_configuration(verdict, configuration, out)
+    store_configuration(verdict, configuration, out)
 }
 
-fn configuration_end(arrival: Arrival, store: &[u8], form: u8, reading: u8) -> ConfigurationEnd
+fn configuration_end(arrival: SerialState, store: &[u8], form: u8, reading: u8) -> ConfigurationEnd
     ensures { λ r. ⌜ r ≡ configurationEnd (configurationAsked form reading) arrival (now (store .entry)) ⌝ }
 {
-    let version = form_of(form);
+    let version = version_of(form);
     if reading == 0 {
         return end_configuration_as(arrival, store, version);
     }

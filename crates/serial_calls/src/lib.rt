@@ -20,7 +20,7 @@ pub fn laws()
 }
 
 // What a refused call leaves.
-pub fn refusals_keep()
+pub fn refusals_keep_law()
     ensures { λ _. ⌜ SerialRefusals ⌝ }
 {
     object_image::laws();

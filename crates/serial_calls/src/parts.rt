@@ -40,7 +40,7 @@ pub fn serial_part(serial: &mut [u8], store: &mut [u8], sent: &[u8]) -> u32
     }
     let answer = part(serial_in(serial), store, sent);
     let verdict = answer.verdict;
-    let arrival = answer.arrival;
+    let arrival = answer.state;
     put_serial(serial, arrival);
     number_of(verdict)
 }

@@ -1,5 +1,5 @@
 // The image of an arrival.
-use cojp_serial::Arrival;
+use cojp_serial::SerialState;
 use image::is_headed;
 use image::number_at;
 use image::put_head;
@@ -30,11 +30,11 @@ pub fn is_serial(s: &[u8]) -> bool
 }
 
 // The arrival in an image.
-pub fn serial_in(s: &[u8]) -> Arrival
+pub fn serial_in(s: &[u8]) -> SerialState
     requires { ⌜ length (now s) ≡ 6 ⌝ }
     ensures { λ r. ⌜ r ≡ serialImage .get (now (s .entry)) ⌝ }
 {
-    Arrival {
+    SerialState {
         arrived: number_at(s, 2, 2) as usize,
         overrun: bool_at(s, 4),
         ended: bool_at(s, 5),
@@ -42,7 +42,7 @@ pub fn serial_in(s: &[u8]) -> Arrival
 }
 
 // Stores an arrival.
-pub fn put_serial(dst: &mut [u8], arrival: Arrival)
+pub fn put_serial(dst: &mut [u8], arrival: SerialState)
     requires { ⌜ length (now dst) ≡ 6 ⌝ }
     ensures { λ _. ⌜ now (dst .exit) ≡ serialImage .put arrival ⌝ }
 {

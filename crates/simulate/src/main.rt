@@ -10,7 +10,7 @@ use nodes::no_nodes;
 use simulate_answers::put_answer;
 use simulate_answers::reply::lent;
 use simulate_answers::reply::marked;
-use simulate_answers::reply::spoken_of;
+use simulate_answers::reply::reply_node;
 use simulate_commands::command::Made;
 use simulate_commands::next_command;
 use tool_text::output::Buffer;
@@ -42,7 +42,7 @@ fn answer_line(
     let done = execute(nodes, command, room, payload);
     let reply = done.reply;
     let nodes = done.nodes;
-    let node = spoken_of(reply, asked, load(nodes, command.first));
+    let node = reply_node(reply, asked, load(nodes, command.first));
     session.out = put_answer(session.out, reply, node, command, payload, buffer);
     Simulation {
         session,

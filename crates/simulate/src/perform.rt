@@ -3,10 +3,10 @@ use crate::bench::edited;
 use crate::bench::with_counter;
 use cojp::Octets;
 use cojp::Version;
-use node::Delivered;
-use node::Made;
+use node::DeliveryResult;
+use node::MakeResult;
 use node::Node;
-use node::Started;
+use node::StartResult;
 use node_parameters::HeldOctets;
 use node_parameters::octets::absent_octets;
 use refusal::Verdict;
@@ -18,7 +18,7 @@ use simulate_commands::Edit;
 use simulate_commands::Verb;
 use simulate_commands::command::byte;
 use simulate_commands::command::counter;
-use tool_text::fault::Fault;
+use tool_text::line_error::LineError;
 
 // The node as the command left it, and what it is answered.
 pub struct Done {
@@ -74,7 +74,7 @@ fn start(node: Node, command: Command, room: usize, payload: &mut [u8]) -> Done 
     with_reply(started.node, start_reply(verdict, started.length))
 }
 
-fn start_within(node: Node, command: Command, room: usize, payload: &mut [u8]) -> Started {
+fn start_within(node: Node, command: Command, room: usize, payload: &mut [u8]) -> StartResult {
     if payload.len() < room {
         return node.start(payload, command.second, command.third);
     }
@@ -107,16 +107,19 @@ fn make(node: Node, version: Version, command: Command, network: &[u8]) -> Done 
     }
 }
 
-fn fresh(version: Version, role: u8, network: HeldOctets) -> Made {
+fn fresh(version: Version, role: u8, network: HeldOctets) -> MakeResult {
     match version {
         Version::Draft => Node::new(role, network),
         Version::Published => Node::published(role, network),
     }
 }
 
-fn delivered(delivered: Delivered) -> Done {
+fn delivered(delivered: DeliveryResult) -> Done {
     let verdict = delivered.verdict;
-    with_reply(delivered.node, delivery_reply(verdict, delivered.reports))
+    with_reply(
+        delivered.node,
+        delivery_reply(verdict, delivered.dispositions),
+    )
 }
 
 fn poll(node: Node, time: u64) -> Done {
@@ -144,7 +147,7 @@ fn set(node: Node, edit: Edit, command: Command, payload: &[u8]) -> Done {
         if counted.found {
             return with_reply(counted.node, Reply::Set);
         }
-        return with_reply(node, Reply::Wrong(Fault::Key));
+        return with_reply(node, Reply::Wrong(LineError::Key));
     }
     with_reply(edited(node, edit, command.third, payload), Reply::Set)
 }

@@ -3,9 +3,9 @@ use crate::delivery::put_delivery;
 use crate::reply::Reply;
 use crate::show::put_counter;
 use crate::show::put_node;
-use node::Holding;
+use node::LeaseStatus;
 use node::Node;
-use node::Sent;
+use node::SendResult;
 use node_attempt::Due;
 use node_key_sets::Change;
 use node_key_sets::KeyAnswer;
@@ -14,7 +14,7 @@ use simulate_commands::Command;
 use simulate_commands::Verb;
 use simulate_commands::command::byte;
 use tool_notation::put_refusal;
-use tool_text::fault::put_fault;
+use tool_text::line_error::put_line_error;
 use tool_text::output::Buffer;
 use tool_text::output::Output;
 
@@ -43,7 +43,7 @@ pub fn put_answer(
 fn put_reply(out: Output, reply: Reply, payload: &[u8], buffer: &mut Buffer) -> Output {
     match reply {
         Reply::Nothing => out,
-        Reply::Wrong(fault) => put_fault(out, fault, buffer),
+        Reply::Wrong(fault) => put_line_error(out, fault, buffer),
         Reply::Refused(refusal) => put_refusal(out, refusal, buffer),
         Reply::Made => out.text(b"made", buffer),
         Reply::Set => out.text(b"set", buffer),
@@ -51,7 +51,7 @@ fn put_reply(out: Output, reply: Reply, payload: &[u8], buffer: &mut Buffer) -> 
         Reply::Sent(length) => put_sent(out, payload, length, buffer),
         Reply::Polled(due) => put_due(out, due, buffer),
         Reply::Delivered(_) => out,
-        Reply::Held(holding) => put_holding(out, holding, buffer),
+        Reply::Held(holding) => put_lease_status(out, holding, buffer),
         Reply::Verified(change) => put_change(out, change, buffer),
         Reply::Failed => out.text(b"failed", buffer),
         Reply::Asked => out,
@@ -76,11 +76,11 @@ fn put_due(out: Output, due: Due, buffer: &mut Buffer) -> Output {
     }
 }
 
-fn put_holding(out: Output, holding: Holding, buffer: &mut Buffer) -> Output {
+fn put_lease_status(out: Output, holding: LeaseStatus, buffer: &mut Buffer) -> Output {
     match holding {
-        Holding::Refused(refusal) => put_refusal(out, refusal, buffer),
-        Holding::Yes => out.text(b"yes", buffer),
-        Holding::No => out.text(b"no", buffer),
+        LeaseStatus::Refused(refusal) => put_refusal(out, refusal, buffer),
+        LeaseStatus::Valid => out.text(b"yes", buffer),
+        LeaseStatus::Expired => out.text(b"no", buffer),
     }
 }
 
@@ -106,7 +106,7 @@ fn put_asked(out: Output, node: Node, command: Command, buffer: &mut Buffer) -> 
     }
 }
 
-fn put_sending(out: Output, sent: Sent, buffer: &mut Buffer) -> Output {
+fn put_sending(out: Output, sent: SendResult, buffer: &mut Buffer) -> Output {
     let answer = sent.answer;
     let verdict = answer.verdict;
     let out = put_key_answer(out, answer, buffer);

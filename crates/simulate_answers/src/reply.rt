@@ -1,19 +1,19 @@
 // What a command is answered, as a value.
-use node::Holding;
+use node::LeaseStatus;
 use node::Node;
 use node_attempt::Due;
 use node_key_sets::Change;
-use node_parameters::Reports;
+use node_parameters::Dispositions;
 use refusal::Refusal;
 use refusal::Verdict;
 use simulate_commands::command::Made;
 use simulate_commands::command::index;
-use tool_text::fault::Fault;
+use tool_text::line_error::LineError;
 
 pub enum Reply {
     // an empty line or a comment is not answered
     Nothing,
-    Wrong(Fault),
+    Wrong(LineError),
     Refused(Refusal),
     Made,
     Set,
@@ -23,8 +23,8 @@ pub enum Reply {
     Sent(usize),
     Polled(Due),
     // what was made of a configuration
-    Delivered(Reports),
-    Held(Holding),
+    Delivered(Dispositions),
+    Held(LeaseStatus),
     Verified(Change),
     // a turn whose frame was not verified
     Failed,
@@ -41,7 +41,7 @@ pub fn start_reply(verdict: Verdict, length: usize) -> Reply {
 }
 
 // What a join answer or an update is answered.
-pub fn delivery_reply(verdict: Verdict, reports: Reports) -> Reply {
+pub fn delivery_reply(verdict: Verdict, reports: Dispositions) -> Reply {
     match verdict {
         Verdict::Refused(refusal) => Reply::Refused(refusal),
         Verdict::Accepted => Reply::Delivered(reports),
@@ -57,7 +57,7 @@ pub fn lent(room: usize, reply: Reply) -> usize {
 }
 
 // The node that such an answer speaks of: a question's is the one that was asked, any other's the one that the command left.
-pub fn spoken_of(reply: Reply, asked: Node, left: Node) -> Node {
+pub fn reply_node(reply: Reply, asked: Node, left: Node) -> Node {
     if let Reply::Asked = reply {
         return asked;
     }

@@ -42,7 +42,7 @@ fn put_published(out: Output, node: Node, buffer: &mut Buffer) -> Output {
     let out = put_blacklist(out, node.blacklist, buffer);
     let out = put_rate(out, node.rate, buffer);
     let out = out.text(b" reports=", buffer);
-    tool_notation::put_faults(out, node.faults, buffer)
+    tool_notation::put_faults(out, node.errors, buffer)
 }
 
 fn put_blacklist(out: Output, blacklist: HeldList, buffer: &mut Buffer) -> Output {

@@ -9,8 +9,8 @@ use crate::verb::verb_of;
 use tool_numerals::decimal::Decimal;
 use tool_numerals::hex::Hex;
 use tool_numerals::hex::Payload;
-use tool_text::fault::Fault;
 use tool_text::line::Line;
+use tool_text::line_error::LineError;
 
 // Which of the nodes 0 to 15 are made.
 pub type Made = [bool; 16];
@@ -84,16 +84,16 @@ fn verb_in(line: Line, made: Made) -> Verb {
 fn judged(line: Line, verb: Verb, made: Made) -> Verb {
     let shape = shape_of(verb);
     if !has_words(line, shape) {
-        return Verb::Wrong(Fault::Command);
+        return Verb::Wrong(LineError::Command);
     }
     if !has_numbers(line, shape) {
-        return Verb::Wrong(Fault::Number);
+        return Verb::Wrong(LineError::Number);
     }
     if !has_bytes(line, shape, verb) {
-        return Verb::Wrong(Fault::Hex);
+        return Verb::Wrong(LineError::Hex);
     }
     if !names_nodes(line, verb, made) {
-        return Verb::Wrong(Fault::Node);
+        return Verb::Wrong(LineError::Node);
     }
     verb
 }

@@ -2,15 +2,15 @@
 use crate::edit::Edit;
 use crate::edit::edit_of;
 use cojp::Version;
-use tool_text::fault::Fault;
 use tool_text::line::Line;
+use tool_text::line_error::LineError;
 use tool_text::word::Word;
 
 pub enum Verb {
     // an empty line or a comment
     Nothing,
     // a line that is no command
-    Wrong(Fault),
+    Wrong(LineError),
     Set(Edit),
     // a node of a form
     Make(Version),
@@ -131,7 +131,7 @@ fn framed(word: Word) -> Verb {
     if word.is(b"verified") {
         return Verb::Verified;
     }
-    Verb::Wrong(Fault::Command)
+    Verb::Wrong(LineError::Command)
 }
 
 pub fn shape_of(verb: Verb) -> Shape {

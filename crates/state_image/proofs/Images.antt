@@ -13,8 +13,8 @@ use Rattle.cbor.specs.Decode.{bigEndian}
 use Rattle.cbor.specs.Encode.{bytesOf}
 use Rattle.logic_facts.specs.Tests.{both-left, both-right}
 use Rattle.image.specs.Fields.{and-good, whole-struct, two-fields, four-fields}
-use Rattle.image.specs.Lawful.{byte-lawful, number-lawful, octets-lawful, upTo-lawful, both-lawful, viewed-lawful, viewedIf-lawful, headed-lawful}
-use Rattle.image.specs.Part.{Lawful, number, octets, upTo, both, viewed, isHeaded, isImage}
+use Rattle.image.specs.CodecLaws.{byte-lawful, number-lawful, octets-lawful, upTo-lawful, both-lawful, viewed-lawful, viewedIf-lawful, headed-lawful}
+use Rattle.image.specs.Part.{RoundTrips, number, octets, upTo, both, viewed, isHeaded, isImage}
 use Rattle.join_proxy.specs.Keys.{countOf}
 use Rattle.join_proxy.specs.declared.judging.Pledge.{Pledge}
 use Rattle.join_proxy.specs.declared.proxy.Issued.{Issued}
@@ -35,12 +35,12 @@ pub ledger-got : (s : List ℕ) {a b c d : ℕ} → a ≡ bigEndian (take 2 (dro
 ledger-got s e f g h = rw (e, f, g, h, drop-drop 2 2 s, drop-drop 2 4 s, drop-drop 2 6 s)
 
 pub ledger-stored : (l : Ledger) {d d′ : List ℕ} → length d ≡ 16
-    → Wrote (((((0x4c ∷ 1 ∷ []) ++ bytesOf 2 (l .first)) ++ bytesOf 2 (l .size)) ++ bytesOf 2 (l .free)) ++ bytesOf 8 (l .marks)) d 16 d′
+    → Wrote (((((0x4c ∷ 1 ∷ []) ++ bytesOf 2 (l .first)) ++ bytesOf 2 (l .size)) ++ bytesOf 2 (l .free)) ++ bytesOf 8 (l .summary)) d 16 d′
     → d′ ≡ ledgerImage .put l
 ledger-stored l e w =
-    whole-struct e w ∙ four-fields (0x4c ∷ 1 ∷ []) (bytesOf 2 (l .first)) (bytesOf 2 (l .size)) (bytesOf 2 (l .free)) (bytesOf 8 (l .marks))
+    whole-struct e w ∙ four-fields (0x4c ∷ 1 ∷ []) (bytesOf 2 (l .first)) (bytesOf 2 (l .size)) (bytesOf 2 (l .free)) (bytesOf 8 (l .summary))
 
-ledger-lawful : Lawful ledgerImage
+ledger-lawful : RoundTrips ledgerImage
 ledger-lawful =
     headed-lawful 0x4c (viewed ledgerFields ledgerTo ledgerFrom)
     (viewed-lawful ledgerFields ledgerTo ledgerFrom (λ l. refl) (λ x h. refl)
@@ -69,7 +69,7 @@ issued-undone : (n : ℕ) (b : Bool) → ltb n numbers ≡ b → leb n numbers �
 issued-undone n true e h = rw e
 issued-undone n false e h = rw e (omega (arith, ltb-false n numbers e, leb-true n numbers h))
 
-issued-lawful : Lawful issuedPart
+issued-lawful : RoundTrips issuedPart
 issued-lawful =
     viewedIf-lawful Held (upTo numbers (number 8)) issuedOf countOf
     (record {
@@ -106,7 +106,7 @@ pub proxy-stored : (p : Proxy) {n : ℕ} {d d′ : List ℕ} → length d ≡ 26
     → Wrote (((0x50 ∷ 1 ∷ []) ++ p .key) ++ bytesOf 8 n) d 26 d′ → d′ ≡ proxyImage .put p
 proxy-stored p e f w = whole-struct e w ∙ two-fields (0x50 ∷ 1 ∷ []) (p .key) (bytesOf 8 _) ∙ rw f
 
-proxy-lawful : Lawful proxyImage
+proxy-lawful : RoundTrips proxyImage
 proxy-lawful =
     headed-lawful 0x50 (viewed (both (octets 16) issuedPart) proxyTo proxyFrom)
     (viewed-lawful (both (octets 16) issuedPart) proxyTo proxyFrom (λ p. refl) (λ x h. refl)
@@ -117,7 +117,7 @@ pub pledge-stored : (w : Pledge) {d d′ : List ℕ} → length d ≡ 21
     → Wrote (((((0x47 ∷ 1 ∷ []) ++ w .interface) ++ bytesOf 2 (w .port)) ++ (w .len ∷ [])) ++ w .token) d 21 d′ → d′ ≡ pledgeImage .put w
 pledge-stored w e x = whole-struct e x ∙ four-fields (0x47 ∷ 1 ∷ []) (w .interface) (bytesOf 2 (w .port)) (w .len ∷ []) (w .token)
 
-pledge-lawful : Lawful pledgeImage
+pledge-lawful : RoundTrips pledgeImage
 pledge-lawful =
     headed-lawful 0x47 (viewed pledgeFields pledgeTo pledgeFrom)
     (viewed-lawful pledgeFields pledgeTo pledgeFrom (λ w. refl) (λ x h. refl)

@@ -11,7 +11,7 @@ abbrev pub ledgerTo : ℕ × (ℕ × (ℕ × ℕ)) → Ledger
 ledgerTo x = ledgerOf (x .0) (x .1 .0) (x .1 .1 .0) (x .1 .1 .1)
 
 abbrev pub ledgerFrom : Ledger → ℕ × (ℕ × (ℕ × ℕ))
-ledgerFrom l = (l .first, (l .size, (l .free, l .marks)))
+ledgerFrom l = (l .first, (l .size, (l .free, l .summary)))
 
 abbrev pub ledgerImage : Part Ledger
 ledgerImage = headed 0x4c (viewed ledgerFields ledgerTo ledgerFrom)

@@ -29,7 +29,7 @@ pub fn ledger_in(s: &[u8]) -> Ledger
         first: number_at(s, 2, 2) as usize,
         size: number_at(s, 4, 2) as usize,
         free: number_at(s, 6, 2) as usize,
-        marks: number_at(s, 8, 8),
+        summary: number_at(s, 8, 8),
     }
 }
 
@@ -42,5 +42,5 @@ pub fn put_ledger(dst: &mut [u8], ledger: Ledger)
     put_number(&mut dst[2..], 2, ledger.first as u64);
     put_number(&mut dst[4..], 2, ledger.size as u64);
     put_number(&mut dst[6..], 2, ledger.free as u64);
-    put_number(&mut dst[8..], 8, ledger.marks);
+    put_number(&mut dst[8..], 8, ledger.summary);
 }

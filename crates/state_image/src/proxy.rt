@@ -1,12 +1,12 @@
 // The images of a join proxy and of a pledge.
+use image::array_16_at;
 use image::is_headed;
 use image::number_at;
+use image::put_array_8;
+use image::put_array_16;
 use image::put_byte;
-use image::put_eight;
 use image::put_head;
 use image::put_number;
-use image::put_sixteen;
-use image::sixteen_at;
 use join_proxy::Issued;
 use join_proxy::Pledge;
 use join_proxy::Proxy;
@@ -40,7 +40,7 @@ pub fn proxy_in(s: &[u8]) -> Proxy
     ensures { λ r. ⌜ r ≡ proxyImage .get (now (s .entry)) ⌝ }
 {
     Proxy {
-        key: sixteen_at(s, 2),
+        key: array_16_at(s, 2),
         issued: issued_of(number_at(s, 18, 8)),
     }
 }
@@ -53,7 +53,7 @@ pub fn put_proxy(dst: &mut [u8], proxy: Proxy)
     let key = proxy.key;
     let issued = proxy.issued;
     put_head(dst, KIND);
-    put_sixteen(&mut dst[2..], key);
+    put_array_16(&mut dst[2..], key);
     put_number(&mut dst[18..], 8, count_of(issued));
 }
 
@@ -83,8 +83,8 @@ pub fn put_pledge(dst: &mut [u8], pledge: Pledge)
     let interface = pledge.interface;
     let token = pledge.token;
     put_head(dst, PLEDGE_KIND);
-    put_eight(&mut dst[2..], interface);
+    put_array_8(&mut dst[2..], interface);
     put_number(&mut dst[10..], 2, pledge.port as u64);
     put_byte(&mut dst[12..], pledge.len);
-    put_eight(&mut dst[13..], token);
+    put_array_8(&mut dst[13..], token);
 }

@@ -1,5 +1,5 @@
 // Whether the cipher gives what a line says.
-use aes_ccm::Written;
+use aes_ccm::WriteResult;
 use tool_words::copies::sixteen;
 use tool_words::copies::thirteen;
 use tool_words::words::Words;
@@ -69,8 +69,8 @@ fn damage_opens(words: Words, store: &[u8], bit: usize) -> bool {
         tool_text::first(&damaged, words.hex.len),
         &mut dst,
     ) {
-        Written::Length(_) => true,
-        Written::Refused(refusal) => refusal.number() != 20 || !same(&dst, &before),
+        WriteResult::Length(_) => true,
+        WriteResult::Refused(refusal) => refusal.number() != 20 || !same(&dst, &before),
     }
 }
 
@@ -89,7 +89,7 @@ fn with_bit(bytes: &[u8], bit: usize) -> [u8; 80] {
     copy
 }
 
-fn open(words: Words, store: &[u8], sealed: &[u8], dst: &mut [u8]) -> Written {
+fn open(words: Words, store: &[u8], sealed: &[u8], dst: &mut [u8]) -> WriteResult {
     aes_ccm::unseal(
         sixteen(store, 0),
         thirteen(store, 80),
@@ -100,10 +100,10 @@ fn open(words: Words, store: &[u8], sealed: &[u8], dst: &mut [u8]) -> Written {
 }
 
 // How many bytes were written.
-fn length(written: Written) -> usize {
+fn length(written: WriteResult) -> usize {
     match written {
-        Written::Length(len) => len,
-        Written::Refused(_) => 0,
+        WriteResult::Length(len) => len,
+        WriteResult::Refused(_) => 0,
     }
 }
 

@@ -2,7 +2,7 @@
 use crate::object::Object;
 use crate::object::rewrite;
 use crate::object::seen;
-use cbor::Written;
+use cbor::WriteResult;
 use refusal::Verdict;
 use tool_text::output::Buffer;
 use tool_text::output::Output;
@@ -51,27 +51,27 @@ fn put_again(object: Object, payload: &[u8], out: Output, buffer: &mut Buffer) -
     out.number(seen(object, payload).passed, buffer)
 }
 
-fn rewrite_within(object: Object, payload: &[u8], room: usize, dst: &mut [u8]) -> Written {
+fn rewrite_within(object: Object, payload: &[u8], room: usize, dst: &mut [u8]) -> WriteResult {
     if dst.len() < room {
         return rewrite(object, payload, dst);
     }
     rewrite(object, payload, &mut dst[0..room])
 }
 
-fn put_refused(written: Written, out: Output, buffer: &mut Buffer) -> Output {
+fn put_refused(written: WriteResult, out: Output, buffer: &mut Buffer) -> Output {
     match written {
-        Written::Refused(refusal) => {
+        WriteResult::Refused(refusal) => {
             tool_notation::put_refusal(out, refusal, buffer).byte(b' ', buffer)
         }
-        Written::Length(_) => out,
+        WriteResult::Length(_) => out,
     }
 }
 
 // How many bytes were written: none, where writing was refused.
-fn length_of(written: Written) -> usize {
+fn length_of(written: WriteResult) -> usize {
     match written {
-        Written::Refused(_) => 0,
-        Written::Length(len) => len,
+        WriteResult::Refused(_) => 0,
+        WriteResult::Length(len) => len,
     }
 }
 

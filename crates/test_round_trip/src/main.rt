@@ -4,11 +4,11 @@ mod again;
 mod object;
 
 use object::object_of;
-use tool_text::fault::Fault;
-use tool_text::fault::put_fault;
 use tool_text::hex::Hex;
 use tool_text::hex::Payload;
 use tool_text::line::Form;
+use tool_text::line_error::LineError;
+use tool_text::line_error::put_line_error;
 use tool_text::output::Buffer;
 use tool_text::output::Output;
 use tool_text::session::Session;
@@ -24,7 +24,7 @@ const FORM: Form = Form {
 
 fn answer(command: Word, hex: Hex, payload: &[u8], out: Output, buffer: &mut Buffer) -> Output {
     let Payload::Bytes(len) = hex.payload() else {
-        return put_fault(out, Fault::Hex, buffer);
+        return put_line_error(out, LineError::Hex, buffer);
     };
     again::answer(
         object_of(command),

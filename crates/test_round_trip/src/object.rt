@@ -1,5 +1,5 @@
 // The objects by one name: a payload is read as a join request, or else as a configuration, of one form or the other.
-use cbor::Written;
+use cbor::WriteResult;
 use cojp::Version;
 use refusal::Verdict;
 use tool_text::word::Word;
@@ -44,19 +44,19 @@ pub fn seen(object: Object, payload: &[u8]) -> Reading {
         let verdict = read.verdict;
         return Reading {
             verdict,
-            passed: read.request.passed,
+            passed: read.request.unknown,
         };
     }
     let read = cojp_configuration_read::read_configuration_as(payload, version);
     let verdict = read.verdict;
     Reading {
         verdict,
-        passed: read.configuration.passed,
+        passed: read.configuration.unknown,
     }
 }
 
 // Reads the payload, and writes its object.
-pub fn rewrite(object: Object, payload: &[u8], dst: &mut [u8]) -> Written {
+pub fn rewrite(object: Object, payload: &[u8], dst: &mut [u8]) -> WriteResult {
     let version = object.version;
     if object.is_request {
         let read = cojp_request_read::read_request_as(payload, version);

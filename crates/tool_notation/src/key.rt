@@ -1,7 +1,7 @@
 // Keys and key sets.
-use link_key::Info;
+use link_key::AdditionalInfo;
 use link_key::Key;
-use link_key::bytes_of;
+use link_key::additional_info_bytes;
 use link_key_set::KeySet;
 use tool_text::output::Buffer;
 use tool_text::output::Output;
@@ -24,8 +24,8 @@ fn put_use(out: Output, identifier: u8, usage: u8, buffer: &mut Buffer) -> Outpu
 }
 
 // Additional information, if there is any.
-fn put_info(out: Output, info: Info, buffer: &mut Buffer) -> Output {
-    let source = bytes_of(info);
+fn put_info(out: Output, info: AdditionalInfo, buffer: &mut Buffer) -> Output {
+    let source = additional_info_bytes(info);
     if source.len == 0 {
         return out;
     }

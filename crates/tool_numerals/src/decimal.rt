@@ -63,6 +63,6 @@ fn with_digit(value: u64, c: u8) -> Decimal
 }
 
 // A word, whole or in parts, is read as the number that it stands for.
-pub fn words_are_numbers()
+pub fn decimal_law()
     ensures { λ _. ⌜ ((word : List ℕ) → readOn Decimal.Empty word ≡ numberOf word) ⌝ }
 {}

@@ -126,6 +126,6 @@ impl Hex {
 }
 
 // HEX, whole or in parts, is read as the bytes that it stands for.
-pub fn hex_is_bytes()
+pub fn hex_law()
     ensures { λ _. ⌜ HexIsBytes ⌝ }
 {}

@@ -4,9 +4,9 @@ pub use tool_numerals::decimal;
 pub use tool_numerals::hex;
 
 pub mod arguments;
-pub mod fault;
 pub mod input;
 pub mod line;
+pub mod line_error;
 pub mod output;
 pub mod parting;
 pub mod session;

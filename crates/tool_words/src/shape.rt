@@ -2,7 +2,7 @@
 use crate::argument::Argument;
 use crate::words::Words;
 use tool_numerals::hex::Payload;
-use tool_text::fault::Fault;
+use tool_text::line_error::LineError;
 
 // What a word is to be.
 pub enum Kind {
@@ -30,7 +30,7 @@ pub struct Shape {
 // What is wrong with a line, if anything is.
 pub enum Judged {
     Right,
-    Wrong(Fault),
+    Wrong(LineError),
 }
 
 // A command of so many words, each of them any.
@@ -49,13 +49,13 @@ impl Shape {
     // The first thing that is wrong with a line: words, numbers, bytes.
     pub fn judge(self, words: Words) -> Judged {
         if !self.has_words(words) {
-            return Judged::Wrong(Fault::Command);
+            return Judged::Wrong(LineError::Command);
         }
         if !self.has_numbers(words) {
-            return Judged::Wrong(Fault::Number);
+            return Judged::Wrong(LineError::Number);
         }
         if !self.has_bytes(words) || !self.has_hex(words) {
-            return Judged::Wrong(Fault::Hex);
+            return Judged::Wrong(LineError::Hex);
         }
         Judged::Right
     }

@@ -11,9 +11,9 @@ use borrow.Author.Tests.{lt-ltb, eqb-true, eqb-false, ne-eqb}
 use Rattle.refusal.specs.Refusal.{numberOf, Numbered}
 use Rattle.refusal.specs.declared.Verdict.{Verdict}
 use Rattle.refusal.specs.declared.Verdict.the-variants.{Accepted, Refused}
-use Rattle.trace.specs.Night.{Record, newNode, start, joinAnswer, update, verified, poll, kindOf, Night, over, stop, then, recordsIn}
+use Rattle.trace.specs.Trace.{Record, newNode, start, joinAnswer, update, verified, poll, kindOf, Trace, over, stop, then, recordsIn}
 use Rattle.trace.specs.Calls.{callOf, Answered, answered, answersOf}
-use Rattle.trace.specs.Report.{count, ofKind, refusalNumber, refusedWith, didSwitch, eachFrom}
+use Rattle.trace.specs.Statistics.{count, ofKind, refusalNumber, refusedWith, didSwitch, eachFrom}
 use Rattle.trace.specs.Step.{more, moreIf, raised, refused, afterwards, walked, nothingYet, play}
 use Rattle.trace.specs.declared.state.State.{State}
 
@@ -53,20 +53,20 @@ kind-least (poll time) = omega arith
 
 -- ---- the places stay
 pub record Sized (s : State) : Type 0 where
-  pub kinds : length (s .report .kinds) ≡ 6
-  pub refusals : length (s .report .refusals) ≡ 22
+  pub kinds : length (s .statistics .kinds) ≡ 6
+  pub refusals : length (s .statistics .refusals) ≡ 22
 
 pub sized-walked : (r : Record) (s : State) → Sized s → Sized (walked r s)
 unfolding afterwards
 sized-walked r s z = record {
-  kinds = raised-length (s .report .kinds) (kindOf r - 1) ∙ z .kinds;
-  refusals = refused-length (callOf r (s .node) .verdict) (s .report .refusals) ∙ z .refusals;
+  kinds = raised-length (s .statistics .kinds) (kindOf r - 1) ∙ z .kinds;
+  refusals = refused-length (callOf r (s .node) .verdict) (s .statistics .refusals) ∙ z .refusals;
 }
 
 pub sized-none : Sized nothingYet
 sized-none = record { kinds = refl; refusals = refl }
 
-pub sized-play : (n : Night) (s : State) → Sized s → Sized (play n s .state)
+pub sized-play : (n : Trace) (s : State) → Sized s → Sized (play n s .state)
 unfolding play
 sized-play (over at) s z = z
 sized-play (stop at) s z = z
@@ -82,7 +82,7 @@ one false = omega arith
 
 module _ (look : State → ℕ) (is : Answered → Bool) (adds : Adds look is) where
   counted :
-      (n : Night) (s : State) → Sized s → look s + length (recordsIn n) < 2 ^ 64 →
+      (n : Trace) (s : State) → Sized s → look s + length (recordsIn n) < 2 ^ 64 →
       look (play n s .state) ≡ look s + count is (answersOf (recordsIn n) (s .node))
   unfolding play afterwards
   counted (over at) s z h = omega arith
@@ -94,13 +94,13 @@ module _ (look : State → ℕ) (is : Answered → Bool) (adds : Adds look is) w
       omega arith
 
   pub exactly :
-      (n : Night) → look nothingYet ≡ 0 → length (recordsIn n) < 2 ^ 64 → look (play n nothingYet .state) ≡ count is (answersOf (recordsIn n) (nothingYet .node))
+      (n : Trace) → look nothingYet ≡ 0 → length (recordsIn n) < 2 ^ 64 → look (play n nothingYet .state) ≡ count is (answersOf (recordsIn n) (nothingYet .node))
   exactly n e h = let g = counted n nothingYet sized-none (omega arith) in omega arith
 
 -- ---- the three counts
-pub kinds-add : (i : ℕ) → i < 6 → Adds (λ s. getD (s .report .kinds) i 0) (ofKind (i + 1))
+pub kinds-add : (i : ℕ) → i < 6 → Adds (λ s. getD (s .statistics .kinds) i 0) (ofKind (i + 1))
 unfolding afterwards
-kinds-add i j r s z h = raised-one (s .report .kinds) (kindOf r) i (kind-least r) (omega (arith, z .kinds)) h (eqb (kindOf r) (i + 1)) refl
+kinds-add i j r s z h = raised-one (s .statistics .kinds) (kindOf r) i (kind-least r) (omega (arith, z .kinds)) h (eqb (kindOf r) (i + 1)) refl
 
 refused-one :
     (numbers : Numbered) (v : Verdict) (l : List ℕ) (i : ℕ) → i < length l → getD l i 0 + 1 < 2 ^ 64 →
@@ -108,17 +108,17 @@ refused-one :
 refused-one numbers Accepted l i j h = rw (ne-eqb 0 (i + 1) (λ e. omega arith)) (omega arith)
 refused-one numbers (Refused k) l i j h = raised-one l (numberOf k) i (numbers .least k) j h (eqb (numberOf k) (i + 1)) refl
 
-pub refusals-add : Numbered → (i : ℕ) → i < 22 → Adds (λ s. getD (s .report .refusals) i 0) (refusedWith (i + 1))
+pub refusals-add : Numbered → (i : ℕ) → i < 22 → Adds (λ s. getD (s .statistics .refusals) i 0) (refusedWith (i + 1))
 unfolding afterwards
-refusals-add numbers i j r s z h = refused-one numbers (callOf r (s .node) .verdict) (s .report .refusals) i (omega (arith, z .refusals)) h
+refusals-add numbers i j r s z h = refused-one numbers (callOf r (s .node) .verdict) (s .statistics .refusals) i (omega (arith, z .refusals)) h
 
 more-one : (b : Bool) (n : ℕ) → n + 1 < 2 ^ 64 → moreIf b n ≡ n + cond b 1 0
 more-one true n h = more-is n h
 more-one false n h = omega arith
 
-pub switches-add : Adds (λ s. s .report .switches) didSwitch
+pub switches-add : Adds (λ s. s .statistics .switches) didSwitch
 unfolding afterwards
-switches-add r s z h = more-one (callOf r (s .node) .switched) (s .report .switches) h
+switches-add r s z h = more-one (callOf r (s .node) .switched) (s .statistics .switches) h
 
 -- ---- lists of counts
 zeros-at : (n i : ℕ) → _≡_ {A = ℕ} (getD (replicate n 0) i 0) 0
@@ -126,10 +126,10 @@ zeros-at zero i = refl
 zeros-at (suc n) zero = refl
 zeros-at (suc n) (suc i) = zeros-at n i
 
-pub kinds-zero : (i : ℕ) → getD (nothingYet .report .kinds) i 0 ≡ 0
+pub kinds-zero : (i : ℕ) → getD (nothingYet .statistics .kinds) i 0 ≡ 0
 kinds-zero i = zeros-at 6 i
 
-pub refusals-zero : (i : ℕ) → getD (nothingYet .report .refusals) i 0 ≡ 0
+pub refusals-zero : (i : ℕ) → getD (nothingYet .statistics .refusals) i 0 ≡ 0
 refusals-zero i = zeros-at 22 i
 
 each-length : (n first : ℕ) (f : ℕ → ℕ) → length (eachFrom n first f) ≡ n

@@ -16,13 +16,13 @@ use Rattle.node_parameters.specs.declared.octets.HeldOctets.{HeldOctets}
 use Rattle.trace_record.specs.Layout.{networkUsed, EntryAt}
 use Rattle.trace_record.specs.declared.entries.Entry.{Entry}
 use Rattle.trace_record.specs.declared.entries.Entry.the-variants.{End, Bad, New, Start, JoinAnswer, Update, Verified, Poll}
-use Rattle.trace.specs.Night.{Record, newNode, start, joinAnswer, update, verified, poll, sizeOf, got, networkIn, readingOf, reading, mayCome}
+use Rattle.trace.specs.Trace.{Record, newNode, start, joinAnswer, update, verified, poll, sizeOf, got, networkIn, readingOf, reading, isAdmissible}
 use Rattle.trace.specs.Calls.{callOf}
 use Rattle.trace.specs.Step.{raised, refused, afterCall, stepped, advance, step}
-use Rattle.trace.specs.declared.done.Done.{Done}
+use Rattle.trace.specs.declared.done.CallResult.{CallResult}
 use Rattle.trace.specs.declared.state.Progress.the-variants.{Complete, Stopped, Walked}
 use Rattle.trace.specs.declared.state.State.{State}
-use Rattle.trace.specs.declared.state.Stepped.{Stepped}
+use Rattle.trace.specs.declared.state.StepResult.{StepResult}
 
 pub refused-counted :
     (v : Verdict) (k : Refusal) (counts : List ℕ) (n : ℕ) (r : List ℕ) → v ≡ Refused k → n ≡ numberOf k → r ≡ raised counts (n - 1) →
@@ -42,18 +42,18 @@ network-held s at len bytes n u l e =
 
 -- ---- a record
 module _ (r : Record) (at : ℕ) (s : State) where
-  pub stops : (x : Stepped) → mayCome (s .made) r ≡ false → x ≡ stepped Stopped at s → x ≡ advance (got r) at s
+  pub stops : (x : StepResult) → isAdmissible (s .made) r ≡ false → x ≡ stepped Stopped at s → x ≡ advance (got r) at s
   unfolding advance
   stops x e f = rw e f
 
   pub walks :
-      (x : Stepped) → mayCome (s .made) r ≡ true → (d : Done) → d ≡ callOf r (s .node) → (t : State) → t ≡ afterCall r d s →
+      (x : StepResult) → isAdmissible (s .made) r ≡ true → (d : CallResult) → d ≡ callOf r (s .node) → (t : State) → t ≡ afterCall r d s →
       (n : ℕ) → n ≡ at + sizeOf r → x ≡ stepped Walked n t → x ≡ advance (got r) at s
   unfolding advance
   walks x e d f t g n h k = rw (e, ← f, ← g, ← h) k
 
 -- ---- what stands at a place
-module _ (s : List ℕ) (at : ℕ) (st : State) (e : Entry) (f : EntryAt s at e) (x : Stepped) where
+module _ (s : List ℕ) (at : ℕ) (st : State) (e : Entry) (f : EntryAt s at e) (x : StepResult) where
   by-entry : x ≡ advance (readingOf (drop at s) e) at st → x ≡ step s at st
   unfolding step reading
   by-entry g = rw (← f .says) g

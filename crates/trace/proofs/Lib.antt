@@ -1,6 +1,6 @@
 mod Laws
 pub mod Turns
-mod Standing
+mod Contiguity
 mod Counts
 mod Longest
 mod Whole

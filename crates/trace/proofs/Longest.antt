@@ -16,12 +16,12 @@ use Rattle.node.specs.Timing as timing
 use Rattle.node.specs.Delivery as delivery
 use Rattle.node.specs.declared.node.Node.{Node}
 use Rattle.node_laws.specs.Phases.{waits, PhaseLaws}
-use Rattle.trace.specs.Night.{Record, newNode, start, joinAnswer, update, verified, poll, Night, over, stop, then, recordsIn}
+use Rattle.trace.specs.Trace.{Record, newNode, start, joinAnswer, update, verified, poll, Trace, over, stop, then, recordsIn}
 use Rattle.trace.specs.Calls.{room, callOf, Answered, answered, answersOf}
-use Rattle.trace.specs.Report.{startsWith, joinsWith, timeOf, waitFrom, greater, longestOf}
-use Rattle.trace.specs.Report as report
+use Rattle.trace.specs.Statistics.{startsWith, joinsWith, timeOf, waitFrom, greater, longestOf}
+use Rattle.trace.specs.Statistics as report
 use Rattle.trace.specs.Step.{afterwards, walked, nothingYet, play}
-use Rattle.trace.specs.declared.done.Done.{Done}
+use Rattle.trace.specs.declared.done.CallResult.{CallResult}
 use Rattle.trace.specs.declared.state.State.{State}
 
 -- ---- the greater of two
@@ -129,23 +129,23 @@ module _ (laws : PhaseLaws) where
       go false false e f h = h (stays-idle r n w e)
 
   -- ---- the longest wait of what is left to play
-  abbrev Waited : Night → State → Type 0
+  abbrev Waited : Trace → State → Type 0
   Waited n s =
-      play n s .state .report .longest
-      ≡ greater (s .report .longest) (longestOf (waitFrom (s .started) (answersOf (recordsIn n) (s .node)) ++ report.waits (answersOf (recordsIn n) (s .node))))
+      play n s .state .statistics .longest
+      ≡ greater (s .statistics .longest) (longestOf (waitFrom (s .started) (answersOf (recordsIn n) (s .node)) ++ report.waits (answersOf (recordsIn n) (s .node))))
 
-  waited : (n : Night) (s : State) → Waited n s
+  waited : (n : Trace) (s : State) → Waited n s
   unfolding play afterwards
-  waited (over at) s = sym (greater-none (s .report .longest))
-  waited (stop at) s = sym (greater-none (s .report .longest))
+  waited (over at) s = sym (greater-none (s .statistics .longest))
+  waited (stop at) s = sym (greater-none (s .statistics .longest))
   waited (then at r rest) s =
       let did = callOf r (s .node) in
-      waited-by (timeOf r) (s .started) (s .report .longest) (answersOf (recordsIn rest) (did .node)) (startsWith r (did .verdict)) (joinsWith r (did .verdict)) _
+      waited-by (timeOf r) (s .started) (s .statistics .longest) (answersOf (recordsIn rest) (did .node)) (startsWith r (did .verdict)) (joinsWith r (did .verdict)) _
       (not-both r (did .verdict))
       (λ f. no-wait (recordsIn rest) (did .node) (s .started) (joins-waiting r (s .node) f .1))
       (waited rest (walked r s))
 
-  pub longest-is : (n : Night) → play n nothingYet .state .report .longest ≡ longestOf (report.waits (answersOf (recordsIn n) (nothingYet .node)))
+  pub longest-is : (n : Trace) → play n nothingYet .state .statistics .longest ≡ longestOf (report.waits (answersOf (recordsIn n) (nothingYet .node)))
   longest-is n =
       let none = no-wait (recordsIn n) (nothingYet .node) 0 refl in
       let h = rw none at (waited n nothingYet) in

@@ -1,4 +1,4 @@
--- The call that each record makes of the node, and what the calls of a night answer.
+-- The call that each record makes of the node, and what the calls of a trace answer.
 use Prim.Native.Nat.{ℕ}
 use mathlib.Core.Bool.{Bool, true, false}
 use mathlib.Core.List.{List, [], _∷_}
@@ -12,28 +12,28 @@ use Rattle.node.specs.Node.{made}
 use Rattle.node.specs.Timing as timing
 use Rattle.node.specs.Delivery as delivery
 use Rattle.node.specs.Frames as frames
-use Rattle.node.specs.declared.delivery.Delivered.{Delivered}
-use Rattle.node.specs.declared.frames.Reported.{Reported}
+use Rattle.node.specs.declared.delivery.DeliveryResult.{DeliveryResult}
+use Rattle.node.specs.declared.frames.VerifyResult.{VerifyResult}
 use Rattle.node.specs.declared.node.Node.{Node}
-use Rattle.trace.specs.Night.{Record, newNode, start, joinAnswer, update, verified, poll}
-use Rattle.trace.specs.declared.done.Done.{Done}
+use Rattle.trace.specs.Trace.{Record, newNode, start, joinAnswer, update, verified, poll}
+use Rattle.trace.specs.declared.done.CallResult.{CallResult}
 
 -- the verdict, whether the pending set became active, and the node afterwards
-abbrev pub doneBy : Verdict → Bool → Node → Done
+abbrev pub doneBy : Verdict → Bool → Node → CallResult
 doneBy v switched n = record { verdict = v; switched = switched; node = n }
 
-abbrev pub doneDelivered : Delivered → Done
+abbrev pub doneDelivered : DeliveryResult → CallResult
 doneDelivered d = doneBy (d .verdict) false (d .node)
 
-abbrev pub doneReported : Reported → Done
+abbrev pub doneReported : VerifyResult → CallResult
 doneReported h = doneBy (changeVerdict (h .change)) (hasSwitched (h .change)) (h .node)
 
 -- a start is lent 32 bytes
 abbrev pub room : List ℕ
 room = replicate 32 0
 
--- the nodes of a night are of the draft's form
-unfoldable pub callOf : Record → Node → Done
+-- the nodes of a trace are of the draft's form
+unfoldable pub callOf : Record → Node → CallResult
 callOf (newNode role network) n = doneBy (made Draft role network .verdict) false (made Draft role network .node)
 callOf (start time timeout) n = doneBy (timing.start n time timeout room .verdict) false (timing.start n time timeout room .node)
 callOf (joinAnswer time payload) n = doneDelivered (delivery.deliver call.JoinAnswer n time payload)
@@ -53,7 +53,7 @@ pub record Answered : Type 0 where
   pub verdict : Verdict
   pub switched : Bool
 
-abbrev pub answered : Record → Done → Answered
+abbrev pub answered : Record → CallResult → Answered
 answered r d = record { asked = r; verdict = d .verdict; switched = d .switched }
 
 abbrev pub answersOf : List Record → Node → List Answered

@@ -1,7 +1,7 @@
-pub mod Night
-pub mod Stands
+pub mod Trace
+pub mod Contiguous
 pub mod Calls
-pub mod Report
+pub mod Statistics
 pub mod Replay
 pub mod Step
-pub mod Exact
+pub mod ReplayExact

@@ -8,16 +8,16 @@ use Rattle.refusal.specs.Refusal.{numberOf}
 use Rattle.refusal.specs.declared.Verdict.{Verdict}
 use Rattle.refusal.specs.declared.Verdict.the-variants.{Accepted, Refused}
 use Rattle.node.specs.Node.{emptyNode}
-use Rattle.trace.specs.Night.{Record, kindOf, sizeOf, Reading, end, bad, got, reading, mayCome, Night, over, stop, then, night}
+use Rattle.trace.specs.Trace.{Record, kindOf, sizeOf, Reading, end, bad, got, reading, isAdmissible, Trace, over, stop, then, parse}
 use Rattle.trace.specs.Calls.{callOf}
-use Rattle.trace.specs.Report.{startsWith, joinsWith, timeOf, greater}
-use Rattle.trace.specs.declared.done.Done.{Done}
+use Rattle.trace.specs.Statistics.{startsWith, joinsWith, timeOf, greater}
+use Rattle.trace.specs.declared.done.CallResult.{CallResult}
 use Rattle.trace.specs.declared.state.Progress.{Progress}
 use Rattle.trace.specs.declared.state.Progress.the-variants.{Complete, Stopped, Walked}
-use Rattle.trace.specs.declared.state.Replayed.{Replayed}
-use Rattle.trace.specs.declared.state.Report.{Report}
+use Rattle.trace.specs.declared.state.ReplayResult.{ReplayResult}
+use Rattle.trace.specs.declared.state.ReplayStatistics.{ReplayStatistics}
 use Rattle.trace.specs.declared.state.State.{State}
-use Rattle.trace.specs.declared.state.Stepped.{Stepped}
+use Rattle.trace.specs.declared.state.StepResult.{StepResult}
 
 -- ---- counts of 64 bits: a full one stays full, which no walk from the start can reach
 unfoldable pub more : ℕ → ℕ
@@ -43,20 +43,20 @@ startedAfter r v started = cond (startsWith r v) (timeOf r) started
 abbrev pub longestAfter : Record → Verdict → ℕ → ℕ → ℕ
 longestAfter r v started longest = cond (joinsWith r v) (greater (timeOf r - started) longest) longest
 
-abbrev pub reportAfter : ℕ → Done → ℕ → Report → Report
-reportAfter place d longest p = record {
+abbrev pub statisticsAfter : ℕ → CallResult → ℕ → ReplayStatistics → ReplayStatistics
+statisticsAfter place d longest p = record {
   kinds = raised (p .kinds) place;
   refusals = refused (d .verdict) (p .refusals);
   switches = moreIf (d .switched) (p .switches);
   longest = longest;
 }
 
-unfoldable pub afterwards : ℕ → Done → ℕ → ℕ → State → State
-afterwards place d started longest s = record { made = true; node = d .node; started = started; report = reportAfter place d longest (s .report) }
+unfoldable pub afterwards : ℕ → CallResult → ℕ → ℕ → State → State
+afterwards place d started longest s = record { made = true; node = d .node; started = started; statistics = statisticsAfter place d longest (s .statistics) }
 
-abbrev pub afterCall : Record → Done → State → State
+abbrev pub afterCall : Record → CallResult → State → State
 afterCall r d s =
-    afterwards (kindOf r - 1) d (startedAfter r (d .verdict) (s .started)) (longestAfter r (d .verdict) (s .started) (s .report .longest)) s
+    afterwards (kindOf r - 1) d (startedAfter r (d .verdict) (s .started)) (longestAfter r (d .verdict) (s .started) (s .statistics .longest)) s
 
 abbrev pub walked : Record → State → State
 walked r s = afterCall r (callOf r (s .node)) s
@@ -67,29 +67,29 @@ nothingYet = record {
   made = false;
   node = emptyNode;
   started = 0;
-  report = record { kinds = replicate 6 0; refusals = replicate 22 0; switches = 0; longest = 0 };
+  statistics = record { kinds = replicate 6 0; refusals = replicate 22 0; switches = 0; longest = 0 };
 }
 
 -- ---- one record: where the walk is complete or stops, the place and the state are as they were
-abbrev pub stepped : Progress → ℕ → State → Stepped
+abbrev pub stepped : Progress → ℕ → State → StepResult
 stepped p at s = record { progress = p; next = at; state = s }
 
-unfoldable pub advance : Reading → ℕ → State → Stepped
+unfoldable pub advance : Reading → ℕ → State → StepResult
 advance end at s = stepped Complete at s
 advance bad at s = stepped Stopped at s
-advance (got r) at s = cond (mayCome (s .made) r) (stepped Walked (at + sizeOf r) (walked r s)) (stepped Stopped at s)
+advance (got r) at s = cond (isAdmissible (s .made) r) (stepped Walked (at + sizeOf r) (walked r s)) (stepped Stopped at s)
 
-unfoldable pub step : List ℕ → ℕ → State → Stepped
+unfoldable pub step : List ℕ → ℕ → State → StepResult
 step trace at s = advance (reading (drop at trace)) at s
 
--- ---- the whole night, record by record
-unfoldable pub play : Night → State → Stepped
+-- ---- the whole trace, record by record
+unfoldable pub play : Trace → State → StepResult
 play (over at) s = stepped Complete at s
 play (stop at) s = stepped Stopped at s
 play (then at r rest) s = play rest (walked r s)
 
-unfoldable pub played : List ℕ → Stepped
-played trace = play (night trace) nothingYet
+unfoldable pub played : List ℕ → StepResult
+played trace = play (parse trace) nothingYet
 
 -- what the last step leaves, as an answer
 abbrev pub isComplete : Progress → Bool
@@ -97,11 +97,11 @@ isComplete Complete = true
 isComplete Stopped = false
 isComplete Walked = false
 
-abbrev pub replayedBy : Stepped → Replayed
+abbrev pub replayedBy : StepResult → ReplayResult
 replayedBy x = record {
   complete = isComplete (x .progress);
-  place = x .next;
+  offset = x .next;
   made = x .state .made;
   node = x .state .node;
-  report = x .state .report;
+  statistics = x .state .statistics;
 }

@@ -4,7 +4,7 @@ ghost use mathlib.Core.Path.{_≡_};
 ghost use Prim.Native.Nat.{_-_, _<_};
 ghost use mathlib.Core.Bool.{cond};
 ghost use lib.ListN.{length};
-ghost use Rattle.trace.specs.Report.{isAccepted, greater};
+ghost use Rattle.trace.specs.Statistics.{isAccepted, greater};
 ghost use Rattle.trace.specs.Step.{more, moreIf, raised, refused};
 
 fn more(n: u64) -> u64
@@ -51,7 +51,7 @@ pub(crate) fn with_refusal(refusals: [u64; 22], verdict: Verdict) -> [u64; 22]
     match verdict {
         Verdict::Accepted => refusals,
         Verdict::Refused(why) => {
-            refusal::numbers();
+            refusal::number_range_law();
             let mut counts = refusals;
             let place = why.number() - 1;
             raise(&mut counts, place as usize);

@@ -2,7 +2,7 @@
 use crate::count::more_if;
 use crate::count::with_kind;
 use crate::count::with_refusal;
-use crate::done::Done;
+use crate::done::CallResult;
 use node::Node;
 use node_parameters::octets::absent_octets;
 ghost use mathlib.Core.Path.{_≡_};
@@ -10,7 +10,7 @@ ghost use Prim.Native.Nat.{_<_};
 ghost use Rattle.trace.specs.Step.{afterwards, stepped, nothingYet, isComplete, replayedBy};
 
 // Records by kind, 1 to 6; refusals by number, 1 to 22; switches from pending to active; the longest wait in ms.
-pub struct Report {
+pub struct ReplayStatistics {
     pub kinds: [u64; 6],
     pub refusals: [u64; 22],
     pub switches: u64,
@@ -22,7 +22,7 @@ pub struct State {
     pub made: bool,
     pub node: Node,
     pub started: u64,
-    pub report: Report,
+    pub statistics: ReplayStatistics,
 }
 
 pub enum Progress {
@@ -32,7 +32,7 @@ pub enum Progress {
 }
 
 // One record further; where the walk is complete or stops, `next` is the place and the state is as it was.
-pub struct Stepped {
+pub struct StepResult {
     pub progress: Progress,
     pub next: usize,
     pub state: State,
@@ -40,18 +40,18 @@ pub struct Stepped {
 
 // A whole replay: whether it went to the trace's end, where it ended, whether there is a node, the node, and the report.
 // Where there is none the empty node stands there.
-pub struct Replayed {
+pub struct ReplayResult {
     pub complete: bool,
-    pub place: usize,
+    pub offset: usize,
     pub made: bool,
     pub node: Node,
-    pub report: Report,
+    pub statistics: ReplayStatistics,
 }
 
-pub fn reached(progress: Progress, next: usize, state: State) -> Stepped
+pub fn reached(progress: Progress, next: usize, state: State) -> StepResult
     ensures { λ r. ⌜ r ≡ stepped progress next state ⌝ }
 {
-    Stepped {
+    StepResult {
         progress,
         next,
         state,
@@ -66,7 +66,7 @@ pub fn nothing_yet() -> State
     let node = made.node;
     let kinds = [0u64; 6];
     let refusals = [0u64; 22];
-    let report = Report {
+    let report = ReplayStatistics {
         kinds,
         refusals,
         switches: 0,
@@ -76,7 +76,7 @@ pub fn nothing_yet() -> State
         made: false,
         node,
         started: 0,
-        report,
+        statistics: report,
     }
 }
 
@@ -90,39 +90,39 @@ fn is_complete(progress: Progress) -> bool
     }
 }
 
-impl Stepped {
+impl StepResult {
     // What the last step leaves, as an answer.
-    pub fn replayed(self) -> Replayed
+    pub fn replayed(self) -> ReplayResult
         ensures { λ r. ⌜ r ≡ replayedBy self ⌝ }
     {
         let progress = self.progress;
         let state = self.state;
         let node = state.node;
-        let report = state.report;
-        Replayed {
+        let report = state.statistics;
+        ReplayResult {
             complete: is_complete(progress),
-            place: self.next,
+            offset: self.next,
             made: state.made,
             node,
-            report,
+            statistics: report,
         }
     }
 }
 
 impl State {
     // The state after the record of a kind, which stands at this place of the kinds, by what its call did.
-    pub(crate) fn after(self, place: usize, done: Done, started: u64, longest: u64) -> State
+    pub(crate) fn after(self, place: usize, done: CallResult, started: u64, longest: u64) -> State
         requires { ⌜ place < 6 ⌝ }
         ensures { λ r. ⌜ r ≡ afterwards place done started longest self ⌝ }
     {
-        let old = self.report;
+        let old = self.statistics;
         let verdict = done.verdict;
         let node = done.node;
         let old_kinds = old.kinds;
         let old_refusals = old.refusals;
         let kinds = with_kind(old_kinds, place);
         let refusals = with_refusal(old_refusals, verdict);
-        let report = Report {
+        let report = ReplayStatistics {
             kinds,
             refusals,
             switches: more_if(done.switched, old.switches),
@@ -132,7 +132,7 @@ impl State {
             made: true,
             node,
             started,
-            report,
+            statistics: report,
         }
     }
 }

@@ -4,7 +4,7 @@ use crate::count::started_by;
 use crate::done;
 use crate::state::Progress;
 use crate::state::State;
-use crate::state::Stepped;
+use crate::state::StepResult;
 use crate::state::reached;
 use cojp::Octets;
 use cojp::copied;
@@ -16,7 +16,7 @@ ghost use mathlib.Core.Path.{_≡_};
 ghost use Prim.Native.Nat.{_+_, _≤_, _<_, _^_};
 ghost use lib.ListN.{length, drop};
 ghost use Rattle.trace_record.specs.Layout.{networkUsed};
-ghost use Rattle.trace.specs.Night.{newNode, start, joinAnswer, update, verified, poll, got, networkIn};
+ghost use Rattle.trace.specs.Trace.{newNode, start, joinAnswer, update, verified, poll, got, networkIn};
 ghost use Rattle.trace.specs.Step.{advance, step};
 
 // The network identifier of so many bytes that stands at a place, or none for 255.
@@ -33,12 +33,12 @@ fn network_at(trace: &[u8], at: usize, len: u8) -> HeldOctets
     HeldOctets { held: true, value }
 }
 
-fn new_at(at: usize, role: u8, network: HeldOctets, state: State) -> Stepped
+fn new_at(at: usize, role: u8, network: HeldOctets, state: State) -> StepResult
     requires { ⌜ at + 19 < 2 ^ 64 ⌝ }
     ensures { λ r. ⌜ r ≡ advance (got (newNode role network)) at state ⌝ }
 {
     let did = done::new_node(state.node, role, network);
-    let longest = state.report.longest;
+    let longest = state.statistics.longest;
     reached(
         Progress::Walked,
         at + 19,
@@ -46,7 +46,7 @@ fn new_at(at: usize, role: u8, network: HeldOctets, state: State) -> Stepped
     )
 }
 
-fn start_at(at: usize, time: u64, timeout: u64, state: State) -> Stepped
+fn start_at(at: usize, time: u64, timeout: u64, state: State) -> StepResult
     requires { ⌜ at + 13 < 2 ^ 64 ⌝ }
     ensures { λ r. ⌜ r ≡ advance (got (start time timeout)) at state ⌝ }
 {
@@ -56,7 +56,7 @@ fn start_at(at: usize, time: u64, timeout: u64, state: State) -> Stepped
     let did = done::start(state.node, time, timeout);
     let verdict = did.verdict;
     let started = started_by(verdict, time, state.started);
-    let longest = state.report.longest;
+    let longest = state.statistics.longest;
     reached(
         Progress::Walked,
         at + 13,
@@ -64,7 +64,7 @@ fn start_at(at: usize, time: u64, timeout: u64, state: State) -> Stepped
     )
 }
 
-fn join_answer_at(at: usize, time: u64, payload: &[u8], state: State) -> Stepped
+fn join_answer_at(at: usize, time: u64, payload: &[u8], state: State) -> StepResult
     requires { ⌜ at + 267 < 2 ^ 64 ⌝ }
     ensures { λ r. ⌜ r ≡ advance (got (joinAnswer time (now (payload .entry)))) at state ⌝ }
 {
@@ -73,7 +73,7 @@ fn join_answer_at(at: usize, time: u64, payload: &[u8], state: State) -> Stepped
     }
     let did = done::join_answer(state.node, time, payload);
     let verdict = did.verdict;
-    let longest = longer(verdict, state.started, time, state.report.longest);
+    let longest = longer(verdict, state.started, time, state.statistics.longest);
     reached(
         Progress::Walked,
         at + 267,
@@ -81,7 +81,7 @@ fn join_answer_at(at: usize, time: u64, payload: &[u8], state: State) -> Stepped
     )
 }
 
-fn update_at(at: usize, time: u64, payload: &[u8], state: State) -> Stepped
+fn update_at(at: usize, time: u64, payload: &[u8], state: State) -> StepResult
     requires { ⌜ at + 267 < 2 ^ 64 ⌝ }
     ensures { λ r. ⌜ r ≡ advance (got (update time (now (payload .entry)))) at state ⌝ }
 {
@@ -89,7 +89,7 @@ fn update_at(at: usize, time: u64, payload: &[u8], state: State) -> Stepped
         return reached(Progress::Stopped, at, state);
     }
     let did = done::update(state.node, time, payload);
-    let longest = state.report.longest;
+    let longest = state.statistics.longest;
     reached(
         Progress::Walked,
         at + 267,
@@ -97,7 +97,7 @@ fn update_at(at: usize, time: u64, payload: &[u8], state: State) -> Stepped
     )
 }
 
-fn verified_at(at: usize, frame_type: u8, identifier: u8, state: State) -> Stepped
+fn verified_at(at: usize, frame_type: u8, identifier: u8, state: State) -> StepResult
     requires { ⌜ at + 3 < 2 ^ 64 ⌝ }
     ensures { λ r. ⌜ r ≡ advance (got (verified «frame_type» identifier)) at state ⌝ }
 {
@@ -105,7 +105,7 @@ fn verified_at(at: usize, frame_type: u8, identifier: u8, state: State) -> Stepp
         return reached(Progress::Stopped, at, state);
     }
     let did = done::verified(state.node, frame_type, identifier);
-    let longest = state.report.longest;
+    let longest = state.statistics.longest;
     reached(
         Progress::Walked,
         at + 3,
@@ -113,7 +113,7 @@ fn verified_at(at: usize, frame_type: u8, identifier: u8, state: State) -> Stepp
     )
 }
 
-fn poll_at(at: usize, time: u64, state: State) -> Stepped
+fn poll_at(at: usize, time: u64, state: State) -> StepResult
     requires { ⌜ at + 9 < 2 ^ 64 ⌝ }
     ensures { λ r. ⌜ r ≡ advance (got (poll time)) at state ⌝ }
 {
@@ -121,7 +121,7 @@ fn poll_at(at: usize, time: u64, state: State) -> Stepped
         return reached(Progress::Stopped, at, state);
     }
     let did = done::poll(state.node, time);
-    let longest = state.report.longest;
+    let longest = state.statistics.longest;
     reached(
         Progress::Walked,
         at + 9,
@@ -131,7 +131,7 @@ fn poll_at(at: usize, time: u64, state: State) -> Stepped
 
 // The record at a place: its call is made and counted. The walk is complete at the trace's end, and stops at a record that is not good or
 // comes before the first node.
-pub fn step(trace: &[u8], at: usize, state: State) -> Stepped
+pub fn step(trace: &[u8], at: usize, state: State) -> StepResult
     ensures { λ r. ⌜ r ≡ step (now (trace .entry)) at state ⌝ }
 {
     match entry_at(trace, at) {

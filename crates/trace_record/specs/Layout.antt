@@ -1,4 +1,4 @@
--- One record of a recorded night (document 02, request 4): one byte of kind, then a body whose length the kind fixes, numbers big-endian.
+-- One record of a recorded trace (document 02, request 4): one byte of kind, then a body whose length the kind fixes, numbers big-endian.
 use Prim.Native.Nat.{ℕ, _+_, _*_, _-_, _≤_}
 use mathlib.Core.Path.{_≡_}
 use mathlib.Core.Bool.{Bool, true, false, cond, _&&_}

@@ -1,4 +1,4 @@
-// One record of a recorded night (document 02, request 4): a byte of kind, then a body whose length the kind fixes.
+// One record of a recorded trace (document 02, request 4): a byte of kind, then a body whose length the kind fixes.
 mod entries;
 mod fields;
 

@@ -1,15 +1,15 @@
-// The walker over a recorded night: the lent trace and a place in it (document 01's form). The borrow checker covers no function over such a
+// The walker over a recorded trace: the lent trace and a place in it (document 01's form). The borrow checker covers no function over such a
 // struct, so each is thin and proved by hand; the work is done by `trace::step`, which takes the slice and the place.
 use trace::Progress;
-use trace::Replayed;
+use trace::ReplayResult;
 use trace::State;
-use trace::Stepped;
+use trace::StepResult;
 use trace::nothing_yet;
 use trace::reached;
 use trace::step;
 ghost use mathlib.Core.Path.{_≡_};
 ghost use Rattle.trace.specs.Replay as whole;
-ghost use Rattle.trace.specs.Step as night;
+ghost use Rattle.trace.specs.Step as steps;
 
 pub struct Walker<'a> {
     pub trace: &'a [u8],
@@ -35,23 +35,23 @@ impl<'a> Walker<'a> {
     }
 
     // The record at the walker's place.
-    pub fn step(self, state: State) -> Stepped
-        ensures { λ r. ⌜ r ≡ night.step (now (self .entry .trace)) (self .entry .at) state ⌝ }
+    pub fn step(self, state: State) -> StepResult
+        ensures { λ r. ⌜ r ≡ steps.step (now (self .entry .trace)) (self .entry .at) state ⌝ }
     {
         step(self.trace, self.at, state)
     }
 }
 
 // The record at a place, read by a walker. Its callers hold no walker, so they are covered.
-pub fn step_from(trace: &[u8], at: usize, state: State) -> Stepped
-    ensures { λ r. ⌜ r ≡ night.step (now (trace .entry)) at state ⌝ }
+pub fn step_from(trace: &[u8], at: usize, state: State) -> StepResult
+    ensures { λ r. ⌜ r ≡ steps.step (now (trace .entry)) at state ⌝ }
 {
     Walker { trace, at }.step(state)
 }
 
 // The whole trace, from no node: the walk goes on until it is complete or stops.
-fn walk(trace: &[u8]) -> Stepped
-    ensures { λ r. ⌜ r ≡ night.played (now (trace .entry)) ⌝ }
+fn walk(trace: &[u8]) -> StepResult
+    ensures { λ r. ⌜ r ≡ steps.played (now (trace .entry)) ⌝ }
 {
     let mut last = reached(Progress::Walked, 0, nothing_yet());
     let mut going = true;
@@ -67,10 +67,10 @@ fn walk(trace: &[u8]) -> Stepped
     last
 }
 
-// A recorded night replayed: exactly the node that the calls of its records give, and the report of what they answered.
-pub fn replay(trace: &[u8]) -> Replayed
+// A recorded trace replayed: exactly the node that the calls of its records give, and the report of what they answered.
+pub fn replay(trace: &[u8]) -> ReplayResult
     ensures { λ r. ⌜ r ≡ whole.replay (now (trace .entry)) ⌝ }
 {
-    trace::exact();
+    trace::replay_exact_law();
     walk(trace).replayed()
 }

@@ -16,10 +16,10 @@ use Rattle.cojp_key_set_read.proofs.gather_keys.Statement.{statement}
 use Rattle.cojp_key_set_read.proofs.gather_keys.Tie as tie
 
 abbrev Inv-loop : tie.InvT-loop
-Inv-loop s from count informed at₀ remaining₀ n₀ keys₀ seen₀ at remaining n keys seen = Gathering informed s from count at remaining (record { count = n; keys = keys }) seen
+Inv-loop s from count allowed at₀ remaining₀ n₀ keys₀ seen₀ at remaining n keys seen = Gathering allowed s from count at remaining (record { count = n; keys = keys }) seen
 
 abbrev μ-loop : tie.MeasureT-loop
-μ-loop s from count informed at₀ remaining₀ n₀ keys₀ seen₀ at remaining n keys seen = remaining
+μ-loop s from count allowed at₀ remaining₀ n₀ keys₀ seen₀ at remaining n keys seen = remaining
 
 no-key-requires : tie.Need-no-key-requires Inv-loop μ-loop
 no-key-requires c κs = search needs
@@ -31,7 +31,7 @@ loop-holds : tie.Need-loop-holds Inv-loop μ-loop
 loop-holds c =
     let start = c .before .before .before in
     let a = start .args in
-    gathering-none (a .informed) (a .s .now) (a .from) (a .count) _ (c .none-seen .result) (start .pre) (rw (c .before .no-key .ensures))
+    gathering-none (a .allowed) (a .s .now) (a .from) (a .count) _ (c .none-seen .result) (start .pre) (rw (c .before .no-key .ensures))
     (c .none-seen .ensures .1)
 
 sub-part : tie.Need-sub-part Inv-loop μ-loop
@@ -62,7 +62,7 @@ returns c =
     let k : KeySet = record { count = l .n; keys = l .keys } in
     let r = read-group .read-group in
     let broken =
-    gathering-broken (a .informed) (a .s .now) (a .from) (a .count) (l .at) (l .remaining) k (l .seen) (l .inv) (r .result) (r .ensures .0)
+    gathering-broken (a .allowed) (a .s .now) (a .from) (a .count) (l .at) (l .remaining) k (l .seen) (l .inv) (r .result) (r .ensures .0)
     (c .before .enum-told .given .1) _ refl in
     (keys-settled (c .refused-keys .result) _ 0 (c .refused-keys .ensures) _ broken, rw (c .refused-keys .ensures) tt)
 
@@ -72,8 +72,8 @@ enum-known-g c = search needs
 is-storable-requires : tie.Need-is-storable-requires Inv-loop μ-loop
 is-storable-requires c κs = search needs
 
-sub-info-at : tie.Need-sub-info-at Inv-loop μ-loop
-sub-info-at c =
+sub-additional-info-at : tie.Need-sub-additional-info-at Inv-loop μ-loop
+sub-additional-info-at c =
     let g-2 = c .before .before .before in
     let read-group = g-2 .before .before in
     let turn = read-group .before .before .before in
@@ -83,12 +83,12 @@ sub-info-at c =
     let k : KeySet = record { count = l .n; keys = l .keys } in
     let r = read-group .read-group in
     let g = g-2 .g .given in
-    info-within (a .informed) (a .s .now) (a .from) (a .count) (l .at) (l .remaining) k (l .seen) (l .inv) (r .result) (r .ensures .0)
+    info-within (a .allowed) (a .s .now) (a .from) (a .count) (l .at) (l .remaining) k (l .seen) (l .inv) (r .result) (r .ensures .0)
     (g .0 .0) (g .0 .1 .0) (g .0 .1 .1 .0) (g .0 .1 .1 .1 .0) (g .0 .1 .1 .1 .1 .0) (g .0 .1 .1 .1 .1 .1 .0) (g .0 .1 .1 .1 .1 .1 .1 .0)
     (g .1) .0
 
-info-at-requires : tie.Need-info-at-requires Inv-loop μ-loop
-info-at-requires c κs =
+additional-info-at-requires : tie.Need-additional-info-at-requires Inv-loop μ-loop
+additional-info-at-requires c κs =
     let g-2 = c .before .before .before in
     let read-group = g-2 .before .before in
     let turn = read-group .before .before .before in
@@ -98,7 +98,7 @@ info-at-requires c κs =
     let k : KeySet = record { count = l .n; keys = l .keys } in
     let r = read-group .read-group in
     let g = g-2 .g .given in
-    info-within (a .informed) (a .s .now) (a .from) (a .count) (l .at) (l .remaining) k (l .seen) (l .inv) (r .result) (r .ensures .0)
+    info-within (a .allowed) (a .s .now) (a .from) (a .count) (l .at) (l .remaining) k (l .seen) (l .inv) (r .result) (r .ensures .0)
     (g .0 .0) (g .0 .1 .0) (g .0 .1 .1 .0) (g .0 .1 .1 .1 .0) (g .0 .1 .1 .1 .1 .0) (g .0 .1 .1 .1 .1 .1 .0) (g .0 .1 .1 .1 .1 .1 .1 .0)
     (g .1) .1
 
@@ -116,7 +116,7 @@ group-key-requires c κs =
     let g = g-2 .g .given in
     let fit = is-true (fitting .before .is-storable .ensures) (fitting .if1 .taken) in (
       both-right (ltb (l .n) 8) (storable (g .0 .0) (g .0 .1 .0) (g .0 .1 .1 .1 .0)) fit,
-      group-within (a .informed) (a .s .now) (a .from) (a .count) (l .at) (l .remaining) k (l .seen) (l .inv) (r .result) (r .ensures .0) (g .0 .0)
+      group-within (a .allowed) (a .s .now) (a .from) (a .count) (l .at) (l .remaining) k (l .seen) (l .inv) (r .result) (r .ensures .0) (g .0 .0)
           (g .0 .1 .0) (g .0 .1 .1 .0) (g .0 .1 .1 .1 .0) (g .0 .1 .1 .1 .1 .0) (g .0 .1 .1 .1 .1 .1 .0) (g .0 .1 .1 .1 .1 .1 .1 .0) (g .1),
     )
 
@@ -165,7 +165,7 @@ add-at c =
     let r = read-group .read-group in
     let g = g-2 .g .given in
     let inside =
-    group-inside (a .informed) (a .s .now) (a .from) (a .count) (l .at) (l .remaining) k (l .seen) (l .inv) (r .result) (r .ensures .0) (g .0 .0)
+    group-inside (a .allowed) (a .s .now) (a .from) (a .count) (l .at) (l .remaining) k (l .seen) (l .inv) (r .result) (r .ensures .0) (g .0 .0)
     (g .0 .1 .0) (g .0 .1 .1 .0) (g .0 .1 .1 .1 .0) (g .0 .1 .1 .1 .1 .0) (g .0 .1 .1 .1 .1 .1 .0) (g .0 .1 .1 .1 .1 .1 .1 .0) (g .1) in
     omega (arith, inside .0, start .good)
 
@@ -181,7 +181,7 @@ loop-less c =
     let r = read-group .read-group in
     let g = g-2 .g .given in
     let inside =
-    group-inside (a .informed) (a .s .now) (a .from) (a .count) (l .at) (l .remaining) k (l .seen) (l .inv) (r .result) (r .ensures .0) (g .0 .0)
+    group-inside (a .allowed) (a .s .now) (a .from) (a .count) (l .at) (l .remaining) k (l .seen) (l .inv) (r .result) (r .ensures .0) (g .0 .0)
     (g .0 .1 .0) (g .0 .1 .1 .0) (g .0 .1 .1 .1 .0) (g .0 .1 .1 .1 .1 .0) (g .0 .1 .1 .1 .1 .1 .0) (g .0 .1 .1 .1 .1 .1 .1 .0) (g .1) in
     inside .1
 
@@ -204,12 +204,12 @@ loop-again c =
     let made = w .2 in
     let counted = w .4 in
     rw (w .5, w .6, w .7)
-    (gathering-stored (a .informed) (a .s .now) (a .from) (a .count) (l .at) (l .remaining) k (l .seen) (l .inv) (r .result) (r .ensures .0) (g .0 .0)
+    (gathering-stored (a .allowed) (a .s .now) (a .from) (a .count) (l .at) (l .remaining) k (l .seen) (l .inv) (r .result) (r .ensures .0) (g .0 .0)
     (g .0 .1 .0) (g .0 .1 .1 .0) (g .0 .1 .1 .1 .0) (g .0 .1 .1 .1 .1 .0) (g .0 .1 .1 .1 .1 .1 .0) (g .0 .1 .1 .1 .1 .1 .1 .0) (g .1) (r .ensures .1)
     (ltb-true (l .n) 8 (both-left (ltb (l .n) 8) storing (is-true told (w .0 .taken))))
     (asked .result) (asked .ensures) (made .result) (made .ensures)
     (counted .last .0) (counted .ensures .1) (counted .result) (counted .ensures .0)))
-    (λ w. rw (w .1, w .2, w .3) (gathering-nine (a .informed) (a .s .now) (a .from) (a .count) (l .at) (l .remaining) k (l .seen) (l .inv) (r .result) (r .ensures .0) (g .0 .0) (g .0 .1 .0) (g .0 .1 .1 .0) (g .0 .1 .1 .1 .0) (g .0 .1 .1 .1 .1 .0) (g .0 .1 .1 .1 .1 .1 .0) (g .0 .1 .1 .1 .1 .1 .1 .0) (g .1) (r .ensures .1) (is-false told (w .0 .left))))
+    (λ w. rw (w .1, w .2, w .3) (gathering-nine (a .allowed) (a .s .now) (a .from) (a .count) (l .at) (l .remaining) k (l .seen) (l .inv) (r .result) (r .ensures .0) (g .0 .0) (g .0 .1 .0) (g .0 .1 .1 .0) (g .0 .1 .1 .1 .0) (g .0 .1 .1 .1 .1 .0) (g .0 .1 .1 .1 .1 .1 .0) (g .0 .1 .1 .1 .1 .1 .1 .0) (g .1) (r .ensures .1) (is-false told (w .0 .left))))
     (c .if1 .came)
 
 close-set-requires : tie.Need-close-set-requires Inv-loop μ-loop
@@ -223,10 +223,10 @@ returns-2 c =
     let l = turn .loop in
     let k : KeySet = record { count = l .n; keys = l .keys } in
     let none : l .remaining ≤ 0 = omega (arith, c .before .loop-test .left) in
-    let done = gathering-done (a .informed) (a .s .now) (a .from) (a .count) (l .at) (l .remaining) k (l .seen) (l .inv) none _ refl in (
+    let done = gathering-done (a .allowed) (a .s .now) (a .from) (a .count) (l .at) (l .remaining) k (l .seen) (l .inv) none _ refl in (
       keys-settled (c .close-set .result) _ (c .close-set .result .next) (c .close-set .ensures .0) _ done,
       accepting-on (c .close-set .result .verdict)
-          (λ e. rw e (gathering-end (a .informed) (a .s .now) (a .from) (a .count) (l .at) (l .remaining) k (l .seen) (l .inv) none))
+          (λ e. rw e (gathering-end (a .allowed) (a .s .now) (a .from) (a .count) (l .at) (l .remaining) k (l .seen) (l .inv) none))
           (c .close-set .ensures .1),
     )
 
@@ -248,8 +248,8 @@ gather-keys-spec =
     returns
     enum-known-g
     is-storable-requires
-    sub-info-at
-    info-at-requires
+    sub-additional-info-at
+    additional-info-at-requires
     group-key-requires
     mul-keys
     array-set-from-keys

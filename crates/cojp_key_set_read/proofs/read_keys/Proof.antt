@@ -33,7 +33,7 @@ returns c =
     let g = v-2 .v .given in
     let after = array-after (a .s .now) (a .at) (v .result) (v .ensures) (g .0 .0) (g .0 .1 .0) (g .1) in (
       keys-settled (c .gather-keys .result) _ (c .gather-keys .result .next) (c .gather-keys .ensures .0) _
-          (keys-array (a .s .now) (a .at) (v .result) (v .ensures) _ (a .informed) (g .0 .0) (g .0 .1 .0) (g .1) refl),
+          (keys-array (a .s .now) (a .at) (v .result) (v .ensures) _ (a .allowed) (g .0 .0) (g .0 .1 .0) (g .1) refl),
       accepting-on (c .gather-keys .result .verdict)
           (on-with (sym after)) (c .gather-keys .ensures .1),
     )
@@ -45,7 +45,7 @@ returns-2 c =
     let a = begun .args in
     let v = value-at .value-at in (
       keys-settled (c .refused-keys .result) _ 0 (c .refused-keys .ensures) _
-          (keys-broken (a .s .now) (a .at) (v .result) (v .ensures) _ (a .informed) (c .before .match .keys2) refl),
+          (keys-broken (a .s .now) (a .at) (v .result) (v .ensures) _ (a .allowed) (c .before .match .keys2) refl),
       rw (c .refused-keys .ensures) tt,
     )
 

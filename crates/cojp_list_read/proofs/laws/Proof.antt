@@ -1,6 +1,6 @@
 -- From the members that a kept list has.
 use mathlib.Core.Path.{refl}
-use Rattle.cojp.specs.Lists.{stringsIn, faultsIn, some}
+use Rattle.cojp.specs.Lists.{stringsIn, errorReportsIn, some}
 use Rattle.cojp_list_read.proofs.Back.{kept-parts, list-written, list-back, list-same, strings-again, some-again}
 use Rattle.cojp_list_read.proofs.InRange.{listed-in-range, listed-long, listed-members}
 use Rattle.cojp_list_read.proofs.laws.Statement.{statement}
@@ -10,8 +10,8 @@ returns : tie.Need-returns
 returns c = record {
   blacklist-written = λ l e. list-written stringsIn l (kept-parts stringsIn l e);
   blacklist-back = λ l e. let p = kept-parts stringsIn l e in (_, list-back stringsIn l p strings-again, refl, list-same stringsIn l p .0, list-same stringsIn l p .1);
-  unsupported-written = λ l e. list-written (some faultsIn) l (kept-parts (some faultsIn) l e);
-  unsupported-back = λ l e. let p = kept-parts (some faultsIn) l e in (_, list-back (some faultsIn) l p some-again, refl, list-same (some faultsIn) l p .0, list-same (some faultsIn) l p .1);
+  unsupported-written = λ l e. list-written (some errorReportsIn) l (kept-parts (some errorReportsIn) l e);
+  unsupported-back = λ l e. let p = kept-parts (some errorReportsIn) l e in (_, list-back (some errorReportsIn) l p some-again, refl, list-same (some errorReportsIn) l p .0, list-same (some errorReportsIn) l p .1);
   listed-in-range = listed-in-range;
   listed-long = listed-long;
   listed-members = listed-members;

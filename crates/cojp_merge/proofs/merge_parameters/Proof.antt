@@ -24,8 +24,8 @@ no-list-requires c κs = search needs
 no-rate-requires : tie.Need-no-rate-requires
 no-rate-requires c κs = search needs
 
-no-faults-requires : tie.Need-no-faults-requires
-no-faults-requires c κs = search needs
+no-error-reports-requires : tie.Need-no-error-reports-requires
+no-error-reports-requires c κs = search needs
 
 returns : tie.Need-returns
 returns c =
@@ -44,7 +44,7 @@ returns c =
       prefix .later-octets3 .ensures,
       blacklist .no-list .ensures,
       rate .no-rate .ensures,
-      c .no-faults .ensures,
+      c .no-error-reports .ensures,
     )
 
 pub merge-parameters-spec : {M : Type 1} → statement M
@@ -58,5 +58,5 @@ merge-parameters-spec =
     later-octets-requires-3
     no-list-requires
     no-rate-requires
-    no-faults-requires
+    no-error-reports-requires
     returns)

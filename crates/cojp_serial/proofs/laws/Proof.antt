@@ -11,15 +11,15 @@ use Rattle.cojp_serial.proofs.Whole.{end-reads-the-whole}
 use Rattle.cojp_serial.proofs.laws.Statement.{statement}
 use Rattle.cojp_serial.proofs.laws.Tie as tie
 
-readers-demand1-requires : tie.Need-readers-demand1-requires
-readers-demand1-requires c κs = search needs
+readers-demand1-law-requires : tie.Need-readers-demand1-law-requires
+readers-demand1-law-requires c κs = search needs
 
 returns : tie.Need-returns
 returns c = record {
   whole = end-reads-the-whole;
   unread = beyond-is-unread;
   former-board = nothing-of-the-former-board;
-  refused = refused-calls (c .readers-demand1 .ensures);
+  refused = refused-calls (c .readers-demand1-law .ensures);
   long = long-until-reset;
   phase = phase-until-reset;
   passed = long-where-passed;
@@ -31,4 +31,4 @@ returns c = record {
 }
 
 pub laws-spec : {M : Type 1} → statement M
-laws-spec = tie.close (tie.spec readers-demand1-requires returns)
+laws-spec = tie.close (tie.spec readers-demand1-law-requires returns)

@@ -11,17 +11,17 @@ laws-requires c κs = search needs
 laws-requires-2 : tie.Need-laws-requires-2
 laws-requires-2 c κs = search needs
 
-reads-in-range-requires : tie.Need-reads-in-range-requires
-reads-in-range-requires c κs = search needs
+reads-in-range-law-requires : tie.Need-reads-in-range-law-requires
+reads-in-range-law-requires c κs = search needs
 
-reports-fit-requires : tie.Need-reports-fit-requires
-reports-fit-requires c κs = search needs
+error-reports-valid-law-requires : tie.Need-error-reports-valid-law-requires
+error-reports-valid-law-requires c κs = search needs
 
 returns : tie.Need-returns
 returns c =
     let readings = c .before in
     let counters = readings .before in
-    node-laws (counters .before .laws .ensures) (counters .laws2 .ensures) (readings .reads-in-range .ensures) (c .reports-fit .ensures)
+    node-laws (counters .before .laws .ensures) (counters .laws2 .ensures) (readings .reads-in-range-law .ensures) (c .error-reports-valid-law .ensures)
 
 pub laws-spec : {M : Type 1} → statement M
-laws-spec = tie.close (tie.spec laws-requires laws-requires-2 reads-in-range-requires reports-fit-requires returns)
+laws-spec = tie.close (tie.spec laws-requires laws-requires-2 reads-in-range-law-requires error-reports-valid-law-requires returns)

@@ -7,10 +7,10 @@ use Rattle.node_parameters.proofs.demand1.Tie as tie
 
 returns : tie.Need-returns
 returns c = record {
-  address-stays = λ time p old e. taken-not (p .report) (record { held = true; value = p .value; received = time }) old _ refl e;
+  address-stays = λ time p old e. taken-not (p .disposition) (record { held = true; value = p .value; received = time }) old _ refl e;
   octets-stay = λ r o old e. taken-not r (record { held = true; value = o }) old _ refl e;
-  list-stays = λ p old e. taken-not (p .report) (record { held = true; value = p .value }) old _ refl e;
-  rate-stays = λ p old e. taken-not (p .report) (record { held = true; value = p .value }) old _ refl e;
+  list-stays = λ p old e. taken-not (p .disposition) (record { held = true; value = p .value }) old _ refl e;
+  rate-stays = λ p old e. taken-not (p .disposition) (record { held = true; value = p .value }) old _ refl e;
 }
 
 pub demand1-spec : {M : Type 1} → statement M

@@ -1,4 +1,4 @@
--- The walk's end is the replay (`trace::exact`), since a slice's length fits 64 bits.
+-- The walk's end is the replay (`trace::replay_exact_law`), since a slice's length fits 64 bits.
 use native.Mathlib.Omega.{arith}
 use mathlib.Core.Path.{_∙_, ap}
 use borrow.Author.Needs.{needs}
@@ -6,8 +6,8 @@ use Rattle.trace.specs.Step.{replayedBy}
 use Rattle.trace_walker.proofs.replay.Statement.{statement}
 use Rattle.trace_walker.proofs.replay.Tie as tie
 
-exact-requires : tie.Need-exact-requires
-exact-requires c κs = search needs
+replay-exact-law-requires : tie.Need-replay-exact-law-requires
+replay-exact-law-requires c κs = search needs
 
 walk-requires : tie.Need-walk-requires
 walk-requires c κs = search needs
@@ -20,7 +20,7 @@ returns c =
     let walked = c .before in
     let law = walked .before in
     let a = law .before .before .args in
-    c .replayed .ensures ∙ ap replayedBy (walked .walk .ensures) ∙ law .exact .ensures (a .trace .now) (omega arith)
+    c .replayed .ensures ∙ ap replayedBy (walked .walk .ensures) ∙ law .replay-exact-law .ensures (a .trace .now) (omega arith)
 
 pub replay-spec : {M : Type 1} → statement M
-replay-spec = tie.close (tie.spec exact-requires walk-requires replayed-requires returns)
+replay-spec = tie.close (tie.spec replay-exact-law-requires walk-requires replayed-requires returns)

@@ -41,13 +41,13 @@ use denote.Triple.Table.{entered, cited}
 use denote.Triple.Walked.{says, Stays, stay-dropped, walkOf, goes-dropped, Walks, ends-at, walked, walk-meets}
 use denote.Exit.{yes}
 use denote.Triple.Clauses.{ensured, lasts}
-use Rattle.trace.specs.Step as night
+use Rattle.trace.specs.Step as steps
 use Rattle.trace.specs.declared.state.State.{State}
-use Rattle.trace.specs.declared.state.Stepped.{Stepped}
+use Rattle.trace.specs.declared.state.StepResult.{StepResult}
 use Rattle.trace.proofs.state.State as S
 use Rattle.trace.proofs.state.State.Laws as S′
-use Rattle.trace.proofs.state.Stepped as R
-use Rattle.trace.proofs.state.Stepped.Laws as R′
+use Rattle.trace.proofs.state.StepResult as R
+use Rattle.trace.proofs.state.StepResult.Laws as R′
 use Rattle.trace_walker.specs.declared.Walker.{Walker}
 use Rattle.trace_walker.proofs.Walker as T
 use Rattle.trace_walker.proofs.Walker.Laws as T′
@@ -102,8 +102,8 @@ module _ {M : Type 1} (𝓤 : URA M) (H : Heap 𝓤) (A : Atoms 𝓤) (W : Given
   abbrev w : Val
   w = T′.lowered d
 
-  abbrev found : Stepped
-  found = night.step (now s) n st
+  abbrev found : StepResult
+  found = steps.step (now s) n st
 
   abbrev Post : Val → SProp 𝓤
   Post = walkOf 𝓤 H A step.ended stayed (step.clauses 𝓤 H A mem run) .post (((κ, tt), (q, tt), tt, (s, (n, (st, tt))), (v ∷ [], (vint w64 n ∷ [], (m ∷ [], tt)))), tt)
@@ -122,17 +122,17 @@ module _ {M : Type 1} (𝓤 : URA M) (H : Heap 𝓤) (A : Atoms 𝓤) (W : Given
       fjoin ! $ move ! (1 ∷ 0 ∷ []) $ join ! $ frame ! $ done !
 
   -- of the callee's `ensured`, the clause alone: it has no `&mut`, so what is said of last values is dropped
-  said : (r : Stepped) → ent 𝓤 (ensured 𝓤 H A callee.ended (callee.clauses 𝓤 H A mem run) (κ, tt) (d, (st, tt)) tt r) (fact 𝓤 (r ≡ found))
+  said : (r : StepResult) → ent 𝓤 (ensured 𝓤 H A callee.ended (callee.clauses 𝓤 H A mem run) (κ, tt) (d, (st, tt)) tt r) (fact 𝓤 (r ≡ found))
   said r = exE 𝓤 _ (λ ws. snd∗ 𝓤 (sem 𝓤 H A (lasts callee.ended (κ, tt) (d, (st, tt)) ws)) (fact 𝓤 (r ≡ found)))
 
-  exits : (r : Stepped) (u : Val) → r ≡ found → ent 𝓤 (⋆ 𝓤 H A (‵ (R.the-row .own r (u ∷ [])) ∷ (‵ (flft κ q) ⊛ ‵ ftrue) ∷ [])) (Post u)
+  exits : (r : StepResult) (u : Val) → r ≡ found → ent 𝓤 (⋆ 𝓤 H A (‵ (R.the-row .own r (u ∷ [])) ∷ (‵ (flft κ q) ⊛ ‵ ftrue) ∷ [])) (Post u)
   exits r u e =
       qed W (‵ (R.the-row .own r (u ∷ [])) ∷ (‵ (flft κ q) ⊛ ‵ ftrue) ∷ []) ∵
       suffices ! _ (ends-at 𝓤 H A step.ended stayed (step.clauses 𝓤 H A mem run) W (((κ, tt), (q, tt), tt, (s, (n, (st, tt))), (v ∷ [], (vint w64 n ∷ [], (m ∷ [], tt)))), tt) u r (tt, (tt, (tt, tt))) (tt, (tt, (tt, tt)))) $ says ! e $
       move ! (1 ∷ []) $ frame ! $ nothing ! $ nothing ! $ fjoin ! $ nothing ! $ fjoin ! $ nothing ! $ fjoin ! $ frame ! $ done !
 
   module _ (C : Calls 𝓤 H) (Λ : Loops 𝓤 H) (fm : FmC 𝓤 H (W .laws) C) (known : Triple 𝓤 (C #trace-walker·step) (Callee 𝓤 H A mem run)) where
-    walk : (τ ρ : Ty) → Is (ShrSlice (named 0) κ u8) s (v ∷ []) → n < 2 ^ 64 → Holds (hasTy τ m) × WT m → ((r : Stepped) (u : Val) → Is R.the-row r (u ∷ []) → Holds (hasTy ρ u) × WT u)
+    walk : (τ ρ : Ty) → Is (ShrSlice (named 0) κ u8) s (v ∷ []) → n < 2 ^ 64 → Holds (hasTy τ m) × WT m → ((r : StepResult) (u : Val) → Is R.the-row r (u ∷ []) → Holds (hasTy ρ u) × WT u)
         → ent 𝓤 (onEntry 𝓤 H A step.signature (κ, tt) (q, tt) (s, (n, (st, tt))) (v ∷ [], (vint w64 n ∷ [], (m ∷ [], tt)))) (WpFn 𝓤 H C Λ (fnAt τ ρ) (v ∷ vint w64 n ∷ m ∷ []) Post)
     walk τ ρ p gn wm typed =
         let wv = shr-slice-lawful 𝓤 H A W (named 0) κ u8 .typed s (v ∷ []) p .0 in
@@ -142,7 +142,7 @@ module _ {M : Type 1} (𝓤 : URA M) (H : Heap 𝓤) (A : Atoms 𝓤) (W : Given
         move ! (10 ∷ []) $ use1 W (raw (Callee 𝓤 H A mem run .pre to)) goes $
         -- [what the callee asks; _4; …; _3; …; _2; …; _1; …; room for _0; …]
         calls-at ! fm (Callee 𝓤 H A mem run) known to (and-then ! (load ! (from ! (stop !)) (look ! 1 refl)) (and-then ! (load ! (from ! (stop !)) (look ! 3 refl)) (no-more !))) (λ u.
-        use1 W (later (some (λ (r : Stepped). ((‵ (flft κ q) ⊛ ‵ ftrue) ⊛ ‵ (R.the-row .own r (u ∷ []))) ⊛ raw (ensured 𝓤 H A callee.ended (callee.clauses 𝓤 H A mem run) (κ, tt) (d, (st, tt)) tt r)))) (id⊢ 𝓤 _) $ await ! tt $ pick ! (λ r.
+        use1 W (later (some (λ (r : StepResult). ((‵ (flft κ q) ⊛ ‵ ftrue) ⊛ ‵ (R.the-row .own r (u ∷ []))) ⊛ raw (ensured 𝓤 H A callee.ended (callee.clauses 𝓤 H A mem run) (κ, tt) (d, (st, tt)) tt r)))) (id⊢ 𝓤 _) $ await ! tt $ pick ! (λ r.
         split ! $ move ! (1 ∷ []) $ use1 W (raw (fact 𝓤 (r ≡ found))) (said r) $ heard ! (r ≡ found) (λ e. split ! $ move ! (1 ∷ []) $
         -- [the result; the token; _4; …; _3; …; _2; …; _1; …; room for _0; …]
         peeks ! R.the-row (Is R.the-row) (shows 𝓤 H A R.the-row) r (u ∷ []) (λ is.

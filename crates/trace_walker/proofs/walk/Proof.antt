@@ -29,15 +29,15 @@ loop-less : tie.Need-loop-less Inv-loop μ-loop
 loop-less c =
     let turn = c .before .before .before .before in
     let said = c .before .before .step-from in
-    let night = turn .before .before .before .before .args .trace .now in
-    done (turn .loop .going) night (turn .loop .last) (said .result) (c .before .before .before .loop-test .taken) (turn .loop .inv) (said .ensures)
+    let trace = turn .before .before .before .before .args .trace .now in
+    done (turn .loop .going) trace (turn .loop .last) (said .result) (c .before .before .before .loop-test .taken) (turn .loop .inv) (said .ensures)
 
 loop-again : tie.Need-loop-again Inv-loop μ-loop
 loop-again c =
     let turn = c .before .before .before .before in
     let said = c .before .before .step-from in
-    let night = turn .before .before .before .before .args .trace .now in
-    complete (turn .loop .going) night (turn .loop .last) (said .result) (c .before .before .before .loop-test .taken) (turn .loop .inv) (said .ensures) (c .enum-told .given .1)
+    let trace = turn .before .before .before .before .args .trace .now in
+    complete (turn .loop .going) trace (turn .loop .last) (said .result) (c .before .before .before .loop-test .taken) (turn .loop .inv) (said .ensures) (c .enum-told .given .1)
 
 enum-told-2 : tie.Need-enum-told-2 Inv-loop μ-loop
 enum-told-2 c = search needs
@@ -46,15 +46,15 @@ loop-less-2 : tie.Need-loop-less-2 Inv-loop μ-loop
 loop-less-2 c =
     let turn = c .before .before .before .before in
     let said = c .before .before .step-from in
-    let night = turn .before .before .before .before .args .trace .now in
-    done (turn .loop .going) night (turn .loop .last) (said .result) (c .before .before .before .loop-test .taken) (turn .loop .inv) (said .ensures)
+    let trace = turn .before .before .before .before .args .trace .now in
+    done (turn .loop .going) trace (turn .loop .last) (said .result) (c .before .before .before .loop-test .taken) (turn .loop .inv) (said .ensures)
 
 loop-again-2 : tie.Need-loop-again-2 Inv-loop μ-loop
 loop-again-2 c =
     let turn = c .before .before .before .before in
     let said = c .before .before .step-from in
-    let night = turn .before .before .before .before .args .trace .now in
-    stopped (turn .loop .going) night (turn .loop .last) (said .result) (c .before .before .before .loop-test .taken) (turn .loop .inv) (said .ensures) (c .enum-told2 .given .1)
+    let trace = turn .before .before .before .before .args .trace .now in
+    stopped (turn .loop .going) trace (turn .loop .last) (said .result) (c .before .before .before .loop-test .taken) (turn .loop .inv) (said .ensures) (c .enum-told2 .given .1)
 
 enum-told-3 : tie.Need-enum-told-3 Inv-loop μ-loop
 enum-told-3 c = search needs
@@ -63,15 +63,15 @@ loop-less-3 : tie.Need-loop-less-3 Inv-loop μ-loop
 loop-less-3 c =
     let turn = c .before .before .before .before in
     let said = c .before .before .step-from in
-    let night = turn .before .before .before .before .args .trace .now in
-    less (turn .loop .going) night (turn .loop .last) (said .result) (c .before .before .before .loop-test .taken) (turn .loop .inv) (said .ensures) (c .enum-told3 .given .1)
+    let trace = turn .before .before .before .before .args .trace .now in
+    less (turn .loop .going) trace (turn .loop .last) (said .result) (c .before .before .before .loop-test .taken) (turn .loop .inv) (said .ensures) (c .enum-told3 .given .1)
 
 loop-again-3 : tie.Need-loop-again-3 Inv-loop μ-loop
 loop-again-3 c =
     let turn = c .before .before .before .before in
     let said = c .before .before .step-from in
-    let night = turn .before .before .before .before .args .trace .now in
-    again (turn .loop .going) night (turn .loop .last) (said .result) (c .before .before .before .loop-test .taken) (turn .loop .inv) (said .ensures) (c .enum-told3 .given .1)
+    let trace = turn .before .before .before .before .args .trace .now in
+    again (turn .loop .going) trace (turn .loop .last) (said .result) (c .before .before .before .loop-test .taken) (turn .loop .inv) (said .ensures) (c .enum-told3 .given .1)
 
 returns : tie.Need-returns Inv-loop μ-loop
 returns c = rw (c .loop-test .left) at (c .before .loop .inv)

@@ -14,9 +14,9 @@ use lib.ListN.{length, drop}
 use lib.Seq.{take-all}
 use Rattle.cbor.specs.Answer.{skipAnswer}
 use Rattle.cbor.specs.Decode.{members}
-use Rattle.cbor.specs.declared.head.HeadRead.the-variants as hv
-use Rattle.cbor.specs.declared.item.Skip.{Skip}
-use Rattle.cbor.specs.declared.item.Skip.the-variants as sv
+use Rattle.cbor.specs.declared.head.HeadResult.the-variants as hv
+use Rattle.cbor.specs.declared.item.SkipResult.{SkipResult}
+use Rattle.cbor.specs.declared.item.SkipResult.the-variants as sv
 use Rattle.cbor.proofs.Answers.{skip-answer, skip-tells, head-says, passed-item, passed-members}
 use Rattle.cbor_scan.proofs.Items.{itemBy, item-deep, item-refused, item-alone, item-string, item-short, item-array}
 use Rattle.cbor_scan.proofs.Items.{item-map-refused, item-map, item-tag, members-refused, members-before, members-done}
@@ -145,7 +145,7 @@ skip-item-skip-members-requires-3 t c κs =
     (omega (arith, arm .before .before .before .before .before .pre .0), tt)
 
 -- a tag's content is passed over in a slice that is the whole one
-passed-whole : (b : Bool) (s : List ℕ) (at d : ℕ) (p : List ℕ) (r : Skip) → p ≡ s → r ≡ skipAnswer (length p) (itemBy b d (drop at p)) → Passed s (itemBy b d (drop at s)) r
+passed-whole : (b : Bool) (s : List ℕ) (at d : ℕ) (p : List ℕ) (r : SkipResult) → p ≡ s → r ≡ skipAnswer (length p) (itemBy b d (drop at p)) → Passed s (itemBy b d (drop at s)) r
 passed-whole b s at d p r same said = passed-item b s at d r (rw same at said)
 
 skip-item-sub-skip-item : item-need skip-item-lts.Need-sub-skip-item

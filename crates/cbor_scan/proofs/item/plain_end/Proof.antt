@@ -2,7 +2,7 @@
 use native.Mathlib.Omega.{arith}
 use borrow.Author.Needs.{needs}
 use lib.ListN.{drop}
-use Rattle.cbor.specs.declared.head.HeadRead.the-variants as hv
+use Rattle.cbor.specs.declared.head.HeadResult.the-variants as hv
 use Rattle.cbor.proofs.Answers.{skip-tells, head-says}
 use Rattle.cbor.proofs.Places.{HeadAt}
 use Rattle.cbor_scan.proofs.Items.{itemBy, item-alone, item-string}

@@ -18,13 +18,13 @@ no-list-requires c κs = search needs
 no-rate-requires : tie.Need-no-rate-requires
 no-rate-requires c κs = search needs
 
-no-faults-requires : tie.Need-no-faults-requires
-no-faults-requires c κs = search needs
+no-error-reports-requires : tie.Need-no-error-reports-requires
+no-error-reports-requires c κs = search needs
 
 returns : tie.Need-returns
 returns c =
     rw
-    (c .before .before .before .before .before .no-key-set .ensures, c .before .before .before .before .no-address .ensures, c .before .before .before .no-octets .ensures, c .before .before .no-list .ensures, c .before .no-rate .ensures, c .no-faults .ensures)
+    (c .before .before .before .before .before .no-key-set .ensures, c .before .before .before .before .no-address .ensures, c .before .before .before .no-octets .ensures, c .before .before .no-list .ensures, c .before .no-rate .ensures, c .no-error-reports .ensures)
 
 pub empty-configuration-spec : {M : Type 1} → statement M
 empty-configuration-spec =
@@ -35,5 +35,5 @@ empty-configuration-spec =
     no-octets-requires
     no-list-requires
     no-rate-requires
-    no-faults-requires
+    no-error-reports-requires
     returns)

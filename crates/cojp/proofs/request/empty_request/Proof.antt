@@ -9,12 +9,12 @@ no-octets-requires c κs = search needs
 no-list-requires : tie.Need-no-list-requires
 no-list-requires c κs = search needs
 
-no-faults-requires : tie.Need-no-faults-requires
-no-faults-requires c κs = search needs
+no-error-reports-requires : tie.Need-no-error-reports-requires
+no-error-reports-requires c κs = search needs
 
 returns : tie.Need-returns
-returns c = rw (c .before .before .no-octets .ensures, c .before .no-list .ensures, c .no-faults .ensures)
+returns c = rw (c .before .before .no-octets .ensures, c .before .no-list .ensures, c .no-error-reports .ensures)
 
 pub empty-request-spec : {M : Type 1} → statement M
 empty-request-spec =
-    tie.close (tie.spec no-octets-requires no-list-requires no-faults-requires returns)
+    tie.close (tie.spec no-octets-requires no-list-requires no-error-reports-requires returns)

@@ -10,21 +10,21 @@ use lib.ListN.{length, take, drop}
 use lib.Seq.{take-all}
 use borrow.Author.Needs.{needs}
 use Rattle.cbor.specs.Strict.{headBy}
-use Rattle.cojp.specs.Configuration.{configurationForm, configurationAnswer, emptyConfiguration, readConfigurationBy, withCame}
+use Rattle.cojp.specs.Configuration.{configurationForm, configurationAnswer, emptyConfiguration, readConfigurationBy, withLabelsSeen}
 use Rattle.cojp.specs.KeySet.{keysParameter}
 use Rattle.cojp.specs.Parameter.{parameterOf}
 use Rattle.cojp.specs.declared.configuration.Configuration.{Configuration}
 use Rattle.cojp.specs.declared.version.Version.{Version}
 use Rattle.cojp.specs.declared.parameter.Parameter.{Parameter}
 use Rattle.cojp.specs.declared.parameter.Parameter.the-variants as name
-use Rattle.cojp_map.specs.Pairs.{walkAt, StartSays}
-use Rattle.cojp_map.specs.declared.open.Start.{Start}
-use Rattle.cojp_map.specs.declared.open.Start.the-variants as start
+use Rattle.cojp_map.specs.Pairs.{walkAt, StartSpec}
+use Rattle.cojp_map.specs.declared.open.PayloadResult.{PayloadResult}
+use Rattle.cojp_map.specs.declared.open.PayloadResult.the-variants as start
 use Rattle.cojp_map.proofs.Parameters.{octets-said}
 use Rattle.cojp_map.proofs.Maps.{Walking, walk-start, walk-done, turn-stops, turn-goes, read-refused, read-pairs}
 use Rattle.cojp_configuration_read.proofs.Configurations.{Turn, keys-turn, address-turn, jrc-turn, network-turn, prefix-turn, blacklist-turn, rate-turn, passed-turn}
-use Rattle.cojp_configuration_read.specs.Noted.{cameWith}
-use Rattle.cojp_configuration_read.proofs.Labels.{came-draft}
+use Rattle.cojp_configuration_read.specs.Noted.{labelsSeenWith}
+use Rattle.cojp_configuration_read.proofs.Labels.{met-draft}
 use Rattle.cojp_configuration_read.proofs.configuration.read_by.Statement.{statement}
 use Rattle.cojp_configuration_read.proofs.configuration.read_by.Tie as tie
 use Rattle.cojp_configuration_read.proofs.configuration.read_by.Reads as reads
@@ -33,14 +33,14 @@ use Rattle.cojp.proofs.empty_configuration.Reads as empty-configuration-reads
 use Rattle.cojp.proofs.parameter_of.Reads as parameter-of-reads
 use Rattle.cojp_configuration_read.proofs.configuration.refused_configuration.Reads as refused-configuration-reads
 use Rattle.cojp_configuration_read.proofs.once.address_once.Reads as address-once-reads
-use Rattle.cojp_configuration_read.proofs.once.is_informed.Reads as is-informed-reads
+use Rattle.cojp_configuration_read.proofs.once.allows_additional_info.Reads as is-allowed-reads
 use Rattle.cojp_configuration_read.proofs.once.keys_once.Reads as keys-once-reads
 use Rattle.cojp_key_set_read.proofs.read_keys.Reads as read-keys-reads
 use Rattle.cojp_configuration_read.proofs.published.blacklist_once.Reads as blacklist-once-reads
 use Rattle.cojp_configuration_read.proofs.published.noted_label.Reads as noted-label-reads
 use Rattle.cojp_configuration_read.proofs.published.rate_once.Reads as rate-once-reads
-use Rattle.cojp.proofs.address.AddressParameter.anew.Reads as address-anew-reads
-use Rattle.cojp.proofs.octets.OctetsParameter.anew.Reads as octets-anew-reads
+use Rattle.cojp.proofs.address.AddressParameter.repacked.Reads as address-repacked-reads
+use Rattle.cojp.proofs.octets.OctetsParameter.repacked.Reads as octets-repacked-reads
 use Rattle.cojp_map.proofs.octets_once.Reads as octets-once-reads
 use Rattle.cojp_map.proofs.open_payload.Reads as open-payload-reads
 use Rattle.cojp_map.proofs.item_end.Reads as item-end-reads
@@ -51,7 +51,7 @@ abbrev part : List ℕ → List ℕ
 part s = take (length s - 0) s
 
 -- a payload that was opened is read by walking over its pairs
-pairs-read : (v : Version) (b : Bool) (s : List ℕ) (r : Start) → StartSays b s r → (n p : ℕ) → r ≡ start.Pairs n p
+pairs-read : (v : Version) (b : Bool) (s : List ℕ) (r : PayloadResult) → StartSpec b s r → (n p : ℕ) → r ≡ start.Pairs n p
     → configurationAnswer (walkAt (configurationForm v) n emptyConfiguration (drop p (part s))) ≡ readConfigurationBy v (headBy b) s
 pairs-read v b s r said n p pairs =
     ap (λ (l : List ℕ). configurationAnswer (walkAt (configurationForm v) n emptyConfiguration (drop p l))) (take-all (length s - 0) s (omega arith))
@@ -60,7 +60,7 @@ pairs-read v b s r said n p pairs =
 abbrev Inv-loop : tie.InvT-loop
 Inv-loop payload version strict c₀ count start s at₀ left₀ c at left =
     let form = configurationForm version in
-    Walking form (walkAt form count emptyConfiguration (drop start s)) count (c .passed) left c (drop at s)
+    Walking form (walkAt form count emptyConfiguration (drop start s)) count (c .unknown) left c (drop at s)
 
 abbrev μ-loop : tie.MeasureT-loop
 μ-loop payload version strict c₀ count start s at₀ left₀ c at left = left
@@ -76,8 +76,8 @@ calls = (
   refused-configuration-reads.Learnt,
   labelled-at-reads.Asked,
   labelled-at-reads.Learnt,
-  is-informed-reads.Asked,
-  is-informed-reads.Learnt,
+  is-allowed-reads.Asked,
+  is-allowed-reads.Learnt,
   noted-label-reads.Asked,
   noted-label-reads.Learnt,
   parameter-of-reads.Asked,
@@ -88,12 +88,12 @@ calls = (
   keys-once-reads.Learnt,
   address-once-reads.Asked,
   address-once-reads.Learnt,
-  address-anew-reads.Asked,
-  address-anew-reads.Learnt,
+  address-repacked-reads.Asked,
+  address-repacked-reads.Learnt,
   octets-once-reads.Asked,
   octets-once-reads.Learnt,
-  octets-anew-reads.Asked,
-  octets-anew-reads.Learnt,
+  octets-repacked-reads.Asked,
+  octets-repacked-reads.Learnt,
   blacklist-once-reads.Asked,
   blacklist-once-reads.Learnt,
   rate-once-reads.Asked,
@@ -108,22 +108,22 @@ Noting = lts.Joined1 calls reads.Pre reads.Post Inv-loop μ-loop
 
 -- after the match on what a pair's label names
 abbrev Met : Type 0
-Met = lts.At-match2-came calls reads.Pre reads.Post Inv-loop μ-loop
+Met = lts.At-match2-met calls reads.Pre reads.Post Inv-loop μ-loop
 
 -- the labels that came are noted in the published form, where keys may have additional information; in the draft none is
-came-noted : (noting : Noting)
+met-noted : (noting : Noting)
     → let walked = noting .before .before .before .before .loop in
     let opened = noting .before .before .before .before .before .before .before in
     let a = opened .before .before .before .before .before .args in
-    noting .if1 .c ≡ withCame (walked .c) (cameWith (a .version) (noting .before .before .labelled-at .result .label) (walked .c .came))
-came-noted noting =
-    let asked = noting .before .is-informed in
+    noting .if1 .c ≡ withLabelsSeen (walked .c) (labelsSeenWith (a .version) (noting .before .before .labelled-at .result .label) (walked .c .labels))
+met-noted noting =
+    let asked = noting .before .allows-additional-info in
     let walked = noting .before .before .before .before .loop in
     let opened = noting .before .before .before .before .before .before .before in
     let version = opened .before .before .before .before .before .args .version in
-    let draft = came-draft version (noting .before .before .labelled-at .result .label) (walked .c .came) in
-    ⊎-elim (λ w. w .2 ∙ ap (withCame (walked .c)) (w .1 .ensures))
-    (λ w. w .1 ∙ ap (withCame (walked .c)) (sym (draft (sym (asked .ensures) ∙ w .0 .left)))) (noting .if1 .came)
+    let draft = met-draft version (noting .before .before .labelled-at .result .label) (walked .c .labels) in
+    ⊎-elim (λ w. w .2 ∙ ap (withLabelsSeen (walked .c)) (w .1 .ensures))
+    (λ w. w .1 ∙ ap (withLabelsSeen (walked .c)) (sym (draft (sym (asked .ensures) ∙ w .0 .left)))) (noting .if1 .came)
 
 -- what the pair says
 abbrev Said : Met → Type 0
@@ -134,19 +134,19 @@ Said m =
     let opened = noting .before .before .before .before .before .before .before in
     let a = opened .before .before .before .before .before .args in
     let s = part (a .payload .now) in
-    Turn (a .version) (walked .c) s (drop (walked .at) s) (pair .result) (pair .ensures) (noting .if1 .c) (came-noted noting) (m .match2 .c) (m .match2 .verdict) (m .match2 .at)
+    Turn (a .version) (walked .c) s (drop (walked .at) s) (pair .result) (pair .ensures) (noting .if1 .c) (met-noted noting) (m .match2 .c) (m .match2 .verdict) (m .match2 .at)
 
 turn : (m : Met) → Said m
 turn m =
     let named = m .before .parameter-of in
     let noting = m .before .before in
-    let noted = came-noted noting in
+    let noted = met-noted noting in
     let p = noting .before .before .labelled-at in
     let opened = noting .before .before .before .before .before .before .before in
     let version = opened .before .before .before .before .before .args .version in
     let told : (q : Parameter) → named .result ≡ q → parameterOf version (p .result .label) ≡ q = λ q e. sym (named .ensures) ∙ e in
     ⊎-elim (λ w. keys-turn _ _ _ _ _ (p .ensures) _ noted _ _ _ (told name.Keys (w .1 .given .1)) (w .6 .result .verdict)
-    (keysParameter (w .6 .result .report) (w .4 .result .parameter .value)) (w .6 .result .next)
+    (keysParameter (w .6 .result .disposition) (w .4 .result .parameter .value)) (w .6 .result .next)
     (w .6 .ensures .0 _ _ (rw (← w .3 .ensures) (w .4 .ensures .0))) (w .6 .ensures .1 (w .4 .ensures .1)) (w .10) (w .9) (w .11))
     (⊎-elim (λ w. address-turn _ _ _ _ _ (p .ensures) _ noted _ _ _ (told name.Address (w .1 .given .1)) (w .2 .result .verdict) (w .2 .result .parameter) (w .2 .result .next)
     (w .2 .ensures .0) (w .2 .ensures .1) (w .5) (rw (w .3 .ensures) at (w .4)) (w .6))
@@ -205,8 +205,8 @@ loop-holds c =
 labelled-at-requires : tie.Need-labelled-at-requires Inv-loop μ-loop
 labelled-at-requires c κs = search needs
 
-is-informed-requires : tie.Need-is-informed-requires Inv-loop μ-loop
-is-informed-requires c κs = search needs
+allows-additional-info-requires : tie.Need-allows-additional-info-requires Inv-loop μ-loop
+allows-additional-info-requires c κs = search needs
 
 noted-label-requires : tie.Need-noted-label-requires Inv-loop μ-loop
 noted-label-requires c κs = search needs
@@ -217,8 +217,8 @@ parameter-of-requires c κs = search needs
 enum-told : tie.Need-enum-told Inv-loop μ-loop
 enum-told c = search needs
 
-is-informed-requires-2 : tie.Need-is-informed-requires-2 Inv-loop μ-loop
-is-informed-requires-2 c κs = search needs
+allows-additional-info-requires-2 : tie.Need-allows-additional-info-requires-2 Inv-loop μ-loop
+allows-additional-info-requires-2 c κs = search needs
 
 read-keys-requires : tie.Need-read-keys-requires Inv-loop μ-loop
 read-keys-requires c κs = search needs
@@ -232,8 +232,8 @@ enum-told-2 c = search needs
 address-once-requires : tie.Need-address-once-requires Inv-loop μ-loop
 address-once-requires c κs = search needs
 
-anew-requires : tie.Need-anew-requires Inv-loop μ-loop
-anew-requires c κs = search needs
+repacked-requires : tie.Need-repacked-requires Inv-loop μ-loop
+repacked-requires c κs = search needs
 
 enum-told-3 : tie.Need-enum-told-3 Inv-loop μ-loop
 enum-told-3 c = search needs
@@ -241,8 +241,8 @@ enum-told-3 c = search needs
 octets-once-requires : tie.Need-octets-once-requires Inv-loop μ-loop
 octets-once-requires c κs = search needs
 
-anew-requires-2 : tie.Need-anew-requires-2 Inv-loop μ-loop
-anew-requires-2 c κs = search needs
+repacked-requires-2 : tie.Need-repacked-requires-2 Inv-loop μ-loop
+repacked-requires-2 c κs = search needs
 
 enum-told-4 : tie.Need-enum-told-4 Inv-loop μ-loop
 enum-told-4 c = search needs
@@ -250,8 +250,8 @@ enum-told-4 c = search needs
 octets-once-requires-2 : tie.Need-octets-once-requires-2 Inv-loop μ-loop
 octets-once-requires-2 c κs = search needs
 
-anew-requires-3 : tie.Need-anew-requires-3 Inv-loop μ-loop
-anew-requires-3 c κs = search needs
+repacked-requires-3 : tie.Need-repacked-requires-3 Inv-loop μ-loop
+repacked-requires-3 c κs = search needs
 
 enum-told-5 : tie.Need-enum-told-5 Inv-loop μ-loop
 enum-told-5 c = search needs
@@ -259,8 +259,8 @@ enum-told-5 c = search needs
 octets-once-requires-3 : tie.Need-octets-once-requires-3 Inv-loop μ-loop
 octets-once-requires-3 c κs = search needs
 
-anew-requires-4 : tie.Need-anew-requires-4 Inv-loop μ-loop
-anew-requires-4 c κs = search needs
+repacked-requires-4 : tie.Need-repacked-requires-4 Inv-loop μ-loop
+repacked-requires-4 c κs = search needs
 
 enum-told-6 : tie.Need-enum-told-6 Inv-loop μ-loop
 enum-told-6 c = search needs
@@ -282,7 +282,7 @@ add-c c =
     let noting = c .before .before .before .before in
     let test = noting .before .before .before in
     let walked = test .before in
-    let same = ap (λ (x : Configuration). x .passed) (came-noted noting) in
+    let same = ap (λ (x : Configuration). x .unknown) (met-noted noting) in
     omega (arith, walked .loop .inv .few, test .loop-test .taken, walked .before .before .known-told2 .given, same)
 
 item-end-requires : tie.Need-item-end-requires Inv-loop μ-loop
@@ -325,7 +325,7 @@ loop-again c =
     let opened = test .before .before .before .before in
     let a = opened .before .before .before .before .before .args in
     turn-goes (configurationForm (a .version)) _ _ (part (a .payload .now)) _ (walked .inv) (omega (arith, test .loop-test .taken)) (pair .match2 .verdict) _
-    (pair .match2 .at) (turn pair .turned) (c .enum-told9 .given .1) (pair .match2 .c .passed) (turn pair .few)
+    (pair .match2 .at) (turn pair .turned) (c .enum-told9 .given .1) (pair .match2 .c .unknown) (turn pair .few)
 
 returns-3 : tie.Need-returns-3 Inv-loop μ-loop
 returns-3 c =
@@ -352,25 +352,25 @@ read-by-spec =
     part-s-end
     loop-holds
     labelled-at-requires
-    is-informed-requires
+    allows-additional-info-requires
     noted-label-requires
     parameter-of-requires
     enum-told
-    is-informed-requires-2
+    allows-additional-info-requires-2
     read-keys-requires
     keys-once-requires
     enum-told-2
     address-once-requires
-    anew-requires
+    repacked-requires
     enum-told-3
     octets-once-requires
-    anew-requires-2
+    repacked-requires-2
     enum-told-4
     octets-once-requires-2
-    anew-requires-3
+    repacked-requires-3
     enum-told-5
     octets-once-requires-3
-    anew-requires-4
+    repacked-requires-4
     enum-told-6
     blacklist-once-requires
     enum-told-7

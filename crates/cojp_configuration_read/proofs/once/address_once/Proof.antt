@@ -28,8 +28,8 @@ read-address-requires c κs = search needs
 enum-told-2 : tie.Need-enum-told-2
 enum-told-2 c = search needs
 
-forgiven-address-requires : tie.Need-forgiven-address-requires
-forgiven-address-requires c κs = search needs
+malformed-address-requires : tie.Need-malformed-address-requires
+malformed-address-requires c κs = search needs
 
 returns-2 : tie.Need-returns-2
 returns-2 c =
@@ -42,7 +42,7 @@ returns-2 c =
 
 returns-3 : tie.Need-returns-3
 returns-3 c =
-    let r = c .forgiven-address in
+    let r = c .malformed-address in
     let published = c .before .enum-told2 .given .1 in
     let test = c .before .before .before in
     (r .ensures .0 ∙ rw (← test .before .is-seen .ensures, test .if1 .left, published), r .ensures .1)
@@ -57,6 +57,6 @@ address-once-spec =
     enum-told
     read-address-requires
     enum-told-2
-    forgiven-address-requires
+    malformed-address-requires
     returns-2
     returns-3)

@@ -19,8 +19,8 @@ enum-told c = search needs
 enum-told-2 : tie.Need-enum-told-2
 enum-told-2 c = search needs
 
-forgiven-keys-requires : tie.Need-forgiven-keys-requires
-forgiven-keys-requires c κs = search needs
+malformed-keys-requires : tie.Need-malformed-keys-requires
+malformed-keys-requires c κs = search needs
 
 returns-2 : tie.Need-returns-2
 returns-2 c =
@@ -31,7 +31,7 @@ returns-2 c =
 
 returns-3 : tie.Need-returns-3
 returns-3 c =
-    let r = c .forgiven-keys in
+    let r = c .malformed-keys in
     let published = c .before .enum-told2 .given .1 in
     let test = c .before .before .before in
     ((λ x set e. r .ensures .0 x set e ∙ rw (← test .before .is-seen .ensures, test .if1 .left, published)), r .ensures .1)
@@ -44,6 +44,6 @@ keys-once-spec =
     returns
     enum-told
     enum-told-2
-    forgiven-keys-requires
+    malformed-keys-requires
     returns-2
     returns-3)

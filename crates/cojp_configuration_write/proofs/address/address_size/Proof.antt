@@ -45,7 +45,7 @@ returns-2 c =
     let taken = test .before in
     let p = taken .before .before .args .p in
     let i = labelled 3 (array (addressItems (p .value))) in
-    size-none 1 14 (taken-not (p .report) i empty _ (taken .is-taken .ensures) (test .if1 .left)) (c .no-size .ensures)
+    size-none 1 14 (taken-not (p .disposition) i empty _ (taken .is-taken .ensures) (test .if1 .left)) (c .no-size .ensures)
 
 pub address-size-spec : {M : Type 1} → statement M
 address-size-spec =

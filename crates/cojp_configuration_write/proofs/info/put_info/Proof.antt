@@ -9,33 +9,33 @@ use Rattle.cojp_configuration_write.proofs.Infos.{info-few, info-nothin
 use Rattle.cojp_configuration_write.proofs.info.put_info.Statement.{statement}
 use Rattle.cojp_configuration_write.proofs.info.put_info.Tie as tie
 
-bytes-of-requires : tie.Need-bytes-of-requires
-bytes-of-requires c κs = search needs
+additional-info-bytes-requires : tie.Need-additional-info-bytes-requires
+additional-info-bytes-requires c κs = search needs
 
 returns : tie.Need-returns
 returns c =
     let spread = c .before .before in
     let a = spread .before .before .args in
-    info-nothing (a .info) (spread .bytes-of .ensures) (c .if1 .taken) (wrote-none (a .dst .now))
+    info-nothing (a .info) (spread .additional-info-bytes .ensures) (c .if1 .taken) (wrote-none (a .dst .now))
 
 array-share-prefix-bytes : tie.Need-array-share-prefix-bytes
 array-share-prefix-bytes c =
     let spread = c .before .before .before in
     let a = spread .before .before .args in
-    let n : length (spread .bytes-of .result .bytes) ≡ 8 = search needs in
-    omega (arith, info-few (a .info) (spread .bytes-of .ensures))
+    let n : length (spread .additional-info-bytes .result .bytes) ≡ 8 = search needs in
+    omega (arith, info-few (a .info) (spread .additional-info-bytes .ensures))
 
 slice-aggregate-put-bytes : tie.Need-slice-aggregate-put-bytes
 slice-aggregate-put-bytes c =
     let spread = c .before .before .before .before in
-    sym (length-take-le (spread .bytes-of .result .len) (spread .bytes-of .result .bytes) (array-share-prefix-bytes (c .before)))
+    sym (length-take-le (spread .additional-info-bytes .result .len) (spread .additional-info-bytes .result .bytes) (array-share-prefix-bytes (c .before)))
 
 put-bytes-requires : tie.Need-put-bytes-requires
 put-bytes-requires c κs =
     let test = c .before .before in
     let spread = test .before .before in
     let start = spread .before .before in
-    info-room (start .args .info) (spread .bytes-of .ensures) (test .if1 .left) (length (start .args .dst .now)) (start .pre)
+    info-room (start .args .info) (spread .additional-info-bytes .ensures) (test .if1 .left) (length (start .args .dst .now)) (start .pre)
 
 same-length : tie.Need-same-length
 same-length c = search needs
@@ -46,13 +46,13 @@ returns-2 c =
     let test = put .before .before .before in
     let spread = test .before .before in
     let start = spread .before .before in
-    info-wrote (start .args .info) (spread .bytes-of .ensures) (test .if1 .left) (put .put-bytes .ensures)
+    info-wrote (start .args .info) (spread .additional-info-bytes .ensures) (test .if1 .left) (put .put-bytes .ensures)
 
 pub put-info-spec : {M : Type 1} → statement M
 put-info-spec =
     tie.close
     (tie.spec
-    bytes-of-requires
+    additional-info-bytes-requires
     returns
     array-share-prefix-bytes
     slice-aggregate-put-bytes

@@ -61,7 +61,7 @@ returns-2 c =
     let taken = test .before in
     let p = taken .before .before .args .p in
     let i = labelled 2 (array (groupsItems (keysOf (p .value)))) in
-    size-none 1 299 (taken-not (p .report) i empty _ (taken .is-taken .ensures) (test .if1 .left)) (c .no-size .ensures)
+    size-none 1 299 (taken-not (p .disposition) i empty _ (taken .is-taken .ensures) (test .if1 .left)) (c .no-size .ensures)
 
 pub keys-size-spec : {M : Type 1} → statement M
 keys-size-spec =

@@ -45,7 +45,7 @@ returns-2 c =
     let taken = c .before in
     let a = taken .before .before .args in
     let i = labelled 2 (array (groupsItems (keysOf (a .p .value)))) in
-    wrote-same (taken-not (a .p .report) i empty _ (taken .is-taken .ensures) (c .if1 .left)) (wrote-none (a .dst .now))
+    wrote-same (taken-not (a .p .disposition) i empty _ (taken .is-taken .ensures) (c .if1 .left)) (wrote-none (a .dst .now))
 
 pub put-keys-spec : {M : Type 1} → statement M
 put-keys-spec =

@@ -37,7 +37,7 @@ returns-2 c =
     let taken = c .before in
     let a = taken .before .before .args in
     let i = labelled 7 (unsigned (a .p .value)) in
-    wrote-same (taken-not (a .p .report) i empty _ (taken .is-taken .ensures) (c .if1 .left)) (wrote-none (a .dst .now))
+    wrote-same (taken-not (a .p .disposition) i empty _ (taken .is-taken .ensures) (c .if1 .left)) (wrote-none (a .dst .now))
 
 pub put-rate-spec : {M : Type 1} → statement M
 put-rate-spec = tie.close (tie.spec is-taken-requires put-labelled-requires same-length returns returns-2)

@@ -55,7 +55,7 @@ returns c =
     let a = begun .args in
     let m = member-at .member-at in
     let g = second .second .given in (
-      group-used (a .informed) (a .part .now) (a .left) (m .result) (a .at) (a .identifier) (m .ensures) (g .0 .0) (g .0 .1 .0) (g .1)
+      group-used (a .allowed) (a .part .now) (a .left) (m .result) (a .at) (a .identifier) (m .ensures) (g .0 .0) (g .0 .1 .0) (g .1)
           (c .after-usage .result) (c .after-usage .ensures .0),
       rest-on (a .part .now) (a .at) (a .left) (g .0 .1 .0) (a .left - 1) (c .after-usage .result)
           (number-after (a .part .now) (a .at) (a .left) (m .result) (m .ensures) (g .0 .0) (g .0 .1 .0) (g .1)) (c .after-usage .ensures .1),
@@ -69,7 +69,7 @@ returns-2 c =
     let a = begun .args in
     let m = member-at .member-at in
     let g = second .second2 .given in (
-      group-pair (a .informed) (a .part .now) (a .left) (m .result) (a .at) (a .identifier) (m .ensures) (g .0 .0) (g .0 .1 .0) (g .1)
+      group-pair (a .allowed) (a .part .now) (a .left) (m .result) (a .at) (a .identifier) (m .ensures) (g .0 .0) (g .0 .1 .0) (g .1)
           (c .after-value .result) (c .after-value .ensures .0),
       rest-on (a .part .now) (a .at) (a .left) (g .0 .0 + g .0 .1 .0) (a .left - 1) (c .after-value .result)
           (bytes-after (a .part .now) (a .at) (a .left) (m .result) (m .ensures) (g .0 .0) (g .0 .1 .0) (g .1)) (c .after-value .ensures .1),
@@ -79,7 +79,7 @@ returns-3 : tie.Need-returns-3
 returns-3 c =
     let a = c .before .before .before .before .args in
     let m = c .before .before .member-at in
-    (group-open (a .informed) (a .part .now) (a .left) (m .result) (a .at) (a .identifier) (m .ensures) (c .enum-told .given .1), tt)
+    (group-open (a .allowed) (a .part .now) (a .left) (m .result) (a .at) (a .identifier) (m .ensures) (c .enum-told .given .1), tt)
 
 pub after-identifier-spec : {M : Type 1} → statement M
 after-identifier-spec =

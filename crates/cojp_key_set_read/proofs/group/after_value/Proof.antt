@@ -4,7 +4,7 @@ use mathlib.Core.Path.{refl}
 use native.Mathlib.Omega.{arith}
 use borrow.Author.Tests.{not-true, not-false}
 use Rattle.cojp.proofs.Arrays.{bytes-left, bytes-inside, bytes-after}
-use Rattle.cojp_key_set_read.proofs.Groups.{value-draft, value-last, value-broken, value-informed}
+use Rattle.cojp_key_set_read.proofs.Groups.{value-draft, value-last, value-broken, value-allowed}
 use borrow.Author.Needs.{needs}
 use Rattle.cojp_key_set_read.proofs.group.after_value.Statement.{statement}
 use Rattle.cojp_key_set_read.proofs.group.after_value.Tie as tie
@@ -18,8 +18,8 @@ member-at-requires c κs = search needs
 enum-known-further : tie.Need-enum-known-further
 enum-known-further c = search needs
 
-info-at-requires : tie.Need-info-at-requires
-info-at-requires c κs =
+additional-info-at-requires : tie.Need-additional-info-at-requires
+additional-info-at-requires c κs =
     let member = c .before .before .before in
     let a = member .before .before .before .args in
     let m = member .member-at in
@@ -34,7 +34,7 @@ returns c =
     let a = start .args in
     let m = member .member-at in
     let g = further .further .given in
-    let told = c .before .before .info-at in (
+    let told = c .before .before .additional-info-at in (
       rw (member .before .if1 .taken)
           (value-broken (a .part .now) (a .identifier) (a .usage) (a .start) (a .len) (a .left) (start .pre) (m .result) (m .ensures) (g .0 .0)
           (g .0 .1 .0) (g .1) (told .result) (told .ensures) (not-true _ (c .if2 .taken))),
@@ -70,9 +70,9 @@ returns-2 c =
     let a = start .args in
     let m = member .member-at in
     let g = further .further .given in
-    let told = c .before .before .info-at in (
+    let told = c .before .before .additional-info-at in (
       rw (member .before .if1 .taken)
-          (value-informed (a .part .now) (a .identifier) (a .usage) (a .start) (a .len) (a .left) (start .pre) (m .result) (m .ensures) (g .0 .0)
+          (value-allowed (a .part .now) (a .identifier) (a .usage) (a .start) (a .len) (a .left) (start .pre) (m .result) (m .ensures) (g .0 .0)
           (g .0 .1 .0) (g .1) (told .result) (told .ensures) (not-false _ (c .if2 .left))),
       bytes-after (a .part .now) (a .start + a .len) (a .left) (m .result) (m .ensures) (g .0 .0) (g .0 .1 .0) (g .1),
     )
@@ -100,7 +100,7 @@ after-value-spec =
     add-end
     member-at-requires
     enum-known-further
-    info-at-requires
+    additional-info-at-requires
     returns
     add-next
     sub-fewer

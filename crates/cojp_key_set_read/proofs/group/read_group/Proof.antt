@@ -31,7 +31,7 @@ returns c =
     let a = begun .args in
     let m = member-at .member-at in
     let g = first .first .given in (
-      group-begun (a .informed) (a .part .now) (a .left) (m .result) (begun .pre) (m .ensures) (g .0 .0) (g .0 .1 .0) (g .1) (c .after-identifier .result)
+      group-begun (a .allowed) (a .part .now) (a .left) (m .result) (begun .pre) (m .ensures) (g .0 .0) (g .0 .1 .0) (g .1) (c .after-identifier .result)
           (c .after-identifier .ensures .0),
       rest-on (a .part .now) 0 (a .left) (g .0 .1 .0) (a .left - 1) (c .after-identifier .result)
           (number-after (a .part .now) 0 (a .left) (m .result) (m .ensures) (g .0 .0) (g .0 .1 .0) (g .1)) (c .after-identifier .ensures .1),
@@ -41,7 +41,7 @@ returns-2 : tie.Need-returns-2
 returns-2 c =
     let a = c .before .before .before .args in
     let m = c .before .member-at in
-    (group-headless (a .informed) (a .part .now) (a .left) (m .result) (c .before .before .before .pre) (m .ensures) (c .match .keys2), tt)
+    (group-headless (a .allowed) (a .part .now) (a .left) (m .result) (c .before .before .before .pre) (m .ensures) (c .match .keys2), tt)
 
 pub read-group-spec : {M : Type 1} → statement M
 read-group-spec =

@@ -26,7 +26,7 @@ len-requires c κs = search needs
 loop-holds : tie.Need-loop-holds Inv-loop μ-loop
 loop-holds c =
     let begun = c .before .before .before .before in
-    gathering-none (picked (membersOf (take (c .before .len .result) (begun .args .reports .faults)))) (begun .args .dst .now)
+    gathering-none (picked (membersOf (take (c .before .len .result) (begun .args .reports .reports)))) (begun .args .dst .now)
 
 mul-f : tie.Need-mul-f Inv-loop μ-loop
 mul-f c = search needs
@@ -61,7 +61,7 @@ same-length c =
     let sized = turn .before .before in
     let f = sized .before .before .before .args .reports in
     let within = within-reports f (sized .len .result) (sized .len .ensures .0) in
-    let put = report-turn (f .faults) (sized .len .result) (turn .loop .i) (turn .loop .inv) (test .loop-test .taken) within (wrote .write-report .ensures) in
+    let put = report-turn (f .reports) (sized .len .result) (turn .loop .i) (turn .loop .inv) (test .loop-test .taken) within (wrote .write-report .ensures) in
     turn-length put
 
 returns : tie.Need-returns Inv-loop μ-loop
@@ -72,7 +72,7 @@ returns c =
     let sized = turn .before .before in
     let f = sized .before .before .before .args .reports in
     let within = within-reports f (sized .len .result) (sized .len .ensures .0) in
-    let put = report-turn (f .faults) (sized .len .result) (turn .loop .i) (turn .loop .inv) (test .loop-test .taken) within (wrote .write-report .ensures) in
+    let put = report-turn (f .reports) (sized .len .result) (turn .loop .i) (turn .loop .inv) (test .loop-test .taken) within (wrote .write-report .ensures) in
     rw (← all-reports f (sized .len .result) (sized .len .ensures .0)) (turn-full put (c .enum-told .given .0 .0) (c .enum-told .given .1))
 
 enum-known-w : tie.Need-enum-known-w Inv-loop μ-loop
@@ -86,7 +86,7 @@ add-len c =
     let sized = turn .before .before in
     let f = sized .before .before .before .args .reports in
     let within = within-reports f (sized .len .result) (sized .len .ensures .0) in
-    let put = report-turn (f .faults) (sized .len .result) (turn .loop .i) (turn .loop .inv) (test .loop-test .taken) within (wrote .write-report .ensures) in
+    let put = report-turn (f .reports) (sized .len .result) (turn .loop .i) (turn .loop .inv) (test .loop-test .taken) within (wrote .write-report .ensures) in
     let counts = turn-count put (c .before .w .given .0 .0) (c .before .w .given .1) (sized .before .head-laws .ensures) in
     omega (arith, counts .0, sized .before .before .before)
 
@@ -98,7 +98,7 @@ add-members c =
     let sized = turn .before .before in
     let f = sized .before .before .before .args .reports in
     let within = within-reports f (sized .len .result) (sized .len .ensures .0) in
-    let put = report-turn (f .faults) (sized .len .result) (turn .loop .i) (turn .loop .inv) (test .loop-test .taken) within (wrote .write-report .ensures) in
+    let put = report-turn (f .reports) (sized .len .result) (turn .loop .i) (turn .loop .inv) (test .loop-test .taken) within (wrote .write-report .ensures) in
     let counts = turn-count put (c .before .w .given .0 .0) (c .before .w .given .1) (sized .before .head-laws .ensures) in
     omega (arith, counts .1, sized .before .before .before)
 
@@ -116,7 +116,7 @@ loop-again c =
     let sized = turn .before .before in
     let f = sized .before .before .before .args .reports in
     let within = within-reports f (sized .len .result) (sized .len .ensures .0) in
-    let put = report-turn (f .faults) (sized .len .result) (turn .loop .i) (turn .loop .inv) (test .loop-test .taken) within (wrote .write-report .ensures) in
+    let put = report-turn (f .reports) (sized .len .result) (turn .loop .i) (turn .loop .inv) (test .loop-test .taken) within (wrote .write-report .ensures) in
     turn-more put (c .before .w .given .0 .0) (c .before .w .given .1)
 
 same-length-2 : tie.Need-same-length-2 Inv-loop μ-loop
@@ -127,7 +127,7 @@ returns-2 c =
     let turn = c .before in
     let sized = turn .before .before in
     let f = sized .before .before .before .args .reports in
-    let done = none-more (f .faults) (sized .len .result) (turn .loop .i) (c .loop-test .left) in
+    let done = none-more (f .reports) (sized .len .result) (turn .loop .i) (c .loop-test .left) in
     rw (← all-reports f (sized .len .result) (sized .len .ensures .0)) (gathering-done (turn .loop .inv) done)
 
 pub gather-reports-spec : {M : Type 1} → statement M

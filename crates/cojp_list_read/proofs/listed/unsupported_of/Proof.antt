@@ -4,7 +4,7 @@ use mathlib.Core.Path.{_≡_, sym, _∙_}
 use native.Mathlib.Omega.{arith}
 use borrow.Author.Needs.{needs}
 use lib.ListN.{length}
-use Rattle.cojp.specs.Faults.{faultList}
+use Rattle.cojp.specs.ErrorReports.{errorReportList}
 use Rattle.cojp_list_read.proofs.Listing.{listed-none, listed-bad, listed-kept}
 use Rattle.cojp_list_read.proofs.listed.unsupported_of.Statement.{statement}
 use Rattle.cojp_list_read.proofs.listed.unsupported_of.Tie as tie
@@ -44,7 +44,7 @@ returns-2 c =
     let asked = gathered .before .before in
     let sized = asked .before in
     let f = sized .before .before .args .reports in
-    let few : length (faultList f) ≤ 5 = omega (arith, sized .len .ensures .0, sized .len .ensures .1) in
+    let few : length (errorReportList f) ≤ 5 = omega (arith, sized .len .ensures .0, sized .len .ensures .1) in
     let call = gathered .gather-reports in
     let H = sized .before .head-laws .ensures in
     listed-bad H f few (call .result) (call .last .1 .0) (call .ensures) (c .before .enum-told .given .1)
@@ -55,10 +55,10 @@ returns-3 c =
     let asked = gathered .before .before in
     let sized = asked .before in
     let f = sized .before .before .args .reports in
-    let few : length (faultList f) ≤ 5 = omega (arith, sized .len .ensures .0, sized .len .ensures .1) in
+    let few : length (errorReportList f) ≤ 5 = omega (arith, sized .len .ensures .0, sized .len .ensures .1) in
     let call = gathered .gather-reports in
     let H = sized .before .head-laws .ensures in
-    let some : ¬ (length (faultList f) ≡ 0) = λ e. asked .if1 .left (sized .len .ensures .0 ∙ e) in
+    let some : ¬ (length (errorReportList f) ≡ 0) = λ e. asked .if1 .left (sized .len .ensures .0 ∙ e) in
     listed-kept H f few (call .result) (call .last .1 .0) (call .ensures) some (c .before .g .given .1)
 
 pub unsupported-of-spec : {M : Type 1} → statement M

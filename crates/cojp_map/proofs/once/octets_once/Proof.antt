@@ -23,8 +23,8 @@ read-octets-requires c κs = search needs
 enum-told-2 : tie.Need-enum-told-2
 enum-told-2 c = search needs
 
-forgiven-octets-requires : tie.Need-forgiven-octets-requires
-forgiven-octets-requires c κs = search needs
+malformed-octets-requires : tie.Need-malformed-octets-requires
+malformed-octets-requires c κs = search needs
 
 returns-2 : tie.Need-returns-2
 returns-2 c =
@@ -35,7 +35,7 @@ returns-2 c =
 
 returns-3 : tie.Need-returns-3
 returns-3 c =
-    let r = c .forgiven-octets in
+    let r = c .malformed-octets in
     let published = c .before .enum-told2 .given .1 in
     let test = c .before .before .before in
     (rw (← test .before .is-seen .ensures, test .if1 .left, published) (r .ensures .0), r .ensures .1)
@@ -50,6 +50,6 @@ octets-once-spec =
     enum-told
     read-octets-requires
     enum-told-2
-    forgiven-octets-requires
+    malformed-octets-requires
     returns-2
     returns-3)

@@ -1,5 +1,5 @@
 -- The length, then what the scan and the map's head say.
-use Rattle.cbor.specs.declared.item.Opened.the-variants as ov
+use Rattle.cbor.specs.declared.item.OpenResult.the-variants as ov
 use Rattle.cojp_map.proofs.Maps.{start-long, start-opened}
 use native.Mathlib.Omega.{arith}
 use borrow.Author.Needs.{needs}

@@ -25,13 +25,13 @@ returns c =
     let test = array .before .before in
     let taken = test .before in
     let a = taken .before .before .args in
-    planned-as (taken-is (a .p .report) (arrayPlan (a .label) (a .p .value)) (emit []) _ (taken .is-taken .ensures) (test .if1 .taken)) (array .write-array .ensures)
+    planned-as (taken-is (a .p .disposition) (arrayPlan (a .label) (a .p .value)) (emit []) _ (taken .is-taken .ensures) (test .if1 .taken)) (array .write-array .ensures)
 
 returns-2 : tie.Need-returns-2
 returns-2 c =
     let taken = c .before in
     let a = taken .before .before .args in
-    planned-as (taken-not (a .p .report) (arrayPlan (a .label) (a .p .value)) (emit []) _ (taken .is-taken .ensures) (c .if1 .left))
+    planned-as (taken-not (a .p .disposition) (arrayPlan (a .label) (a .p .value)) (emit []) _ (taken .is-taken .ensures) (c .if1 .left))
     (did-emit (omega arith) (wrote-none (a .dst .now)))
 
 pub write-list-parameter-spec : {M : Type 1} → statement M

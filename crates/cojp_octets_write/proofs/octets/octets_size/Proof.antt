@@ -52,7 +52,7 @@ returns-2 c =
     let taken = test .before in
     let a = taken .before .before .args in
     let i = labelled (a .label) (bytes (bytesIn (a .p .value))) in
-    size-none 1 26 (taken-not (a .p .report) i empty _ (taken .is-taken .ensures) (test .if1 .left)) (c .no-size .ensures)
+    size-none 1 26 (taken-not (a .p .disposition) i empty _ (taken .is-taken .ensures) (test .if1 .left)) (c .no-size .ensures)
 
 pub octets-size-spec : {M : Type 1} → statement M
 octets-size-spec =

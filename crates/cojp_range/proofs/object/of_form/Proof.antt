@@ -1,6 +1,6 @@
 -- By the form.
 use borrow.Author.Needs.{needs}
-use Rattle.cojp.specs.Writing.{ofForm}
+use Rattle.cojp.specs.Writing.{ofVersion}
 use Rattle.cojp_range.proofs.object.of_form.Statement.{statement}
 use Rattle.cojp_range.proofs.object.of_form.Tie as tie
 
@@ -17,11 +17,11 @@ published-form-requires : tie.Need-published-form-requires
 published-form-requires c κs = search needs
 
 returns : tie.Need-returns
-unfolding ofForm
+unfolding ofVersion
 returns c = rw (c .before .enum-told .given .1) (c .draft-form .ensures)
 
 returns-2 : tie.Need-returns-2
-unfolding ofForm
+unfolding ofVersion
 returns-2 c = rw (c .before .enum-told2 .given .1) (c .published-form .ensures)
 
 pub of-form-spec : {M : Type 1} → statement M

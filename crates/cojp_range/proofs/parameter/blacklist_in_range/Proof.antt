@@ -18,13 +18,13 @@ returns c =
     let test = c .before in
     let taken = test .before in
     let p = taken .before .args .p in
-    (c .is-blacklist .ensures) ∙ sym (taken-is (p .report) (kept stringsIn (p .value)) true _ (taken .is-taken .ensures) (test .if1 .taken))
+    (c .is-blacklist .ensures) ∙ sym (taken-is (p .disposition) (kept stringsIn (p .value)) true _ (taken .is-taken .ensures) (test .if1 .taken))
 
 returns-2 : tie.Need-returns-2
 returns-2 c =
     let taken = c .before in
     let p = taken .before .args .p in
-    sym (taken-not (p .report) (kept stringsIn (p .value)) true _ (taken .is-taken .ensures) (c .if1 .left))
+    sym (taken-not (p .disposition) (kept stringsIn (p .value)) true _ (taken .is-taken .ensures) (c .if1 .left))
 
 pub blacklist-in-range-spec : {M : Type 1} → statement M
 blacklist-in-range-spec = tie.close (tie.spec is-taken-requires is-blacklist-requires returns returns-2)

@@ -18,13 +18,13 @@ returns c =
     let test = c .before in
     let taken = test .before in
     let p = taken .before .args .p in
-    (c .valid .ensures) ∙ sym (taken-is (p .report) (validSet (p .value)) true _ (taken .is-taken .ensures) (test .if1 .taken))
+    (c .valid .ensures) ∙ sym (taken-is (p .disposition) (validSet (p .value)) true _ (taken .is-taken .ensures) (test .if1 .taken))
 
 returns-2 : tie.Need-returns-2
 returns-2 c =
     let taken = c .before in
     let p = taken .before .args .p in
-    sym (taken-not (p .report) (validSet (p .value)) true _ (taken .is-taken .ensures) (c .if1 .left))
+    sym (taken-not (p .disposition) (validSet (p .value)) true _ (taken .is-taken .ensures) (c .if1 .left))
 
 pub keys-in-range-spec : {M : Type 1} → statement M
 keys-in-range-spec = tie.close (tie.spec is-taken-requires valid-requires returns returns-2)

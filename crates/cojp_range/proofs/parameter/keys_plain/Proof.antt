@@ -2,7 +2,7 @@
 use mathlib.Core.Path.{sym, _∙_}
 use mathlib.Core.Bool.{true}
 use borrow.Author.Needs.{needs}
-use Rattle.link_key_set.specs.KeySet.{keysOf, plainKeys}
+use Rattle.link_key_set.specs.KeySet.{keysOf, noAdditionalInfos}
 use Rattle.cojp_range.proofs.Taken.{taken-is, taken-not}
 use Rattle.cojp_range.proofs.parameter.keys_plain.Statement.{statement}
 use Rattle.cojp_range.proofs.parameter.keys_plain.Tie as tie
@@ -10,21 +10,21 @@ use Rattle.cojp_range.proofs.parameter.keys_plain.Tie as tie
 is-taken-requires : tie.Need-is-taken-requires
 is-taken-requires c κs = search needs
 
-is-plain-requires : tie.Need-is-plain-requires
-is-plain-requires c κs = search needs
+has-no-additional-info-requires : tie.Need-has-no-additional-info-requires
+has-no-additional-info-requires c κs = search needs
 
 returns : tie.Need-returns
 returns c =
     let test = c .before in
     let taken = test .before in
     let p = taken .before .args .p in
-    (c .is-plain .ensures) ∙ sym (taken-is (p .report) (plainKeys (keysOf (p .value))) true _ (taken .is-taken .ensures) (test .if1 .taken))
+    (c .has-no-additional-info .ensures) ∙ sym (taken-is (p .disposition) (noAdditionalInfos (keysOf (p .value))) true _ (taken .is-taken .ensures) (test .if1 .taken))
 
 returns-2 : tie.Need-returns-2
 returns-2 c =
     let taken = c .before in
     let p = taken .before .args .p in
-    sym (taken-not (p .report) (plainKeys (keysOf (p .value))) true _ (taken .is-taken .ensures) (c .if1 .left))
+    sym (taken-not (p .disposition) (noAdditionalInfos (keysOf (p .value))) true _ (taken .is-taken .ensures) (c .if1 .left))
 
 pub keys-plain-spec : {M : Type 1} → statement M
-keys-plain-spec = tie.close (tie.spec is-taken-requires is-plain-requires returns returns-2)
+keys-plain-spec = tie.close (tie.spec is-taken-requires has-no-additional-info-requires returns returns-2)

@@ -4,7 +4,7 @@ use mathlib.Core.Path.{ap, sym, _∙_}
 use mathlib.Core.Logic.{⊎-elim}
 use lib.ListN.{drop}
 use borrow.Author.Needs.{needs}
-use Rattle.cojp.specs.Request.{gathered, requestForm, nothingGathered}
+use Rattle.cojp.specs.Request.{requestState, requestForm, emptyRequestState}
 use Rattle.cojp_map.specs.Pairs.{walkAt}
 use Rattle.cojp_map.proofs.Maps.{Walking, walk-start, walk-done, turn-stops, turn-goes}
 use Rattle.cojp_request_read.proofs.Requests.{Turn, turn-role, turn-network, turn-unsupported, turn-passed, answerTo}
@@ -14,7 +14,7 @@ use Rattle.cojp_request_read.proofs.request.take_pairs.Reads as reads
 use Rattle.cojp_request_read.proofs.request.take_pairs.Lts as lts
 use Rattle.cojp.proofs.empty_request.Reads as empty-request-reads
 use Rattle.cojp_map.proofs.octets_once.Reads as octets-once-reads
-use Rattle.cojp.proofs.octets.OctetsParameter.anew.Reads as anew-reads
+use Rattle.cojp.proofs.octets.OctetsParameter.repacked.Reads as repacked-reads
 use Rattle.cojp_map.proofs.item_end.Reads as item-end-reads
 use Rattle.cojp_map.proofs.labelled_at.Reads as labelled-at-reads
 use Rattle.cojp_request_read.proofs.parameter.request_parameter_of.Reads as request-parameter-of-reads
@@ -25,7 +25,7 @@ use Rattle.cojp_request_read.proofs.unsupported.unsupported_once.Reads 
 
 abbrev Inv-loop : tie.InvT-loop
 Inv-loop s at₀ left₀ version named₀ q₀ at left named q =
-    Walking (requestForm version) (walkAt (requestForm version) left₀ nothingGathered (drop at₀ s)) left₀ (q .passed) left (gathered named q) (drop at s)
+    Walking (requestForm version) (walkAt (requestForm version) left₀ emptyRequestState (drop at₀ s)) left₀ (q .unknown) left (requestState named q) (drop at s)
 
 abbrev μ-loop : tie.MeasureT-loop
 μ-loop s at₀ left₀ version named₀ q₀ at left named q = left
@@ -33,7 +33,7 @@ abbrev μ-loop : tie.MeasureT-loop
 -- after the match on a pair's label
 abbrev Met : Type 0
 Met =
-    lts.At-match-came (
+    lts.At-match-met (
       empty-request-reads.Asked,
       empty-request-reads.Learnt,
       labelled-at-reads.Asked,
@@ -44,8 +44,8 @@ Met =
       role-once-reads.Learnt,
       octets-once-reads.Asked,
       octets-once-reads.Learnt,
-      anew-reads.Asked,
-      anew-reads.Learnt,
+      repacked-reads.Asked,
+      repacked-reads.Learnt,
       unsupported-once-reads.Asked,
       unsupported-once-reads.Learnt,
       item-end-reads.Asked,
@@ -83,7 +83,7 @@ empty-request-requires c κs = search needs
 loop-holds : tie.Need-loop-holds Inv-loop μ-loop
 loop-holds c =
     let a = c .before .before .args in
-    rw (c .empty-request .ensures) (walk-start (requestForm (a .version)) (a .left) nothingGathered (drop (a .at) (a .s .now)))
+    rw (c .empty-request .ensures) (walk-start (requestForm (a .version)) (a .left) emptyRequestState (drop (a .at) (a .s .now)))
 
 labelled-at-requires : tie.Need-labelled-at-requires Inv-loop μ-loop
 labelled-at-requires c κs = search needs
@@ -103,8 +103,8 @@ enum-told-2 c = search needs
 octets-once-requires : tie.Need-octets-once-requires Inv-loop μ-loop
 octets-once-requires c κs = search needs
 
-anew-requires : tie.Need-anew-requires Inv-loop μ-loop
-anew-requires c κs = search needs
+repacked-requires : tie.Need-repacked-requires Inv-loop μ-loop
+repacked-requires c κs = search needs
 
 enum-told-3 : tie.Need-enum-told-3 Inv-loop μ-loop
 enum-told-3 c = search needs
@@ -153,7 +153,7 @@ loop-again c =
     let walked = c .before .before .before .before .before .before .loop in
     let a = c .before .before .before .before .before .before .before .before .before .args in
     turn-goes (requestForm (a .version)) _ _ (a .s .now) _ (walked .inv) (omega (arith, c .before .before .before .before .before .loop-test .taken)) (pair .match .verdict) _ (pair .match .at)
-    (turn pair .turned) (c .enum-told5 .given .1) (pair .match .q .passed) (turn pair .few)
+    (turn pair .turned) (c .enum-told5 .given .1) (pair .match .q .unknown) (turn pair .few)
 
 settled-request-requires : tie.Need-settled-request-requires Inv-loop μ-loop
 settled-request-requires c κs = search needs
@@ -177,7 +177,7 @@ take-pairs-spec =
     role-once-requires
     enum-told-2
     octets-once-requires
-    anew-requires
+    repacked-requires
     enum-told-3
     unsupported-once-requires
     enum-told-4

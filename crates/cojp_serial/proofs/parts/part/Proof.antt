@@ -6,15 +6,15 @@ use borrow.Author.Needs.{needs}
 use lib.ListN.{length, length-drop, length-take}
 use Rattle.refusal.specs.declared.Refusal.the-variants.{Long}
 use Rattle.refusal.specs.declared.Verdict.the-variants.{Accepted}
-use Rattle.cojp_serial.specs.Arrival.{grown, refusedPart}
-use Rattle.cojp_serial.specs.declared.arrival.Course.the-variants.{Outside, Overrun, Ended, Open}
+use Rattle.cojp_serial.specs.State.{grown, refusedPart}
+use Rattle.cojp_serial.specs.declared.state.PartDecision.the-variants.{Outside, Overrun, Ended, Open}
 use Rattle.cojp_serial.proofs.Courses.{open-fits}
 use Rattle.cojp_serial.proofs.Stores.{placed-by-copy, parted}
 use Rattle.cojp_serial.proofs.parts.part.Statement.{statement}
 use Rattle.cojp_serial.proofs.parts.part.Tie as tie
 
-course-requires : tie.Need-course-requires
-course-requires c κs = search needs
+decision-requires : tie.Need-decision-requires
+decision-requires c κs = search needs
 
 enum-told : tie.Need-enum-told
 enum-told c = search needs
@@ -45,7 +45,7 @@ sub-copy c =
     let told = c in
     let found = told .before .before in
     let a = found .before .before .before .args in
-    let f = open-fits (a .arrival) (length (a .store .now)) (length (a .sent .now)) (sym (found .course .ensures) ∙ told .enum-told4 .given .1) in
+    let f = open-fits (a .arrival) (length (a .store .now)) (length (a .sent .now)) (sym (found .decision .ensures) ∙ told .enum-told4 .given .1) in
     omega (arith, f .room, f .store)
 
 part-copy-start : tie.Need-part-copy-start
@@ -59,7 +59,7 @@ copy-requires c κs =
     let told = c .before in
     let found = told .before .before in
     let a = found .before .before .before .args in
-    let f = open-fits (a .arrival) (length (a .store .now)) (length (a .sent .now)) (sym (found .course .ensures) ∙ told .enum-told4 .given .1) in
+    let f = open-fits (a .arrival) (length (a .store .now)) (length (a .sent .now)) (sym (found .decision .ensures) ∙ told .enum-told4 .given .1) in
     simp (length-take, length-drop) (omega (arith, f .room, f .store))
 
 add-t16 : tie.Need-add-t16
@@ -68,7 +68,7 @@ add-t16 c =
     let told = c .before .before .before .before in
     let found = told .before .before in
     let a = found .before .before .before .args in
-    let f = open-fits (a .arrival) (length (a .store .now)) (length (a .sent .now)) (sym (found .course .ensures) ∙ told .enum-told4 .given .1) in
+    let f = open-fits (a .arrival) (length (a .store .now)) (length (a .sent .now)) (sym (found .decision .ensures) ∙ told .enum-told4 .given .1) in
     omega (arith, f .room, copy .copy .ensures .0)
 
 returns : tie.Need-returns
@@ -76,7 +76,7 @@ returns c =
     let told = c .before in
     let found = told .before .before in
     let a = found .before .before .before .args in
-    parted (a .arrival) (a .store .now) (a .sent .now) Outside (sym (found .course .ensures) ∙ told .enum-told .given .1) _
+    parted (a .arrival) (a .store .now) (a .sent .now) Outside (sym (found .decision .ensures) ∙ told .enum-told .given .1) _
     (c .refused-part .ensures) _ refl
 
 returns-2 : tie.Need-returns-2
@@ -84,7 +84,7 @@ returns-2 c =
     let told = c .before .before in
     let found = told .before .before in
     let a = found .before .before .before .args in
-    parted (a .arrival) (a .store .now) (a .sent .now) Overrun (sym (found .course .ensures) ∙ told .enum-told2 .given .1) _
+    parted (a .arrival) (a .store .now) (a .sent .now) Overrun (sym (found .decision .ensures) ∙ told .enum-told2 .given .1) _
     (c .refused-part2 .ensures ∙ ap (refusedPart Long) (c .before .overran .ensures)) _ refl
 
 returns-3 : tie.Need-returns-3
@@ -92,7 +92,7 @@ returns-3 c =
     let told = c .before in
     let found = told .before .before in
     let a = found .before .before .before .args in
-    parted (a .arrival) (a .store .now) (a .sent .now) Ended (sym (found .course .ensures) ∙ told .enum-told3 .given .1) _
+    parted (a .arrival) (a .store .now) (a .sent .now) Ended (sym (found .decision .ensures) ∙ told .enum-told3 .given .1) _
     (c .refused-part3 .ensures) _ refl
 
 same-length : tie.Need-same-length
@@ -104,18 +104,18 @@ returns-4 c =
     let told = c .before .before .before .before in
     let found = told .before .before in
     let a = found .before .before .before .args in
-    let way = sym (found .course .ensures) ∙ told .enum-told4 .given .1 in
+    let way = sym (found .decision .ensures) ∙ told .enum-told4 .given .1 in
     let f = open-fits (a .arrival) (length (a .store .now)) (length (a .sent .now)) way in
     let fits : a .arrival .arrived + length (a .sent .now) ≤ length (a .store .now) = omega (arith, f .room, f .store) in
     parted (a .arrival) (a .store .now) (a .sent .now) Open way _
-    (ap (λ (n : ℕ). record { verdict = Accepted; arrival = grown (a .arrival) n }) (copied .ensures .0))
+    (ap (λ (n : ℕ). record { verdict = Accepted; state = grown (a .arrival) n }) (copied .ensures .0))
     _ (placed-by-copy (a .arrival .arrived) (a .sent .now) (a .store .now) fits _ (copied .ensures .1))
 
 pub part-spec : {M : Type 1} → statement M
 part-spec =
     tie.close
     (tie.spec
-    course-requires
+    decision-requires
     enum-told
     refused-part-requires
     enum-told-2

@@ -9,8 +9,8 @@ use Rattle.cojp_serial.proofs.Courses.{open-fits}
 use Rattle.cojp_serial.proofs.request.end_request_by.Statement.{statement}
 use Rattle.cojp_serial.proofs.request.end_request_by.Tie as tie
 
-course-requires : tie.Need-course-requires
-course-requires c κs = search needs
+decision-requires : tie.Need-decision-requires
+decision-requires c κs = search needs
 
 enum-told : tie.Need-enum-told
 enum-told c = search needs
@@ -38,7 +38,7 @@ slice-aggregate-request-by c =
     let told = c .before in
     let found = told .before .before in
     let a = found .before .before .args in
-    let f = open-fits (a .arrival) (length (a .store .now)) 0 (sym (found .course .ensures) ∙ told .enum-told4 .given .1) in
+    let f = open-fits (a .arrival) (length (a .store .now)) 0 (sym (found .decision .ensures) ∙ told .enum-told4 .given .1) in
     sym (length-take-le (a .arrival .arrived) (a .store .now) (omega (arith, f .room, f .store)))
 
 request-by-requires : tie.Need-request-by-requires
@@ -51,32 +51,32 @@ returns : tie.Need-returns
 returns c =
     let told = c .before in
     let found = told .before .before in
-    rw (sym (found .course .ensures) ∙ told .enum-told .given .1) (c .refused-request .ensures)
+    rw (sym (found .decision .ensures) ∙ told .enum-told .given .1) (c .refused-request .ensures)
 
 returns-2 : tie.Need-returns-2
 returns-2 c =
     let told = c .before in
     let found = told .before .before in
-    rw (sym (found .course .ensures) ∙ told .enum-told2 .given .1) (c .refused-request2 .ensures)
+    rw (sym (found .decision .ensures) ∙ told .enum-told2 .given .1) (c .refused-request2 .ensures)
 
 returns-3 : tie.Need-returns-3
 returns-3 c =
     let told = c .before in
     let found = told .before .before in
-    rw (sym (found .course .ensures) ∙ told .enum-told3 .given .1) (c .refused-request3 .ensures)
+    rw (sym (found .decision .ensures) ∙ told .enum-told3 .given .1) (c .refused-request3 .ensures)
 
 returns-4 : tie.Need-returns-4
 returns-4 c =
     let read = c .before in
     let told = read .before .before in
     let found = told .before .before in
-    rw (sym (found .course .ensures) ∙ told .enum-told4 .given .1, read .request-by .ensures, c .end-marked .ensures)
+    rw (sym (found .decision .ensures) ∙ told .enum-told4 .given .1, read .request-by .ensures, c .end-marked .ensures)
 
 pub end-request-by-spec : {M : Type 1} → statement M
 end-request-by-spec =
     tie.close
     (tie.spec
-    course-requires
+    decision-requires
     enum-told
     refused-request-requires
     enum-told-2

@@ -4,16 +4,16 @@ use borrow.Author.Needs.{needs}
 use Rattle.key_image.proofs.key.is_key.Statement.{statement}
 use Rattle.key_image.proofs.key.is_key.Tie as tie
 
-add-is-info : tie.Need-add-is-info
-add-is-info c = search needs
+add-is-additional-info : tie.Need-add-is-additional-info
+add-is-additional-info c = search needs
 
-is-info-requires : tie.Need-is-info-requires
-is-info-requires c κs = search needs
+is-additional-info-requires : tie.Need-is-additional-info-requires
+is-additional-info-requires c κs = search needs
 
 returns : tie.Need-returns
 returns c =
     let start = c .before .before in
-    key-judged (start .args .src .now) (start .args .at) (c .is-info .ensures)
+    key-judged (start .args .src .now) (start .args .at) (c .is-additional-info .ensures)
 
 pub is-key-spec : {M : Type 1} → statement M
-is-key-spec = tie.close (tie.spec add-is-info is-info-requires returns)
+is-key-spec = tie.close (tie.spec add-is-additional-info is-additional-info-requires returns)

@@ -13,23 +13,23 @@ add-t5 c = search needs
 shared-slice-read-t7 : tie.Need-shared-slice-read-t7
 shared-slice-read-t7 c = search needs
 
-add-sixteen-at : tie.Need-add-sixteen-at
-add-sixteen-at c = search needs
+add-array-16-at : tie.Need-add-array-16-at
+add-array-16-at c = search needs
 
-sixteen-at-requires : tie.Need-sixteen-at-requires
-sixteen-at-requires c κs = search needs
+array-16-at-requires : tie.Need-array-16-at-requires
+array-16-at-requires c κs = search needs
 
-add-info-at : tie.Need-add-info-at
-add-info-at c = search needs
+add-additional-info-at : tie.Need-add-additional-info-at
+add-additional-info-at c = search needs
 
-info-at-requires : tie.Need-info-at-requires
-info-at-requires c κs = search needs
+additional-info-at-requires : tie.Need-additional-info-at-requires
+additional-info-at-requires c κs = search needs
 
 returns : tie.Need-returns
 returns c =
     let at-sixteen-at = c .before in
     let start = at-sixteen-at .before .before .before .before in
-    key-got (start .args .src .now) (start .args .at) (at-sixteen-at .sixteen-at .ensures) (c .info-at .ensures)
+    key-got (start .args .src .now) (start .args .at) (at-sixteen-at .array-16-at .ensures) (c .additional-info-at .ensures)
 
 pub key-at-spec : {M : Type 1} → statement M
 key-at-spec =
@@ -38,8 +38,8 @@ key-at-spec =
     shared-slice-read-t4
     add-t5
     shared-slice-read-t7
-    add-sixteen-at
-    sixteen-at-requires
-    add-info-at
-    info-at-requires
+    add-array-16-at
+    array-16-at-requires
+    add-additional-info-at
+    additional-info-at-requires
     returns)

@@ -20,29 +20,29 @@ part-put-byte-end c = search needs
 put-byte-requires-2 : tie.Need-put-byte-requires-2
 put-byte-requires-2 c κs = search needs
 
-sub-put-sixteen : tie.Need-sub-put-sixteen
-sub-put-sixteen c = search needs
+sub-put-array-16 : tie.Need-sub-put-array-16
+sub-put-array-16 c = search needs
 
-part-put-sixteen-start : tie.Need-part-put-sixteen-start
-part-put-sixteen-start c = search needs
+part-put-array-16-start : tie.Need-part-put-array-16-start
+part-put-array-16-start c = search needs
 
-part-put-sixteen-end : tie.Need-part-put-sixteen-end
-part-put-sixteen-end c = search needs
+part-put-array-16-end : tie.Need-part-put-array-16-end
+part-put-array-16-end c = search needs
 
-put-sixteen-requires : tie.Need-put-sixteen-requires
-put-sixteen-requires c κs = search needs
+put-array-16-requires : tie.Need-put-array-16-requires
+put-array-16-requires c κs = search needs
 
-sub-put-info : tie.Need-sub-put-info
-sub-put-info c = search needs
+sub-put-additional-info : tie.Need-sub-put-additional-info
+sub-put-additional-info c = search needs
 
-part-put-info-start : tie.Need-part-put-info-start
-part-put-info-start c = search needs
+part-put-additional-info-start : tie.Need-part-put-additional-info-start
+part-put-additional-info-start c = search needs
 
-part-put-info-end : tie.Need-part-put-info-end
-part-put-info-end c = search needs
+part-put-additional-info-end : tie.Need-part-put-additional-info-end
+part-put-additional-info-end c = search needs
 
-put-info-requires : tie.Need-put-info-requires
-put-info-requires c κs = search needs
+put-additional-info-requires : tie.Need-put-additional-info-requires
+put-additional-info-requires c κs = search needs
 
 same-length : tie.Need-same-length
 same-length c = search needs
@@ -54,8 +54,8 @@ returns c =
     let at-put-byte2 = at-put-sixteen .before .before .before .before in
     let at-put-byte = at-put-byte2 .before .before .before .before in
     let w1 = next-field (omega arith) (at-put-byte .put-byte .ensures) (at-put-byte2 .put-byte2 .ensures) in
-    let w2 = next-field (omega arith) w1 (at-put-sixteen .put-sixteen .ensures) in
-    next-field (omega arith) w2 (at-put-info .put-info .ensures)
+    let w2 = next-field (omega arith) w1 (at-put-sixteen .put-array-16 .ensures) in
+    next-field (omega arith) w2 (at-put-info .put-additional-info .ensures)
 
 pub put-key-spec : {M : Type 1} → statement M
 put-key-spec =
@@ -66,13 +66,13 @@ put-key-spec =
     part-put-byte-start
     part-put-byte-end
     put-byte-requires-2
-    sub-put-sixteen
-    part-put-sixteen-start
-    part-put-sixteen-end
-    put-sixteen-requires
-    sub-put-info
-    part-put-info-start
-    part-put-info-end
-    put-info-requires
+    sub-put-array-16
+    part-put-array-16-start
+    part-put-array-16-end
+    put-array-16-requires
+    sub-put-additional-info
+    part-put-additional-info-start
+    part-put-additional-info-end
+    put-additional-info-requires
     same-length
     returns)

@@ -13,8 +13,8 @@ returns c =
 open-requires : tie.Need-open-requires
 open-requires c κs = search needs
 
-hand-ledger-requires : tie.Need-hand-ledger-requires
-hand-ledger-requires c κs = search needs
+store-ledger-requires : tie.Need-store-ledger-requires
+store-ledger-requires c κs = search needs
 
 same-length : tie.Need-same-length
 same-length c = search needs
@@ -24,9 +24,9 @@ returns-2 c =
     let at-hand-ledger = c .before .before in
     let at-open = at-hand-ledger .before .before .before in
     let start = at-open .before .before .before .before in
-    let e = at-hand-ledger .hand-ledger .ensures in
+    let e = at-hand-ledger .store-ledger .ensures in
     open-told (start .args .first) (start .args .size) (start .args .memory .now) (start .args .ledger .now) (at-open .«open» .result) (at-open .«open» .ensures) (omega arith) (e .0) (e .1)
 
 pub ledger-open-spec : {M : Type 1} → statement M
 ledger-open-spec =
-    tie.close (tie.spec returns open-requires hand-ledger-requires same-length returns-2)
+    tie.close (tie.spec returns open-requires store-ledger-requires same-length returns-2)

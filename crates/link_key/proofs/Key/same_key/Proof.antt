@@ -31,8 +31,8 @@ returns-3 c =
     let names = usages .before .before .before in
     rw (eq-eqb _ _ (names .if1 .left), eq-eqb _ _ (usages .if2 .left), sym (values .same-bytes .ensures) ∙ not-true _ (c .if3 .taken))
 
-same-info-requires : tie.Need-same-info-requires
-same-info-requires c κs = search needs
+same-additional-info-requires : tie.Need-same-additional-info-requires
+same-additional-info-requires c κs = search needs
 
 returns-4 : tie.Need-returns-4
 unfolding sameKey
@@ -41,7 +41,7 @@ returns-4 c =
     let usages = values .before .before .before .before .before in
     let names = usages .before .before .before in
     rw (eq-eqb _ _ (names .if1 .left), eq-eqb _ _ (usages .if2 .left), sym (values .same-bytes .ensures) ∙ not-false _ (c .before .if3 .left))
-    (c .same-info .ensures)
+    (c .same-additional-info .ensures)
 
 pub same-key-spec : {M : Type 1} → statement M
 same-key-spec =
@@ -53,5 +53,5 @@ same-key-spec =
     slice-aggregate-same-bytes-2
     same-bytes-requires
     returns-3
-    same-info-requires
+    same-additional-info-requires
     returns-4)

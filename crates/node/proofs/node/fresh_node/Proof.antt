@@ -21,8 +21,8 @@ absent-list-requires c κs = search needs
 absent-rate-requires : tie.Need-absent-rate-requires
 absent-rate-requires c κs = search needs
 
-no-faults-requires : tie.Need-no-faults-requires
-no-faults-requires c κs = search needs
+no-error-reports-requires : tie.Need-no-error-reports-requires
+no-error-reports-requires c κs = search needs
 
 returns : tie.Need-returns
 returns c =
@@ -38,7 +38,7 @@ returns c =
       address .absent-address .ensures,
       blacklist .absent-list .ensures,
       rate .absent-rate .ensures,
-      c .no-faults .ensures,
+      c .no-error-reports .ensures,
     )
 
 pub fresh-node-spec : {M : Type 1} → statement M
@@ -51,5 +51,5 @@ fresh-node-spec =
     absent-address-requires
     absent-list-requires
     absent-rate-requires
-    no-faults-requires
+    no-error-reports-requires
     returns)

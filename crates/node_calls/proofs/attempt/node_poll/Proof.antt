@@ -5,7 +5,7 @@ use Rattle.image.specs.Lent.{long}
 use Rattle.node_image.specs.Node.{nodeImage}
 use Rattle.node_image.specs.Change.{Attempted}
 use Rattle.node.specs.Timing.{poll}
-use Rattle.node.specs.declared.timing.Polled.{Polled}
+use Rattle.node.specs.declared.timing.PollResult.{PollResult}
 use Rattle.node_laws.specs.Calls.{polling}
 use Rattle.node_calls.proofs.Answers.{does-none}
 use Rattle.node_calls.proofs.Nodes.{polled}
@@ -16,8 +16,8 @@ use Rattle.node_calls.proofs.attempt.node_poll.Tie as tie
 demand1-requires : tie.Need-demand1-requires
 demand1-requires c κs = search needs
 
-changes-requires : tie.Need-changes-requires
-changes-requires c κs = search needs
+partial-store-law-requires : tie.Need-partial-store-law-requires
+partial-store-law-requires c κs = search needs
 
 is-node-requires : tie.Need-is-node-requires
 is-node-requires c κs = search needs
@@ -47,8 +47,8 @@ due-code-requires c κs = search needs
 due-verdict-requires : tie.Need-due-verdict-requires
 due-verdict-requires c κs = search needs
 
-keep-attempt-requires : tie.Need-keep-attempt-requires
-keep-attempt-requires c κs =
+store-attempt-requires : tie.Need-store-attempt-requires
+store-attempt-requires c κs =
     let at-poll = c .before .before .before .before in
     let at-node-in = at-poll .before in
     let at-if1 = at-node-in .before .before in
@@ -58,8 +58,8 @@ keep-attempt-requires c κs =
     let s = start .args .node .now in
     let says = (at-poll .poll .ensures) ∙ ap (λ n. poll n (start .args .time)) (at-node-in .node-in .ensures) in (
       granted (at-is-node .is-node .ensures) (at-if1 .if1 .left),
-      subst (λ (x : Polled). Attempted (nodeImage .get s) (x .node)) (sym says)
-          (at-changes .changes .ensures .polled (nodeImage .get s) (start .args .time)),
+      subst (λ (x : PollResult). Attempted (nodeImage .get s) (x .node)) (sym says)
+          (at-changes .partial-store-law .ensures .polled (nodeImage .get s) (start .args .time)),
     )
 
 same-length-2 : tie.Need-same-length-2
@@ -78,7 +78,7 @@ returns-2 c =
     let start = at-demand1 .before .before in
     let image = granted (at-is-node .is-node .ensures) (at-if1 .if1 .left) in
     let says = (at-poll .poll .ensures) ∙ ap (λ n. poll n (start .args .time)) (at-node-in .node-in .ensures) in
-    let kept = at-keep-attempt .keep-attempt .ensures in
+    let kept = at-keep-attempt .store-attempt .ensures in
     polled (start .args .node .now) image (at-demand1 .demand1 .ensures) (start .args .time) (at-poll .poll .result) says
     (at-due-verdict .due-verdict .ensures) (at-due-code .due-code .ensures) (kept .0) (kept .1)
 
@@ -87,7 +87,7 @@ node-poll-spec =
     tie.close
     (tie.spec
     demand1-requires
-    changes-requires
+    partial-store-law-requires
     is-node-requires
     same-length
     returns
@@ -95,6 +95,6 @@ node-poll-spec =
     poll-requires
     due-code-requires
     due-verdict-requires
-    keep-attempt-requires
+    store-attempt-requires
     same-length-2
     returns-2)

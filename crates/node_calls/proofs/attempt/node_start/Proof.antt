@@ -4,7 +4,7 @@ use Rattle.logic_facts.specs.Tests.{denied, granted}
 use Rattle.image.specs.Lent.{long}
 use Rattle.node_image.specs.Node.{nodeImage}
 use Rattle.node_image.specs.Change.{Attempted}
-use Rattle.node.specs.declared.timing.Started.{Started}
+use Rattle.node.specs.declared.timing.StartResult.{StartResult}
 use Rattle.node_calls.proofs.Answers.{starts-none}
 use Rattle.node_calls.proofs.Nodes.{start-as, started}
 use borrow.Author.Needs.{needs}
@@ -14,8 +14,8 @@ use Rattle.node_calls.proofs.attempt.node_start.Tie as tie
 demand1-requires : tie.Need-demand1-requires
 demand1-requires c κs = search needs
 
-changes-requires : tie.Need-changes-requires
-changes-requires c κs = search needs
+partial-store-law-requires : tie.Need-partial-store-law-requires
+partial-store-law-requires c κs = search needs
 
 is-node-requires : tie.Need-is-node-requires
 is-node-requires c κs = search needs
@@ -40,8 +40,8 @@ node-in-requires c κs =
 start-requires : tie.Need-start-requires
 start-requires c κs = search needs
 
-keep-attempt-requires : tie.Need-keep-attempt-requires
-keep-attempt-requires c κs =
+store-attempt-requires : tie.Need-store-attempt-requires
+store-attempt-requires c κs =
     let at-start = c .before .before .before .before in
     let at-node-in = at-start .before .before in
     let at-if1 = at-node-in .before .before in
@@ -51,8 +51,8 @@ keep-attempt-requires c κs =
     let s = start .args .node .now in
     let did = start-as (at-node-in .node-in .ensures) (at-start .start .ensures) in (
       granted (at-is-node .is-node .ensures) (at-if1 .if1 .left),
-      subst (λ (x : Started). Attempted (nodeImage .get s) (x .node)) (sym (did .says))
-          (at-changes .changes .ensures .started (nodeImage .get s) (start .args .time) (start .args .timeout) (start .args .dst .now)),
+      subst (λ (x : StartResult). Attempted (nodeImage .get s) (x .node)) (sym (did .says))
+          (at-changes .partial-store-law .ensures .started (nodeImage .get s) (start .args .time) (start .args .timeout) (start .args .dst .now)),
     )
 
 same-length-2 : tie.Need-same-length-2
@@ -72,7 +72,7 @@ returns-2 c =
     let start = at-demand1 .before .before .before in
     let image = granted (at-is-node .is-node .ensures) (at-if1 .if1 .left) in
     let did = start-as (at-node-in .node-in .ensures) (at-start .start .ensures) in
-    let kept = at-keep-attempt .keep-attempt .ensures in
+    let kept = at-keep-attempt .store-attempt .ensures in
     started (start .args .node .now) image (at-demand1 .demand1 .ensures) (start .args .time) (start .args .timeout)
     (start .args .dst .now) _ (at-start .start .result) did (kept .0) (kept .1)
 
@@ -81,13 +81,13 @@ node-start-spec =
     tie.close
     (tie.spec
     demand1-requires
-    changes-requires
+    partial-store-law-requires
     is-node-requires
     same-length
     returns
     node-in-requires
     start-requires
-    keep-attempt-requires
+    store-attempt-requires
     same-length-2
     same-length-3
     returns-2)

@@ -52,8 +52,8 @@ node-in-requires c κs =
 join-answer-requires : tie.Need-join-answer-requires
 join-answer-requires c κs = search needs
 
-tell-delivered-requires : tie.Need-tell-delivered-requires
-tell-delivered-requires c κs =
+store-delivery-requires : tie.Need-store-delivery-requires
+store-delivery-requires c κs =
     let at-if2 = c .before .before .before .before .before in
     let at-is-node = at-if2 .before in
     let at-if1 = at-is-node .before .before in
@@ -78,7 +78,7 @@ returns-3 c =
     let image = granted (at-is-node .is-node .ensures) (at-if2 .if2 .left) in
     let says = (at-join-answer .join-answer .ensures) ∙ ap
     (λ n. deliver delivery.JoinAnswer n (start .args .time) (start .args .payload .now)) (at-node-in .node-in .ensures) in
-    let told = at-tell-delivered .tell-delivered .ensures in
+    let told = at-tell-delivered .store-delivery .ensures in
     delivered (start .args .node .now) image (start .args .reports .now) delivery.JoinAnswer (start .args .time)
     (start .args .payload .now) (at-join-answer .join-answer .result) (omega (arith, (at-if1 .if1 .left))) says (told .0) (told .1 .0)
     (told .1 .1)
@@ -95,7 +95,7 @@ node-answer-spec =
     returns-2
     node-in-requires
     join-answer-requires
-    tell-delivered-requires
+    store-delivery-requires
     same-length-3
     same-length-4
     returns-3)

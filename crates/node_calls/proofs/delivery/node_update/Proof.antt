@@ -52,8 +52,8 @@ node-in-requires c κs =
 update-requires : tie.Need-update-requires
 update-requires c κs = search needs
 
-tell-delivered-requires : tie.Need-tell-delivered-requires
-tell-delivered-requires c κs =
+store-delivery-requires : tie.Need-store-delivery-requires
+store-delivery-requires c κs =
     let at-if2 = c .before .before .before .before .before in
     let at-is-node = at-if2 .before in
     let at-if1 = at-is-node .before .before in
@@ -78,7 +78,7 @@ returns-3 c =
     let image = granted (at-is-node .is-node .ensures) (at-if2 .if2 .left) in
     let says = (at-update .update .ensures) ∙ ap (λ n. deliver delivery.Update n (start .args .time) (start .args .payload .now))
     (at-node-in .node-in .ensures) in
-    let told = at-tell-delivered .tell-delivered .ensures in
+    let told = at-tell-delivered .store-delivery .ensures in
     delivered (start .args .node .now) image (start .args .reports .now) delivery.Update (start .args .time)
     (start .args .payload .now) (at-update .update .result) (omega (arith, (at-if1 .if1 .left))) says (told .0) (told .1 .0) (told .1 .1)
 
@@ -94,7 +94,7 @@ node-update-spec =
     returns-2
     node-in-requires
     update-requires
-    tell-delivered-requires
+    store-delivery-requires
     same-length-3
     same-length-4
     returns-3)

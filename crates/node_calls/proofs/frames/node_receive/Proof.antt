@@ -53,8 +53,8 @@ node-in-requires c κs =
 receiving-key-requires : tie.Need-receiving-key-requires
 receiving-key-requires c κs = search needs
 
-hand-key-requires : tie.Need-hand-key-requires
-hand-key-requires c κs = search needs
+store-key-requires : tie.Need-store-key-requires
+store-key-requires c κs = search needs
 
 same-length-2 : tie.Need-same-length-2
 same-length-2 c = search needs
@@ -72,7 +72,7 @@ returns-3 c =
     let type = (start .args) .frame-type in
     let says = (at-receiving-key .receiving-key .ensures) ∙ ap (λ n. receive n type (start .args .identifier))
     (at-node-in .node-in .ensures) in
-    let told = at-hand-key .hand-key .ensures in
+    let told = at-hand-key .store-key .ensures in
     received (start .args .node .now) image (start .args .key .now) type (start .args .identifier)
     (at-receiving-key .receiving-key .result) (omega (arith, (at-if1 .if1 .left))) says (told .0) (told .1)
 
@@ -87,6 +87,6 @@ node-receive-spec =
     returns-2
     node-in-requires
     receiving-key-requires
-    hand-key-requires
+    store-key-requires
     same-length-2
     returns-3)

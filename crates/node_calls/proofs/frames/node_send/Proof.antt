@@ -6,7 +6,7 @@ use Rattle.image.specs.Lent.{long}
 use Rattle.node_image.specs.Node.{nodeImage}
 use Rattle.node_image.specs.Change.{Recounted}
 use Rattle.node.specs.Frames as frames
-use Rattle.node.specs.declared.frames.Sent.{Sent}
+use Rattle.node.specs.declared.frames.SendResult.{SendResult}
 use Rattle.node_laws.specs.Calls.{sending}
 use Rattle.node_calls.proofs.Answers.{changes-unfit, changes-none}
 use Rattle.node_calls.proofs.Nodes.{sent}
@@ -14,8 +14,8 @@ use borrow.Author.Needs.{needs}
 use Rattle.node_calls.proofs.frames.node_send.Statement.{statement}
 use Rattle.node_calls.proofs.frames.node_send.Tie as tie
 
-changes-requires : tie.Need-changes-requires
-changes-requires c κs = search needs
+partial-store-law-requires : tie.Need-partial-store-law-requires
+partial-store-law-requires c κs = search needs
 
 returns : tie.Need-returns
 returns c =
@@ -54,11 +54,11 @@ node-in-requires c κs =
 sending-key-requires : tie.Need-sending-key-requires
 sending-key-requires c κs = search needs
 
-hand-key-requires : tie.Need-hand-key-requires
-hand-key-requires c κs = search needs
+store-key-requires : tie.Need-store-key-requires
+store-key-requires c κs = search needs
 
-keep-counters-requires : tie.Need-keep-counters-requires
-keep-counters-requires c κs =
+store-counters-requires : tie.Need-store-counters-requires
+store-counters-requires c κs =
     let at-sending-key = c .before .before .before .before .before .before .before in
     let at-node-in = at-sending-key .before in
     let at-if2 = at-node-in .before .before in
@@ -68,8 +68,8 @@ keep-counters-requires c κs =
     let s = start .args .node .now in
     let says = (at-sending-key .sending-key .ensures) ∙ ap (λ n. frames.sending n (start .args .frame-type)) (at-node-in .node-in .ensures) in (
       granted (at-is-node .is-node .ensures) (at-if2 .if2 .left),
-      subst (λ (x : Sent). Recounted (nodeImage .get s) (x .node)) (sym says)
-          (at-changes .changes .ensures .sent (nodeImage .get s) (start .args .frame-type)),
+      subst (λ (x : SendResult). Recounted (nodeImage .get s) (x .node)) (sym says)
+          (at-changes .partial-store-law .ensures .sent (nodeImage .get s) (start .args .frame-type)),
     )
 
 same-length-3 : tie.Need-same-length-3
@@ -91,15 +91,15 @@ returns-3 c =
     let image = granted (at-is-node .is-node .ensures) (at-if2 .if2 .left) in
     let type = start .args .frame-type in
     let says = (at-sending-key .sending-key .ensures) ∙ ap (λ n. frames.sending n type) (at-node-in .node-in .ensures) in
-    let kept = at-keep-counters .keep-counters .ensures in
+    let kept = at-keep-counters .store-counters .ensures in
     sent (start .args .node .now) image (start .args .key .now) type (at-sending-key .sending-key .result)
-    (omega (arith, (at-if1 .if1 .left))) says (kept .0) (kept .1) (at-hand-key .hand-key .ensures .1)
+    (omega (arith, (at-if1 .if1 .left))) says (kept .0) (kept .1) (at-hand-key .store-key .ensures .1)
 
 pub node-send-spec : {M : Type 1} → statement M
 node-send-spec =
     tie.close
     (tie.spec
-    changes-requires
+    partial-store-law-requires
     returns
     is-node-requires
     clear-requires
@@ -108,8 +108,8 @@ node-send-spec =
     returns-2
     node-in-requires
     sending-key-requires
-    hand-key-requires
-    keep-counters-requires
+    store-key-requires
+    store-counters-requires
     same-length-3
     same-length-4
     returns-3)

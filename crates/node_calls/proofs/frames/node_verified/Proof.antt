@@ -43,8 +43,8 @@ change-code-requires c κs = search needs
 change-verdict-requires : tie.Need-change-verdict-requires
 change-verdict-requires c κs = search needs
 
-keep-node-requires : tie.Need-keep-node-requires
-keep-node-requires c κs =
+store-node-requires : tie.Need-store-node-requires
+store-node-requires c κs =
     let at-if1 = c .before .before .before .before .before .before .before in
     let at-is-node = at-if1 .before in
     let start = at-is-node .before .before .before .before in
@@ -67,7 +67,7 @@ returns-2 c =
     let image = granted (at-is-node .is-node .ensures) (at-if1 .if1 .left) in
     let type = (start .args) .frame-type in
     let says = (at-verified .verified .ensures) ∙ ap (λ n. verified n type (start .args .identifier)) (at-node-in .node-in .ensures) in
-    let kept = at-keep-node .keep-node .ensures in
+    let kept = at-keep-node .store-node .ensures in
     reported (start .args .node .now) image (at-demand1 .demand1 .ensures) type (start .args .identifier)
     (at-verified .verified .result) says (at-change-verdict .change-verdict .ensures) (at-change-code .change-code .ensures) (kept .0)
     (kept .1)
@@ -84,6 +84,6 @@ node-verified-spec =
     verified-requires
     change-code-requires
     change-verdict-requires
-    keep-node-requires
+    store-node-requires
     same-length-2
     returns-2)

@@ -32,8 +32,8 @@ node-in-requires c κs =
 address-holds-requires : tie.Need-address-holds-requires
 address-holds-requires c κs = search needs
 
-tell-holding-requires : tie.Need-tell-holding-requires
-tell-holding-requires c κs = search needs
+store-lease-status-requires : tie.Need-store-lease-status-requires
+store-lease-status-requires c κs = search needs
 
 returns-2 : tie.Need-returns-2
 returns-2 c =
@@ -45,7 +45,7 @@ returns-2 c =
     let start = at-demand1 .before .before in
     let image = granted (at-is-node .is-node .ensures) (at-if1 .if1 .left) in
     let says = (at-address-holds .address-holds .ensures) ∙ ap (λ n. holds n (start .args .time)) (at-node-in .node-in .ensures) in
-    let told = c .tell-holding .ensures in
+    let told = c .store-lease-status .ensures in
     asked (start .args .node .now) image (at-demand1 .demand1 .ensures) (start .args .time)
     (at-address-holds .address-holds .result) says (told .0) (told .1)
 
@@ -58,5 +58,5 @@ node-holds-spec =
     returns
     node-in-requires
     address-holds-requires
-    tell-holding-requires
+    store-lease-status-requires
     returns-2)

@@ -57,8 +57,8 @@ returns-3 c =
 made-of-requires : tie.Need-made-of-requires
 made-of-requires c κs = search needs
 
-hand-node-requires : tie.Need-hand-node-requires
-hand-node-requires c κs = search needs
+store-result-node-requires : tie.Need-store-result-node-requires
+store-result-node-requires c κs = search needs
 
 same-length-3 : tie.Need-same-length-3
 same-length-3 c = search needs
@@ -71,7 +71,7 @@ returns-4 c =
     let at-if2 = at-if3 .before in
     let at-if1 = at-if2 .before in
     let start = at-if1 .before .before .before in
-    let told = at-hand-node .hand-node .ensures in
+    let told = at-hand-node .store-result-node .ensures in
     node-made (start .args .form) (start .args .role) (start .args .has-network) (start .args .network .now) (start .args .node .now)
     (at-made-of .made-of .result) (omega (arith, (at-if1 .if1 .left))) (at-if2 .if2 .left) (at-if3 .if3 .left)
     (at-made-of .made-of .ensures) (told .0) (told .1)
@@ -88,6 +88,6 @@ node-make-spec =
     same-length-2
     returns-3
     made-of-requires
-    hand-node-requires
+    store-result-node-requires
     same-length-3
     returns-4)

@@ -35,8 +35,8 @@ held-list-at-requires c κs = search needs
 held-rate-at-requires : tie.Need-held-rate-at-requires
 held-rate-at-requires c κs = search needs
 
-faults-at-requires : tie.Need-faults-at-requires
-faults-at-requires c κs =
+error-reports-at-requires : tie.Need-error-reports-at-requires
+error-reports-at-requires c κs =
     let start = c .before .before .before .before .before .before .before .before .before .before .before in
     omega (arith, start .pre)
 
@@ -54,7 +54,7 @@ returns c =
     let start = at-attempt-at .before .before .before in
     let s = start .args .s .now in
     let form = form-got s (at-version-at .version-at .ensures) (at-held-list-at .held-list-at .ensures)
-    (at-held-rate-at .held-rate-at .ensures) (c .faults-at .ensures) in
+    (at-held-rate-at .held-rate-at .ensures) (c .error-reports-at .ensures) in
     let held = held-got s (at-held-address-at .held-address-at .ensures) (at-held-octets-at .held-octets-at .ensures)
     (at-held-octets-at2 .held-octets-at2 .ensures) (at-held-octets-at3 .held-octets-at3 .ensures) form in
     node-got s (at-attempt-at .attempt-at .ensures) (at-sets-at .sets-at .ensures) held
@@ -73,5 +73,5 @@ node-in-spec =
     version-at-requires
     held-list-at-requires
     held-rate-at-requires
-    faults-at-requires
+    error-reports-at-requires
     returns)

@@ -1,7 +1,7 @@
 -- Each field is written to the part after those before it.
 use native.Mathlib.Omega.{arith}
 use Rattle.image.specs.Fields.{next-field}
-use Rattle.object_image.specs.Faults.{faultsPart}
+use Rattle.object_image.specs.ErrorReports.{errorReportsPart}
 use Rattle.node_image.proofs.Places.{wrote-so, three-fields}
 use Rattle.node_image.specs.Held.{heldListPart, heldRatePart}
 use Rattle.node_image.specs.Version.{versionPart}
@@ -36,17 +36,17 @@ part-put-held-rate-end c = search needs
 put-held-rate-requires : tie.Need-put-held-rate-requires
 put-held-rate-requires c κs = search needs
 
-sub-put-faults : tie.Need-sub-put-faults
-sub-put-faults c = search needs
+sub-put-error-reports : tie.Need-sub-put-error-reports
+sub-put-error-reports c = search needs
 
-part-put-faults-start : tie.Need-part-put-faults-start
-part-put-faults-start c = search needs
+part-put-error-reports-start : tie.Need-part-put-error-reports-start
+part-put-error-reports-start c = search needs
 
-part-put-faults-end : tie.Need-part-put-faults-end
-part-put-faults-end c = search needs
+part-put-error-reports-end : tie.Need-part-put-error-reports-end
+part-put-error-reports-end c = search needs
 
-put-faults-requires : tie.Need-put-faults-requires
-put-faults-requires c κs = search needs
+put-error-reports-requires : tie.Need-put-error-reports-requires
+put-error-reports-requires c κs = search needs
 
 same-length : tie.Need-same-length
 same-length c = search needs
@@ -62,8 +62,8 @@ returns c =
     let w2 = next-field (omega arith) w1 (at-put-held-rate .put-held-rate .ensures) in
     let a = start .args in
     let together = three-fields (versionPart .put (a .version)) (heldListPart .put (a .blacklist)) (heldRatePart .put (a .rate))
-    (faultsPart .put (a .faults)) in
-    wrote-so together (next-field (omega arith) w2 (at-put-faults .put-faults .ensures))
+    (errorReportsPart .put (a .faults)) in
+    wrote-so together (next-field (omega arith) w2 (at-put-faults .put-error-reports .ensures))
 
 pub put-form-spec : {M : Type 1} → statement M
 put-form-spec =
@@ -78,9 +78,9 @@ put-form-spec =
     part-put-held-rate-start
     part-put-held-rate-end
     put-held-rate-requires
-    sub-put-faults
-    part-put-faults-start
-    part-put-faults-end
-    put-faults-requires
+    sub-put-error-reports
+    part-put-error-reports-start
+    part-put-error-reports-end
+    put-error-reports-requires
     same-length
     returns)

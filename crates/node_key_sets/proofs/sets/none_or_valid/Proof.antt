@@ -10,7 +10,7 @@ valid-as-requires : tie.Need-valid-as-requires
 valid-as-requires c κs = search needs
 
 returns : tie.Need-returns
-returns c = rw (c .if1 .taken) (sym (or-true (c .before .before .args .informed)))
+returns c = rw (c .if1 .taken) (sym (or-true (c .before .before .args .allowed)))
 
 returns-2 : tie.Need-returns-2
 returns-2 c = rw (ne-eqb _ _ (c .before .if1 .left)) (c .valid-as .ensures)

@@ -5,8 +5,8 @@ use borrow.Author.Needs.{needs}
 use Rattle.object_image.proofs.address.address_parameter_at.Statement.{statement}
 use Rattle.object_image.proofs.address.address_parameter_at.Tie as tie
 
-report-at-requires : tie.Need-report-at-requires
-report-at-requires c κs = search needs
+disposition-at-requires : tie.Need-disposition-at-requires
+disposition-at-requires c κs = search needs
 
 add-short-address-at : tie.Need-add-short-address-at
 add-short-address-at c = search needs
@@ -19,8 +19,8 @@ returns c =
     let at-report-at = c .before in
     let start = at-report-at .before .before in
     parameter-here (start .args .s .now) (start .args .at) shortAddressPart addressParameterTo
-    (at-report-at .report-at .ensures) (c .short-address-at .ensures)
+    (at-report-at .disposition-at .ensures) (c .short-address-at .ensures)
 
 pub address-parameter-at-spec : {M : Type 1} → statement M
 address-parameter-at-spec =
-    tie.close (tie.spec report-at-requires add-short-address-at short-address-at-requires returns)
+    tie.close (tie.spec disposition-at-requires add-short-address-at short-address-at-requires returns)

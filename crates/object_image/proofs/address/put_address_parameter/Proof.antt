@@ -5,8 +5,8 @@ use borrow.Author.Needs.{needs}
 use Rattle.object_image.proofs.address.put_address_parameter.Statement.{statement}
 use Rattle.object_image.proofs.address.put_address_parameter.Tie as tie
 
-put-report-requires : tie.Need-put-report-requires
-put-report-requires c κs = search needs
+put-disposition-requires : tie.Need-put-disposition-requires
+put-disposition-requires c κs = search needs
 
 sub-put-short-address : tie.Need-sub-put-short-address
 sub-put-short-address c = search needs
@@ -27,13 +27,13 @@ returns : tie.Need-returns
 returns c =
     let at-put-short-address = c .before .before in
     let at-put-report = at-put-short-address .before .before .before .before in
-    next-field (omega arith) (at-put-report .put-report .ensures) (at-put-short-address .put-short-address .ensures)
+    next-field (omega arith) (at-put-report .put-disposition .ensures) (at-put-short-address .put-short-address .ensures)
 
 pub put-address-parameter-spec : {M : Type 1} → statement M
 put-address-parameter-spec =
     tie.close
     (tie.spec
-    put-report-requires
+    put-disposition-requires
     sub-put-short-address
     part-put-short-address-start
     part-put-short-address-end

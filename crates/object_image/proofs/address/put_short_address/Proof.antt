@@ -6,8 +6,8 @@ use borrow.Author.Needs.{needs}
 use Rattle.object_image.proofs.address.put_short_address.Statement.{statement}
 use Rattle.object_image.proofs.address.put_short_address.Tie as tie
 
-put-two-requires : tie.Need-put-two-requires
-put-two-requires c κs = search needs
+put-array-2-requires : tie.Need-put-array-2-requires
+put-array-2-requires c κs = search needs
 
 sub-put-bool : tie.Need-sub-put-bool
 sub-put-bool c = search needs
@@ -42,14 +42,14 @@ returns c =
     let at-put-bool = at-put-number .before .before .before .before in
     let at-put-two = at-put-bool .before .before .before .before in
     let start = at-put-two .before .before .before .before in
-    let w = next-field (omega arith) (at-put-two .put-two .ensures) (at-put-bool .put-bool .ensures) in
+    let w = next-field (omega arith) (at-put-two .put-array-2 .ensures) (at-put-bool .put-bool .ensures) in
     address-wrote (start .args .address) (next-field (omega arith) w (at-put-number .put-number .ensures))
 
 pub put-short-address-spec : {M : Type 1} → statement M
 put-short-address-spec =
     tie.close
     (tie.spec
-    put-two-requires
+    put-array-2-requires
     sub-put-bool
     part-put-bool-start
     part-put-bool-end

@@ -25,8 +25,8 @@ list-parameter-at-requires c κs = search needs
 rate-parameter-at-requires : tie.Need-rate-parameter-at-requires
 rate-parameter-at-requires c κs = search needs
 
-faults-at-requires : tie.Need-faults-at-requires
-faults-at-requires c κs = search needs
+error-reports-at-requires : tie.Need-error-reports-at-requires
+error-reports-at-requires c κs = search needs
 
 number-at-requires : tie.Need-number-at-requires
 number-at-requires c κs = search needs
@@ -46,7 +46,7 @@ returns c =
     (at-address-parameter-at .address-parameter-at .ensures) (at-octets-parameter-at .octets-parameter-at .ensures)
     (at-octets-parameter-at2 .octets-parameter-at2 .ensures) (at-octets-parameter-at3 .octets-parameter-at3 .ensures)
     (at-list-parameter-at .list-parameter-at .ensures) (at-rate-parameter-at .rate-parameter-at .ensures)
-    (at-faults-at .faults-at .ensures) (c .number-at .ensures)
+    (at-faults-at .error-reports-at .ensures) (c .number-at .ensures)
 
 pub configuration-in-spec : {M : Type 1} → statement M
 configuration-in-spec =
@@ -59,6 +59,6 @@ configuration-in-spec =
     octets-parameter-at-requires-3
     list-parameter-at-requires
     rate-parameter-at-requires
-    faults-at-requires
+    error-reports-at-requires
     number-at-requires
     returns)

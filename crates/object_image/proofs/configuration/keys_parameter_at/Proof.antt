@@ -6,8 +6,8 @@ use borrow.Author.Needs.{needs}
 use Rattle.object_image.proofs.configuration.keys_parameter_at.Statement.{statement}
 use Rattle.object_image.proofs.configuration.keys_parameter_at.Tie as tie
 
-report-at-requires : tie.Need-report-at-requires
-report-at-requires c κs = search needs
+disposition-at-requires : tie.Need-disposition-at-requires
+disposition-at-requires c κs = search needs
 
 add-key-set-at : tie.Need-add-key-set-at
 add-key-set-at c = search needs
@@ -19,14 +19,14 @@ returns : tie.Need-returns
 returns c =
     let at-report-at = c .before in
     let start = at-report-at .before .before in
-    parameter-here (start .args .s .now) (start .args .at) keySetPart keysParameterTo (at-report-at .report-at .ensures)
+    parameter-here (start .args .s .now) (start .args .at) keySetPart keysParameterTo (at-report-at .disposition-at .ensures)
     (c .key-set-at .ensures)
 
 pub keys-parameter-at-spec : {M : Type 1} → statement M
 keys-parameter-at-spec =
     tie.close
     (tie.spec
-    report-at-requires
+    disposition-at-requires
     add-key-set-at
     key-set-at-requires
     returns)

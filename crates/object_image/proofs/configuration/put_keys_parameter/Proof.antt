@@ -5,8 +5,8 @@ use borrow.Author.Needs.{needs}
 use Rattle.object_image.proofs.configuration.put_keys_parameter.Statement.{statement}
 use Rattle.object_image.proofs.configuration.put_keys_parameter.Tie as tie
 
-put-report-requires : tie.Need-put-report-requires
-put-report-requires c κs = search needs
+put-disposition-requires : tie.Need-put-disposition-requires
+put-disposition-requires c κs = search needs
 
 sub-put-key-set : tie.Need-sub-put-key-set
 sub-put-key-set c = search needs
@@ -27,13 +27,13 @@ returns : tie.Need-returns
 returns c =
     let at-put-key-set = c .before .before in
     let at-put-report = at-put-key-set .before .before .before .before in
-    next-field (omega arith) (at-put-report .put-report .ensures) (at-put-key-set .put-key-set .ensures)
+    next-field (omega arith) (at-put-report .put-disposition .ensures) (at-put-key-set .put-key-set .ensures)
 
 pub put-keys-parameter-spec : {M : Type 1} → statement M
 put-keys-parameter-spec =
     tie.close
     (tie.spec
-    put-report-requires
+    put-disposition-requires
     sub-put-key-set
     part-put-key-set-start
     part-put-key-set-end

@@ -21,17 +21,17 @@ part-put-rate-parameter-end c = search needs
 put-rate-parameter-requires : tie.Need-put-rate-parameter-requires
 put-rate-parameter-requires c κs = search needs
 
-sub-put-faults : tie.Need-sub-put-faults
-sub-put-faults c = search needs
+sub-put-error-reports : tie.Need-sub-put-error-reports
+sub-put-error-reports c = search needs
 
-part-put-faults-start : tie.Need-part-put-faults-start
-part-put-faults-start c = search needs
+part-put-error-reports-start : tie.Need-part-put-error-reports-start
+part-put-error-reports-start c = search needs
 
-part-put-faults-end : tie.Need-part-put-faults-end
-part-put-faults-end c = search needs
+part-put-error-reports-end : tie.Need-part-put-error-reports-end
+part-put-error-reports-end c = search needs
 
-put-faults-requires : tie.Need-put-faults-requires
-put-faults-requires c κs = search needs
+put-error-reports-requires : tie.Need-put-error-reports-requires
+put-error-reports-requires c κs = search needs
 
 sub-put-number : tie.Need-sub-put-number
 sub-put-number c = search needs
@@ -58,7 +58,7 @@ returns c =
     let w1 =
     next-field (omega arith) (at-put-list-parameter .put-list-parameter .ensures)
     (at-put-rate-parameter .put-rate-parameter .ensures) in
-    let w2 = next-field (omega arith) w1 (at-put-faults .put-faults .ensures) in
+    let w2 = next-field (omega arith) w1 (at-put-faults .put-error-reports .ensures) in
     let w3 = next-field (omega arith) w2 (at-put-number .put-number .ensures) in
     later-wrote (start .args .configuration) w3
 
@@ -71,10 +71,10 @@ put-later-spec =
     part-put-rate-parameter-start
     part-put-rate-parameter-end
     put-rate-parameter-requires
-    sub-put-faults
-    part-put-faults-start
-    part-put-faults-end
-    put-faults-requires
+    sub-put-error-reports
+    part-put-error-reports-start
+    part-put-error-reports-end
+    put-error-reports-requires
     sub-put-number
     part-put-number-start
     part-put-number-end

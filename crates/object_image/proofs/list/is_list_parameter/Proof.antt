@@ -4,13 +4,13 @@ use borrow.Author.Needs.{needs}
 use Rattle.object_image.proofs.list.is_list_parameter.Statement.{statement}
 use Rattle.object_image.proofs.list.is_list_parameter.Tie as tie
 
-is-report-requires : tie.Need-is-report-requires
-is-report-requires c κs = search needs
+is-disposition-requires : tie.Need-is-disposition-requires
+is-disposition-requires c κs = search needs
 
 returns : tie.Need-returns
 returns c =
     let start = c .before .before in
-    good-if-report (start .args .s .now) (start .args .at) (c .is-report .ensures)
+    good-if-report (start .args .s .now) (start .args .at) (c .is-disposition .ensures)
 
 pub is-list-parameter-spec : {M : Type 1} → statement M
-is-list-parameter-spec = tie.close (tie.spec is-report-requires returns)
+is-list-parameter-spec = tie.close (tie.spec is-disposition-requires returns)

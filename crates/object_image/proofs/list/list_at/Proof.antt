@@ -13,11 +13,11 @@ add-number-at c = search needs
 number-at-requires-2 : tie.Need-number-at-requires-2
 number-at-requires-2 c κs = search needs
 
-add-bytes253-at : tie.Need-add-bytes253-at
-add-bytes253-at c = search needs
+add-array-253-at : tie.Need-add-array-253-at
+add-array-253-at c = search needs
 
-bytes253-at-requires : tie.Need-bytes253-at-requires
-bytes253-at-requires c κs = search needs
+array-253-at-requires : tie.Need-array-253-at-requires
+array-253-at-requires c κs = search needs
 
 returns : tie.Need-returns
 returns c =
@@ -25,7 +25,7 @@ returns c =
     let at-number-at = at-number-at2 .before in
     let start = at-number-at .before .before in
     list-here (start .args .s .now) (start .args .at) (at-number-at .number-at .ensures) (at-number-at2 .number-at2 .ensures)
-    (c .bytes253-at .ensures)
+    (c .array-253-at .ensures)
 
 pub list-at-spec : {M : Type 1} → statement M
 list-at-spec =
@@ -34,6 +34,6 @@ list-at-spec =
     number-at-requires
     add-number-at
     number-at-requires-2
-    add-bytes253-at
-    bytes253-at-requires
+    add-array-253-at
+    array-253-at-requires
     returns)

@@ -21,17 +21,17 @@ part-put-number-end c = search needs
 put-number-requires-2 : tie.Need-put-number-requires-2
 put-number-requires-2 c κs = search needs
 
-sub-put-bytes253 : tie.Need-sub-put-bytes253
-sub-put-bytes253 c = search needs
+sub-put-array-253 : tie.Need-sub-put-array-253
+sub-put-array-253 c = search needs
 
-part-put-bytes253-start : tie.Need-part-put-bytes253-start
-part-put-bytes253-start c = search needs
+part-put-array-253-start : tie.Need-part-put-array-253-start
+part-put-array-253-start c = search needs
 
-part-put-bytes253-end : tie.Need-part-put-bytes253-end
-part-put-bytes253-end c = search needs
+part-put-array-253-end : tie.Need-part-put-array-253-end
+part-put-array-253-end c = search needs
 
-put-bytes253-requires : tie.Need-put-bytes253-requires
-put-bytes253-requires c κs = search needs
+put-array-253-requires : tie.Need-put-array-253-requires
+put-array-253-requires c κs = search needs
 
 same-length : tie.Need-same-length
 same-length c = search needs
@@ -43,7 +43,7 @@ returns c =
     let at-put-number = at-put-number2 .before .before .before .before in
     let start = at-put-number .before .before .before .before in
     let w = next-field (omega arith) (at-put-number .put-number .ensures) (at-put-number2 .put-number2 .ensures) in
-    list-wrote (start .args .list) (next-field (omega arith) w (at-put-bytes253 .put-bytes253 .ensures))
+    list-wrote (start .args .list) (next-field (omega arith) w (at-put-bytes253 .put-array-253 .ensures))
 
 pub put-list-spec : {M : Type 1} → statement M
 put-list-spec =
@@ -54,9 +54,9 @@ put-list-spec =
     part-put-number-start
     part-put-number-end
     put-number-requires-2
-    sub-put-bytes253
-    part-put-bytes253-start
-    part-put-bytes253-end
-    put-bytes253-requires
+    sub-put-array-253
+    part-put-array-253-start
+    part-put-array-253-end
+    put-array-253-requires
     same-length
     returns)

@@ -5,8 +5,8 @@ use borrow.Author.Needs.{needs}
 use Rattle.object_image.proofs.list.put_list_parameter.Statement.{statement}
 use Rattle.object_image.proofs.list.put_list_parameter.Tie as tie
 
-put-report-requires : tie.Need-put-report-requires
-put-report-requires c κs = search needs
+put-disposition-requires : tie.Need-put-disposition-requires
+put-disposition-requires c κs = search needs
 
 sub-put-list : tie.Need-sub-put-list
 sub-put-list c = search needs
@@ -27,13 +27,13 @@ returns : tie.Need-returns
 returns c =
     let at-put-list = c .before .before in
     let at-put-report = at-put-list .before .before .before .before in
-    next-field (omega arith) (at-put-report .put-report .ensures) (at-put-list .put-list .ensures)
+    next-field (omega arith) (at-put-report .put-disposition .ensures) (at-put-list .put-list .ensures)
 
 pub put-list-parameter-spec : {M : Type 1} → statement M
 put-list-parameter-spec =
     tie.close
     (tie.spec
-    put-report-requires
+    put-disposition-requires
     sub-put-list
     part-put-list-start
     part-put-list-end

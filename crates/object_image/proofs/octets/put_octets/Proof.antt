@@ -8,17 +8,17 @@ use Rattle.object_image.proofs.octets.put_octets.Tie as tie
 put-number-requires : tie.Need-put-number-requires
 put-number-requires c κs = search needs
 
-sub-put-sixteen : tie.Need-sub-put-sixteen
-sub-put-sixteen c = search needs
+sub-put-array-16 : tie.Need-sub-put-array-16
+sub-put-array-16 c = search needs
 
-part-put-sixteen-start : tie.Need-part-put-sixteen-start
-part-put-sixteen-start c = search needs
+part-put-array-16-start : tie.Need-part-put-array-16-start
+part-put-array-16-start c = search needs
 
-part-put-sixteen-end : tie.Need-part-put-sixteen-end
-part-put-sixteen-end c = search needs
+part-put-array-16-end : tie.Need-part-put-array-16-end
+part-put-array-16-end c = search needs
 
-put-sixteen-requires : tie.Need-put-sixteen-requires
-put-sixteen-requires c κs = search needs
+put-array-16-requires : tie.Need-put-array-16-requires
+put-array-16-requires c κs = search needs
 
 same-length : tie.Need-same-length
 same-length c = search needs
@@ -27,16 +27,16 @@ returns : tie.Need-returns
 returns c =
     let at-put-sixteen = c .before .before in
     let at-put-number = at-put-sixteen .before .before .before .before in
-    next-field (omega arith) (at-put-number .put-number .ensures) (at-put-sixteen .put-sixteen .ensures)
+    next-field (omega arith) (at-put-number .put-number .ensures) (at-put-sixteen .put-array-16 .ensures)
 
 pub put-octets-spec : {M : Type 1} → statement M
 put-octets-spec =
     tie.close
     (tie.spec
     put-number-requires
-    sub-put-sixteen
-    part-put-sixteen-start
-    part-put-sixteen-end
-    put-sixteen-requires
+    sub-put-array-16
+    part-put-array-16-start
+    part-put-array-16-end
+    put-array-16-requires
     same-length
     returns)

@@ -5,8 +5,8 @@ use borrow.Author.Needs.{needs}
 use Rattle.object_image.proofs.octets.put_octets_parameter.Statement.{statement}
 use Rattle.object_image.proofs.octets.put_octets_parameter.Tie as tie
 
-put-report-requires : tie.Need-put-report-requires
-put-report-requires c κs = search needs
+put-disposition-requires : tie.Need-put-disposition-requires
+put-disposition-requires c κs = search needs
 
 sub-put-octets : tie.Need-sub-put-octets
 sub-put-octets c = search needs
@@ -27,13 +27,13 @@ returns : tie.Need-returns
 returns c =
     let at-put-octets = c .before .before in
     let at-put-report = at-put-octets .before .before .before .before in
-    next-field (omega arith) (at-put-report .put-report .ensures) (at-put-octets .put-octets .ensures)
+    next-field (omega arith) (at-put-report .put-disposition .ensures) (at-put-octets .put-octets .ensures)
 
 pub put-octets-parameter-spec : {M : Type 1} → statement M
 put-octets-parameter-spec =
     tie.close
     (tie.spec
-    put-report-requires
+    put-disposition-requires
     sub-put-octets
     part-put-octets-start
     part-put-octets-end

@@ -5,8 +5,8 @@ use borrow.Author.Needs.{needs}
 use Rattle.object_image.proofs.rate.put_rate_parameter.Statement.{statement}
 use Rattle.object_image.proofs.rate.put_rate_parameter.Tie as tie
 
-put-report-requires : tie.Need-put-report-requires
-put-report-requires c κs = search needs
+put-disposition-requires : tie.Need-put-disposition-requires
+put-disposition-requires c κs = search needs
 
 sub-put-number : tie.Need-sub-put-number
 sub-put-number c = search needs
@@ -27,13 +27,13 @@ returns : tie.Need-returns
 returns c =
     let at-put-number = c .before .before in
     let at-put-report = at-put-number .before .before .before .before in
-    next-field (omega arith) (at-put-report .put-report .ensures) (at-put-number .put-number .ensures)
+    next-field (omega arith) (at-put-report .put-disposition .ensures) (at-put-number .put-number .ensures)
 
 pub put-rate-parameter-spec : {M : Type 1} → statement M
 put-rate-parameter-spec =
     tie.close
     (tie.spec
-    put-report-requires
+    put-disposition-requires
     sub-put-number
     part-put-number-start
     part-put-number-end

@@ -9,17 +9,17 @@ use Rattle.object_image.proofs.request.put_later.Tie as tie
 put-list-parameter-requires : tie.Need-put-list-parameter-requires
 put-list-parameter-requires c κs = search needs
 
-sub-put-faults : tie.Need-sub-put-faults
-sub-put-faults c = search needs
+sub-put-error-reports : tie.Need-sub-put-error-reports
+sub-put-error-reports c = search needs
 
-part-put-faults-start : tie.Need-part-put-faults-start
-part-put-faults-start c = search needs
+part-put-error-reports-start : tie.Need-part-put-error-reports-start
+part-put-error-reports-start c = search needs
 
-part-put-faults-end : tie.Need-part-put-faults-end
-part-put-faults-end c = search needs
+part-put-error-reports-end : tie.Need-part-put-error-reports-end
+part-put-error-reports-end c = search needs
 
-put-faults-requires : tie.Need-put-faults-requires
-put-faults-requires c κs = search needs
+put-error-reports-requires : tie.Need-put-error-reports-requires
+put-error-reports-requires c κs = search needs
 
 sub-put-number : tie.Need-sub-put-number
 sub-put-number c = search needs
@@ -43,7 +43,7 @@ returns c =
     let at-put-list-parameter = at-put-faults .before .before .before .before in
     let start = at-put-list-parameter .before .before .before .before .before in
     let w =
-    next-field (omega arith) (at-put-list-parameter .put-list-parameter .ensures) (at-put-faults .put-faults .ensures) in
+    next-field (omega arith) (at-put-list-parameter .put-list-parameter .ensures) (at-put-faults .put-error-reports .ensures) in
     later-request-wrote (start .args .request) (next-field (omega arith) w (at-put-number .put-number .ensures))
 
 pub put-later-spec : {M : Type 1} → statement M
@@ -51,10 +51,10 @@ put-later-spec =
     tie.close
     (tie.spec
     put-list-parameter-requires
-    sub-put-faults
-    part-put-faults-start
-    part-put-faults-end
-    put-faults-requires
+    sub-put-error-reports
+    part-put-error-reports-start
+    part-put-error-reports-end
+    put-error-reports-requires
     sub-put-number
     part-put-number-start
     part-put-number-end

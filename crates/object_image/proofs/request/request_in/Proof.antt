@@ -13,8 +13,8 @@ octets-parameter-at-requires c κs = search needs
 list-parameter-at-requires : tie.Need-list-parameter-at-requires
 list-parameter-at-requires c κs = search needs
 
-faults-at-requires : tie.Need-faults-at-requires
-faults-at-requires c κs = search needs
+error-reports-at-requires : tie.Need-error-reports-at-requires
+error-reports-at-requires c κs = search needs
 
 number-at-requires : tie.Need-number-at-requires
 number-at-requires c κs = search needs
@@ -26,7 +26,7 @@ returns c =
     let at-octets-parameter-at = at-list-parameter-at .before in
     let start = at-octets-parameter-at .before .before .before in
     request-got (start .args .s .now) (at-octets-parameter-at .octets-parameter-at .ensures)
-    (at-list-parameter-at .list-parameter-at .ensures) (at-faults-at .faults-at .ensures) (c .number-at .ensures)
+    (at-list-parameter-at .list-parameter-at .ensures) (at-faults-at .error-reports-at .ensures) (c .number-at .ensures)
 
 pub request-in-spec : {M : Type 1} → statement M
 request-in-spec =
@@ -35,6 +35,6 @@ request-in-spec =
     shared-slice-read-t3
     octets-parameter-at-requires
     list-parameter-at-requires
-    faults-at-requires
+    error-reports-at-requires
     number-at-requires
     returns)

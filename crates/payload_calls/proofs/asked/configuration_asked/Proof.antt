@@ -2,13 +2,13 @@
 use mathlib.Core.Path.{ap, _∙_}
 use Rattle.cojp.specs.Configuration.{readConfigurationAs, readStrictConfigurationAs}
 use Rattle.payload_calls.proofs.Forms.{ordinary, strict}
-use Rattle.payload_calls.specs.Asked.{formOf}
+use Rattle.payload_calls.specs.Asked.{versionOf}
 use borrow.Author.Needs.{needs}
 use Rattle.payload_calls.proofs.asked.configuration_asked.Statement.{statement}
 use Rattle.payload_calls.proofs.asked.configuration_asked.Tie as tie
 
-form-of-requires : tie.Need-form-of-requires
-form-of-requires c κs = search needs
+version-of-requires : tie.Need-version-of-requires
+version-of-requires c κs = search needs
 
 read-configuration-as-requires : tie.Need-read-configuration-as-requires
 read-configuration-as-requires c κs = search needs
@@ -17,8 +17,8 @@ returns : tie.Need-returns
 returns c =
     let at-form = c .before .before in
     let a = at-form .before .before .args in
-    ordinary (a .reading) (readConfigurationAs (formOf (a .form)) (a .payload .now)) (readStrictConfigurationAs (formOf (a .form)) (a .payload .now)) (c .before .if1 .taken)
-    (c .read-configuration-as .ensures ∙ ap (λ v. readConfigurationAs v (a .payload .now)) (at-form .form-of .ensures))
+    ordinary (a .reading) (readConfigurationAs (versionOf (a .form)) (a .payload .now)) (readStrictConfigurationAs (versionOf (a .form)) (a .payload .now)) (c .before .if1 .taken)
+    (c .read-configuration-as .ensures ∙ ap (λ v. readConfigurationAs v (a .payload .now)) (at-form .version-of .ensures))
 
 read-strict-configuration-as-requires : tie.Need-read-strict-configuration-as-requires
 read-strict-configuration-as-requires c κs = search needs
@@ -27,14 +27,14 @@ returns-2 : tie.Need-returns-2
 returns-2 c =
     let at-form = c .before .before in
     let a = at-form .before .before .args in
-    strict (a .reading) (readConfigurationAs (formOf (a .form)) (a .payload .now)) (readStrictConfigurationAs (formOf (a .form)) (a .payload .now)) (c .before .if1 .left)
-    (c .read-strict-configuration-as .ensures ∙ ap (λ v. readStrictConfigurationAs v (a .payload .now)) (at-form .form-of .ensures))
+    strict (a .reading) (readConfigurationAs (versionOf (a .form)) (a .payload .now)) (readStrictConfigurationAs (versionOf (a .form)) (a .payload .now)) (c .before .if1 .left)
+    (c .read-strict-configuration-as .ensures ∙ ap (λ v. readStrictConfigurationAs v (a .payload .now)) (at-form .version-of .ensures))
 
 pub configuration-asked-spec : {M : Type 1} → statement M
 configuration-asked-spec =
     tie.close
     (tie.spec
-    form-of-requires
+    version-of-requires
     read-configuration-as-requires
     returns
     read-strict-configuration-as-requires

@@ -2,13 +2,13 @@
 use mathlib.Core.Path.{ap, _∙_}
 use Rattle.cojp.specs.Request.{readRequestAs, readStrictRequestAs}
 use Rattle.payload_calls.proofs.Forms.{ordinary, strict}
-use Rattle.payload_calls.specs.Asked.{formOf}
+use Rattle.payload_calls.specs.Asked.{versionOf}
 use borrow.Author.Needs.{needs}
 use Rattle.payload_calls.proofs.asked.request_asked.Statement.{statement}
 use Rattle.payload_calls.proofs.asked.request_asked.Tie as tie
 
-form-of-requires : tie.Need-form-of-requires
-form-of-requires c κs = search needs
+version-of-requires : tie.Need-version-of-requires
+version-of-requires c κs = search needs
 
 read-request-as-requires : tie.Need-read-request-as-requires
 read-request-as-requires c κs = search needs
@@ -17,8 +17,8 @@ returns : tie.Need-returns
 returns c =
     let at-form = c .before .before in
     let a = at-form .before .before .args in
-    ordinary (a .reading) (readRequestAs (formOf (a .form)) (a .payload .now)) (readStrictRequestAs (formOf (a .form)) (a .payload .now)) (c .before .if1 .taken)
-    (c .read-request-as .ensures ∙ ap (λ v. readRequestAs v (a .payload .now)) (at-form .form-of .ensures))
+    ordinary (a .reading) (readRequestAs (versionOf (a .form)) (a .payload .now)) (readStrictRequestAs (versionOf (a .form)) (a .payload .now)) (c .before .if1 .taken)
+    (c .read-request-as .ensures ∙ ap (λ v. readRequestAs v (a .payload .now)) (at-form .version-of .ensures))
 
 read-strict-request-as-requires : tie.Need-read-strict-request-as-requires
 read-strict-request-as-requires c κs = search needs
@@ -27,14 +27,14 @@ returns-2 : tie.Need-returns-2
 returns-2 c =
     let at-form = c .before .before in
     let a = at-form .before .before .args in
-    strict (a .reading) (readRequestAs (formOf (a .form)) (a .payload .now)) (readStrictRequestAs (formOf (a .form)) (a .payload .now)) (c .before .if1 .left)
-    (c .read-strict-request-as .ensures ∙ ap (λ v. readStrictRequestAs v (a .payload .now)) (at-form .form-of .ensures))
+    strict (a .reading) (readRequestAs (versionOf (a .form)) (a .payload .now)) (readStrictRequestAs (versionOf (a .form)) (a .payload .now)) (c .before .if1 .left)
+    (c .read-strict-request-as .ensures ∙ ap (λ v. readStrictRequestAs v (a .payload .now)) (at-form .version-of .ensures))
 
 pub request-asked-spec : {M : Type 1} → statement M
 request-asked-spec =
     tie.close
     (tie.spec
-    form-of-requires
+    version-of-requires
     read-request-as-requires
     returns
     read-strict-request-as-requires

@@ -82,8 +82,8 @@ configuration-in-requires-2 c κs =
 merge-requires : tie.Need-merge-requires
 merge-requires c κs = search needs
 
-hand-configuration-requires : tie.Need-hand-configuration-requires
-hand-configuration-requires c κs = search needs
+store-configuration-requires : tie.Need-store-configuration-requires
+store-configuration-requires c κs = search needs
 
 same-length-3 : tie.Need-same-length-3
 same-length-3 c = search needs
@@ -102,7 +102,7 @@ returns-4 c =
     let right = both (isImage configurationImage (a .first .now)) (isImage configurationImage (a .second .now))
     (granted (at-is .is-configuration .ensures) (at-if2 .if2 .left)) (granted (at-is2 .is-configuration2 .ensures) (at-if3 .if3 .left)) in
     let same = at-merge .merge .ensures ∙ ap₂ (λ x y. mergeAnswer x y) (at-in .configuration-in .ensures) (at-in2 .configuration-in2 .ensures) in
-    let e = at-hand .hand-configuration .ensures in
+    let e = at-hand .store-configuration .ensures in
     hands-as 570 (isImage configurationImage (a .first .now) && isImage configurationImage (a .second .now)) (λ m. m .verdict) (λ m. configurationImage .put (m .configuration)) (a .out .now)
     (at-merge .merge .result) (mergedIn (a .first .now) (a .second .now)) (omega arith) right same (e .0) (e .1)
 
@@ -122,6 +122,6 @@ configuration-merge-spec =
     configuration-in-requires
     configuration-in-requires-2
     merge-requires
-    hand-configuration-requires
+    store-configuration-requires
     same-length-3
     returns-4)

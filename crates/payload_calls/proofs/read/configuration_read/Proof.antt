@@ -41,8 +41,8 @@ returns-2 c =
 configuration-asked-requires : tie.Need-configuration-asked-requires
 configuration-asked-requires c κs = search needs
 
-hand-configuration-requires : tie.Need-hand-configuration-requires
-hand-configuration-requires c κs = search needs
+store-configuration-requires : tie.Need-store-configuration-requires
+store-configuration-requires c κs = search needs
 
 same-length-2 : tie.Need-same-length-2
 same-length-2 c = search needs
@@ -54,7 +54,7 @@ returns-3 c =
     let at-if2 = at-asked .before in
     let at-is = at-if2 .before in
     let a = at-is .before .before .before .before .args in
-    let e = at-hand .hand-configuration .ensures in
+    let e = at-hand .store-configuration .ensures in
     hands-as 570 (isReading (a .form) (a .reading)) (λ q. q .verdict) (λ q. configurationImage .put (q .configuration)) (a .out .now)
     (at-asked .configuration-asked .result) (configurationAsked (a .form) (a .reading) (a .payload .now))
     (omega arith) (granted (at-is .is-reading .ensures) (at-if2 .if2 .left)) (at-asked .configuration-asked .ensures) (e .0) (e .1)
@@ -69,6 +69,6 @@ configuration-read-spec =
     same-length
     returns-2
     configuration-asked-requires
-    hand-configuration-requires
+    store-configuration-requires
     same-length-2
     returns-3)

@@ -41,8 +41,8 @@ returns-2 c =
 request-asked-requires : tie.Need-request-asked-requires
 request-asked-requires c κs = search needs
 
-hand-request-requires : tie.Need-hand-request-requires
-hand-request-requires c κs = search needs
+store-request-requires : tie.Need-store-request-requires
+store-request-requires c κs = search needs
 
 same-length-2 : tie.Need-same-length-2
 same-length-2 c = search needs
@@ -54,7 +54,7 @@ returns-3 c =
     let at-if2 = at-asked .before in
     let at-is = at-if2 .before in
     let a = at-is .before .before .before .before .args in
-    let e = at-hand .hand-request .ensures in
+    let e = at-hand .store-request .ensures in
     hands-as 296 (isReading (a .form) (a .reading)) (λ q. q .verdict) (λ q. requestImage .put (q .request)) (a .out .now)
     (at-asked .request-asked .result) (requestAsked (a .form) (a .reading) (a .payload .now))
     (omega arith) (granted (at-is .is-reading .ensures) (at-if2 .if2 .left)) (at-asked .request-asked .ensures) (e .0) (e .1)
@@ -69,6 +69,6 @@ request-read-spec =
     same-length
     returns-2
     request-asked-requires
-    hand-request-requires
+    store-request-requires
     same-length-2
     returns-3)

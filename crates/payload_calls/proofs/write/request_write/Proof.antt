@@ -6,20 +6,20 @@ use Rattle.image.specs.Lent.{long}
 use Rattle.image.specs.Part.{isImage}
 use Rattle.object_image.specs.Request.{requestImage}
 use Rattle.payload_calls.proofs.Answers.{unfit, wrote-as, not-first, not-second}
-use Rattle.payload_calls.specs.Asked.{isForm, formOf}
+use Rattle.payload_calls.specs.Asked.{isVersion, versionOf}
 use borrow.Author.Needs.{needs}
 use Rattle.payload_calls.proofs.write.request_write.Statement.{statement}
 use Rattle.payload_calls.proofs.write.request_write.Tie as tie
 
-is-form-requires : tie.Need-is-form-requires
-is-form-requires c κs = search needs
+is-version-requires : tie.Need-is-version-requires
+is-version-requires c κs = search needs
 
 returns : tie.Need-returns
 returns c =
     let at-form = c .before in
     let a = at-form .before .before .before .args in
-    unfit (isForm (a .form) && isImage requestImage (a .object .now)) (requestPlan (formOf (a .form)) (requestImage .get (a .object .now))) (a .dst .now)
-    (not-first (isForm (a .form)) (isImage requestImage (a .object .now)) (denied (at-form .is-form .ensures) (c .if1 .taken)))
+    unfit (isVersion (a .form) && isImage requestImage (a .object .now)) (requestPlan (versionOf (a .form)) (requestImage .get (a .object .now))) (a .dst .now)
+    (not-first (isVersion (a .form)) (isImage requestImage (a .object .now)) (denied (at-form .is-version .ensures) (c .if1 .taken)))
 
 is-request-requires : tie.Need-is-request-requires
 is-request-requires c κs = search needs
@@ -28,8 +28,8 @@ returns-2 : tie.Need-returns-2
 returns-2 c =
     let at-is = c .before in
     let a = at-is .before .before .before .before .before .args in
-    unfit (isForm (a .form) && isImage requestImage (a .object .now)) (requestPlan (formOf (a .form)) (requestImage .get (a .object .now))) (a .dst .now)
-    (not-second (isForm (a .form)) (isImage requestImage (a .object .now)) (denied (at-is .is-request .ensures) (c .if2 .taken)))
+    unfit (isVersion (a .form) && isImage requestImage (a .object .now)) (requestPlan (versionOf (a .form)) (requestImage .get (a .object .now))) (a .dst .now)
+    (not-second (isVersion (a .form)) (isImage requestImage (a .object .now)) (denied (at-is .is-request .ensures) (c .if2 .taken)))
 
 request-in-requires : tie.Need-request-in-requires
 request-in-requires c κs =
@@ -38,14 +38,14 @@ request-in-requires c κs =
     let a = at-is .before .before .before .before .before .args in
     long requestImage (a .object .now) (granted (at-is .is-request .ensures) (at-if2 .if2 .left))
 
-form-of-requires : tie.Need-form-of-requires
-form-of-requires c κs = search needs
+version-of-requires : tie.Need-version-of-requires
+version-of-requires c κs = search needs
 
 write-request-as-requires : tie.Need-write-request-as-requires
 write-request-as-requires c κs = search needs
 
-tell-length-requires : tie.Need-tell-length-requires
-tell-length-requires c κs = search needs
+store-length-requires : tie.Need-store-length-requires
+store-length-requires c κs = search needs
 
 same-length : tie.Need-same-length
 same-length c = search needs
@@ -60,23 +60,23 @@ returns-3 c =
     let at-if1 = at-is .before in
     let at-form = at-if1 .before in
     let a = at-form .before .before .before .args in
-    let right = both (isForm (a .form)) (isImage requestImage (a .object .now)) (granted (at-form .is-form .ensures) (at-if1 .if1 .left))
+    let right = both (isVersion (a .form)) (isImage requestImage (a .object .now)) (granted (at-form .is-version .ensures) (at-if1 .if1 .left))
     (granted (at-is .is-request .ensures) (at-if2 .if2 .left)) in
-    let e = c .tell-length .ensures in
-    wrote-as (isForm (a .form) && isImage requestImage (a .object .now)) (λ v q. requestPlan v q) (a .dst .now) _ (at-write .write-request-as .result) right (at-form-of .form-of .ensures) (at-in .request-in .ensures)
+    let e = c .store-length .ensures in
+    wrote-as (isVersion (a .form) && isImage requestImage (a .object .now)) (λ v q. requestPlan v q) (a .dst .now) _ (at-write .write-request-as .result) right (at-form-of .version-of .ensures) (at-in .request-in .ensures)
     (at-write .write-request-as .ensures) (e .0) (e .1)
 
 pub request-write-spec : {M : Type 1} → statement M
 request-write-spec =
     tie.close
     (tie.spec
-    is-form-requires
+    is-version-requires
     returns
     is-request-requires
     returns-2
     request-in-requires
-    form-of-requires
+    version-of-requires
     write-request-as-requires
-    tell-length-requires
+    store-length-requires
     same-length
     returns-3)

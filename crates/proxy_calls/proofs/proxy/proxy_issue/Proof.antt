@@ -37,8 +37,8 @@ proxy-in-requires c κs =
     let start = at-is-proxy .before .before .before .before .before .before .before in
     long proxyImage (start .args .proxy .now) (granted (at-is-proxy .is-proxy .ensures) (at-if2 .if2 .left))
 
-eight-at-requires : tie.Need-eight-at-requires
-eight-at-requires c κs = search needs
+array-8-at-requires : tie.Need-array-8-at-requires
+array-8-at-requires c κs = search needs
 
 issue-requires : tie.Need-issue-requires
 issue-requires c κs = search needs
@@ -79,7 +79,7 @@ returns-3 c =
     let at-is-proxy = at-if2 .before in
     let start = at-is-proxy .before .before .before .before .before .before .before in
     let a = start .args in
-    let interface = whole 8 (a .interface .now) (omega arith) (at-eight-at .eight-at .ensures) in
+    let interface = whole 8 (a .interface .now) (omega arith) (at-eight-at .array-8-at .ensures) in
     let right = then-so (a .interface .now) 8 (isImage proxyImage (a .proxy .now)) (omega arith) (granted (at-is-proxy .is-proxy .ensures) (at-if2 .if2 .left)) in
     let did = issue-as (at-proxy-in .proxy-in .ensures) interface (at-issue .issue .ensures) in
     issue-done (a .proxy .now) (a .interface .now) (a .port) (a .token .now) (a .dst .now) (at-issue .issue .result) _ right did _ (at-enum-told .enum-told .given .1) (at-put-proxy .put-proxy .ensures)
@@ -100,7 +100,7 @@ returns-4 c =
     let at-is-proxy = at-if2 .before in
     let start = at-is-proxy .before .before .before .before .before .before .before in
     let a = start .args in
-    let interface = whole 8 (a .interface .now) (omega arith) (at-eight-at .eight-at .ensures) in
+    let interface = whole 8 (a .interface .now) (omega arith) (at-eight-at .array-8-at .ensures) in
     let right = then-so (a .interface .now) 8 (isImage proxyImage (a .proxy .now)) (omega arith) (granted (at-is-proxy .is-proxy .ensures) (at-if2 .if2 .left)) in
     let did = issue-as (at-proxy-in .proxy-in .ensures) interface (at-issue .issue .ensures) in
     issue-refused (a .proxy .now) (a .interface .now) (a .port) (a .token .now) (a .dst .now) (at-issue .issue .result) _ right did _ (at-written .written .given .1) (c .number .ensures)
@@ -114,7 +114,7 @@ proxy-issue-spec =
     same-length
     returns-2
     proxy-in-requires
-    eight-at-requires
+    array-8-at-requires
     issue-requires
     enum-told
     put-proxy-requires

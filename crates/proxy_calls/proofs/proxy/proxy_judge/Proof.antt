@@ -41,8 +41,8 @@ proxy-in-requires c κs =
 judge-requires : tie.Need-judge-requires
 judge-requires c κs = search needs
 
-hand-pledge-requires : tie.Need-hand-pledge-requires
-hand-pledge-requires c κs = search needs
+store-pledge-requires : tie.Need-store-pledge-requires
+store-pledge-requires c κs = search needs
 
 same-length-2 : tie.Need-same-length-2
 same-length-2 c = search needs
@@ -57,7 +57,7 @@ returns-3 c =
     let start = at-is-proxy .before .before .before .before .before in
     let a = start .args in
     let same = at-judge .judge .ensures ∙ ap (λ p. judgeBody p (a .body .now)) (at-proxy-in .proxy-in .ensures) in
-    let e = at-hand-pledge .hand-pledge .ensures in
+    let e = at-hand-pledge .store-pledge .ensures in
     judge-told (a .proxy .now) (a .body .now) (a .pledge .now) (at-judge .judge .result) (omega arith) (granted (at-is-proxy .is-proxy .ensures) (at-if2 .if2 .left)) same (e .0) (e .1)
 
 pub proxy-judge-spec : {M : Type 1} → statement M
@@ -71,6 +71,6 @@ proxy-judge-spec =
     returns-2
     proxy-in-requires
     judge-requires
-    hand-pledge-requires
+    store-pledge-requires
     same-length-2
     returns-3)

@@ -24,8 +24,8 @@ returns-2 c =
     let start = at-if2 .before .before .before .before in
     make-short (start .args .key .now) (start .args .proxy .now) (omega arith) (at-if2 .if2 .taken) (at-clear .clear .ensures)
 
-sixteen-at-requires : tie.Need-sixteen-at-requires
-sixteen-at-requires c κs = search needs
+array-16-at-requires : tie.Need-array-16-at-requires
+array-16-at-requires c κs = search needs
 
 new-requires : tie.Need-new-requires
 new-requires c κs = search needs
@@ -43,7 +43,7 @@ returns-3 c =
     let at-sixteen-at = at-new .before in
     let start = at-sixteen-at .before .before .before .before .before .before in
     let a = start .args in
-    made (a .key .now) (a .proxy .now) (at-new .new .result) (omega arith) (omega arith) (whole 16 (a .key .now) (omega arith) (at-sixteen-at .sixteen-at .ensures))
+    made (a .key .now) (a .proxy .now) (at-new .new .result) (omega arith) (omega arith) (whole 16 (a .key .now) (omega arith) (at-sixteen-at .array-16-at .ensures))
     (at-new .new .ensures) (at-put-proxy .put-proxy .ensures)
 
 pub proxy-make-spec : {M : Type 1} → statement M
@@ -54,7 +54,7 @@ proxy-make-spec =
     clear-requires
     same-length
     returns-2
-    sixteen-at-requires
+    array-16-at-requires
     new-requires
     put-proxy-requires
     same-length-2

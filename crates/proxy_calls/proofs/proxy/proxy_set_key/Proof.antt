@@ -38,14 +38,14 @@ proxy-in-requires c κs =
     let start = at-is-proxy .before .before .before .before .before in
     long proxyImage (start .args .proxy .now) (granted (at-is-proxy .is-proxy .ensures) (at-if2 .if2 .left))
 
-sixteen-at-requires : tie.Need-sixteen-at-requires
-sixteen-at-requires c κs = search needs
+array-16-at-requires : tie.Need-array-16-at-requires
+array-16-at-requires c κs = search needs
 
 set-key-requires : tie.Need-set-key-requires
 set-key-requires c κs = search needs
 
-keep-proxy-requires : tie.Need-keep-proxy-requires
-keep-proxy-requires c κs =
+store-proxy-requires : tie.Need-store-proxy-requires
+store-proxy-requires c κs =
     let at-if2 = c .before .before .before .before .before .before in
     let at-is-proxy = at-if2 .before in
     let start = at-is-proxy .before .before .before .before .before in
@@ -64,10 +64,10 @@ returns-3 c =
     let at-is-proxy = at-if2 .before in
     let start = at-is-proxy .before .before .before .before .before in
     let a = start .args in
-    let key = whole 16 (a .key .now) (omega arith) (at-sixteen-at .sixteen-at .ensures) in
+    let key = whole 16 (a .key .now) (omega arith) (at-sixteen-at .array-16-at .ensures) in
     let right = then-so (a .key .now) 16 (isImage proxyImage (a .proxy .now)) (omega arith) (granted (at-is-proxy .is-proxy .ensures) (at-if2 .if2 .left)) in
     let same = at-set-key .set-key .ensures ∙ ap₂ (λ p k. setKey p k) (at-proxy-in .proxy-in .ensures) key in
-    let e = at-keep-proxy .keep-proxy .ensures in
+    let e = at-keep-proxy .store-proxy .ensures in
     key-told (a .proxy .now) (a .key .now) (at-set-key .set-key .result) right same (e .0) (e .1)
 
 pub proxy-set-key-spec : {M : Type 1} → statement M
@@ -79,8 +79,8 @@ proxy-set-key-spec =
     same-length
     returns-2
     proxy-in-requires
-    sixteen-at-requires
+    array-16-at-requires
     set-key-requires
-    keep-proxy-requires
+    store-proxy-requires
     same-length-2
     returns-3)

@@ -9,17 +9,17 @@ use Rattle.replay_calls.proofs.replayed.put_replayed.Tie as tie
 put-head-requires : tie.Need-put-head-requires
 put-head-requires c κs = search needs
 
-sub-put-night : tie.Need-sub-put-night
-sub-put-night c = search needs
+sub-put-statistics : tie.Need-sub-put-statistics
+sub-put-statistics c = search needs
 
-part-put-night-start : tie.Need-part-put-night-start
-part-put-night-start c = search needs
+part-put-statistics-start : tie.Need-part-put-statistics-start
+part-put-statistics-start c = search needs
 
-part-put-night-end : tie.Need-part-put-night-end
-part-put-night-end c = search needs
+part-put-statistics-end : tie.Need-part-put-statistics-end
+part-put-statistics-end c = search needs
 
-put-night-requires : tie.Need-put-night-requires
-put-night-requires c κs = search needs
+put-statistics-requires : tie.Need-put-statistics-requires
+put-statistics-requires c κs = search needs
 
 sub-put-bool : tie.Need-sub-put-bool
 sub-put-bool c = search needs
@@ -52,11 +52,11 @@ returns : tie.Need-returns
 returns c =
     let at-put-number = c .before .before in
     let at-put-bool = at-put-number .before .before .before .before in
-    let at-put-night = at-put-bool .before .before .before .before in
-    let at-put-head = at-put-night .before .before .before .before in
+    let at-put-trace = at-put-bool .before .before .before .before in
+    let at-put-head = at-put-trace .before .before .before .before in
     let start = at-put-head .before .before .before in
     let a = start .args in
-    let w1 = next-field (omega arith) (at-put-head .put-head .ensures) (at-put-night .put-night .ensures) in
+    let w1 = next-field (omega arith) (at-put-head .put-head .ensures) (at-put-trace .put-statistics .ensures) in
     let w2 = next-field (omega arith) w1 (at-put-bool .put-bool .ensures) in
     let w3 = next-field (omega arith) w2 (at-put-number .put-number .ensures) in
     replayed-stored (a .report) (a .stopped) (a .place) (start .pre) w3
@@ -66,10 +66,10 @@ put-replayed-spec =
     tie.close
     (tie.spec
     put-head-requires
-    sub-put-night
-    part-put-night-start
-    part-put-night-end
-    put-night-requires
+    sub-put-statistics
+    part-put-statistics-start
+    part-put-statistics-end
+    put-statistics-requires
     sub-put-bool
     part-put-bool-start
     part-put-bool-end

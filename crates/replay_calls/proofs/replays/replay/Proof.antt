@@ -44,8 +44,8 @@ returns-3 c =
 replay-requires : tie.Need-replay-requires
 replay-requires c κs = search needs
 
-hand-node-requires : tie.Need-hand-node-requires
-hand-node-requires c κs = omega arith
+store-node-requires : tie.Need-store-node-requires
+store-node-requires c κs = omega arith
 
 put-replayed-requires : tie.Need-put-replayed-requires
 put-replayed-requires c κs = omega arith
@@ -64,7 +64,7 @@ returns-4 c =
     let start = at-replay .before .before .before .before .before .before in
     let a = start .args in
     replayed-told (a .trace .now) (a .node .now) (a .out .now) (at-replay .replay .result) (at-replay .replay .ensures) (omega arith)
-    (omega arith) (at-hand-node .hand-node .ensures) (at-put-replayed .put-replayed .ensures)
+    (omega arith) (at-hand-node .store-node .ensures) (at-put-replayed .put-replayed .ensures)
 
 pub replay-spec : {M : Type 1} → statement M
 replay-spec =
@@ -78,7 +78,7 @@ replay-spec =
     same-length-2
     returns-3
     replay-requires
-    hand-node-requires
+    store-node-requires
     put-replayed-requires
     same-length-3
     same-length-4

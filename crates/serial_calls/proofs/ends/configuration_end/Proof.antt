@@ -1,13 +1,13 @@
 -- The reading that is asked for.
 use Rattle.cojp.specs.Configuration.{readConfigurationAs, readStrictConfigurationAs}
-use Rattle.cojp_serial.specs.Arrival.{configurationEnd}
+use Rattle.cojp_serial.specs.State.{configurationEnd}
 use Rattle.serial_calls.proofs.Ending.{end-ordinary, end-strict}
 use borrow.Author.Needs.{needs}
 use Rattle.serial_calls.proofs.ends.configuration_end.Statement.{statement}
 use Rattle.serial_calls.proofs.ends.configuration_end.Tie as tie
 
-form-of-requires : tie.Need-form-of-requires
-form-of-requires c κs = search needs
+version-of-requires : tie.Need-version-of-requires
+version-of-requires c κs = search needs
 
 end-configuration-as-requires : tie.Need-end-configuration-as-requires
 end-configuration-as-requires c κs = search needs
@@ -19,7 +19,7 @@ returns c =
     let start = at-form-of .before .before in
     let a = start .args in
     end-ordinary (λ r b. configurationEnd r b (a .store .now)) readConfigurationAs readStrictConfigurationAs (a .form) (a .reading)
-    (a .arrival) (at-form-of .form-of .ensures) (at-if1 .if1 .taken) (c .end-configuration-as .ensures)
+    (a .arrival) (at-form-of .version-of .ensures) (at-if1 .if1 .taken) (c .end-configuration-as .ensures)
 
 end-strict-configuration-as-requires : tie.Need-end-strict-configuration-as-requires
 end-strict-configuration-as-requires c κs = search needs
@@ -31,13 +31,13 @@ returns-2 c =
     let start = at-form-of .before .before in
     let a = start .args in
     end-strict (λ r b. configurationEnd r b (a .store .now)) readConfigurationAs readStrictConfigurationAs (a .form) (a .reading)
-    (a .arrival) (at-form-of .form-of .ensures) (at-if1 .if1 .left) (c .end-strict-configuration-as .ensures)
+    (a .arrival) (at-form-of .version-of .ensures) (at-if1 .if1 .left) (c .end-strict-configuration-as .ensures)
 
 pub configuration-end-spec : {M : Type 1} → statement M
 configuration-end-spec =
     tie.close
     (tie.spec
-    form-of-requires
+    version-of-requires
     end-configuration-as-requires
     returns
     end-strict-configuration-as-requires

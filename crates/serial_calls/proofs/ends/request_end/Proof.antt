@@ -1,13 +1,13 @@
 -- The reading that is asked for.
 use Rattle.cojp.specs.Request.{readRequestAs, readStrictRequestAs}
-use Rattle.cojp_serial.specs.Arrival.{requestEnd}
+use Rattle.cojp_serial.specs.State.{requestEnd}
 use Rattle.serial_calls.proofs.Ending.{end-ordinary, end-strict}
 use borrow.Author.Needs.{needs}
 use Rattle.serial_calls.proofs.ends.request_end.Statement.{statement}
 use Rattle.serial_calls.proofs.ends.request_end.Tie as tie
 
-form-of-requires : tie.Need-form-of-requires
-form-of-requires c κs = search needs
+version-of-requires : tie.Need-version-of-requires
+version-of-requires c κs = search needs
 
 end-request-as-requires : tie.Need-end-request-as-requires
 end-request-as-requires c κs = search needs
@@ -19,7 +19,7 @@ returns c =
     let start = at-form-of .before .before in
     let a = start .args in
     end-ordinary (λ r b. requestEnd r b (a .store .now)) readRequestAs readStrictRequestAs (a .form) (a .reading) (a .arrival)
-    (at-form-of .form-of .ensures) (at-if1 .if1 .taken) (c .end-request-as .ensures)
+    (at-form-of .version-of .ensures) (at-if1 .if1 .taken) (c .end-request-as .ensures)
 
 end-strict-request-as-requires : tie.Need-end-strict-request-as-requires
 end-strict-request-as-requires c κs = search needs
@@ -31,13 +31,13 @@ returns-2 c =
     let start = at-form-of .before .before in
     let a = start .args in
     end-strict (λ r b. requestEnd r b (a .store .now)) readRequestAs readStrictRequestAs (a .form) (a .reading) (a .arrival)
-    (at-form-of .form-of .ensures) (at-if1 .if1 .left) (c .end-strict-request-as .ensures)
+    (at-form-of .version-of .ensures) (at-if1 .if1 .left) (c .end-strict-request-as .ensures)
 
 pub request-end-spec : {M : Type 1} → statement M
 request-end-spec =
     tie.close
     (tie.spec
-    form-of-requires
+    version-of-requires
     end-request-as-requires
     returns
     end-strict-request-as-requires

@@ -53,8 +53,8 @@ put-serial-requires c κs =
     let a = start .args in
     end-long (a .serial .now) (a .form) (a .reading) (granted (at-may-end .may-end .ensures) (at-if2 .if2 .left))
 
-hand-configuration-requires : tie.Need-hand-configuration-requires
-hand-configuration-requires c κs = search needs
+store-configuration-requires : tie.Need-store-configuration-requires
+store-configuration-requires c κs = search needs
 
 same-length-3 : tie.Need-same-length-3
 same-length-3 c = search needs
@@ -74,7 +74,7 @@ returns-3 c =
     let a = start .args in
     let may = granted (at-may-end .may-end .ensures) (at-if2 .if2 .left) in
     let ended = at-configuration-end .configuration-end in
-    let h = at-hand-configuration .hand-configuration .ensures in
+    let h = at-hand-configuration .store-configuration .ensures in
     configuration-told (a .serial .now) (a .store .now) (a .form) (a .reading) (a .out .now) (at-serial-in .serial-in .ensures) may
     (ended .result) (ended .ensures) (omega arith)
     (h .0) (h .1) (at-put-serial .put-serial .ensures)
@@ -92,7 +92,7 @@ serial-end-configuration-spec =
     serial-in-requires
     configuration-end-requires
     put-serial-requires
-    hand-configuration-requires
+    store-configuration-requires
     same-length-3
     same-length-4
     returns-3)

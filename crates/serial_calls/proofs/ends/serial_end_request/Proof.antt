@@ -53,8 +53,8 @@ put-serial-requires c κs =
     let a = start .args in
     end-long (a .serial .now) (a .form) (a .reading) (granted (at-may-end .may-end .ensures) (at-if2 .if2 .left))
 
-hand-request-requires : tie.Need-hand-request-requires
-hand-request-requires c κs = search needs
+store-request-requires : tie.Need-store-request-requires
+store-request-requires c κs = search needs
 
 same-length-3 : tie.Need-same-length-3
 same-length-3 c = search needs
@@ -74,7 +74,7 @@ returns-3 c =
     let a = start .args in
     let may = granted (at-may-end .may-end .ensures) (at-if2 .if2 .left) in
     let ended = at-request-end .request-end in
-    let h = at-hand-request .hand-request .ensures in
+    let h = at-hand-request .store-request .ensures in
     request-told (a .serial .now) (a .store .now) (a .form) (a .reading) (a .out .now) (at-serial-in .serial-in .ensures) may
     (ended .result) (ended .ensures) (omega arith)
     (h .0) (h .1) (at-put-serial .put-serial .ensures)
@@ -92,7 +92,7 @@ serial-end-request-spec =
     serial-in-requires
     request-end-requires
     put-serial-requires
-    hand-request-requires
+    store-request-requires
     same-length-3
     same-length-4
     returns-3)

@@ -9,17 +9,17 @@ use Rattle.state_image.proofs.proxy.put_pledge.Tie as tie
 put-head-requires : tie.Need-put-head-requires
 put-head-requires c κs = search needs
 
-sub-put-eight : tie.Need-sub-put-eight
-sub-put-eight c = search needs
+sub-put-array-8 : tie.Need-sub-put-array-8
+sub-put-array-8 c = search needs
 
-part-put-eight-start : tie.Need-part-put-eight-start
-part-put-eight-start c = search needs
+part-put-array-8-start : tie.Need-part-put-array-8-start
+part-put-array-8-start c = search needs
 
-part-put-eight-end : tie.Need-part-put-eight-end
-part-put-eight-end c = search needs
+part-put-array-8-end : tie.Need-part-put-array-8-end
+part-put-array-8-end c = search needs
 
-put-eight-requires : tie.Need-put-eight-requires
-put-eight-requires c κs = search needs
+put-array-8-requires : tie.Need-put-array-8-requires
+put-array-8-requires c κs = search needs
 
 sub-put-number : tie.Need-sub-put-number
 sub-put-number c = search needs
@@ -48,17 +48,17 @@ part-put-byte-end c = search needs
 put-byte-requires : tie.Need-put-byte-requires
 put-byte-requires c κs = search needs
 
-sub-put-eight-2 : tie.Need-sub-put-eight-2
-sub-put-eight-2 c = search needs
+sub-put-array-8-2 : tie.Need-sub-put-array-8-2
+sub-put-array-8-2 c = search needs
 
-part-put-eight-start-2 : tie.Need-part-put-eight-start-2
-part-put-eight-start-2 c = search needs
+part-put-array-8-start-2 : tie.Need-part-put-array-8-start-2
+part-put-array-8-start-2 c = search needs
 
-part-put-eight-end-2 : tie.Need-part-put-eight-end-2
-part-put-eight-end-2 c = search needs
+part-put-array-8-end-2 : tie.Need-part-put-array-8-end-2
+part-put-array-8-end-2 c = search needs
 
-put-eight-requires-2 : tie.Need-put-eight-requires-2
-put-eight-requires-2 c κs = search needs
+put-array-8-requires-2 : tie.Need-put-array-8-requires-2
+put-array-8-requires-2 c κs = search needs
 
 same-length : tie.Need-same-length
 same-length c = search needs
@@ -71,10 +71,10 @@ returns c =
     let at-put-eight = at-put-number .before .before .before .before .before in
     let at-put-head = at-put-eight .before .before .before .before in
     let start = at-put-head .before .before .before .before .before in
-    let w1 = next-field (omega arith) (at-put-head .put-head .ensures) (at-put-eight .put-eight .ensures) in
+    let w1 = next-field (omega arith) (at-put-head .put-head .ensures) (at-put-eight .put-array-8 .ensures) in
     let w2 = next-field (omega arith) w1 (at-put-number .put-number .ensures) in
     let w3 = next-field (omega arith) w2 (at-put-byte .put-byte .ensures) in
-    let w4 = next-field (omega arith) w3 (at-put-eight2 .put-eight2 .ensures) in
+    let w4 = next-field (omega arith) w3 (at-put-eight2 .put-array-82 .ensures) in
     pledge-stored (start .args .pledge) (start .pre) w4
 
 pub put-pledge-spec : {M : Type 1} → statement M
@@ -82,10 +82,10 @@ put-pledge-spec =
     tie.close
     (tie.spec
     put-head-requires
-    sub-put-eight
-    part-put-eight-start
-    part-put-eight-end
-    put-eight-requires
+    sub-put-array-8
+    part-put-array-8-start
+    part-put-array-8-end
+    put-array-8-requires
     sub-put-number
     part-put-number-start
     part-put-number-end
@@ -95,9 +95,9 @@ put-pledge-spec =
     part-put-byte-start
     part-put-byte-end
     put-byte-requires
-    sub-put-eight-2
-    part-put-eight-start-2
-    part-put-eight-end-2
-    put-eight-requires-2
+    sub-put-array-8-2
+    part-put-array-8-start-2
+    part-put-array-8-end-2
+    put-array-8-requires-2
     same-length
     returns)

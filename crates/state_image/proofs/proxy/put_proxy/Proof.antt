@@ -9,17 +9,17 @@ use Rattle.state_image.proofs.proxy.put_proxy.Tie as tie
 put-head-requires : tie.Need-put-head-requires
 put-head-requires c κs = search needs
 
-sub-put-sixteen : tie.Need-sub-put-sixteen
-sub-put-sixteen c = search needs
+sub-put-array-16 : tie.Need-sub-put-array-16
+sub-put-array-16 c = search needs
 
-part-put-sixteen-start : tie.Need-part-put-sixteen-start
-part-put-sixteen-start c = search needs
+part-put-array-16-start : tie.Need-part-put-array-16-start
+part-put-array-16-start c = search needs
 
-part-put-sixteen-end : tie.Need-part-put-sixteen-end
-part-put-sixteen-end c = search needs
+part-put-array-16-end : tie.Need-part-put-array-16-end
+part-put-array-16-end c = search needs
 
-put-sixteen-requires : tie.Need-put-sixteen-requires
-put-sixteen-requires c κs = search needs
+put-array-16-requires : tie.Need-put-array-16-requires
+put-array-16-requires c κs = search needs
 
 sub-put-number : tie.Need-sub-put-number
 sub-put-number c = search needs
@@ -46,7 +46,7 @@ returns c =
     let at-put-sixteen = at-count-of .before .before .before .before in
     let at-put-head = at-put-sixteen .before .before .before .before in
     let start = at-put-head .before .before .before .before in
-    let w1 = next-field (omega arith) (at-put-head .put-head .ensures) (at-put-sixteen .put-sixteen .ensures) in
+    let w1 = next-field (omega arith) (at-put-head .put-head .ensures) (at-put-sixteen .put-array-16 .ensures) in
     let w2 = next-field (omega arith) w1 (at-put-number .put-number .ensures) in
     proxy-stored (start .args .proxy) (start .pre) (at-count-of .count-of .ensures) w2
 
@@ -55,10 +55,10 @@ put-proxy-spec =
     tie.close
     (tie.spec
     put-head-requires
-    sub-put-sixteen
-    part-put-sixteen-start
-    part-put-sixteen-end
-    put-sixteen-requires
+    sub-put-array-16
+    part-put-array-16-start
+    part-put-array-16-end
+    put-array-16-requires
     sub-put-number
     part-put-number-start
     part-put-number-end

@@ -13,8 +13,8 @@ enum-told c = search needs
 enum-known-verdict : tie.Need-enum-known-verdict
 enum-known-verdict c = search needs
 
-numbers-requires : tie.Need-numbers-requires
-numbers-requires c κs = search needs
+number-range-law-requires : tie.Need-number-range-law-requires
+number-range-law-requires c κs = search needs
 
 number-requires : tie.Need-number-requires
 number-requires c κs = search needs
@@ -23,7 +23,7 @@ sub-place : tie.Need-sub-place
 sub-place c =
     let laws = c .before in
     let k = laws .before .before .verdict .given .0 .0 in
-    rw (c .number .ensures) (laws .numbers .ensures .least k)
+    rw (c .number .ensures) (laws .number-range-law .ensures .least k)
 
 slice-aggregate-raise : tie.Need-slice-aggregate-raise
 slice-aggregate-raise c = search needs
@@ -39,7 +39,7 @@ raise-requires c κs =
     let a = known .before .before .args in
     let k = known .verdict .given .0 .0 in
     let n : length (a .refusals) ≡ 22 = search needs in
-    omega (arith, n, number .number .ensures, laws .numbers .ensures .least k, laws .numbers .ensures .most k)
+    omega (arith, n, number .number .ensures, laws .number-range-law .ensures .least k, laws .number-range-law .ensures .most k)
 
 returns : tie.Need-returns
 returns c = search needs
@@ -59,7 +59,7 @@ with-refusal-spec =
     (tie.spec
     enum-told
     enum-known-verdict
-    numbers-requires
+    number-range-law-requires
     number-requires
     sub-place
     slice-aggregate-raise

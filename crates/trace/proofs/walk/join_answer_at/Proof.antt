@@ -2,7 +2,7 @@
 use mathlib.Core.Path.{refl}
 use borrow.Author.Needs.{needs}
 use borrow.Author.Tests.{not-true, not-false}
-use Rattle.trace.specs.Night.{joinAnswer}
+use Rattle.trace.specs.Trace.{joinAnswer}
 use Rattle.trace.proofs.Laws.{stops, walks}
 use Rattle.trace.proofs.walk.join_answer_at.Statement.{statement}
 use Rattle.trace.proofs.walk.join_answer_at.Tie as tie

@@ -1,7 +1,7 @@
 -- The record is walked whether there is a node or not.
 use mathlib.Core.Path.{refl}
 use borrow.Author.Needs.{needs}
-use Rattle.trace.specs.Night.{newNode}
+use Rattle.trace.specs.Trace.{newNode}
 use Rattle.trace.proofs.Laws.{walks}
 use Rattle.trace.proofs.walk.new_at.Statement.{statement}
 use Rattle.trace.proofs.walk.new_at.Tie as tie

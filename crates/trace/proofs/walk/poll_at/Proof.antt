@@ -2,7 +2,7 @@
 use mathlib.Core.Path.{refl}
 use borrow.Author.Needs.{needs}
 use borrow.Author.Tests.{not-true, not-false}
-use Rattle.trace.specs.Night.{poll}
+use Rattle.trace.specs.Trace.{poll}
 use Rattle.trace.proofs.Laws.{stops, walks}
 use Rattle.trace.proofs.walk.poll_at.Statement.{statement}
 use Rattle.trace.proofs.walk.poll_at.Tie as tie

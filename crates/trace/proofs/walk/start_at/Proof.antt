@@ -2,7 +2,7 @@
 use mathlib.Core.Path.{refl}
 use borrow.Author.Needs.{needs}
 use borrow.Author.Tests.{not-true, not-false}
-use Rattle.trace.specs.Night.{start}
+use Rattle.trace.specs.Trace.{start}
 use Rattle.trace.proofs.Laws.{stops, walks}
 use Rattle.trace.proofs.walk.start_at.Statement.{statement}
 use Rattle.trace.proofs.walk.start_at.Tie as tie

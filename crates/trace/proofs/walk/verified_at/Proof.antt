@@ -2,7 +2,7 @@
 use mathlib.Core.Path.{refl}
 use borrow.Author.Needs.{needs}
 use borrow.Author.Tests.{not-true, not-false}
-use Rattle.trace.specs.Night.{verified}
+use Rattle.trace.specs.Trace.{verified}
 use Rattle.trace.proofs.Laws.{stops, walks}
 use Rattle.trace.proofs.walk.verified_at.Statement.{statement}
 use Rattle.trace.proofs.walk.verified_at.Tie as tie

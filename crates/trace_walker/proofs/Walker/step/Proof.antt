@@ -42,11 +42,11 @@ use denote.Exit.{yes}
 use denote.Triple.Clauses.{ensured, lasts}
 use Rattle.trace.specs.Step as trace
 use Rattle.trace.specs.declared.state.State.{State}
-use Rattle.trace.specs.declared.state.Stepped.{Stepped}
+use Rattle.trace.specs.declared.state.StepResult.{StepResult}
 use Rattle.trace.proofs.state.State as S
 use Rattle.trace.proofs.state.State.Laws as S′
-use Rattle.trace.proofs.state.Stepped as R
-use Rattle.trace.proofs.state.Stepped.Laws as R′
+use Rattle.trace.proofs.state.StepResult as R
+use Rattle.trace.proofs.state.StepResult.Laws as R′
 use Rattle.trace.proofs.walk.step as callee
 use Rattle.trace.proofs.walk.step.Symbol as callee-def
 use Rattle.trace.proofs.walk.step.Symbol.{name as #trace·step}
@@ -95,7 +95,7 @@ module _ {M : Type 1} (𝓤 : URA M) (H : Heap 𝓤) (A : Atoms 𝓤) (W : Given
   abbrev v : Val
   v = sliceVal (d .trace .ptr) (length (d .trace .now))
 
-  abbrev found : Stepped
+  abbrev found : StepResult
   found = trace.step (now (d .trace)) (d .at) st
 
   abbrev Post : Val → SProp 𝓤
@@ -129,17 +129,17 @@ module _ {M : Type 1} (𝓤 : URA M) (H : Heap 𝓤) (A : Atoms 𝓤) (W : Given
       move ! (1 ∷ []) $ drop ! $ move ! (0 ∷ 2 ∷ []) $ fjoin ! $ move ! (1 ∷ 0 ∷ []) $ fjoin ! $ move ! (1 ∷ 0 ∷ []) $ join ! $ frame ! $ done !)
 
   -- of the callee's `ensured`, the clause alone: it has no `&mut`, so what is said of last values is dropped
-  said : (r : Stepped) → ent 𝓤 (ensured 𝓤 H A callee.ended (callee.clauses 𝓤 H A mem run) (κ, tt) (d .trace, (d .at, (st, tt))) tt r) (fact 𝓤 (r ≡ found))
+  said : (r : StepResult) → ent 𝓤 (ensured 𝓤 H A callee.ended (callee.clauses 𝓤 H A mem run) (κ, tt) (d .trace, (d .at, (st, tt))) tt r) (fact 𝓤 (r ≡ found))
   said r = exE 𝓤 _ (λ ws. snd∗ 𝓤 (sem 𝓤 H A (lasts callee.ended (κ, tt) (d .trace, (d .at, (st, tt))) ws)) (fact 𝓤 (r ≡ found)))
 
-  exits : (r : Stepped) (u : Val) → r ≡ found → ent 𝓤 (⋆ 𝓤 H A (‵ (R.the-row .own r (u ∷ [])) ∷ (‵ (flft κ q) ⊛ ‵ ftrue) ∷ [])) (Post u)
+  exits : (r : StepResult) (u : Val) → r ≡ found → ent 𝓤 (⋆ 𝓤 H A (‵ (R.the-row .own r (u ∷ [])) ∷ (‵ (flft κ q) ⊛ ‵ ftrue) ∷ [])) (Post u)
   exits r u e =
       qed W (‵ (R.the-row .own r (u ∷ [])) ∷ (‵ (flft κ q) ⊛ ‵ ftrue) ∷ []) ∵
       suffices ! _ (ends-at 𝓤 H A step.ended stayed (step.clauses 𝓤 H A mem run) W (((κ, tt), (q, tt), tt, (d, (st, tt)), (w ∷ [], (m ∷ [], tt))), tt) u r (tt, (tt, tt)) (tt, (tt, tt))) $ says ! e $
       move ! (1 ∷ []) $ frame ! $ nothing ! $ nothing ! $ fjoin ! $ nothing ! $ fjoin ! $ frame ! $ done !
 
   module _ (C : Calls 𝓤 H) (Λ : Loops 𝓤 H) (fm : FmC 𝓤 H (W .laws) C) (known : Triple 𝓤 (C #trace·step) (Callee 𝓤 H A mem run)) where
-    walk : (τ ρ : Ty) → Holds (hasTy (T′.mir (named 0)) w) × WT w → Holds (hasTy τ m) × WT m → ((r : Stepped) (u : Val) → Is R.the-row r (u ∷ []) → Holds (hasTy ρ u) × WT u)
+    walk : (τ ρ : Ty) → Holds (hasTy (T′.mir (named 0)) w) × WT w → Holds (hasTy τ m) × WT m → ((r : StepResult) (u : Val) → Is R.the-row r (u ∷ []) → Holds (hasTy ρ u) × WT u)
         → ent 𝓤 (onEntry 𝓤 H A step.signature (κ, tt) (q, tt) (d, (st, tt)) (w ∷ [], (m ∷ [], tt))) (WpFn 𝓤 H C Λ (fnAt τ ρ) (w ∷ m ∷ []) Post)
     walk τ ρ wt wm typed =
         qed W (raw (onEntry 𝓤 H A step.signature (κ, tt) (q, tt) (d, (st, tt)) (w ∷ [], (m ∷ [], tt))) ∷ []) ∵ enter ! C Λ (fnAt τ ρ) (w ∷ m ∷ []) _ $
@@ -149,7 +149,7 @@ module _ {M : Type 1} (𝓤 : URA M) (H : Heap 𝓤) (A : Atoms 𝓤) (W : Given
         move ! (10 ∷ []) $ use1 W (raw (Callee 𝓤 H A mem run .pre to)) goes $
         -- [what the callee asks; _4; …; _3; …; _2; …; _1; …; room for _0; …]
         calls-at ! fm (Callee 𝓤 H A mem run) known to (and-then ! (load ! (from ! (stop !)) (look ! 3 refl)) (and-then ! (load ! (from ! (stop !)) (look ! 1 refl)) (and-then ! (load ! (from ! (stop !)) (look ! 5 refl)) (no-more !)))) (λ u.
-        use1 W (later (some (λ (r : Stepped). ((‵ (flft κ q) ⊛ ‵ ftrue) ⊛ ‵ (R.the-row .own r (u ∷ []))) ⊛ raw (ensured 𝓤 H A callee.ended (callee.clauses 𝓤 H A mem run) (κ, tt) (d .trace, (d .at, (st, tt))) tt r)))) (id⊢ 𝓤 _) $ await ! tt $ pick ! (λ r.
+        use1 W (later (some (λ (r : StepResult). ((‵ (flft κ q) ⊛ ‵ ftrue) ⊛ ‵ (R.the-row .own r (u ∷ []))) ⊛ raw (ensured 𝓤 H A callee.ended (callee.clauses 𝓤 H A mem run) (κ, tt) (d .trace, (d .at, (st, tt))) tt r)))) (id⊢ 𝓤 _) $ await ! tt $ pick ! (λ r.
         split ! $ move ! (1 ∷ []) $ use1 W (raw (fact 𝓤 (r ≡ found))) (said r) $ heard ! (r ≡ found) (λ e. split ! $ move ! (1 ∷ []) $
         -- [the result; the token; _4; …; _3; …; _2; …; _1; …; room for _0; …]
         peeks ! R.the-row (Is R.the-row) (shows 𝓤 H A R.the-row) r (u ∷ []) (λ is.

@@ -20,8 +20,8 @@ enum-told c = search needs
 count-requires : tie.Need-count-requires
 count-requires c κs = search needs
 
-survey-requires : tie.Need-survey-requires
-survey-requires c κs = search needs
+summarize-requires : tie.Need-summarize-requires
+summarize-requires c κs = search needs
 
 returns : tie.Need-returns
 returns c =
@@ -36,7 +36,7 @@ returns-2 c =
     let enum-told = c .before .before .enum-told in
     let judge = c .before .before .before .before .judge in
     let count = c .before .count in
-    let found = c .survey in
+    let found = c .summarize in
     let accepted = sym (enum-told .given .1) ∙ judge .ensures in
     let n = counted-is (a .first) (a .size) (length (a .memory .now)) accepted (count .result) (count .ensures) in
     let places = usable (a .first) (a .size) (length (a .memory .now)) accepted (count .result) n in
@@ -44,4 +44,4 @@ returns-2 c =
     (rw (fit-all (count .result) (length (a .memory .now)) (places .size) (places .room)) (found .ensures))
 
 pub open-spec : {M : Type 1} → statement M
-open-spec = tie.close (tie.spec judge-requires enum-known-verdict enum-told count-requires survey-requires returns returns-2)
+open-spec = tie.close (tie.spec judge-requires enum-known-verdict enum-told count-requires summarize-requires returns returns-2)

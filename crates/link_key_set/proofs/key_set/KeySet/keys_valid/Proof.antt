@@ -5,20 +5,20 @@ use mathlib.Core.Bool.{and-false, or-true}
 use borrow.Author.Needs.{needs}
 use lib.ListN.{length, take, drop}
 use Rattle.logic_facts.specs.Tests.{denied, granted}
-use Rattle.link_key_set.specs.KeySet.{keysOf, eachOnce, mayInform}
+use Rattle.link_key_set.specs.KeySet.{keysOf, eachOnce, additionalInfoAllowed}
 use Rattle.link_key_set.proofs.Flags.{Judging, judged-all, judged-bad, judged-more}
-use Rattle.link_key_set.proofs.Informed.{informed-bad, informed-more}
+use Rattle.link_key_set.proofs.InfoAllowed.{allowed-bad, allowed-more}
 use Rattle.link_key_set.proofs.Places.{stop, firsts, within, past}
 use Rattle.link_key_set.proofs.key_set.KeySet.keys_valid.Statement.{statement}
 use Rattle.link_key_set.proofs.key_set.KeySet.keys_valid.Tie as tie
 
 -- the keys before the place are as they must be, and from the place on it is asked as from the first whether they may be informed
 abbrev Inv-loop : tie.InvT-loop
-Inv-loop informed n keys seen₀ i₀ seen i =
-    Judging (take n keys) i seen × (mayInform informed (take n keys) ≡ mayInform informed (drop i (take n keys)))
+Inv-loop allowed n keys seen₀ i₀ seen i =
+    Judging (take n keys) i seen × (additionalInfoAllowed allowed (take n keys) ≡ additionalInfoAllowed allowed (drop i (take n keys)))
 
 abbrev μ-loop : tie.MeasureT-loop
-μ-loop informed n keys seen₀ i₀ seen i = n - i
+μ-loop allowed n keys seen₀ i₀ seen i = n - i
 
 len-requires : tie.Need-len-requires Inv-loop μ-loop
 len-requires c κs = search needs
@@ -35,8 +35,8 @@ mul-key c = search needs
 array-copy-out-key : tie.Need-array-copy-out-key Inv-loop μ-loop
 array-copy-out-key c = search needs
 
-may-inform-requires : tie.Need-may-inform-requires Inv-loop μ-loop
-may-inform-requires c κs = search needs
+additional-info-allowed-requires : tie.Need-additional-info-allowed-requires Inv-loop μ-loop
+additional-info-allowed-requires c κs = search needs
 
 returns : tie.Need-returns Inv-loop μ-loop
 returns c =
@@ -48,8 +48,8 @@ returns c =
     let n = sized .len .result in
     let size : n ≡ length (keysOf (a .self)) = sized .len .ensures .0 in
     let few = within (a .self) n size in
-    let bad = informed-bad (a .informed) (a .self .keys) n (turn .i) few (test .loop-test .taken) past (turn .inv .1)
-    (denied (asked .may-inform .ensures) (c .if1 .taken)) in
+    let bad = allowed-bad (a .allowed) (a .self .keys) n (turn .i) few (test .loop-test .taken) past (turn .inv .1)
+    (denied (asked .additional-info-allowed .ensures) (c .if1 .taken)) in
     rw (← firsts (a .self) n size, bad, and-false (eachOnce (take n (a .self .keys))))
 
 join-requires : tie.Need-join-requires Inv-loop μ-loop
@@ -74,8 +74,8 @@ loop-again c =
     let joined = c .before .join in
     let more = joined .ensures .1 .1 (take (turn .i) (take n (a .self .keys))) (turn .inv .0 .exact) in (
       judged-more (a .self .keys) n (turn .i) (turn .seen) (turn .inv .0) few past (test .loop-test .taken) _ _ more (c .if2 .taken),
-      informed-more (a .informed) (a .self .keys) n (turn .i) few (test .loop-test .taken) past (turn .inv .1)
-          (granted (asked .may-inform .ensures) (c .before .before .before .if1 .left)),
+      allowed-more (a .allowed) (a .self .keys) n (turn .i) few (test .loop-test .taken) past (turn .inv .1)
+          (granted (asked .additional-info-allowed .ensures) (c .before .before .before .if1 .left)),
     )
 
 returns-2 : tie.Need-returns-2 Inv-loop μ-loop
@@ -101,8 +101,8 @@ returns-3 c =
     let n = sized .len .result in
     let size : n ≡ length (keysOf (a .self)) = sized .len .ensures .0 in
     let all = judged-all (a .self .keys) n (turn .i) (turn .seen) (turn .inv .0) (within (a .self) n size) (c .loop-test .left) in
-    let none = stop (a .self .keys) (mayInform (a .informed)) n (turn .i) (c .loop-test .left) in
-    rw (← firsts (a .self) n size, all, turn .inv .1, none) (sym (or-true (a .informed)))
+    let none = stop (a .self .keys) (additionalInfoAllowed (a .allowed)) n (turn .i) (c .loop-test .left) in
+    rw (← firsts (a .self) n size, all, turn .inv .1, none) (sym (or-true (a .allowed)))
 
 pub keys-valid-spec : {M : Type 1} → statement M
 keys-valid-spec =
@@ -115,7 +115,7 @@ keys-valid-spec =
     loop-holds
     mul-key
     array-copy-out-key
-    may-inform-requires
+    additional-info-allowed-requires
     returns
     join-requires
     add-i

@@ -5,7 +5,7 @@ use mathlib.Core.Logic.{⊎-elim}
 use borrow.Author.Needs.{needs}
 use borrow.Author.Tests.{ltb-true, ltb-false}
 use lib.ListN.{length, length-map}
-use Rattle.link_key_set.specs.KeySet.{keysOf, validSet, mayInform}
+use Rattle.link_key_set.specs.KeySet.{keysOf, validSet, additionalInfoAllowed}
 use Rattle.link_key_set.proofs.KeySets.{set-none, set-over, set-limits}
 use Rattle.link_key_set.proofs.key_set.KeySet.valid_as.Statement.{statement}
 use Rattle.link_key_set.proofs.key_set.KeySet.valid_as.Tie as tie
@@ -26,7 +26,7 @@ returns-2 c =
     let set = start .args .self in
     let places : length (set .keys) ≡ 8 = sym (length-map (set .keys) _) ∙ start .good .0 .1 .1 .1 .0 .1 .0 .1 in
     let limits = set-limits set places (asked .if1 .left) (ltb-false 8 (set .count) (c .before .if2 .left)) in
-    c .keys-valid .ensures ∙ ap (λ (b : Bool). (b && mayInform (start .args .informed) (keysOf set))) (sym limits)
+    c .keys-valid .ensures ∙ ap (λ (b : Bool). (b && additionalInfoAllowed (start .args .allowed) (keysOf set))) (sym limits)
 
 pub valid-as-spec : {M : Type 1} → statement M
 valid-as-spec = tie.close (tie.spec returns keys-valid-requires returns-2)

@@ -99,8 +99,8 @@ returns-4 c =
 is-taken-requires : tie.Need-is-taken-requires
 is-taken-requires c κs = search needs
 
-place-of-requires : tie.Need-place-of-requires
-place-of-requires c κs = search needs
+decide-install-requires : tie.Need-decide-install-requires
+decide-install-requires c κs = search needs
 
 enum-known-place : tie.Need-enum-known-place
 enum-known-place c = search needs
@@ -120,7 +120,7 @@ returns-5 c =
     let a = got .before .before .before .before .before .before .before .before .before .before .args in
     c .undelivered5 .ensures
     ∙ apply-clash (a .delivery) (a .self) (a .time) (configurationIn got) (is-false (other .before .owes-identifier .ensures) (other .if2 .left))
-    (asked .is-taken .ensures) (placing .before .before .if3 .taken) (placing .place-of .ensures) (c .before .before .before .before .place .given .1)
+    (asked .is-taken .ensures) (placing .before .before .if3 .taken) (placing .decide-install .ensures) (c .before .before .before .before .place .given .1)
     (c .before .enum-told3 .given .1)
     ∙ read-so got
 
@@ -159,8 +159,8 @@ enum-known-place-2 c = search needs
 with-set-requires : tie.Need-with-set-requires
 with-set-requires c κs = search needs
 
-reports-of-requires : tie.Need-reports-of-requires
-reports-of-requires c κs = search needs
+dispositions-of-requires : tie.Need-dispositions-of-requires
+dispositions-of-requires c κs = search needs
 
 attempt-after-requires : tie.Need-attempt-after-requires
 attempt-after-requires c κs = search needs
@@ -183,8 +183,8 @@ after-requires-5 c κs = search needs
 after-requires-6 : tie.Need-after-requires-6
 after-requires-6 c κs = search needs
 
-faults-of-requires : tie.Need-faults-of-requires
-faults-of-requires c κs = search needs
+error-reports-of-requires : tie.Need-error-reports-of-requires
+error-reports-of-requires c κs = search needs
 
 returns-6 : tie.Need-returns-6
 unfolding configured
@@ -208,8 +208,8 @@ returns-6 c =
       prefix .after4 .ensures,
       blacklist .after5 .ensures,
       rate .after6 .ensures,
-      c .faults-of .ensures,
-      told .reports-of .ensures,
+      c .error-reports-of .ensures,
+      told .dispositions-of .ensures,
     )
     (apply-changed (a .delivery) (a .self) (a .time) (configurationIn got) (m .if3 .self) (m .if3 .c) (met m) ∙ read-so got)
 
@@ -234,7 +234,7 @@ deliver-spec =
     undelivered-requires-4
     returns-4
     is-taken-requires
-    place-of-requires
+    decide-install-requires
     enum-known-place
     enum-told-3
     undelivered-requires-5
@@ -243,7 +243,7 @@ deliver-spec =
     no-key-set-requires
     enum-known-place-2
     with-set-requires
-    reports-of-requires
+    dispositions-of-requires
     attempt-after-requires
     after-requires
     after-requires-2
@@ -251,5 +251,5 @@ deliver-spec =
     after-requires-4
     after-requires-5
     after-requires-6
-    faults-of-requires
+    error-reports-of-requires
     returns-6)

@@ -17,8 +17,8 @@ valid-jrc-requires c κs = search needs
 valid-requires : tie.Need-valid-requires
 valid-requires c κs = search needs
 
-form-fits-requires : tie.Need-form-fits-requires
-form-fits-requires c κs = search needs
+version-valid-requires : tie.Need-version-valid-requires
+version-valid-requires c κs = search needs
 
 -- where the ways meet, after the second test and after the third
 abbrev two : Node → Bool
@@ -34,7 +34,7 @@ three-met c =
     ⊎-elim (λ w. and-next first (w .0 .taken) (w .1 .ensures) (w .2)) (λ w. and-stops _ first (w .0 .left) (w .1)) (c .if2 .came)
 
 returns : tie.Need-returns
-returns c = rw (sym (three-met (c .before .before)) ∙ c .before .if3 .taken) (c .form-fits .ensures)
+returns c = rw (sym (three-met (c .before .before)) ∙ c .before .if3 .taken) (c .version-valid .ensures)
 
 returns-2 : tie.Need-returns-2
 returns-2 c = rw (sym (three-met (c .before)) ∙ c .if3 .left) (c .if3 .left)
@@ -45,6 +45,6 @@ others-valid-spec =
     (tie.spec
     valid-jrc-requires
     valid-requires
-    form-fits-requires
+    version-valid-requires
     returns
     returns-2)

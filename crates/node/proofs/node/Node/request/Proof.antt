@@ -10,12 +10,12 @@ parameter-requires c κs = search needs
 unsupported-of-requires : tie.Need-unsupported-of-requires
 unsupported-of-requires c κs = search needs
 
-no-faults-requires : tie.Need-no-faults-requires
-no-faults-requires c κs = search needs
+no-error-reports-requires : tie.Need-no-error-reports-requires
+no-error-reports-requires c κs = search needs
 
 returns : tie.Need-returns
 unfolding requestOf
-returns c = rw (c .before .before .parameter .ensures, c .before .unsupported-of .ensures, c .no-faults .ensures)
+returns c = rw (c .before .before .parameter .ensures, c .before .unsupported-of .ensures, c .no-error-reports .ensures)
 
 pub request-spec : {M : Type 1} → statement M
-request-spec = tie.close (tie.spec parameter-requires unsupported-of-requires no-faults-requires returns)
+request-spec = tie.close (tie.spec parameter-requires unsupported-of-requires no-error-reports-requires returns)

@@ -3,7 +3,7 @@ use mathlib.Core.Path.{_≡_, sym, _∙_, ap}
 use mathlib.Core.Bool.{Bool, _&&_}
 use mathlib.Core.Logic.{⊎-elim}
 use borrow.Author.Needs.{needs}
-use Rattle.cojp.specs.Version.{informed}
+use Rattle.cojp.specs.Version.{allowsAdditionalInfo}
 use Rattle.node_key_sets.specs.Sets as sets
 use Rattle.logic_facts.specs.Tests.{and-next, and-stops}
 use Rattle.node_attempt.specs.Attempt as attempt
@@ -14,8 +14,8 @@ use Rattle.node.specs.Range.{valid}
 use Rattle.node.proofs.node.Node.valid.Statement.{statement}
 use Rattle.node.proofs.node.Node.valid.Tie as tie
 
-informed-requires : tie.Need-informed-requires
-informed-requires c κs = search needs
+allows-additional-info-requires : tie.Need-allows-additional-info-requires
+allows-additional-info-requires c κs = search needs
 
 valid-requires : tie.Need-valid-requires
 valid-requires c κs = search needs
@@ -31,12 +31,12 @@ others-valid-requires c κs = search needs
 
 -- where the ways meet, after the second test and after the third
 abbrev two : Node → Bool
-two n = (sets.validAs (informed (n .version)) (isBorder n) (n .sets) && attempt.valid (n .attempt))
+two n = (sets.validAs (allowsAdditionalInfo (n .version)) (isBorder n) (n .sets) && attempt.valid (n .attempt))
 
 two-met : (c : tie.Joined1) → c .if1 .if2 ≡ two (c .before .before .before .before .before .args .self)
 two-met c =
     let n = c .before .before .before .before .before .args .self in
-    let first = c .before .valid .ensures ∙ ap (λ (b : Bool). sets.validAs b (isBorder n) (n .sets)) (c .before .before .before .informed .ensures) in
+    let first = c .before .valid .ensures ∙ ap (λ (b : Bool). sets.validAs b (isBorder n) (n .sets)) (c .before .before .before .allows-additional-info .ensures) in
     ⊎-elim (λ w. and-next first (w .0 .taken) (w .1 .ensures) (w .2)) (λ w. and-stops _ first (w .0 .left) (w .1)) (c .if1 .came)
 
 three-met :
@@ -60,4 +60,4 @@ returns-2 c = rw (sym (three-met (c .before)) ∙ c .if3 .left) (c .if3 .left)
 pub valid-spec : {M : Type 1} → statement M
 valid-spec =
     tie.close
-    (tie.spec informed-requires valid-requires valid-requires-2 valid-requires-3 others-valid-requires returns returns-2)
+    (tie.spec allows-additional-info-requires valid-requires valid-requires-2 valid-requires-3 others-valid-requires returns returns-2)

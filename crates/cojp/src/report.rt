@@ -1,8 +1,0 @@
-// What became of a parameter.
-
-// Not in the payload, taken from it, or in it and discarded: in the published form that is a bad one, which is reported.
-pub enum Report {
-    Absent,
-    Taken,
-    Discarded,
-}

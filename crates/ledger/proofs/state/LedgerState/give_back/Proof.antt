@@ -1,0 +1,49 @@
+-- The lent bytes are the memory's first ones.
+use mathlib.Core.Path.{sym}
+use lib.Seq.{length-take-le}
+use borrow.Author.Needs.{needs}
+use Rattle.ledger.proofs.state.LedgerState.give_back.Statement.{statement}
+use Rattle.ledger.proofs.state.LedgerState.give_back.Tie as tie
+
+left-requires : tie.Need-left-requires
+left-requires c κs = search needs
+
+returns : tie.Need-returns
+returns c = search needs
+
+slice-relend-prefix-give-back : tie.Need-slice-relend-prefix-give-back
+slice-relend-prefix-give-back c = search needs
+
+slice-aggregate-give-back : tie.Need-slice-aggregate-give-back
+slice-aggregate-give-back c =
+    let a = c .before .before .before .args in
+    sym (length-take-le (a .self .lent) (a .memory .now) (c .before .if1 .left))
+
+give-back-requires : tie.Need-give-back-requires
+give-back-requires c κs = search needs
+
+slice-aggregate-answered : tie.Need-slice-aggregate-answered
+slice-aggregate-answered c = search needs
+
+answered-requires : tie.Need-answered-requires
+answered-requires c κs = search needs
+
+same-length : tie.Need-same-length
+same-length c = search needs
+
+returns-2 : tie.Need-returns-2
+returns-2 c = search needs
+
+pub give-back-spec : {M : Type 1} → statement M
+give-back-spec =
+    tie.close
+    (tie.spec
+    left-requires
+    returns
+    slice-relend-prefix-give-back
+    slice-aggregate-give-back
+    give-back-requires
+    slice-aggregate-answered
+    answered-requires
+    same-length
+    returns-2)

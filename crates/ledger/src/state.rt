@@ -1,0 +1,199 @@
+// The programming fixture, as the tool plays it: its ledger, and what an order does to it.
+use crate::answer::put_address;
+use crate::answer::put_bytes;
+use crate::answer::put_free;
+use crate::answer::put_ledger;
+use crate::answer::put_opened;
+use crate::memory::Memory;
+use crate::memory::clear;
+use crate::memory::write_bytes;
+use address_ledger::CallResult;
+use address_ledger::Ledger;
+use ledger_commands::Board;
+use ledger_commands::Bytes;
+use ledger_commands::Command;
+use refusal::Verdict;
+use tool_notation::put_refusal;
+use tool_text::line_error::put_line_error;
+use tool_text::output::Buffer;
+use tool_text::output::Output;
+
+pub struct LedgerState {
+    pub ledger: Ledger,
+    // how many bytes of the memory are lent
+    pub lent: usize,
+}
+
+// The fixture after an order, and the output with its answer.
+pub struct Done {
+    pub state: LedgerState,
+    pub out: Output,
+}
+
+impl LedgerState {
+    // Before the first accepted opening the ledger is that of first address 0 and size 0.
+    pub fn new() -> LedgerState {
+        let opened = Ledger::open(0, 0, b"");
+        let ledger = opened.ledger;
+        LedgerState {
+            ledger,
+            lent: 36864,
+        }
+    }
+}
+
+// Carries the order out and writes its answer; an empty line and a comment are not answered.
+pub fn execute(
+    fixture: LedgerState,
+    order: Command,
+    board: &Board,
+    memory: &mut Memory,
+    hex: &Bytes,
+    out: Output,
+    buffer: &mut Buffer,
+) -> Done {
+    if let Command::Nothing = order {
+        return Done {
+            state: fixture,
+            out,
+        };
+    }
+    let done = fixture.perform(order, board_of(board), memory, hex, out, buffer);
+    done.state.left(done.out.byte(b'\n', buffer))
+}
+
+fn board_of(bytes: &Board) -> [u8; 8] {
+    [
+        bytes[0],
+        bytes[1],
+        bytes[2],
+        bytes[3],
+        bytes[4],
+        bytes[5],
+        bytes[6],
+        bytes[7],
+    ]
+}
+
+impl LedgerState {
+    // Any order but that of an empty line.
+    fn perform(
+        self,
+        order: Command,
+        board: [u8; 8],
+        memory: &mut Memory,
+        hex: &Bytes,
+        out: Output,
+        buffer: &mut Buffer,
+    ) -> Done {
+        match order {
+            Command::Open(first, size) => self.open(first, size, memory, out, buffer),
+            Command::Grant => self.grant(board, memory, out, buffer),
+            Command::Back => self.give_back(board, memory, out, buffer),
+            Command::Free => self.left(put_free(out, self.ledger.free(), buffer)),
+            Command::Lend(count) => self.lend(count, out, buffer),
+            Command::Read(place, count) => self.left(put_bytes(out, memory, place, count, buffer)),
+            Command::Write(place, count) => {
+                write_bytes(memory, place, hex, count);
+                self.left(out.text(b"set", buffer))
+            }
+            Command::Clear => {
+                clear(memory);
+                self.left(out.text(b"set", buffer))
+            }
+            Command::Count(count) => self.counted(count).left(out.text(b"set", buffer)),
+            Command::Marks(marks) => self.marked(marks).left(out.text(b"set", buffer)),
+            Command::Show => self.left(put_ledger(out, self.ledger, buffer)),
+            Command::Wrong(fault) => self.left(put_line_error(out, fault, buffer)),
+            Command::Nothing => self.left(out),
+        }
+    }
+
+    // The fixture like this.
+    fn left(self, out: Output) -> Done {
+        Done { state: self, out }
+    }
+
+    // The fixture with another ledger.
+    fn with(self, ledger: Ledger) -> LedgerState {
+        LedgerState {
+            ledger,
+            lent: self.lent,
+        }
+    }
+
+    // The fixture with another count kept in its ledger.
+    fn counted(self, count: usize) -> LedgerState {
+        let mut ledger = self.ledger;
+        ledger.free = count;
+        self.with(ledger)
+    }
+
+    // The fixture with other marks kept in its ledger.
+    fn marked(self, marks: u64) -> LedgerState {
+        let mut ledger = self.ledger;
+        ledger.summary = marks;
+        self.with(ledger)
+    }
+
+    // A refused opening leaves the ledger as it was.
+    fn open(
+        self,
+        first: usize,
+        size: usize,
+        memory: &[u8],
+        out: Output,
+        buffer: &mut Buffer,
+    ) -> Done {
+        let lent = tool_text::first(memory, self.lent);
+        let opened = Ledger::open(first, size, lent);
+        let verdict = opened.verdict;
+        match verdict {
+            Verdict::Refused(refusal) => self.left(put_refusal(out, refusal, buffer)),
+            Verdict::Accepted => {
+                let fixture = self.with(opened.ledger);
+                fixture.left(put_opened(out, fixture.ledger.free(), buffer))
+            }
+        }
+    }
+
+    fn grant(self, board: [u8; 8], memory: &mut [u8], out: Output, buffer: &mut Buffer) -> Done {
+        let lent = self.lent;
+        if memory.len() < lent {
+            return self.left(out);
+        }
+        let answered = self.ledger.grant(&mut memory[..lent], board);
+        self.answered(answered, b"granted ", out, buffer)
+    }
+
+    fn give_back(
+        self,
+        board: [u8; 8],
+        memory: &mut [u8],
+        out: Output,
+        buffer: &mut Buffer,
+    ) -> Done {
+        let lent = self.lent;
+        if memory.len() < lent {
+            return self.left(out);
+        }
+        let answered = self.ledger.give_back(&mut memory[..lent], board);
+        self.answered(answered, b"freed ", out, buffer)
+    }
+
+    // The ledger as a call left it, and what it answered.
+    fn answered(self, answered: CallResult, name: &[u8], out: Output, buffer: &mut Buffer) -> Done {
+        let answer = answered.answer;
+        let fixture = self.with(answered.ledger);
+        fixture.left(put_address(out, name, answer, buffer))
+    }
+
+    fn lend(self, count: usize, out: Output, buffer: &mut Buffer) -> Done {
+        let ledger = self.ledger;
+        let fixture = LedgerState {
+            ledger,
+            lent: count,
+        };
+        fixture.left(out.text(b"lent ", buffer).number(count as u64, buffer))
+    }
+}
