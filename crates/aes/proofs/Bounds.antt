@@ -5,8 +5,8 @@ use Prim.Native.Nat.{ℕ, zero, suc, _+_, _*_, _/_, _%_, _^_, _<_}
 use native.Mathlib.Nat.{pow-suc}
 use native.Mathlib.Omega.{arith}
 use lib.ListN.{getD}
-use Rattle.byte_lists.specs.Xor.{_⊕_}
-use Rattle.byte_lists.specs.Table.{table}
+use Rattle.lemmas.specs.lists.Xor.{_⊕_}
+use Rattle.lemmas.specs.lists.Table.{table}
 use Rattle.aes.specs.Field.{xtime, affineBit, affineFrom, affine, subByte}
 use Rattle.aes.specs.Cipher.{cell, subBytes, shiftRows, addRoundKey, word, addWord, rotWord, subWord, rcon, nextKey, roundKeys, rounds, cipher}
 use Rattle.aes.specs.Bounds.{Bytes, xor-byte, none, one, joined, tabled}

@@ -6,8 +6,8 @@ use mathlib.Core.List.{List, [], _∷_}
 use Prim.Native.Nat.{ℕ, _/_, _%_, _<_}
 use lib.Dec.{T, eqb, eqb→eq}
 use lib.ListN.{getD}
-use Rattle.byte_lists.specs.Xor.{_⊕_}
-use Rattle.byte_lists.specs.Table.{table, table-self}
+use Rattle.lemmas.specs.lists.Xor.{_⊕_}
+use Rattle.lemmas.specs.lists.Table.{table, table-self}
 use Rattle.aes.specs.Field.{subByte, affine, affineFrom, affineBit, inverse, powers, _•_, times, xtime}
 use Rattle.aes.specs.Words.{bytesOf, part, RoundTable}
 use Rattle.aes.proofs.Test.{at, both, both-left, both-right}

@@ -2,8 +2,8 @@
 -- Assumes nothing.
 use mathlib.Core.Path.{_≡_, refl}
 use mathlib.Core.List.{[], _∷_}
-use Rattle.byte_lists.specs.Xor.{_⊕_}
-use Rattle.byte_lists.specs.Table.{table}
+use Rattle.lemmas.specs.lists.Xor.{_⊕_}
+use Rattle.lemmas.specs.lists.Table.{table}
 use Rattle.aes.specs.Field.{_•_, xtime, times, powers, inverse, affineBit, affineFrom, affine, subByte}
 use Rattle.aes.specs.Cipher.{subBytes, shiftRows, mixColumns, addRoundKey, rcon, nextKey, roundKeys, rounds, cipher, encrypted}
 

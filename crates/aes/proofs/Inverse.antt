@@ -5,8 +5,8 @@ use mathlib.Core.List.{List}
 use Prim.Native.Nat.{ℕ, _<_, min}
 use native.Mathlib.Nat.{min-eq-left}
 use lib.ListN.{length}
-use Rattle.byte_lists.specs.Xor.{_⊕_}
-use Rattle.byte_lists.specs.Table.{length-table}
+use Rattle.lemmas.specs.lists.Xor.{_⊕_}
+use Rattle.lemmas.specs.lists.Table.{length-table}
 use Rattle.aes.specs.Field.{_•_, xtime, times, powers, inverse}
 use Rattle.aes.specs.Cipher.{cipher, addRoundKey}
 use Rattle.aes.specs.Laws.{AesLaws}

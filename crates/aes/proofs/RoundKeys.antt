@@ -7,8 +7,8 @@ use native.Mathlib.Numerals.{add-one}
 use native.Mathlib.Omega.{arith}
 use lib.ListN.{length, take, set, getD, length-set}
 use lib.Seq.{take-suc-set, take-all, getD-take}
-use Rattle.byte_lists.specs.Xor.{_⊕_}
-use Rattle.byte_lists.specs.Table.{table}
+use Rattle.lemmas.specs.lists.Xor.{_⊕_}
+use Rattle.lemmas.specs.lists.Table.{table}
 use Rattle.aes.specs.Field.{subByte, xtime}
 use Rattle.aes.specs.Cipher.{nextKey, roundKeys, rcon}
 use Rattle.aes.specs.Words.{bytesOf, bytesFrom}

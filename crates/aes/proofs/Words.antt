@@ -8,9 +8,9 @@ use native.Mathlib.Nat.{mod-eq-of-lt}
 use native.Mathlib.Omega.{arith}
 use lib.Bits.{bitXor, xor-shr, xor-mod}
 use lib.ListN.{getD}
-use Rattle.byte_lists.specs.Digits as number
-use Rattle.byte_lists.specs.Xor.{_⊕_, turn}
-use Rattle.byte_lists.specs.Table.{table}
+use Rattle.lemmas.specs.lists.Digits as number
+use Rattle.lemmas.specs.lists.Xor.{_⊕_, turn}
+use Rattle.lemmas.specs.lists.Table.{table}
 use Rattle.aes.specs.Field.{_•_, subByte}
 use Rattle.aes.specs.Cipher.{subBytes, shiftRows, mixColumns, addRoundKey}
 use Rattle.aes.specs.Words.{bytesOf, bytesFrom, turned, plus, spread, part, RoundTable, picked, plain}

@@ -5,8 +5,8 @@ use Prim.Native.Nat.{ℕ, zero, suc, _<_}
 use native.Mathlib.Omega.{arith}
 use lib.Bits.{xor-lt}
 use lib.ListN.{getD, take}
-use Rattle.byte_lists.specs.Xor.{_⊕_}
-use Rattle.byte_lists.specs.Table.{table}
+use Rattle.lemmas.specs.lists.Xor.{_⊕_}
+use Rattle.lemmas.specs.lists.Table.{table}
 
 -- every element is a byte
 abbrev pub Bytes : List ℕ → Type 0

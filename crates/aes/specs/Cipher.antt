@@ -3,8 +3,8 @@
 use mathlib.Core.List.{List, [], _∷_, _++_}
 use Prim.Native.Nat.{ℕ, zero, suc, _+_, _*_, _/_, _%_}
 use lib.ListN.{getD}
-use Rattle.byte_lists.specs.Table.{table}
-use Rattle.byte_lists.specs.Xor.{_⊕_}
+use Rattle.lemmas.specs.lists.Table.{table}
+use Rattle.lemmas.specs.lists.Xor.{_⊕_}
 use Rattle.aes.specs.Field.{_•_, xtime, subByte}
 
 -- 3.4: the byte in row r and column c, both counted modulo 4

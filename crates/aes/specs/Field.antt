@@ -1,7 +1,7 @@
 -- FIPS 197, sections 4 and 5.1.1: bytes as elements of GF(2^8), and the substitution's rule. A byte is a number below 256.
 -- 4.1: addition is exclusive or, `_⊕_`.
 use Prim.Native.Nat.{ℕ, zero, suc, _+_, _*_, _/_, _%_, _^_}
-use Rattle.byte_lists.specs.Xor.{_⊕_}
+use Rattle.lemmas.specs.lists.Xor.{_⊕_}
 
 -- 4.2.1: times x, that is {02}: a shift to the left, and {1b} added where bit 7 was set
 unfoldable pub xtime : ℕ → ℕ

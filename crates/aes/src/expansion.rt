@@ -7,7 +7,7 @@ use crate::tables::substitution;
 ghost use mathlib.Core.Path.{_≡_};
 ghost use mathlib.Core.List.{[], _∷_};
 ghost use lib.ListN.{getD};
-ghost use Rattle.byte_lists.specs.Table.{table};
+ghost use Rattle.lemmas.specs.lists.Table.{table};
 ghost use Rattle.aes.specs.Field.{xtime, subByte};
 ghost use Rattle.aes.specs.Cipher.{nextKey, roundKeys};
 ghost use Rattle.aes.specs.Words.{bytesOf};

@@ -1,6 +1,6 @@
 // The two tables: the substitution list, and what a byte adds to its column in a round.
 ghost use mathlib.Core.Path.{_≡_};
-ghost use Rattle.byte_lists.specs.Table.{table};
+ghost use Rattle.lemmas.specs.lists.Table.{table};
 ghost use Rattle.aes.specs.Field.{subByte};
 ghost use Rattle.aes.specs.Words.{RoundTable};
 

@@ -9,8 +9,8 @@ use borrow.Author.Tests.{lt-ltb, le-ltb}
 use borrow.Rule.Slice.PartMut.{putMid}
 use lib.ListN.{length, take, drop, length-append, length-drop, drop-of-length-le}
 use lib.Seq.{take-at, drop-at, take-all, drop-drop, length-take-le}
-use Rattle.byte_lists.specs.Same.{same}
-use Rattle.byte_lists.specs.Table.{length-table}
+use Rattle.lemmas.specs.lists.Same.{same}
+use Rattle.lemmas.specs.lists.Table.{length-table}
 use Rattle.refusal.specs.declared.Refusal.{Refusal}
 use Rattle.refusal.specs.declared.Refusal.the-variants.{Room, Range, Seal}
 use Rattle.aes.specs.Cipher.{roundKeys}

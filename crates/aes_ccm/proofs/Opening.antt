@@ -12,7 +12,7 @@ use lib.Seq.{take-at, drop-at}
 use Rattle.refusal.specs.declared.Refusal.{Refusal}
 use Rattle.refusal.specs.declared.Refusal.the-variants.{Seal}
 use Rattle.refusal.specs.Refusal.{numberOf}
-use Rattle.byte_lists.specs.Same.{same-equal, same-refl}
+use Rattle.lemmas.specs.lists.Same.{same-equal, same-refl}
 use Rattle.aes.specs.Bounds.{Bytes, cut as cut-bytes}
 use Rattle.aes.specs.Cipher.{roundKeys}
 use Rattle.aes.specs.Laws.{AesLaws}

@@ -8,8 +8,8 @@ use native.Mathlib.Decide.{decLt}
 use native.Mathlib.Omega.{arith}
 use lib.ListN.{length, getD, length-append, List·getD-append}
 use lib.Seq.{getD-append-add, getD-take}
-use Rattle.byte_lists.specs.Xor.{_⊕_, cancel}
-use Rattle.byte_lists.specs.Table.{table, table-ext, table-self, getD-table, length-table}
+use Rattle.lemmas.specs.lists.Xor.{_⊕_, cancel}
+use Rattle.lemmas.specs.lists.Table.{table, table-ext, table-self, getD-table, length-table}
 use Rattle.aes.specs.Bounds.{Bytes, xor-byte, tabled}
 use Rattle.aes.specs.Cipher.{roundKeys}
 use Rattle.aes.specs.Laws.{AesLaws}

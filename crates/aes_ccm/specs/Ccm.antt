@@ -4,9 +4,9 @@ use mathlib.Core.Bool.{Bool}
 use mathlib.Core.List.{List, [], _∷_, _++_}
 use Prim.Native.Nat.{ℕ, zero, suc, _+_, _*_, _-_, _/_, _%_, min}
 use lib.ListN.{length, getD, take, drop}
-use Rattle.byte_lists.specs.Xor.{_⊕_}
-use Rattle.byte_lists.specs.Same.{same}
-use Rattle.byte_lists.specs.Table.{table}
+use Rattle.lemmas.specs.lists.Xor.{_⊕_}
+use Rattle.lemmas.specs.lists.Same.{same}
+use Rattle.lemmas.specs.lists.Table.{table}
 use Rattle.aes.specs.Cipher.{addRoundKey, cipher, roundKeys}
 
 -- 2.2: the first sixteen bytes, padded with zeros

@@ -1,7 +1,7 @@
 // Tags compared.
 ghost use mathlib.Core.Path.{_≡_};
 ghost use lib.ListN.{length};
-ghost use Rattle.byte_lists.specs.Same.{same};
+ghost use Rattle.lemmas.specs.lists.Same.{same};
 
 // Whether two tags are the same. All eight bytes are compared, whatever they are.
 pub(crate) fn same_tag(s: &[u8], u: [u8; 8]) -> bool

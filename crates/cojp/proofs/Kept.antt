@@ -8,8 +8,8 @@ use lib.Dec.{leb, eqb}
 use lib.ListN.{length, take, replicate, length-append}
 use lib.Seq.{take-append-seam}
 use borrow.Author.Tests.{leb-true, le-leb, eq-eqb}
-use Rattle.byte_lists.specs.Same.{same, same-refl}
-use Rattle.logic_facts.specs.Tests.{both}
+use Rattle.lemmas.specs.lists.Same.{same, same-refl}
+use Rattle.lemmas.specs.logic.Tests.{both}
 use Rattle.cbor.specs.Decode.{decode, got}
 use Rattle.cbor.specs.Encode.{encode, encodes, shortest}
 use Rattle.cbor.specs.Item.{Fit, depth}

@@ -49,7 +49,7 @@ use Rattle.cojp.specs.declared.disposition.Disposition.the-variants.{Tak
 use Rattle.cojp.specs.declared.version.Version.{Version}
 use Rattle.cojp.specs.declared.version.Version.the-variants.{Draft, Published}
 use Rattle.cojp.specs.declared.walk.LabelStatus.the-variants.{First}
-use Rattle.logic_facts.specs.Tests.{both-left, both-right}
+use Rattle.lemmas.specs.logic.Tests.{both-left, both-right}
 use Rattle.cojp.proofs.Faults.{Listed, none-listed, added-listed, listed-valid}
 use Rattle.cojp.proofs.Kept.{blacklist-good}
 use Rattle.cojp.proofs.Walks.{Gives, payload-gives}

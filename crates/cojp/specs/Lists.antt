@@ -10,7 +10,7 @@ use Rattle.cbor.specs.Answer.{Plan, emit, refuse}
 use Rattle.cbor.specs.Item.{Item, Items, unsigned, negative, bytes, simple, none, more}
 use Rattle.cbor.specs.Encode.{encodes, shortest}
 use Rattle.cbor.specs.View.{Scalar, number, minus, string, other, View, scalar, list}
-use Rattle.byte_lists.specs.Same.{same}
+use Rattle.lemmas.specs.lists.Same.{same}
 use Rattle.cojp.specs.Bytes.{membersAt}
 use Rattle.cojp.specs.Octets.{padded}
 use Rattle.cojp.specs.declared.list.ItemList.{ItemList}

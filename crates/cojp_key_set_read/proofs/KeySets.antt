@@ -31,7 +31,7 @@ use Rattle.cojp_key_set_read.specs.declared.group.Group.{Group}
 use Rattle.cojp_key_set_read.specs.declared.group.Group.the-variants as gv
 use Rattle.cojp_key_set_read.specs.declared.additional_info.AdditionalInfoRead.{AdditionalInfoRead}
 use Rattle.cojp.specs.declared.key_set.KeysParameter.{KeysParameter}
-use Rattle.logic_facts.specs.Tests.{both-left, both-right}
+use Rattle.lemmas.specs.logic.Tests.{both-left, both-right}
 use Rattle.cojp.proofs.Arrays.{nothing-left, members-none, array-here, no-array}
 use Rattle.cojp.proofs.Strings.{copied-inside}
 

@@ -1,6 +1,6 @@
 -- The witness of 232 bytes, the longest payload read and the written examples are computed.
 use mathlib.Core.Path.{refl}
-use Rattle.byte_lists.specs.Same.{same}
+use Rattle.lemmas.specs.lists.Same.{same}
 use Rattle.cbor.specs.Decode.{payloadBy, decodeBy, heading, argument, next, digits, members, pairs, majorOf}
 use Rattle.cbor.specs.View.{scalarAt}
 use Rattle.cbor.specs.Encode.{bytesOf, infoOf, extraOf, shortest}

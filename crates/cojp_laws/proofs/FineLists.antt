@@ -7,7 +7,7 @@ use native.Mathlib.Omega.{arith}
 use borrow.Author.Tests.{leb-true}
 use lib.Dec.{leb}
 use lib.ListN.{length, take, length-append, length-take}
-use Rattle.logic_facts.specs.Tests.{both-left}
+use Rattle.lemmas.specs.logic.Tests.{both-left}
 use Rattle.cbor.specs.Decode.{Outcome, refused, got, decode}
 use Rattle.cbor.specs.Encode.{shortest, encode, encodes}
 use Rattle.cbor.specs.HeadLaws.{HeadLaws}

@@ -10,7 +10,7 @@ use lib.ListN.{length, getD, drop, drop-of-length-le}
 use lib.Seq.{drop-cons}
 use borrow.Author.Tests.{le-leb, lt-leb, eq-eqb, ne-eqb, leb-true}
 use Rattle.cbor.specs.View.{Scalar}
-use Rattle.byte_lists.specs.Same.{same}
+use Rattle.lemmas.specs.lists.Same.{same}
 use Rattle.cojp.specs.Bytes.{membersAt}
 use Rattle.cojp.specs.Lists.{Picked, nothing, picked, fitting, written, listAnswer, bytesIn, sameAs, kept}
 use Rattle.cojp.specs.declared.list.ItemList.{ItemList}

@@ -11,9 +11,9 @@ use borrow.Author.Tests.{le-leb, leb-true, eqb-true}
 use Rattle.cbor.specs.Encode.{encode, shortest}
 use Rattle.cbor.specs.Item.{array, count}
 use Rattle.cbor.specs.View.{Scalar, number, minus, string, other, scalarOf, scalarsOf, viewOf}
-use Rattle.byte_lists.specs.Same.{same}
-use Rattle.byte_lists.specs.Same.{same-equal}
-use Rattle.logic_facts.specs.Tests.{both-left, both-right}
+use Rattle.lemmas.specs.lists.Same.{same}
+use Rattle.lemmas.specs.lists.Same.{same-equal}
+use Rattle.lemmas.specs.logic.Tests.{both-left, both-right}
 use Rattle.cojp.specs.Bytes.{membersAt}
 use Rattle.cojp.specs.Octets.{padded}
 use Rattle.cojp.specs.Lists.{Picked, nothing, picked, before, fitting, scalarItem, itemsOf, written, isInteger, stringsIn, errorReportsIn, some}

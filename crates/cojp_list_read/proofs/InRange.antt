@@ -11,9 +11,9 @@ use borrow.Author.Tests.{le-leb, leb-true, eqb-true, eq-eqb}
 use Rattle.cbor.specs.Decode.{decodeBy, heading, argument, next, digits, majorOf}
 use Rattle.cbor.specs.Encode.{shortest, infoOf, extraOf, bytesOf}
 use Rattle.cbor.specs.View.{Scalar, scalarAt}
-use Rattle.byte_lists.specs.Same.{same-refl}
+use Rattle.lemmas.specs.lists.Same.{same-refl}
 use Rattle.link_key_set.specs.Lists.{allOf}
-use Rattle.logic_facts.specs.Tests.{both-left, both-right, both}
+use Rattle.lemmas.specs.logic.Tests.{both-left, both-right, both}
 use Rattle.cojp.specs.Bytes.{membersAt}
 use Rattle.cojp.specs.ErrorReports.{errorReportList, isReportable, validErrorReport, validErrorReports}
 use Rattle.cojp.specs.Lists.{Picked, picked, written, errorReportsIn, some, listOf, listAnswer, fitting, bytesIn, sameAs, kept}

@@ -5,7 +5,7 @@ use cojp::ItemList;
 use cojp::ListRead;
 ghost use mathlib.Core.Path.{_≡_};
 ghost use Prim.Native.Nat.{_≤_};
-ghost use Rattle.byte_lists.specs.Same.{same};
+ghost use Rattle.lemmas.specs.lists.Same.{same};
 ghost use Rattle.cojp.specs.Lists.{stringsIn, errorReportsIn, some, sameAs, kept};
 
 // Whether two parts agree byte by byte.

@@ -8,7 +8,7 @@ use borrow.Author.Tests.{le-leb, lt-leb}
 use lib.Dec.{leb}
 use lib.ListN.{length, take, drop, length-append, length-take, length-drop}
 use lib.Seq.{length-take-le}
-use Rattle.logic_facts.specs.Tests.{both-left}
+use Rattle.lemmas.specs.logic.Tests.{both-left}
 use Rattle.refusal.specs.declared.Refusal.the-variants.{Room, Range}
 use Rattle.cbor.specs.Answer.{Did, Wrote, emit, headPlan}
 use Rattle.cbor.specs.Encode.{shortest, encodePairs, extraOf}

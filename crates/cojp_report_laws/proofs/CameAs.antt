@@ -11,7 +11,7 @@ use Rattle.cbor.specs.View.{View, labelOf, viewOf}
 use Rattle.cbor.specs.declared.value.Label.{Label}
 use Rattle.cbor.specs.declared.value.Label.the-variants as label
 use Rattle.cojp.specs.Reading.{Reading, refused, read}
-use Rattle.logic_facts.specs.Tests.{neither-left, neither-right}
+use Rattle.lemmas.specs.logic.Tests.{neither-left, neither-right}
 use Rattle.cojp_report_laws.specs.GoodValues.{Chosen, CameAs}
 use Rattle.cojp_report_laws.specs.Labels.{isIn, Known, knownOf, labelsOf, knownFirst, knownIn}
 use Rattle.cojp_report_laws.proofs.Items.{viewSize, pairsSize}

@@ -23,7 +23,7 @@ use Rattle.cojp.specs.declared.configuration.Configuration.{Configuration}
 use Rattle.cojp.specs.declared.error_report.ErrorReport.{ErrorReport}
 use Rattle.cojp.specs.declared.disposition.Disposition.the-variants.{Discarded}
 use Rattle.cojp.specs.declared.version.Version.the-variants.{Published}
-use Rattle.logic_facts.specs.Tests.{never}
+use Rattle.lemmas.specs.logic.Tests.{never}
 use Rattle.cojp_report_laws.specs.InOrder.{malformed, timesIn}
 use Rattle.cojp_report_laws.specs.Labels.{configurationLabels, isIn, Known, knownOf, labelsOf, knownIn, pairsIn, labelsVerdict, payloadVerdict}
 use Rattle.cojp_report_laws.proofs.Labels.{in-snoc, stood, standsBy, stays, comes, flag, flag-most, each-label}

@@ -24,7 +24,7 @@ use Rattle.cojp.specs.declared.octets.OctetsParameter.{OctetsParameter}
 use Rattle.cojp.specs.declared.rate.RateParameter.{RateParameter}
 use Rattle.cojp.specs.declared.disposition.Disposition.the-variants.{Absent, Discarded}
 use Rattle.cojp.specs.declared.version.Version.the-variants.{Published}
-use Rattle.logic_facts.specs.Tests.{never}
+use Rattle.lemmas.specs.logic.Tests.{never}
 use Rattle.cojp_report_laws.specs.Good.{keysAs, KeysJudged, noAddressAs, AddressJudged, octetsAs, JrcJudged, listAs, BlacklistJudged, rateAs, RateJudged}
 use Rattle.cojp_report_laws.specs.GoodValues.{CameAs, Configured}
 use Rattle.cojp_report_laws.specs.Labels.{configurationLabels, isIn, Known, knownOf, labelsOf, knownIn, pairsIn, labelsVerdict, payloadVerdict}

@@ -20,7 +20,7 @@ use Rattle.cojp.specs.KeySet.{Groups, notGroups, groupsOf, group, further, grou
 use Rattle.cojp.specs.Reading.{malformedAs, good, unfit}
 use Rattle.cojp.specs.declared.key_set.KeysParameter.{KeysParameter}
 use Rattle.cojp.specs.declared.disposition.Disposition.the-variants.{Taken, Discarded}
-use Rattle.logic_facts.specs.Tests.{both, both-left, both-right, neither-left, neither-right, first, second, third, fourth, all-four}
+use Rattle.lemmas.specs.logic.Tests.{both, both-left, both-right, neither-left, neither-right, first, second, third, fourth, all-four}
 use Rattle.cojp_report_laws.specs.Good.{perhaps, Group, sourceMember, setMembers, usageIn, keyIn, keysIn, GoodGroup, EachGood, NotAmong, NoneTwice, GoodKeys, keysAs, KeysJudged}
 
 abbrev groupWith : ℕ → Option ℕ → List ℕ → AdditionalInfo → Group

@@ -17,7 +17,7 @@ use Rattle.cojp.specs.Reading.{read, malformedAs, concluded, unfit, good}
 use Rattle.cojp.specs.declared.address.AddressParameter.{AddressParameter}
 use Rattle.cojp.specs.declared.octets.OctetsParameter.{OctetsParameter}
 use Rattle.cojp.specs.declared.disposition.Disposition.the-variants.{Taken, Discarded}
-use Rattle.logic_facts.specs.Tests.{both, both-left, both-right, never}
+use Rattle.lemmas.specs.logic.Tests.{both, both-left, both-right, never}
 use Rattle.short_address.specs.Address.{isReserved, isAddress}
 use Rattle.cojp_report_laws.specs.Good.{perhaps, rateAs, RateJudged, octetsAs, JrcJudged, NetworkJudged, Identifier, twoBytes, GoodAddress, addressAs, noAddressAs, AddressJudged}
 

@@ -19,7 +19,7 @@ use Rattle.cojp.specs.declared.disposition.Disposition.{Disposition}
 use Rattle.cojp.specs.declared.disposition.Disposition.the-variants.{Absent, Taken, Discarded}
 use Rattle.cojp.specs.declared.request.RequestState.{RequestState}
 use Rattle.cojp.specs.declared.version.Version.the-variants.{Published}
-use Rattle.logic_facts.specs.Tests.{never}
+use Rattle.lemmas.specs.logic.Tests.{never}
 use Rattle.cojp_report_laws.specs.Good.{octetsAs, NetworkJudged, listAs, EntriesJudged}
 use Rattle.cojp_report_laws.specs.GoodValues.{CameAs, Requested}
 use Rattle.cojp_report_laws.specs.InOrder.{listReports}

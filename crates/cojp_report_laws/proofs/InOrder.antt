@@ -33,7 +33,7 @@ use Rattle.cojp.specs.declared.disposition.Disposition.{Disposition}
 use Rattle.cojp.specs.declared.disposition.Disposition.the-variants.{Absent, Taken, Discarded}
 use Rattle.cojp.specs.declared.request.RequestState.{RequestState}
 use Rattle.cojp.specs.declared.version.Version.the-variants.{Published}
-use Rattle.logic_facts.specs.Tests.{never}
+use Rattle.lemmas.specs.logic.Tests.{never}
 use Rattle.cojp_report_laws.specs.InOrder.{malformed, reportAt, isDiscarded, isAbsent, badAmong, timesIn, ReportsInOrder, requestReports, roleIn, RequestInOrder}
 use Rattle.cojp_report_laws.specs.Labels.{configurationLabels, requestLabels, isIn, Known, labelsOf, knownIn, labelsVerdict, payloadVerdict, pairsIn}
 use Rattle.cojp_report_laws.proofs.Configurations.{Seen, five-most, malformed-long, configuration-agrees}

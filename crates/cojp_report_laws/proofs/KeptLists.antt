@@ -7,7 +7,7 @@ use mathlib.Core.List.{List, [], _∷_, _++_}
 use lib.ListN.{length, replicate, length-append}
 use lib.Seq.{take-append-seam}
 use borrow.Author.Tests.{le-leb, eq-eqb}
-use Rattle.byte_lists.specs.Same.{same-refl}
+use Rattle.lemmas.specs.lists.Same.{same-refl}
 use Rattle.cbor.specs.Encode.{encode, encodes, shortest}
 use Rattle.cbor.specs.HeadLaws.{HeadLaws}
 use Rattle.cbor.specs.Item.{Fit, depth, array, count}

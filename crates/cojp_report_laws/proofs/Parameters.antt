@@ -27,7 +27,7 @@ use Rattle.cojp.specs.declared.disposition.Disposition.{Disposition}
 use Rattle.cojp.specs.declared.disposition.Disposition.the-variants.{Taken, Discarded}
 use Rattle.cojp.specs.declared.version.Version.{Version}
 use Rattle.cojp.specs.declared.version.Version.the-variants.{Draft, Published}
-use Rattle.logic_facts.specs.Tests.{both-right}
+use Rattle.lemmas.specs.logic.Tests.{both-right}
 use Rattle.short_address.specs.Address.{isAddress}
 use Rattle.cojp_report_laws.proofs.Items.{headSize, viewSize, ViewFits}
 use Rattle.cojp_report_laws.proofs.KeptLists.{list-kept, list-size, Picks, Picking}

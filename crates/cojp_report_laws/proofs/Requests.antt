@@ -25,7 +25,7 @@ use Rattle.cojp.specs.declared.disposition.Disposition.the-variants.{Absent, Ta
 use Rattle.cojp.specs.declared.request.RequestState.{RequestState}
 use Rattle.cojp.specs.declared.version.Version.the-variants.{Published}
 use Rattle.cojp.specs.declared.walk.LabelStatus.the-variants.{First, Repeated}
-use Rattle.logic_facts.specs.Tests.{never, neither-left, neither-right}
+use Rattle.lemmas.specs.logic.Tests.{never, neither-left, neither-right}
 use Rattle.cojp_report_laws.specs.InOrder.{reportsOf, requestReports, roleRead, roleIn}
 use Rattle.cojp_report_laws.specs.Labels.{requestLabels, isIn, Known, knownOf, labelsOf, knownIn, pairsIn, labelsVerdict, payloadVerdict}
 use Rattle.cojp_report_laws.specs.Verdicts.{isIdentifier, identified}

@@ -7,7 +7,7 @@ use native.Mathlib.Omega.{arith}
 use borrow.Author.Tests.{ltb-true, ltb-false}
 use lib.Dec.{ltb}
 use lib.ListN.{length, length-append}
-use Rattle.logic_facts.specs.Tests.{neither-left, neither-right}
+use Rattle.lemmas.specs.logic.Tests.{neither-left, neither-right}
 use Rattle.cojp_serial.specs.State.{placed, grown, partAnswer, partStore, endState}
 use Rattle.cojp_serial.specs.Calls.{SerialCall, resetting, sending, ending, Held, decisionOn, told, left, leftBy, answers, joined, sendings}
 use Rattle.cojp_serial.specs.Calls.{verdictIn, ifAccepted, takenBy, takenIn, saysLong, longPart, longPartIn}

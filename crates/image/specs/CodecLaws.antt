@@ -9,7 +9,7 @@ use borrow.Author.Tests.{eq-eqb, eqb-true}
 use lib.Dec.{leb, eqb}
 use lib.ListN.{length, take, drop, getD, length-append, length-drop}
 use lib.Seq.{take-at, drop-at, take-add, getD-drop, length-take-le}
-use Rattle.logic_facts.specs.Tests.{both-left, both-right, both as both-true}
+use Rattle.lemmas.specs.logic.Tests.{both-left, both-right, both as both-true}
 use Rattle.cbor.specs.Decode.{bigEndian}
 use Rattle.cbor.specs.Encode.{bytesOf}
 use Rattle.image.specs.Numbers.{many-bytes, read-back, below, put-back}

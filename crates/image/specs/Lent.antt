@@ -9,7 +9,7 @@ use borrow.Author.Tests.{eq-eqb, ne-eqb, eqb-true}
 use lib.Dec.{eqb}
 use lib.ListN.{length, take, drop, replicate}
 use lib.Seq.{take-all}
-use Rattle.logic_facts.specs.Tests.{both-left}
+use Rattle.lemmas.specs.logic.Tests.{both-left}
 use Rattle.refusal.specs.Refusal.{numberOf}
 use Rattle.refusal.specs.Verdict.{verdictNumber}
 use Rattle.refusal.specs.declared.Refusal.{Refusal}

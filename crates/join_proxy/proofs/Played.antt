@@ -3,7 +3,7 @@
 use mathlib.Core.Path.{refl}
 use native.Mathlib.Omega.{arith}
 use lib.ListN.{replicate}
-use Rattle.byte_lists.specs.Same.{same}
+use Rattle.lemmas.specs.lists.Same.{same}
 use Rattle.join_proxy.specs.Body.{bodyOf}
 use Rattle.join_proxy.specs.Issuing.{issuePlan}
 use Rattle.join_proxy.specs.Judging.{judgeBody}

@@ -3,7 +3,7 @@ use mathlib.Core.List.{List, [], _∷_, _++_}
 use mathlib.Core.Path.{_≡_}
 use Prim.Native.Nat.{ℕ, _+_, _*_, _/_, _%_}
 use lib.ListN.{length, getD, drop}
-use Rattle.byte_lists.specs.Table.{table}
+use Rattle.lemmas.specs.lists.Table.{table}
 use Rattle.aes_ccm.specs.Ccm.{sealed, two}
 
 -- a number below 2^32 in four bytes, the most significant first

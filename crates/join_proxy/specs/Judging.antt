@@ -4,7 +4,7 @@ use mathlib.Core.List.{List, [], _∷_}
 use Prim.Native.Nat.{ℕ, _+_, _-_, _*_}
 use lib.Dec.{eqb, ltb}
 use lib.ListN.{length, getD, take, drop}
-use Rattle.byte_lists.specs.Table.{table}
+use Rattle.lemmas.specs.lists.Table.{table}
 use Rattle.refusal.specs.declared.Refusal.{Refusal}
 use Rattle.refusal.specs.declared.Refusal.the-variants.{«Type», Range, Seal, Stale}
 use Rattle.refusal.specs.declared.Verdict.the-variants as verdict

@@ -2,7 +2,7 @@
 use mathlib.Core.Bool.{cond}
 use mathlib.Core.List.{List}
 use Prim.Native.Nat.{ℕ}
-use Rattle.byte_lists.specs.Same.{same}
+use Rattle.lemmas.specs.lists.Same.{same}
 use Rattle.refusal.specs.declared.Refusal.the-variants.{Range}
 use Rattle.refusal.specs.declared.Verdict.the-variants as verdict
 use Rattle.join_proxy.specs.declared.proxy.Issued.{Issued}

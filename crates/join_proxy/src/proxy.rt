@@ -2,7 +2,7 @@
 use refusal::Refusal;
 use refusal::Verdict;
 ghost use mathlib.Core.Path.{_≡_};
-ghost use Rattle.byte_lists.specs.Same.{same};
+ghost use Rattle.lemmas.specs.lists.Same.{same};
 ghost use Rattle.join_proxy.specs.Keys.{fresh, setKey};
 
 pub struct Proxy {

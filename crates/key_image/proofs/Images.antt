@@ -8,7 +8,7 @@ use borrow.Author.Tests.{eqb-true, ne-eqb}
 use lib.Dec.{eqb}
 use lib.ListN.{length, take, drop, getD, replicate, length-take, length-drop, take-append-drop, drop-of-length-le}
 use lib.Seq.{length-take-le, take-all, drop-cons, getD-take, getD-drop, drop-drop, drop-at, take-add}
-use Rattle.logic_facts.specs.Tests.{both-left, both-right, both as both-true}
+use Rattle.lemmas.specs.logic.Tests.{both-left, both-right, both as both-true}
 use Rattle.cbor.specs.Answer.{Wrote}
 use Rattle.cbor.specs.Decode.{digits, bigEndian}
 use Rattle.image.specs.Fields.{and-good}

@@ -20,7 +20,7 @@ use Rattle.link_key_usage.specs.declared.Entry.the-variants as entry
 use Rattle.link_key_usage.specs.declared.Usage.{Usage}
 use Rattle.link_key_usage.specs.declared.Family.{Family}
 use Rattle.link_key_usage.specs.declared.Family.the-variants.{K1K2Encrypted, K1K2, K1, K2, K2Encrypted}
-use Rattle.logic_facts.specs.Tests.{both-left, both-right, first}
+use Rattle.lemmas.specs.logic.Tests.{both-left, both-right, first}
 use Rattle.link_key.proofs.Same.{same-self, same-equal}
 use Rattle.link_key.proofs.Infos.{info-equal}
 

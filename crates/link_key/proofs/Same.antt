@@ -7,7 +7,7 @@ use mathlib.Core.List.{List, [], _∷_}
 use lib.ListN.{length, drop, getD, drop-of-length-le}
 use lib.Seq.{drop-cons}
 use Rattle.link_key.specs.Same.{sameBy}
-use Rattle.logic_facts.specs.Tests.{both-left, both-right}
+use Rattle.lemmas.specs.logic.Tests.{both-left, both-right}
 
 module _ {A : Type 0} (same : A → A → Bool) where
   -- lists of different lengths are not the same

@@ -8,7 +8,7 @@ use mathlib.Core.Option.{Option, none, some}
 use lib.ListN.{getD}
 use Rattle.link_key.specs.Key.{covers}
 use Rattle.link_key.specs.declared.Key.{Key}
-use Rattle.logic_facts.specs.Tests.{both-left}
+use Rattle.lemmas.specs.logic.Tests.{both-left}
 use Rattle.link_key_set.specs.KeySet.{keysOf}
 use Rattle.link_key_set.specs.declared.key_set.KeySet.{KeySet}
 use Rattle.link_key_set.proofs.Lists.{any-one, first-is, first-finds}

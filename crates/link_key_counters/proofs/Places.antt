@@ -10,7 +10,7 @@ use lib.ListN.{length, take, getD, length-take}
 use lib.Seq.{getD-take}
 use Rattle.link_key.specs.Key.{covers}
 use Rattle.link_key.specs.declared.Key.{Key}
-use Rattle.logic_facts.specs.Tests.{both-right}
+use Rattle.lemmas.specs.logic.Tests.{both-right}
 use Rattle.link_key_set.proofs.Lists.{first-is}
 use Rattle.link_key_counters.specs.Counters.{Slot, slot, slotsFrom, slotsOf, lastCounter, isUsedUp, serves, firstServing, placeOf}
 use Rattle.link_key_counters.specs.declared.CountedSet.{CountedSet}

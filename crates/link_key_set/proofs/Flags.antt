@@ -12,7 +12,7 @@ use lib.Dec.{leb, ltb, eqb}
 use lib.ListN.{length, take, drop, getD, set, replicate, length-set, length-take}
 use lib.Pow.{pow-lt, pow-add, pow-pos, shl-shr, shl-exact}
 use lib.Seq.{getD-set-same, getD-set-other, getD-take, take-all, take-suc, split-at}
-use Rattle.logic_facts.specs.Tests.{both-left, both-right}
+use Rattle.lemmas.specs.logic.Tests.{both-left, both-right}
 use Rattle.link_key_usage.specs.Usage.{listed}
 use Rattle.link_key.specs.Key.{validKey}
 use Rattle.link_key.specs.declared.Key.{Key}

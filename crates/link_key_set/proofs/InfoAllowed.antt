@@ -4,7 +4,7 @@ use mathlib.Core.Path.{_≡_, refl, _∙_}
 use mathlib.Core.Bool.{Bool, true, false, _&&_, _||_}
 use mathlib.Core.List.{List}
 use lib.ListN.{length, take, drop, getD}
-use Rattle.logic_facts.specs.Tests.{never}
+use Rattle.lemmas.specs.logic.Tests.{never}
 use Rattle.link_key.specs.Key.{hasNoAdditionalInfo}
 use Rattle.link_key.specs.declared.Key.{Key}
 use Rattle.link_key_set.specs.KeySet.{noAdditionalInfos, additionalInfoAllowed}

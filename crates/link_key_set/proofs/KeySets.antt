@@ -14,7 +14,7 @@ use Rattle.link_key_set.specs.KeySet.{findKey}
 use Rattle.link_key.specs.declared.Key.{Key}
 use Rattle.link_key.specs.declared.additional_info.AdditionalInfo.the-variants.{Absent}
 use Rattle.link_key_set.specs.declared.key_set.KeySet.{KeySet}
-use Rattle.logic_facts.specs.Tests.{both-left, both-right, never}
+use Rattle.lemmas.specs.logic.Tests.{both-left, both-right, never}
 use Rattle.link_key.proofs.Same.{same-self, same-equal}
 use Rattle.link_key_set.proofs.Lists.{any-none, any-never, any-append, all-each, all-append, first-is, first-none, none-first}
 use Rattle.link_key.proofs.Infos.{plain-info}

@@ -5,7 +5,7 @@ use mathlib.Core.Path.{_≡_, refl, ap, sym, _∙_}
 use mathlib.Core.Bool.{Bool, true, false, cond, _&&_, _||_, or-true, and-assoc, or-assoc, false≢true}
 use mathlib.Core.List.{List, [], _∷_, _++_, List·Memᴰ, List·Memᴰ·head, List·Memᴰ·tail}
 use mathlib.Core.Option.{Option, none, some}
-use Rattle.logic_facts.specs.Tests.{both-left, both-right, neither-left, neither-right}
+use Rattle.lemmas.specs.logic.Tests.{both-left, both-right, neither-left, neither-right}
 use Rattle.link_key_set.specs.Lists.{anyOf, allOf, firstOf}
 
 module _ {A : Type 0} (test : A → Bool) where

@@ -3,7 +3,7 @@ use Prim.Native.Nat.{ℕ}
 use mathlib.Core.Path.{_≡_, refl, sym, _∙_, ap}
 use mathlib.Core.Bool.{Bool, true, false, cond, not, _&&_}
 use Rattle.refusal.specs.declared.Verdict.the-variants.{Accepted}
-use Rattle.logic_facts.specs.Tests.{never}
+use Rattle.lemmas.specs.logic.Tests.{never}
 use Rattle.link_key.specs.Key.{sameKey}
 use Rattle.link_key_set.specs.KeySet.{has}
 use Rattle.node_key_sets.specs.Frames as sets

@@ -11,7 +11,7 @@ use lib.Dec.{lit<, ltb, eqb}
 use lib.ListN.{length}
 use Rattle.refusal.specs.declared.Refusal.the-variants as refusal
 use Rattle.link_key.specs.Key.{validKey, hasNoAdditionalInfo, sameKey, sameSecret, covers}
-use Rattle.logic_facts.specs.Tests.{never, both-left, both-right, neither-left, neither-right}
+use Rattle.lemmas.specs.logic.Tests.{never, both-left, both-right, neither-left, neither-right}
 use Rattle.link_key_set.specs.Lists.{anyOf, allOf}
 use Rattle.link_key_set.specs.KeySet.{validKeys, validSet, Apart}
 use Rattle.link_key_counters.specs.Counters.{Slot, lastCounter, isUsedUp, takeCounter, inheritCounters}

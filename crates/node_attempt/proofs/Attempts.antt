@@ -10,14 +10,14 @@ use Rattle.refusal.specs.Verdict.{refused-not, accepted-not}
 use Rattle.refusal.specs.declared.Refusal.{Refusal}
 use Rattle.refusal.specs.declared.Refusal.the-variants as refusal
 use Rattle.refusal.specs.declared.Verdict.the-variants as verdict
-use Rattle.logic_facts.specs.Tests.{both-left, both-right}
+use Rattle.lemmas.specs.logic.Tests.{both-left, both-right}
 use Rattle.node_attempt.specs.Attempt.{isWaiting, attempt, firstTimeout, timeoutAfter, validTimeout, valid, mayStart, waitingFrom}
 use Rattle.node_attempt.specs.Poll.{step, stepped, poll, dueVerdict}
 use Rattle.node_attempt.specs.declared.attempt.Attempt.{Attempt}
 use Rattle.node_attempt.specs.declared.attempt.Phase.the-variants as phase
 use Rattle.node_attempt.specs.declared.poll.Due.the-variants.{Refused, NotYet, SendAgain, GaveUp}
 use Rattle.node_attempt.specs.declared.poll.AttemptResult.{AttemptResult}
-use Rattle.logic_facts.specs.Tests.{then-so}
+use Rattle.lemmas.specs.logic.Tests.{then-so}
 
 -- ---- what it says, part by part, and back
 module _ (a : Attempt) (e : valid a ≡ true) where

@@ -5,7 +5,7 @@ use mathlib.Core.Path.{_≡_, refl, _∙_}
 use mathlib.Core.Bool.{true}
 use borrow.Author.Tests.{le-leb, lt-ltb, le-ltb, leb-true}
 use lib.Dec.{leb}
-use Rattle.logic_facts.specs.Tests.{both-left, both-right}
+use Rattle.lemmas.specs.logic.Tests.{both-left, both-right}
 use Rattle.node_attempt.specs.Attempt.{attempt, valid, waitingFrom}
 use Rattle.node_attempt.specs.Poll.{step, stepped, poll, dueAt, afterDue, AttemptGivesUp}
 use Rattle.node_attempt.specs.declared.attempt.Attempt.{Attempt}

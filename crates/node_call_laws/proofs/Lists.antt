@@ -8,7 +8,7 @@ use native.Mathlib.Omega.{arith}
 use borrow.Author.Tests.{eqb-false, not-true}
 use lib.Dec.{eqb}
 use lib.ListN.{length, take, set, getD, replicate, length-append, length-map, length-replicate, length-take}
-use Rattle.logic_facts.specs.Tests.{both-right}
+use Rattle.lemmas.specs.logic.Tests.{both-right}
 use Rattle.image.specs.Part as part
 use Rattle.image.specs.Part.{Part, number, Fits}
 use Rattle.key_image.specs.Key.{keyPart}

@@ -9,7 +9,7 @@ use native.Mathlib.Omega.{arith}
 use borrow.Author.Tests.{eqb-true, leb-true, ltb-true}
 use lib.Dec.{leb, ltb, eqb}
 use lib.ListN.{length, getD, replicate, length-append, length-replicate}
-use Rattle.logic_facts.specs.Tests.{both-left, both-right}
+use Rattle.lemmas.specs.logic.Tests.{both-left, both-right}
 use Rattle.short_address.specs.Address.{isAddress, isReserved}
 use Rattle.image.specs.Part.{AllBytes, octets}
 use Rattle.key_image.specs.AdditionalInfo.{additionalInfoPart}

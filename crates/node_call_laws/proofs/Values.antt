@@ -9,7 +9,7 @@ use native.Mathlib.Nat.{pow-suc, pow-le-pow-right}
 use borrow.Author.Tests.{eqb-true, leb-true, ltb-true}
 use lib.Dec.{leb, ltb, eqb}
 use lib.ListN.{set}
-use Rattle.logic_facts.specs.Tests.{both-left, both-right, then-so}
+use Rattle.lemmas.specs.logic.Tests.{both-left, both-right, then-so}
 use Rattle.image.specs.Part.{number}
 use Rattle.key_image.specs.Key.{keyPart, keySetPart, countedSetPart}
 use Rattle.link_key.specs.Key.{noKey, sameSecret, covers}

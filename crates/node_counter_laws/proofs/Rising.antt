@@ -9,7 +9,7 @@ use lib.ListN.{length}
 use Rattle.refusal.specs.Verdict.{verdictNumber}
 use Rattle.refusal.specs.declared.Refusal.the-variants as refusal
 use Rattle.refusal.specs.declared.Verdict.the-variants.{Accepted}
-use Rattle.logic_facts.specs.Tests.{first}
+use Rattle.lemmas.specs.logic.Tests.{first}
 use Rattle.link_key.specs.Key.{sameSecret}
 use Rattle.link_key.specs.declared.Key.{Key}
 use Rattle.link_key_set.specs.KeyLaws.{KeyLaws}

@@ -12,7 +12,7 @@ use Rattle.cojp.specs.declared.error_report.ErrorReports.{ErrorReports}
 use Rattle.cojp.specs.declared.version.Version.{Version}
 use Rattle.image.specs.Fields.{whole-struct, four-fields}
 use Rattle.image.specs.Part.{Part, byte, both, isHeaded, isImage}
-use Rattle.logic_facts.specs.Tests.{both-left}
+use Rattle.lemmas.specs.logic.Tests.{both-left}
 use Rattle.node.specs.declared.node.Node.{Node}
 use Rattle.node_attempt.specs.declared.attempt.Attempt.{Attempt}
 use Rattle.node_key_sets.specs.declared.sets.KeySets.{KeySets}

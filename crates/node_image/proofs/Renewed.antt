@@ -19,7 +19,7 @@ use Rattle.image.specs.Part.{AllBytes, RoundTrips, number, times, isImage}
 use Rattle.key_image.specs.Key.{keySetPart, countedSetPart}
 use Rattle.key_image.specs.Laws.{KeyImages}
 use Rattle.link_key_counters.specs.Counters.{Slot, takenCounterOn, takeCounter, firstServing}
-use Rattle.logic_facts.specs.Tests.{both-right}
+use Rattle.lemmas.specs.logic.Tests.{both-right}
 use Rattle.node.specs.Frames as frames
 use Rattle.node.specs.Frames.{sentBy, unsent}
 use Rattle.node.specs.Range.{valid}

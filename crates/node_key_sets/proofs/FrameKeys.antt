@@ -26,7 +26,7 @@ use Rattle.node_key_sets.specs.declared.frames.Change.the-variants as ch
 use Rattle.node_key_sets.specs.declared.frames.KeyAnswer.{KeyAnswer}
 use Rattle.node_key_sets.specs.declared.frames.SendKeyResult.{SendKeyResult}
 use Rattle.node_key_sets.specs.declared.sets.KeySets.{KeySets}
-use Rattle.logic_facts.specs.Tests.{both, both-left}
+use Rattle.lemmas.specs.logic.Tests.{both, both-left}
 use Rattle.node_key_sets.proofs.Valid.{pending-valid, member-valid, same-valid}
 
 -- no key of the list has the identifier

@@ -17,7 +17,7 @@ use Rattle.node_key_sets.specs.Sets.{activeIn, pendingIn, twoSets, isNon
 use Rattle.node_key_sets.specs.Frames.{switched}
 use Rattle.node_key_sets.specs.declared.sets.KeySets.{KeySets}
 use Rattle.node_key_sets.specs.declared.sets.InstallResult.{InstallResult}
-use Rattle.logic_facts.specs.Tests.{both, both-left, both-right, never, first, second, third, fourth, all-four, then-so}
+use Rattle.lemmas.specs.logic.Tests.{both, both-left, both-right, never, first, second, third, fourth, all-four, then-so}
 
 -- whether keys may be informed is asked of each set, or of both after all else
 pub regrouped : (a b s t i p q : Bool) → ((a && (i || p)) && (b && (i || q)) && (s && t)) ≡ ((a && b && s && t) && (i || (p && q)))

@@ -14,7 +14,7 @@ use Rattle.refusal.specs.Order.{refusedIf, inOrder, refused-first}
 use Rattle.refusal.specs.declared.Refusal.the-variants as refusal
 use Rattle.refusal.specs.declared.Verdict.{Verdict}
 use Rattle.refusal.specs.declared.Verdict.the-variants as verdict
-use Rattle.logic_facts.specs.Tests.{never}
+use Rattle.lemmas.specs.logic.Tests.{never}
 use Rattle.link_key_usage.specs.Usage.{knownType}
 use Rattle.link_key.specs.Key.{covers}
 use Rattle.link_key.specs.declared.Key.{Key}

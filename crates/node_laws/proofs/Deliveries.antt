@@ -53,7 +53,7 @@ use Rattle.node.specs.declared.delivery.DeliveryResult.{DeliveryResult}
 use Rattle.node_parameters.specs.declared.dispositions.Dispositions.{Dispositions}
 use Rattle.node_parameters.specs.declared.octets.HeldOctets.{HeldOctets}
 use Rattle.node.specs.declared.node.Node.{Node}
-use Rattle.logic_facts.specs.Tests.{all-four, first, second, third, fourth, both}
+use Rattle.lemmas.specs.logic.Tests.{all-four, first, second, third, fourth, both}
 use Rattle.node_laws.proofs.Valid.{Plain, keys-valid, keys-plain, attempt-valid, address-valid, others-valid, valid-by}
 use Rattle.node_laws.proofs.Forms.{fitted-taken, fitted-range, may-inform, octets-after, form-after}
 

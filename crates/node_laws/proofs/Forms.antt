@@ -4,7 +4,7 @@ use Prim.Native.Nat.{ℕ}
 use mathlib.Core.Path.{_≡_, refl, _∙_, ap, subst}
 use mathlib.Core.Bool.{Bool, true, false, not, _&&_}
 use lib.Dec.{leb}
-use Rattle.logic_facts.specs.Tests.{both, both-left, both-right, never}
+use Rattle.lemmas.specs.logic.Tests.{both, both-left, both-right, never}
 use Rattle.refusal.specs.declared.Verdict.{Verdict}
 use Rattle.refusal.specs.declared.Verdict.the-variants as verdict
 use Rattle.link_key_set.specs.KeySet.{keysOf, additionalInfoAllowed}

@@ -16,7 +16,7 @@ use Rattle.link_key.specs.declared.Key.{Key}
 use Rattle.link_key_counters.specs.CounterLaws.{CounterLaws}
 use Rattle.link_key_counters.specs.Counters.{Slot, slotsOf, lastCounter, isUsedUp, firstServing, raised}
 use Rattle.link_key_counters.specs.declared.CountedSet.{CountedSet}
-use Rattle.logic_facts.specs.Tests.{both-right}
+use Rattle.lemmas.specs.logic.Tests.{both-right}
 use Rattle.cojp.specs.Version.{allowsAdditionalInfo}
 use Rattle.node_key_sets.specs.Sets.{twoSets, plainIn}
 use Rattle.node_key_sets.specs.Frames as sets-spec

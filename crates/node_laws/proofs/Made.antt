@@ -6,7 +6,7 @@ use lib.Dec.{eqb}
 use Rattle.refusal.specs.Verdict.{refused-not}
 use Rattle.refusal.specs.declared.Refusal.the-variants.{Range}
 use Rattle.refusal.specs.declared.Verdict.the-variants.{Accepted}
-use Rattle.logic_facts.specs.Tests.{all-four}
+use Rattle.lemmas.specs.logic.Tests.{all-four}
 use Rattle.cojp.specs.ErrorReports.{validErrorReports, errorReportsValid}
 use Rattle.cojp.specs.Version.{allowsAdditionalInfo}
 use Rattle.cojp.specs.declared.version.Version.{Version}

@@ -4,7 +4,7 @@ use mathlib.Core.Bool.{Bool, true, false, cond, _&&_}
 use mathlib.Core.List.{List, [], _∷_}
 use lib.Dec.{leb}
 use Rattle.refusal.specs.Verdict.{verdictNumber}
-use Rattle.logic_facts.specs.Tests.{both-left, never}
+use Rattle.lemmas.specs.logic.Tests.{both-left, never}
 use Rattle.short_address.specs.Address.{isAddress, AddressLaws}
 use Rattle.node.specs.Node.{clockOf, made}
 use Rattle.node.specs.Range.{valid, Valid}

@@ -10,7 +10,7 @@ use Rattle.node_parameters.specs.Lease.{validAddress}
 use Rattle.node.specs.Node.{isBorder, clockOf}
 use Rattle.node.specs.Range.{othersValid, valid, Valid}
 use Rattle.node.specs.declared.node.Node.{Node}
-use Rattle.logic_facts.specs.Tests.{first, second, third, fourth, all-four}
+use Rattle.lemmas.specs.logic.Tests.{first, second, third, fourth, all-four}
 
 module _ (n : Node) where
   abbrev keys : Bool

@@ -28,7 +28,7 @@ use Rattle.cojp.specs.declared.version.Version.{Version}
 use Rattle.cojp.specs.declared.version.Version.the-variants.{Draft}
 use Rattle.cojp_merge.specs.Laws.{MergeLaws, TakesEqual}
 use Rattle.cojp_merge.specs.Merge.{merged, mergeAnswer}
-use Rattle.logic_facts.specs.Tests.{both-left, both-right}
+use Rattle.lemmas.specs.logic.Tests.{both-left, both-right}
 use Rattle.node_attempt.specs.Attempt as attempt
 use Rattle.node_delivery.specs.Delivery.{belongs, mayCome}
 use Rattle.node_delivery.specs.declared.Delivery.the-variants.{Update}

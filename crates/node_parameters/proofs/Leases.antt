@@ -5,13 +5,13 @@ use mathlib.Core.Path.{_≡_, refl}
 use mathlib.Core.Bool.{Bool, true, false, cond, _&&_}
 use borrow.Author.Tests.{leb-true, le-leb}
 use lib.Dec.{leb}
-use Rattle.logic_facts.specs.Tests.{both-left, both-right}
+use Rattle.lemmas.specs.logic.Tests.{both-left, both-right}
 use Rattle.short_address.specs.Address.{isAddress}
 use Rattle.cojp.specs.declared.version.Version.{Version}
 use Rattle.cojp.specs.declared.version.Version.the-variants.{Draft, Published}
 use Rattle.node_parameters.specs.Lease.{validAddress, leaseUnit}
 use Rattle.node_parameters.specs.declared.address.HeldAddress.{HeldAddress}
-use Rattle.logic_facts.specs.Tests.{both}
+use Rattle.lemmas.specs.logic.Tests.{both}
 
 pub unit-some : (v : Version) → 1 ≤ leaseUnit v
 unit-some Draft = omega arith

@@ -4,7 +4,7 @@ use mathlib.Core.Bool.{Bool, true, false}
 use Rattle.cojp.specs.Reading.{ifTaken}
 use Rattle.cojp.specs.declared.disposition.Disposition.{Disposition}
 use Rattle.cojp.specs.declared.disposition.Disposition.the-variants.{Absent, Taken, Discarded}
-use Rattle.logic_facts.specs.Tests.{never}
+use Rattle.lemmas.specs.logic.Tests.{never}
 
 module _ {X : Type 0} (r : Disposition) (x old : X) (t : Bool) (e : t ≡ ifTaken r true false) where
   taken-by : (s : Disposition) → ifTaken s true false ≡ true → ifTaken s x old ≡ x

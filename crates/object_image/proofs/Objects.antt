@@ -10,7 +10,7 @@ use lib.Seq.{drop-drop}
 use Rattle.cbor.specs.Answer.{Wrote}
 use Rattle.cbor.specs.Decode.{bigEndian}
 use Rattle.cbor.specs.Encode.{bytesOf}
-use Rattle.logic_facts.specs.Tests.{both-left, both-right}
+use Rattle.lemmas.specs.logic.Tests.{both-left, both-right}
 use Rattle.image.specs.Fields.{and-good, two-fields, four-fields, whole-struct}
 use Rattle.image.specs.Part.{Part, headed, isHeaded, isImage}
 use Rattle.cojp.specs.declared.address.AddressParameter.{AddressParameter}

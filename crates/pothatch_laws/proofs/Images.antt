@@ -8,7 +8,7 @@ use borrow.Author.Tests.{eq-eqb}
 use lib.Dec.{eqb}
 use lib.ListN.{length}
 use lib.Seq.{take-all}
-use Rattle.logic_facts.specs.Tests.{both-right}
+use Rattle.lemmas.specs.logic.Tests.{both-right}
 use Rattle.image.specs.Lent.{long}
 use Rattle.image.specs.Part.{Part, AllBytes, RoundTrips, isImage}
 

@@ -3,7 +3,7 @@ use Prim.Native.Nat.{ℕ}
 use mathlib.Core.List.{List}
 use mathlib.Core.Path.{_≡_, refl, ap, _∙_, subst}
 use lib.ListN.{replicate}
-use Rattle.byte_lists.specs.Same.{same}
+use Rattle.lemmas.specs.lists.Same.{same}
 use Rattle.cbor.specs.Encode.{bytesOf}
 use Rattle.join_proxy.specs.Body.{bodyOf}
 use Rattle.join_proxy.specs.Example.{key}

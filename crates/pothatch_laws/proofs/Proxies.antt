@@ -8,7 +8,7 @@ use native.Mathlib.Omega.{arith}
 use borrow.Author.Tests.{eq-eqb, eqb-true, eqb-false}
 use lib.Dec.{eqb}
 use lib.ListN.{length, replicate}
-use Rattle.logic_facts.specs.Tests.{both}
+use Rattle.lemmas.specs.logic.Tests.{both}
 use Rattle.refusal.specs.Refusal.{Numbered}
 use Rattle.refusal.specs.Verdict.{verdictNumber}
 use Rattle.refusal.specs.declared.Refusal.the-variants.{Range}
@@ -18,7 +18,7 @@ use Rattle.image.specs.Effects.{onAccept, checkedFirst, ResultSpec}
 use Rattle.image.specs.Part.{AllBytes, RoundTrips, isImage}
 use Rattle.aes_ccm.specs.Plan as plan
 use Rattle.aes_ccm.specs.Plan.{Plan, refuse, emit, answer, numberIn}
-use Rattle.byte_lists.specs.Same.{same}
+use Rattle.lemmas.specs.lists.Same.{same}
 use Rattle.cipher_calls.specs.Cipher.{planVerdict, rangeFirst}
 use Rattle.join_proxy.specs.History as history
 use Rattle.join_proxy.specs.History.{History, called, answered, settled}

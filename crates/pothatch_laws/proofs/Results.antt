@@ -8,11 +8,11 @@ use native.Mathlib.Omega.{arith}
 use borrow.Author.Tests.{eqb-true, eqb-false}
 use lib.Dec.{eqb}
 use lib.ListN.{length, take}
-use Rattle.logic_facts.specs.Tests.{both-left, both-right}
+use Rattle.lemmas.specs.logic.Tests.{both-left, both-right}
 use Rattle.image.specs.Part.{Part, AllBytes, RoundTrips}
 use Rattle.aes_ccm.specs.Laws.{CcmLaws}
 use Rattle.aes_ccm.specs.Plan.{Plan, refuse, emit}
-use Rattle.byte_lists.specs.Same.{same}
+use Rattle.lemmas.specs.lists.Same.{same}
 use Rattle.cbor.specs.Decode.{payloadBy, decodeBy, heading}
 use Rattle.cojp.specs.Configuration.{emptyConfiguration, refuseConfiguration}
 use Rattle.cojp.specs.Reading.{ifTaken}

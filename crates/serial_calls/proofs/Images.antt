@@ -11,7 +11,7 @@ use lib.Seq.{drop-drop, take-all}
 use Rattle.cbor.specs.Answer.{Wrote}
 use Rattle.cbor.specs.Decode.{bigEndian}
 use Rattle.cbor.specs.Encode.{bytesOf}
-use Rattle.logic_facts.specs.Tests.{both-left, both-right}
+use Rattle.lemmas.specs.logic.Tests.{both-left, both-right}
 use Rattle.image.specs.Fields.{whole-struct, two-fields}
 use Rattle.image.specs.CodecLaws.{number-lawful, both-lawful, viewed-lawful, headed-lawful}
 use Rattle.image.specs.Lent.{long}

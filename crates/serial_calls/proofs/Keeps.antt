@@ -8,7 +8,7 @@ use native.Mathlib.Omega.{arith}
 use borrow.Author.Tests.{eq-eqb}
 use lib.Dec.{eqb}
 use lib.ListN.{length}
-use Rattle.logic_facts.specs.Tests.{both-left}
+use Rattle.lemmas.specs.logic.Tests.{both-left}
 use Rattle.refusal.specs.Refusal.{numberOf}
 use Rattle.refusal.specs.Verdict.{verdictNumber}
 use Rattle.refusal.specs.declared.Refusal.the-variants.{Long}

@@ -11,7 +11,7 @@ use lib.Seq.{drop-drop}
 use Rattle.cbor.specs.Answer.{Wrote}
 use Rattle.cbor.specs.Decode.{bigEndian}
 use Rattle.cbor.specs.Encode.{bytesOf}
-use Rattle.logic_facts.specs.Tests.{both-left, both-right}
+use Rattle.lemmas.specs.logic.Tests.{both-left, both-right}
 use Rattle.image.specs.Fields.{and-good, whole-struct, two-fields, four-fields}
 use Rattle.image.specs.CodecLaws.{byte-lawful, number-lawful, octets-lawful, upTo-lawful, both-lawful, viewed-lawful, viewedIf-lawful, headed-lawful}
 use Rattle.image.specs.Part.{RoundTrips, number, octets, upTo, both, viewed, isHeaded, isImage}

@@ -1,6 +1,6 @@
 -- The key's flag decides.
 use borrow.Author.Needs.{needs}
-use Rattle.logic_facts.specs.Tests.{is-true, is-false}
+use Rattle.lemmas.specs.logic.Tests.{is-true, is-false}
 use Rattle.cojp_key_set_read.proofs.count_with.Statement.{statement}
 use Rattle.cojp_key_set_read.proofs.count_with.Tie as tie
 

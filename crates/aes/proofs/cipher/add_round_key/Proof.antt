@@ -3,8 +3,8 @@ use mathlib.Core.Path.{refl}
 use Prim.Native.Nat.{_-_}
 use borrow.Author.Needs.{needs}
 use lib.ListN.{getD}
-use Rattle.byte_lists.specs.Xor.{_⊕_}
-use Rattle.byte_lists.specs.Filling.{Filling, begin, step, all}
+use Rattle.lemmas.specs.lists.Xor.{_⊕_}
+use Rattle.lemmas.specs.lists.Filling.{Filling, begin, step, all}
 use Rattle.aes.specs.Cipher.{addRoundKey}
 use Rattle.aes.proofs.cipher.add_round_key.Statement.{statement}
 use Rattle.aes.proofs.cipher.add_round_key.Tie as tie

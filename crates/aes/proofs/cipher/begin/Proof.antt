@@ -1,6 +1,6 @@
 -- Each word is the sum of two words, and so are its bytes.
 use mathlib.Core.Path.{_∙_}
-use Rattle.byte_lists.specs.Xor.{_⊕_}
+use Rattle.lemmas.specs.lists.Xor.{_⊕_}
 use Rattle.aes.proofs.Words.{add-bytes, joined, begun}
 use borrow.Author.Needs.{needs}
 use Rattle.aes.proofs.cipher.begin.Statement.{statement}

@@ -1,7 +1,7 @@
 -- What the table's four entries, turned, add up to is MixColumns' column.
 use native.Mathlib.Omega.{arith}
 use Prim.Native.Nat.{_/_, _%_}
-use Rattle.byte_lists.specs.Xor.{_⊕_}
+use Rattle.lemmas.specs.lists.Xor.{_⊕_}
 use Rattle.aes.proofs.Words.{column-bytes}
 use borrow.Author.Needs.{needs}
 use Rattle.aes.proofs.columns.column.Statement.{statement}

@@ -1,6 +1,6 @@
 -- Four substituted bytes as a word, and the round key's word added.
 use mathlib.Core.Path.{refl, _∙_}
-use Rattle.byte_lists.specs.Xor.{_⊕_}
+use Rattle.lemmas.specs.lists.Xor.{_⊕_}
 use Rattle.aes.proofs.Words.{add-bytes, column-eq}
 use borrow.Author.Needs.{needs}
 use Rattle.aes.proofs.columns.last_column.Statement.{statement}

@@ -3,7 +3,7 @@ use mathlib.Core.Path.{_≡_, refl}
 use mathlib.Core.List.{[]}
 use Prim.Native.Nat.{_-_}
 use lib.ListN.{getD}
-use Rattle.byte_lists.specs.Table.{table}
+use Rattle.lemmas.specs.lists.Table.{table}
 use Rattle.aes.specs.Field.{subByte}
 use Rattle.aes.proofs.RoundKeys.{Expanding, expand-begin, expand-step, expanded}
 use borrow.Author.Needs.{needs}

@@ -1,6 +1,6 @@
 -- Each word of the next key is the sum of the word before it and the one four back.
 use mathlib.Core.Path.{_∙_}
-use Rattle.byte_lists.specs.Xor.{_⊕_}
+use Rattle.lemmas.specs.lists.Xor.{_⊕_}
 use Rattle.aes.proofs.RoundKeys.{next-key-bytes}
 use borrow.Author.Needs.{needs}
 use Rattle.aes.proofs.expansion.next_key.Statement.{statement}

@@ -1,6 +1,6 @@
 -- A shift that drops bit 7, and the modulus added where it was set.
 use mathlib.Core.Path.{refl}
-use Rattle.byte_lists.specs.Xor.{_⊕_}
+use Rattle.lemmas.specs.lists.Xor.{_⊕_}
 use Rattle.aes.specs.Field.{xtime}
 use borrow.Author.Needs.{needs}
 use Rattle.aes.proofs.expansion.times_x.Statement.{statement}

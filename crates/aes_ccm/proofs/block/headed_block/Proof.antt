@@ -3,7 +3,7 @@ use mathlib.Core.Path.{refl}
 use Prim.Native.Nat.{_-_}
 use borrow.Author.Needs.{needs}
 use lib.ListN.{getD}
-use Rattle.byte_lists.specs.Filling.{Filling, begin, step, all}
+use Rattle.lemmas.specs.lists.Filling.{Filling, begin, step, all}
 use Rattle.aes_ccm.specs.Ccm.{block, headed}
 use Rattle.aes_ccm.proofs.block.headed_block.Statement.{statement}
 use Rattle.aes_ccm.proofs.block.headed_block.Tie as tie

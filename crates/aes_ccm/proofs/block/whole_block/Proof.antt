@@ -4,7 +4,7 @@ use Prim.Native.Nat.{_-_}
 use borrow.Author.Needs.{needs}
 use lib.ListN.{getD, drop}
 use lib.Seq.{getD-drop}
-use Rattle.byte_lists.specs.Filling.{Filling, begin, step, all}
+use Rattle.lemmas.specs.lists.Filling.{Filling, begin, step, all}
 use Rattle.aes_ccm.specs.Ccm.{block}
 use Rattle.aes_ccm.proofs.block.whole_block.Statement.{statement}
 use Rattle.aes_ccm.proofs.block.whole_block.Tie as tie

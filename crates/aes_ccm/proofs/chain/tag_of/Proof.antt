@@ -4,8 +4,8 @@ use Prim.Native.Nat.{_-_}
 use native.Mathlib.Omega.{arith}
 use borrow.Author.Needs.{needs}
 use lib.ListN.{getD}
-use Rattle.byte_lists.specs.Xor.{_⊕_}
-use Rattle.byte_lists.specs.Filling.{Filling, begin, step, all}
+use Rattle.lemmas.specs.lists.Xor.{_⊕_}
+use Rattle.lemmas.specs.lists.Filling.{Filling, begin, step, all}
 use Rattle.aes.specs.Cipher.{cipher}
 use Rattle.aes_ccm.specs.Ccm.{stream, counter}
 use Rattle.aes_ccm.proofs.Streams.{tag-bytes}

@@ -6,8 +6,8 @@ use Prim.Native.Nat.{ℕ, _+_, _/_, _%_, _≤_, _-_}
 use native.Mathlib.Omega.{arith}
 use borrow.Author.Needs.{needs}
 use lib.ListN.{length, getD, drop}
-use Rattle.byte_lists.specs.Xor.{_⊕_}
-use Rattle.byte_lists.specs.Writing.{Writing, begin, step, long, all}
+use Rattle.lemmas.specs.lists.Xor.{_⊕_}
+use Rattle.lemmas.specs.lists.Writing.{Writing, begin, step, long, all}
 use Rattle.aes.specs.Cipher.{cipher}
 use Rattle.aes_ccm.specs.Ccm.{stream, counter}
 use Rattle.aes_ccm.proofs.Streams.{cryptByte, crypt-bytes}

@@ -5,7 +5,7 @@ use lib.ListN.{length, drop}
 use native.Mathlib.Omega.{arith}
 use borrow.Author.Needs.{needs}
 use borrow.Author.Tests.{eq-eqb, ne-eqb}
-use Rattle.byte_lists.specs.Same.{same}
+use Rattle.lemmas.specs.lists.Same.{same}
 use Rattle.cojp_list_read.proofs.Again.{same-lengths, same-turn, same-stop}
 use Rattle.cojp_list_read.proofs.kept.same_bytes.Statement.{statement}
 use Rattle.cojp_list_read.proofs.kept.same_bytes.Tie as tie

@@ -3,7 +3,7 @@ use mathlib.Core.Path.{_≡_, refl, ap}
 use mathlib.Core.List.{List, _∷_}
 use Prim.Native.Nat.{ℕ}
 use lib.ListN.{length, getD}
-use Rattle.byte_lists.specs.Table.{table, table-self}
+use Rattle.lemmas.specs.lists.Table.{table, table-self}
 use borrow.Author.Needs.{needs}
 use Rattle.join_proxy.proofs.body.nonce.Statement.{statement}
 use Rattle.join_proxy.proofs.body.nonce.Tie as tie

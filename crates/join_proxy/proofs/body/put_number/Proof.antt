@@ -6,8 +6,8 @@ use Prim.Native.Nat.{ℕ, _≤_, _-_}
 use native.Mathlib.Omega.{arith}
 use borrow.Author.Needs.{needs}
 use lib.ListN.{length, getD, drop}
-use Rattle.byte_lists.specs.Table.{table-self}
-use Rattle.byte_lists.specs.Writing.{Writing, begin, step, long, all}
+use Rattle.lemmas.specs.lists.Table.{table-self}
+use Rattle.lemmas.specs.lists.Writing.{Writing, begin, step, long, all}
 use Rattle.join_proxy.proofs.body.put_number.Statement.{statement}
 use Rattle.join_proxy.proofs.body.put_number.Tie as tie
 

@@ -3,7 +3,7 @@ use Prim.Native.Nat.{_+_}
 use lib.ListN.{drop}
 use Rattle.key_image.specs.Key.{keyPart}
 use native.Mathlib.Omega.{arith}
-use Rattle.logic_facts.specs.Tests.{granted, denied}
+use Rattle.lemmas.specs.logic.Tests.{granted, denied}
 use Rattle.key_image.proofs.Images.{one-judged, none-judged, last-judged}
 use borrow.Author.Needs.{needs}
 use Rattle.key_image.proofs.key_set.is_four.Statement.{statement}

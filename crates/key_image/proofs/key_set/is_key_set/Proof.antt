@@ -4,7 +4,7 @@ use mathlib.Core.Bool.{Bool, _&&_}
 use lib.ListN.{drop}
 use Rattle.image.specs.Part.{goods}
 use Rattle.key_image.specs.Key.{keyPart}
-use Rattle.logic_facts.specs.Tests.{granted, denied}
+use Rattle.lemmas.specs.logic.Tests.{granted, denied}
 use mathlib.Core.Path.{sym, ap, _∙_}
 use Rattle.key_image.proofs.Images.{set-judged, halves-judged}
 use borrow.Author.Needs.{needs}

@@ -1,7 +1,7 @@
 -- The image comes first; then the question is the ledger's own.
 use mathlib.Core.Path.{refl, sym, ap, _∙_}
 use Rattle.address_ledger.specs.Ledger.{freeCount}
-use Rattle.logic_facts.specs.Tests.{denied, granted}
+use Rattle.lemmas.specs.logic.Tests.{denied, granted}
 use Rattle.state_image.specs.Ledger.{ledgerImage}
 use Rattle.ledger_calls.proofs.Ledgers.{count-unfit, counted}
 use Rattle.image.specs.Lent.{long}

@@ -4,7 +4,7 @@ use mathlib.Core.Path.{ap₂, _∙_}
 use Rattle.address_ledger.specs.Ledger.{givenBack}
 use Rattle.address_ledger_laws.specs.Demand1.{returning}
 use Rattle.image.specs.Part.{isImage}
-use Rattle.logic_facts.specs.Tests.{denied, granted as so}
+use Rattle.lemmas.specs.logic.Tests.{denied, granted as so}
 use Rattle.state_image.specs.Ledger.{ledgerImage}
 use Rattle.ledger_calls.proofs.Ledgers.{unfit, told, returned}
 use Rattle.image.specs.Lent.{whole, long, other-length, then-not, then-so}

@@ -2,7 +2,7 @@
 use mathlib.Core.Path.{sym}
 use mathlib.Core.Bool.{false}
 use borrow.Author.Needs.{needs}
-use Rattle.logic_facts.specs.Tests.{is-true, is-false}
+use Rattle.lemmas.specs.logic.Tests.{is-true, is-false}
 use Rattle.link_key_set.proofs.Flags.{asked, set-in, outside-none, one-more}
 use Rattle.link_key_set.proofs.seen.join.Statement.{statement}
 use Rattle.link_key_set.proofs.seen.join.Tie as tie

@@ -2,7 +2,7 @@
 use borrow.Author.Needs.{needs}
 use borrow.Author.Tests.{le-leb, lt-leb}
 use Rattle.node.specs.Node.{made}
-use Rattle.logic_facts.specs.Tests.{denied, granted}
+use Rattle.lemmas.specs.logic.Tests.{denied, granted}
 use Rattle.node.proofs.node.make.Statement.{statement}
 use Rattle.node.proofs.node.make.Tie as tie
 

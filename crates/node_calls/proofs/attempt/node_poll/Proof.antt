@@ -1,6 +1,6 @@
 -- The image comes first; then the poll is the node's own, and changes its join attempt alone.
 use mathlib.Core.Path.{ap, _∙_, sym, subst}
-use Rattle.logic_facts.specs.Tests.{denied, granted}
+use Rattle.lemmas.specs.logic.Tests.{denied, granted}
 use Rattle.image.specs.Lent.{long}
 use Rattle.node_image.specs.Node.{nodeImage}
 use Rattle.node_image.specs.Change.{Attempted}

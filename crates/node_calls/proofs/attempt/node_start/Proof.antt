@@ -1,6 +1,6 @@
 -- The image comes first; then the start is the node's own, and changes its join attempt alone.
 use mathlib.Core.Path.{sym, subst}
-use Rattle.logic_facts.specs.Tests.{denied, granted}
+use Rattle.lemmas.specs.logic.Tests.{denied, granted}
 use Rattle.image.specs.Lent.{long}
 use Rattle.node_image.specs.Node.{nodeImage}
 use Rattle.node_image.specs.Change.{Attempted}

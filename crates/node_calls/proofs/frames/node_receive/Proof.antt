@@ -1,7 +1,7 @@
 -- The struct's length and the image come first; then the key is the node's own.
 use native.Mathlib.Omega.{arith}
 use mathlib.Core.Path.{ap, _∙_}
-use Rattle.logic_facts.specs.Tests.{denied, granted}
+use Rattle.lemmas.specs.logic.Tests.{denied, granted}
 use Rattle.image.specs.Lent.{long, hands-unfit, hands-none}
 use Rattle.node_image.specs.Node.{nodeImage}
 use Rattle.image.specs.Part.{isImage}

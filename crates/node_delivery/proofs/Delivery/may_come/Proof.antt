@@ -1,7 +1,7 @@
 -- `may_come` meets its contract: each test of the code is one of the definition's.
 use borrow.Author.Needs.{needs}
 use borrow.Author.Tests.{le-leb, lt-leb}
-use Rattle.logic_facts.specs.Tests.{denied, granted, is-false, is-true}
+use Rattle.lemmas.specs.logic.Tests.{denied, granted, is-false, is-true}
 use Rattle.node_delivery.specs.Delivery.{mayCome}
 use Rattle.node_delivery.proofs.Delivery.may_come.Statement.{statement}
 use Rattle.node_delivery.proofs.Delivery.may_come.Tie as tie

@@ -1,5 +1,5 @@
 -- The bytes of each part are judged where those before it are good.
-use Rattle.logic_facts.specs.Tests.{is-true}
+use Rattle.lemmas.specs.logic.Tests.{is-true}
 use Rattle.node_image.proofs.Nodes.{node-long, no-head, no-state, node-good}
 use borrow.Author.Needs.{needs}
 use Rattle.node_image.proofs.state.is_node.Statement.{statement}

@@ -1,6 +1,6 @@
 -- The calls are computed.
 use mathlib.Core.Path.{refl}
-use Rattle.byte_lists.specs.Same.{same}
+use Rattle.lemmas.specs.lists.Same.{same}
 use Rattle.link_key.specs.Key.{validKey, hasNoAdditionalInfo, sameKey, covers}
 use Rattle.link_key_set.specs.KeySet.{validKeys, validSet}
 use Rattle.short_address.specs.Address.{isAddress}

@@ -4,7 +4,7 @@ use mathlib.Core.Path.{_≡_, refl}
 use borrow.Author.Needs.{needs}
 use native.Mathlib.Omega.{arith}
 use lib.ListN.{take, drop, length-take}
-use Rattle.logic_facts.specs.Tests.{denied, granted}
+use Rattle.lemmas.specs.logic.Tests.{denied, granted}
 use Rattle.link_key_set.specs.Lists.{allOf}
 use Rattle.cojp.proofs.Reports.{firsts, next-report, no-report}
 use Rattle.cojp.specs.ErrorReports.{validErrorReport}

@@ -1,6 +1,6 @@
 -- The report, and then the address after it.
 use mathlib.Core.Path.{refl, sym}
-use Rattle.logic_facts.specs.Tests.{and-next, and-stops}
+use Rattle.lemmas.specs.logic.Tests.{and-next, and-stops}
 use Rattle.object_image.specs.Address.{shortAddressPart}
 use lib.ListN.{drop}
 use Rattle.object_image.proofs.Got.{good-later}

@@ -1,6 +1,6 @@
 -- The head, and then the two halves.
 use native.Mathlib.Omega.{arith}
-use Rattle.logic_facts.specs.Tests.{denied, granted}
+use Rattle.lemmas.specs.logic.Tests.{denied, granted}
 use Rattle.object_image.specs.Configuration.{configurationPart}
 use Rattle.object_image.proofs.Objects.{no-head, head-long, after-head, bad-half, by-half}
 use borrow.Author.Needs.{needs}

@@ -1,5 +1,5 @@
 -- The fields are asked one after the other, as in the definition.
-use Rattle.logic_facts.specs.Tests.{denied, granted}
+use Rattle.lemmas.specs.logic.Tests.{denied, granted}
 use Rattle.object_image.proofs.Objects.{bad-keys, bad-address, bad-jrc, bad-network, by-prefix}
 use borrow.Author.Needs.{needs}
 use Rattle.object_image.proofs.configuration.is_earlier.Statement.{statement}

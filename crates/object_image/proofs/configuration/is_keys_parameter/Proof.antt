@@ -1,7 +1,7 @@
 -- The report, and then the key set after it.
 use mathlib.Core.Path.{refl, sym}
 use lib.ListN.{drop}
-use Rattle.logic_facts.specs.Tests.{and-next, and-stops}
+use Rattle.lemmas.specs.logic.Tests.{and-next, and-stops}
 use Rattle.key_image.specs.Key.{keySetPart}
 use Rattle.object_image.proofs.Got.{good-later}
 use borrow.Author.Needs.{needs}

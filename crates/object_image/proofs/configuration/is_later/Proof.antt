@@ -1,5 +1,5 @@
 -- All is good after the two reports.
-use Rattle.logic_facts.specs.Tests.{denied, granted}
+use Rattle.lemmas.specs.logic.Tests.{denied, granted}
 use Rattle.object_image.proofs.Objects.{bad-list, by-rate}
 use borrow.Author.Needs.{needs}
 use Rattle.object_image.proofs.configuration.is_later.Statement.{statement}

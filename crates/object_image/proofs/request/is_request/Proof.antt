@@ -1,6 +1,6 @@
 -- The head, and then the reports of the two parameters.
 use native.Mathlib.Omega.{arith}
-use Rattle.logic_facts.specs.Tests.{denied, granted}
+use Rattle.lemmas.specs.logic.Tests.{denied, granted}
 use Rattle.object_image.specs.Request.{requestPart}
 use Rattle.object_image.proofs.Objects.{no-head, head-long, after-head, request-bad, request-good}
 use borrow.Author.Needs.{needs}

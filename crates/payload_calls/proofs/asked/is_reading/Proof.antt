@@ -1,6 +1,6 @@
 -- The form is asked first.
 use mathlib.Core.Path.{sym}
-use Rattle.logic_facts.specs.Tests.{denied, granted}
+use Rattle.lemmas.specs.logic.Tests.{denied, granted}
 use lib.Dec.{leb}
 use Rattle.payload_calls.proofs.Answers.{not-first, then-second}
 use Rattle.payload_calls.specs.Asked.{isVersion}

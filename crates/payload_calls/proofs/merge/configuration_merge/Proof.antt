@@ -3,7 +3,7 @@ use native.Mathlib.Omega.{arith}
 use mathlib.Core.Bool.{_&&_}
 use mathlib.Core.Path.{ap₂, _∙_}
 use Rattle.cojp_merge.specs.Merge.{mergeAnswer}
-use Rattle.logic_facts.specs.Tests.{both, denied, granted}
+use Rattle.lemmas.specs.logic.Tests.{both, denied, granted}
 use Rattle.image.specs.Lent.{long, hands-unfit, hands-none}
 use Rattle.image.specs.Part.{isImage}
 use Rattle.object_image.specs.Configuration.{configurationImage}

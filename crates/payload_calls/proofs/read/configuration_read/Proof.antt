@@ -1,6 +1,6 @@
 -- The struct's length, the form and the reading come first; then the payload is read as was asked.
 use native.Mathlib.Omega.{arith}
-use Rattle.logic_facts.specs.Tests.{denied, granted}
+use Rattle.lemmas.specs.logic.Tests.{denied, granted}
 use Rattle.image.specs.Lent.{hands-unfit, hands-none}
 use Rattle.object_image.specs.Configuration.{configurationImage}
 use Rattle.payload_calls.proofs.Answers.{hands-as}

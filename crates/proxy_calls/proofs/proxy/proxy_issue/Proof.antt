@@ -1,6 +1,6 @@
 -- The interface identifier's length and the image come first; then issuing is the proxy's own.
 use native.Mathlib.Omega.{arith}
-use Rattle.logic_facts.specs.Tests.{denied, granted}
+use Rattle.lemmas.specs.logic.Tests.{denied, granted}
 use Rattle.image.specs.Part.{isImage}
 use Rattle.state_image.specs.Proxy.{proxyImage}
 use Rattle.proxy_calls.proofs.Proxies.{issue-unfit, issue-as, issue-done, issue-refused}

@@ -2,7 +2,7 @@
 use native.Mathlib.Omega.{arith}
 use mathlib.Core.Path.{ap, _∙_}
 use Rattle.join_proxy.specs.Judging.{judgeBody}
-use Rattle.logic_facts.specs.Tests.{denied, granted}
+use Rattle.lemmas.specs.logic.Tests.{denied, granted}
 use Rattle.state_image.specs.Proxy.{proxyImage}
 use Rattle.proxy_calls.proofs.Proxies.{judge-unfit, judge-none, judge-told}
 use Rattle.image.specs.Lent.{long}

@@ -2,7 +2,7 @@
 use native.Mathlib.Omega.{arith}
 use mathlib.Core.Path.{ap₂, _∙_}
 use Rattle.join_proxy.specs.Keys.{setKey}
-use Rattle.logic_facts.specs.Tests.{denied, granted}
+use Rattle.lemmas.specs.logic.Tests.{denied, granted}
 use Rattle.image.specs.Part.{isImage}
 use Rattle.state_image.specs.Proxy.{proxyImage}
 use Rattle.proxy_calls.proofs.Proxies.{key-unfit, key-told}

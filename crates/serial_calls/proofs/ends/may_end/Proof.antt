@@ -1,5 +1,5 @@
 -- The image, and then form and reading.
-use Rattle.logic_facts.specs.Tests.{denied, granted}
+use Rattle.lemmas.specs.logic.Tests.{denied, granted}
 use Rattle.serial_calls.proofs.Ending.{end-no-image, end-by-reading}
 use borrow.Author.Needs.{needs}
 use Rattle.serial_calls.proofs.ends.may_end.Statement.{statement}

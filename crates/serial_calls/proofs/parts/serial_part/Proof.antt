@@ -1,6 +1,6 @@
 -- The image comes first; then the part is that of the arrival in it, and what it leaves is stored.
 use Rattle.image.specs.Lent.{long}
-use Rattle.logic_facts.specs.Tests.{denied, granted}
+use Rattle.lemmas.specs.logic.Tests.{denied, granted}
 use Rattle.serial_calls.specs.Serial.{serialImage}
 use Rattle.serial_calls.proofs.Coming.{part-unfit, part-told}
 use borrow.Author.Needs.{needs}

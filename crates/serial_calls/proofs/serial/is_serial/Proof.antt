@@ -1,6 +1,6 @@
 -- The head, and then the two marks.
 use native.Mathlib.Omega.{arith}
-use Rattle.logic_facts.specs.Tests.{denied, granted}
+use Rattle.lemmas.specs.logic.Tests.{denied, granted}
 use Rattle.serial_calls.proofs.Images.{serial-long, no-head, no-mark, by-end-mark}
 use borrow.Author.Needs.{needs}
 use Rattle.serial_calls.proofs.serial.is_serial.Statement.{statement}

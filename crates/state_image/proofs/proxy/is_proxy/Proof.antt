@@ -1,6 +1,6 @@
 -- The head, and then how many were issued.
 use native.Mathlib.Omega.{arith}
-use Rattle.logic_facts.specs.Tests.{is-true, is-false}
+use Rattle.lemmas.specs.logic.Tests.{is-true, is-false}
 use Rattle.state_image.proofs.Images.{proxy-long, proxy-headed, proxy-not-headed}
 use borrow.Author.Needs.{needs}
 use Rattle.state_image.proofs.proxy.is_proxy.Statement.{statement}

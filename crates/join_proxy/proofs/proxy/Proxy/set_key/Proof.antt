@@ -1,7 +1,7 @@
 -- By whether the key is the one in use.
 use mathlib.Core.Bool.{true, false}
 use mathlib.Core.Path.{_≡_, sym, _∙_}
-use Rattle.byte_lists.specs.Same.{same}
+use Rattle.lemmas.specs.lists.Same.{same}
 use borrow.Author.Needs.{needs}
 use Rattle.join_proxy.proofs.proxy.Proxy.set_key.Statement.{statement}
 use Rattle.join_proxy.proofs.proxy.Proxy.set_key.Tie as tie

@@ -4,7 +4,7 @@ use mathlib.Core.Path.{_≡_, refl, sym}
 use mathlib.Core.Bool.{and-false, or-true}
 use borrow.Author.Needs.{needs}
 use lib.ListN.{length, take, drop}
-use Rattle.logic_facts.specs.Tests.{denied, granted}
+use Rattle.lemmas.specs.logic.Tests.{denied, granted}
 use Rattle.link_key_set.specs.KeySet.{keysOf, eachOnce, additionalInfoAllowed}
 use Rattle.link_key_set.proofs.Flags.{Judging, judged-all, judged-bad, judged-more}
 use Rattle.link_key_set.proofs.InfoAllowed.{allowed-bad, allowed-more}

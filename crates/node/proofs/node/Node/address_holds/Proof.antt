@@ -2,7 +2,7 @@
 use borrow.Author.Needs.{needs}
 use borrow.Author.Tests.{le-leb, lt-leb}
 use Rattle.node.specs.Lease.{holds}
-use Rattle.logic_facts.specs.Tests.{denied, granted, is-false, is-true}
+use Rattle.lemmas.specs.logic.Tests.{denied, granted, is-false, is-true}
 use Rattle.node.proofs.node.Node.address_holds.Statement.{statement}
 use Rattle.node.proofs.node.Node.address_holds.Tie as tie
 

@@ -4,7 +4,7 @@ use mathlib.Core.Logic.{⊎-elim}
 use borrow.Author.Needs.{needs}
 use Rattle.cojp.specs.declared.configuration.Configuration.{Configuration}
 use Rattle.node.specs.Delivery.{configured, apply, fitted, deliver}
-use Rattle.logic_facts.specs.Tests.{denied, granted, is-false, is-true}
+use Rattle.lemmas.specs.logic.Tests.{denied, granted, is-false, is-true}
 use Rattle.node.proofs.Applied.{Placed, apply-changed, apply-clash, apply-owed, deliver-early, deliver-invalid, deliver-read, deliver-unread, none-placed, set-discarded, set-placed}
 use Rattle.node.proofs.node.Node.deliver.Statement.{statement}
 use Rattle.node.proofs.node.Node.deliver.Tie as tie

@@ -3,7 +3,7 @@ use mathlib.Core.Path.{_≡_, refl, sym, _∙_}
 use mathlib.Core.Bool.{not, _&&_}
 use mathlib.Core.Logic.{⊎-elim}
 use borrow.Author.Needs.{needs}
-use Rattle.logic_facts.specs.Tests.{and-next, and-stops}
+use Rattle.lemmas.specs.logic.Tests.{and-next, and-stops}
 use Rattle.node.proofs.node.Node.draft_valid.Statement.{statement}
 use Rattle.node.proofs.node.Node.draft_valid.Tie as tie
 

@@ -1,7 +1,7 @@
 -- `may_start` meets its contract: a valid node may start as its join attempt may.
 use borrow.Author.Needs.{needs}
 use Rattle.node.specs.Timing.{startVerdict}
-use Rattle.logic_facts.specs.Tests.{is-false, is-true}
+use Rattle.lemmas.specs.logic.Tests.{is-false, is-true}
 use Rattle.node.proofs.node.Node.may_start.Statement.{statement}
 use Rattle.node.proofs.node.Node.may_start.Tie as tie
 

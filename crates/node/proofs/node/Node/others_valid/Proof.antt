@@ -4,7 +4,7 @@ use mathlib.Core.Bool.{Bool, _&&_}
 use mathlib.Core.Logic.{⊎-elim}
 use borrow.Author.Needs.{needs}
 use borrow.Author.Tests.{le-leb, lt-leb}
-use Rattle.logic_facts.specs.Tests.{and-next, and-stops}
+use Rattle.lemmas.specs.logic.Tests.{and-next, and-stops}
 use Rattle.node_parameters.specs.Octets.{validOctets, validJrc}
 use Rattle.node.specs.Node.{validRole}
 use Rattle.node.specs.declared.node.Node.{Node}

@@ -3,7 +3,7 @@ use mathlib.Core.Path.{_≡_, refl, sym, _∙_, ap}
 use mathlib.Core.Bool.{Bool, not, _&&_}
 use mathlib.Core.Logic.{⊎-elim}
 use borrow.Author.Needs.{needs}
-use Rattle.logic_facts.specs.Tests.{and-next, and-stops}
+use Rattle.lemmas.specs.logic.Tests.{and-next, and-stops}
 use Rattle.node.specs.Node.{isBorder}
 use Rattle.node_delivery.specs.Delivery.{asksIdentifier}
 use Rattle.node_delivery.specs.declared.Delivery.{Delivery}

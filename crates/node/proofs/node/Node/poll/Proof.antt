@@ -1,7 +1,7 @@
 -- `poll` meets its contract: a valid node answers as its join attempt does.
 use borrow.Author.Needs.{needs}
 use Rattle.node.specs.Timing.{poll}
-use Rattle.logic_facts.specs.Tests.{denied, granted}
+use Rattle.lemmas.specs.logic.Tests.{denied, granted}
 use Rattle.node.proofs.node.Node.poll.Statement.{statement}
 use Rattle.node.proofs.node.Node.poll.Tie as tie
 

@@ -1,7 +1,7 @@
 -- `receiving_key` meets its contract: a valid node answers as its key sets do.
 use borrow.Author.Needs.{needs}
 use Rattle.node.specs.Frames.{receive}
-use Rattle.logic_facts.specs.Tests.{is-false, is-true}
+use Rattle.lemmas.specs.logic.Tests.{is-false, is-true}
 use Rattle.node.proofs.node.Node.receiving_key.Statement.{statement}
 use Rattle.node.proofs.node.Node.receiving_key.Tie as tie
 

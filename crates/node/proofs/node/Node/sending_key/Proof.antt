@@ -1,7 +1,7 @@
 -- `sending_key` meets its contract: a valid node answers as its key sets do.
 use borrow.Author.Needs.{needs}
 use Rattle.node.specs.Frames.{sending}
-use Rattle.logic_facts.specs.Tests.{denied, granted}
+use Rattle.lemmas.specs.logic.Tests.{denied, granted}
 use Rattle.node.proofs.node.Node.sending_key.Statement.{statement}
 use Rattle.node.proofs.node.Node.sending_key.Tie as tie
 

@@ -5,7 +5,7 @@ use mathlib.Core.Logic.{⊎-elim}
 use borrow.Author.Needs.{needs}
 use Rattle.cojp.specs.Version.{allowsAdditionalInfo}
 use Rattle.node_key_sets.specs.Sets as sets
-use Rattle.logic_facts.specs.Tests.{and-next, and-stops}
+use Rattle.lemmas.specs.logic.Tests.{and-next, and-stops}
 use Rattle.node_attempt.specs.Attempt as attempt
 use Rattle.node_parameters.specs.Lease.{validAddress}
 use Rattle.node.specs.Node.{isBorder, clockOf}

@@ -1,7 +1,7 @@
 -- `verified` meets its contract: a valid node answers as its key sets do, and its sets change by a switch alone.
 use borrow.Author.Needs.{needs}
 use Rattle.node.specs.Frames.{verified}
-use Rattle.logic_facts.specs.Tests.{denied, granted}
+use Rattle.lemmas.specs.logic.Tests.{denied, granted}
 use Rattle.node.proofs.node.Node.verified.Statement.{statement}
 use Rattle.node.proofs.node.Node.verified.Tie as tie
 

@@ -1,6 +1,6 @@
 -- `version_valid` meets its contract: the reports first, then by the form.
 use borrow.Author.Needs.{needs}
-use Rattle.logic_facts.specs.Tests.{denied, granted}
+use Rattle.lemmas.specs.logic.Tests.{denied, granted}
 use Rattle.node.specs.Range.{versionValid}
 use Rattle.node.proofs.node.Node.version_valid.Statement.{statement}
 use Rattle.node.proofs.node.Node.version_valid.Tie as tie

@@ -2,7 +2,7 @@
 use borrow.Author.Needs.{needs}
 use borrow.Author.Tests.{le-leb, lt-leb}
 use Rattle.node_attempt.specs.Attempt.{mayStart}
-use Rattle.logic_facts.specs.Tests.{denied, granted, is-false, is-true}
+use Rattle.lemmas.specs.logic.Tests.{denied, granted, is-false, is-true}
 use Rattle.node_attempt.proofs.attempt.Attempt.may_start.Statement.{statement}
 use Rattle.node_attempt.proofs.attempt.Attempt.may_start.Tie as tie
 

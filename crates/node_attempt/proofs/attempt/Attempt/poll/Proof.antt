@@ -3,7 +3,7 @@ use borrow.Author.Needs.{needs}
 use borrow.Author.Tests.{le-leb, lt-leb}
 use Rattle.node_attempt.specs.Poll.{poll}
 use Rattle.node_attempt.proofs.Attempts.{sent-before, timeout-small}
-use Rattle.logic_facts.specs.Tests.{denied, granted}
+use Rattle.lemmas.specs.logic.Tests.{denied, granted}
 use Rattle.node_attempt.proofs.attempt.Attempt.poll.Statement.{statement}
 use Rattle.node_attempt.proofs.attempt.Attempt.poll.Tie as tie
 

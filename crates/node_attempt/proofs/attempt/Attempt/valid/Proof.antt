@@ -2,7 +2,7 @@
 use borrow.Author.Needs.{needs}
 use borrow.Author.Tests.{le-leb, lt-leb}
 use Rattle.node_attempt.specs.Attempt.{valid}
-use Rattle.logic_facts.specs.Tests.{is-false, is-true}
+use Rattle.lemmas.specs.logic.Tests.{is-false, is-true}
 use Rattle.node_attempt.proofs.attempt.Attempt.valid.Statement.{statement}
 use Rattle.node_attempt.proofs.attempt.Attempt.valid.Tie as tie
 

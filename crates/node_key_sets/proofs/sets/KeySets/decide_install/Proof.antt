@@ -1,7 +1,7 @@
 -- `decide_install` meets its contract: each test of the code is one of the definition's.
 use borrow.Author.Needs.{needs}
 use Rattle.node_key_sets.specs.Sets.{install}
-use Rattle.logic_facts.specs.Tests.{denied, granted, is-false, is-true}
+use Rattle.lemmas.specs.logic.Tests.{denied, granted, is-false, is-true}
 use Rattle.node_key_sets.proofs.sets.KeySets.decide_install.Statement.{statement}
 use Rattle.node_key_sets.proofs.sets.KeySets.decide_install.Tie as tie
 

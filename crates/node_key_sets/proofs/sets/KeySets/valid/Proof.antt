@@ -6,7 +6,7 @@ use borrow.Author.Needs.{needs}
 use Rattle.link_key_set.specs.KeySet.{noAdditionalInfos, shares, additionalInfoAllowed}
 use Rattle.node_key_sets.specs.Sets.{activeIn, pendingIn, isNone, noneOrValid, valid, validAs}
 use Rattle.node_key_sets.specs.declared.sets.KeySets.{KeySets}
-use Rattle.logic_facts.specs.Tests.{and-next, and-stops}
+use Rattle.lemmas.specs.logic.Tests.{and-next, and-stops}
 use Rattle.node_key_sets.proofs.Valid.{regrouped}
 use Rattle.node_key_sets.proofs.sets.KeySets.valid.Statement.{statement}
 use Rattle.node_key_sets.proofs.sets.KeySets.valid.Tie as tie

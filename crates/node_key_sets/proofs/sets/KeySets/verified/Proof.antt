@@ -1,7 +1,7 @@
 -- `verified` meets its contract: refused as receiving is, and then by whether an active key has the identifier.
 use borrow.Author.Needs.{needs}
 use Rattle.node_key_sets.proofs.Answers.{from-held, report-kept, report-refused, report-switched}
-use Rattle.logic_facts.specs.Tests.{is-false, is-true}
+use Rattle.lemmas.specs.logic.Tests.{is-false, is-true}
 use Rattle.node_key_sets.proofs.sets.KeySets.verified.Statement.{statement}
 use Rattle.node_key_sets.proofs.sets.KeySets.verified.Tie as tie
 

@@ -1,6 +1,6 @@
 -- `valid` meets its contract: each test of the code is one of the definition's.
 use borrow.Author.Needs.{needs}
-use Rattle.logic_facts.specs.Tests.{is-false, is-true}
+use Rattle.lemmas.specs.logic.Tests.{is-false, is-true}
 use Rattle.node_parameters.proofs.address.HeldAddress.valid.Statement.{statement}
 use Rattle.node_parameters.proofs.address.HeldAddress.valid.Tie as tie
 

@@ -7,7 +7,7 @@ use native.Mathlib.Numerals.{add-one}
 use native.Mathlib.Omega.{arith}
 use lib.ListN.{length, take, set, length-set}
 use lib.Seq.{take-suc-set, take-all}
-use Rattle.byte_lists.specs.Table.{table}
+use Rattle.lemmas.specs.lists.Table.{table}
 
 -- the first i of the n places of t hold what `table n f` has there
 pub record Filling {A : Type 0} (n : ℕ) (f : ℕ → A) (t : List A) (i : ℕ) : Type 0 where

@@ -7,7 +7,7 @@ use native.Mathlib.Numerals.{add-one}
 use native.Mathlib.Omega.{arith}
 use lib.ListN.{length, set, getD, drop, length-append, length-drop}
 use lib.Seq.{drop-cons, set-at, append-snoc}
-use Rattle.byte_lists.specs.Table.{table, length-table}
+use Rattle.lemmas.specs.lists.Table.{table, length-table}
 
 -- the first j places of d hold f 0 to f (j - 1), and the rest is as in d₀
 pub record Writing (f : ℕ → ℕ) (d₀ d : List ℕ) (j : ℕ) : Type 0 where

@@ -1,0 +1,2 @@
+pub mod logic
+pub mod lists
