@@ -1,4 +1,4 @@
-// What is answered of data items; the functions that pass over them stand in `cbor_scan`.
+// What is answered of data items; the functions that pass over them stand in `crate::scan`.
 use refusal::Refusal;
 
 // What passing over answers: the place where the bytes go on.

@@ -1,7 +1,8 @@
 // CBOR data items (RFC 7049): the specs say what bytes mean, as a tree of items, and what every reader and writer of items answers.
-// Here heads are read, and what a head says of a label or a value; `cbor_scan` passes over items, `cbor_write` writes.
+// Here heads are read, and what a head says of a label or a value; `crate::scan` passes over items, `crate::write` writes.
 pub mod head;
 pub mod item;
+pub mod scan;
 pub mod value;
 pub mod write;
 

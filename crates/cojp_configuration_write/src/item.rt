@@ -1,6 +1,6 @@
 // Byte strings, numbers and labels, where there is room for them.
 use cbor::WriteResult;
-use cbor_write::write_bytes;
+use cbor::write::write_bytes;
 use cojp_octets_write::put_head;
 ghost use mathlib.Core.List.{_++_};
 ghost use Prim.Native.Nat.{_+_, _≤_};

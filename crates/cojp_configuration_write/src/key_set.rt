@@ -5,7 +5,7 @@ use crate::item::put_bytes;
 use crate::item::put_labelled;
 use crate::item::put_optional;
 use crate::size::optional_size;
-use cbor_write::head_len;
+use cbor::write::head_len;
 use cojp::KeysParameter;
 use cojp_octets_write::Size;
 use cojp_octets_write::no_size;

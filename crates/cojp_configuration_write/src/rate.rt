@@ -1,6 +1,6 @@
 // Join rates (RFC 9031).
 use crate::item::put_labelled;
-use cbor_write::head_len;
+use cbor::write::head_len;
 use cojp::RateParameter;
 use cojp_octets_write::Size;
 use cojp_octets_write::no_size;

@@ -1,5 +1,5 @@
 // How much there is to write, before any of it is written.
-use cbor_write::head_len;
+use cbor::write::head_len;
 use cojp_octets_write::Size;
 use cojp_octets_write::no_size;
 ghost use Rattle.cojp.specs.Writing.{leaseItems};

@@ -1,8 +1,8 @@
 // One report of an unsupported configuration (RFC 9031): a code, a label and any item.
 use cbor::SkipResult;
 use cbor::Value;
+use cbor::scan::skip_item;
 use cbor::value_at;
-use cbor_scan::skip_item;
 ghost use mathlib.Core.List.{_∷_};
 ghost use Prim.Native.Nat.{_<_};
 ghost use lib.ListN.{drop};

@@ -4,7 +4,7 @@ use crate::list::bad_list;
 use cbor::Value;
 use cbor::WriteResult;
 use cbor::value_at;
-use cbor_write::write_bytes;
+use cbor::write::write_bytes;
 use cojp::ItemList;
 use cojp::ListRead;
 use cojp::Member;

@@ -1,7 +1,7 @@
 // The array that a list is, written.
 use cbor::WriteResult;
-use cbor_write::head_len;
-use cbor_write::write_head;
+use cbor::write::head_len;
+use cbor::write::write_head;
 use cojp::ItemList;
 use refusal::Refusal;
 ghost use Rattle.cbor.specs.Answer.{Did};

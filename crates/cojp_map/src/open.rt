@@ -1,6 +1,6 @@
 // A payload is opened: its length, the item scan, and the map.
 use cbor::OpenResult;
-use cbor_scan::open_map;
+use cbor::scan::open_map;
 use refusal::Refusal;
 ghost use Rattle.cojp_map.specs.Pairs.{StartSpec};
 

@@ -2,7 +2,7 @@
 use cbor::HeadResult;
 use cbor::SkipResult;
 use cbor::read_head;
-use cbor_scan::skip_item;
+use cbor::scan::skip_item;
 use refusal::Refusal;
 use refusal::Verdict;
 ghost use mathlib.Core.Path.{_≡_};

@@ -2,8 +2,8 @@
 use crate::size::Size;
 use crate::size::no_size;
 use cbor::WriteResult;
-use cbor_write::head_len;
-use cbor_write::write_head;
+use cbor::write::head_len;
+use cbor::write::write_head;
 use cojp::ItemList;
 use cojp::ListParameter;
 use cojp_list_read::write_list;

@@ -2,9 +2,9 @@
 use crate::size::Size;
 use crate::size::no_size;
 use cbor::WriteResult;
-use cbor_write::head_len;
-use cbor_write::write_bytes;
-use cbor_write::write_head;
+use cbor::write::head_len;
+use cbor::write::write_bytes;
+use cbor::write::write_head;
 use cojp::Octets;
 use cojp::OctetsParameter;
 use cojp_range::is_taken;

@@ -2,7 +2,7 @@
 use crate::list::write_list_parameter;
 use crate::octets::write_octets;
 use cbor::WriteResult;
-use cbor_write::write_head;
+use cbor::write::write_head;
 use cojp::ListParameter;
 use cojp::OctetsParameter;
 ghost use mathlib.Core.Bool.{true};

@@ -1,6 +1,6 @@
 // A join request's parameters, their sizes, and the map that they are.
 use cbor::WriteResult;
-use cbor_write::write_head;
+use cbor::write::write_head;
 use cojp::JoinRequest;
 use cojp_octets_write::Size;
 use cojp_octets_write::list_size;

@@ -11,7 +11,7 @@ fn scanned(hex: Hex, payload: &[u8]) -> u8 {
     let Payload::Bytes(n) = hex.payload() else {
         return 255;
     };
-    let verdict = cbor_scan::scan(tool_text::first(payload, n), false);
+    let verdict = cbor::scan::scan(tool_text::first(payload, n), false);
     match verdict {
         Verdict::Accepted => 0,
         Verdict::Refused(refusal) => refusal.number(),

@@ -1,0 +1,29 @@
+use borrow.Author.Tests.{le-ltb, lt-ltb}
+use Rattle.cbor.specs.Encode.{extraOf}
+use Rattle.cbor.proofs.write.head.head_len.Statement.{statement}
+use Rattle.cbor.proofs.write.head.head_len.Tie as tie
+
+returns : tie.Need-returns
+unfolding extraOf
+returns c = simp (lt-ltb _ 24 (c .if1 .taken))
+
+returns-2 : tie.Need-returns-2
+unfolding extraOf
+returns-2 c = simp (le-ltb _ 24 (c .before .if1 .left), lt-ltb _ 256 (c .if2 .taken))
+
+returns-3 : tie.Need-returns-3
+unfolding extraOf
+returns-3 c = simp (le-ltb _ 24 (c .before .before .if1 .left), le-ltb _ 256 (c .before .if2 .left), lt-ltb _ 65536 (c .if3 .taken))
+
+returns-4 : tie.Need-returns-4
+unfolding extraOf
+returns-4 c =
+    simp (le-ltb _ 24 (c .before .before .before .if1 .left), le-ltb _ 256 (c .before .before .if2 .left), le-ltb _ 65536 (c .before .if3 .left), lt-ltb _ 4294967296 (c .if4 .taken))
+
+returns-5 : tie.Need-returns-5
+unfolding extraOf
+returns-5 c =
+    simp (le-ltb _ 24 (c .before .before .before .if1 .left), le-ltb _ 256 (c .before .before .if2 .left), le-ltb _ 65536 (c .before .if3 .left), le-ltb _ 4294967296 (c .if4 .left))
+
+pub head-len-spec : {M : Type 1} → statement M
+head-len-spec = tie.close (tie.spec returns returns-2 returns-3 returns-4 returns-5)
