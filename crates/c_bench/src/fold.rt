@@ -1,7 +1,7 @@
 // An answer as one number, so that C can compare it with another reader's: a number for each value, at a place that the caller picks.
 use cojp::Configuration;
 use cojp::Octets;
-use link_key_set::KeySet;
+use link_key::set::KeySet;
 use refusal::Verdict;
 
 pub(crate) fn wide(x: u8) -> u64 {

@@ -4,7 +4,7 @@ use Rattle.cbor.specs.Decode.{payloadBy, decodeBy, heading, argument, next, dig
 use Rattle.cbor.specs.Encode.{infoOf}
 use Rattle.cbor.specs.Strict.{strictHeading, isShort}
 use Rattle.link_key.specs.Key.{validKey}
-use Rattle.link_key_set.specs.KeySet.{validKeys}
+use Rattle.link_key.specs.set.KeySet.{validKeys}
 use Rattle.cojp.specs.Octets.{padded, octetsJudged}
 use Rattle.short_address.specs.Address.{isAddress}
 use Rattle.cojp.specs.Address.{addressIn}

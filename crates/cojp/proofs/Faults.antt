@@ -9,7 +9,7 @@ use lib.Dec.{leb, ltb, eqb}
 use lib.ListN.{length, take, set, replicate, length-set}
 use lib.Seq.{take-suc-set}
 use borrow.Author.Tests.{leb-true, le-leb, ltb-true, eqb-true}
-use Rattle.link_key_set.specs.Lists.{allOf}
+use Rattle.link_key.specs.set.Lists.{allOf}
 use Rattle.lemmas.specs.logic.Tests.{both, both-left, both-right}
 use Rattle.cojp.specs.ErrorReports.{errorReportOf, noErrorReports, errorReportList, isReportable, validErrorReport, validErrorReports, errorReportsValid, added}
 use Rattle.cojp.specs.InRange.{ErrorReportsValid}

@@ -14,10 +14,10 @@ use Rattle.refusal.specs.declared.Verdict.the-variants.{Accepted}
 use Rattle.cbor.specs.Decode.{heading}
 use Rattle.cbor.specs.View.{Scalar, number, minus, string, other, View, scalar, list}
 use Rattle.link_key.specs.Key.{noKey}
-use Rattle.link_key_set.specs.KeySet.{keysOf, validKeys, validSet, noAdditionalInfos}
+use Rattle.link_key.specs.set.KeySet.{keysOf, validKeys, validSet, noAdditionalInfos}
 use Rattle.link_key.specs.declared.Key.{Key}
-use Rattle.link_key_set.specs.declared.key_set.KeySet.{KeySet}
-use Rattle.link_key_set.specs.KeyLaws.{KeyLaws}
+use Rattle.link_key.specs.declared.set.key_set.KeySet.{KeySet}
+use Rattle.link_key.specs.set.KeyLaws.{KeyLaws}
 use Rattle.link_key.specs.Key.{hasNoAdditionalInfo}
 use Rattle.link_key.specs.declared.additional_info.AdditionalInfo.the-variants as info
 use Rattle.cbor.specs.Laws.{ItemLaws}

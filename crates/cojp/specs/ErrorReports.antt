@@ -4,7 +4,7 @@ use mathlib.Core.Bool.{Bool, cond, _&&_, _||_}
 use mathlib.Core.List.{List}
 use lib.Dec.{leb, ltb, eqb}
 use lib.ListN.{take, set, replicate}
-use Rattle.link_key_set.specs.Lists.{allOf}
+use Rattle.link_key.specs.set.Lists.{allOf}
 use Rattle.cojp.specs.Version.{byVersion}
 use Rattle.cojp.specs.declared.error_report.ErrorReport.{ErrorReport}
 use Rattle.cojp.specs.declared.error_report.ErrorReports.{ErrorReports}

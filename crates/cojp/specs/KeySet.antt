@@ -9,11 +9,11 @@ use Rattle.refusal.specs.declared.Refusal.the-variants.{Keys}
 use Rattle.cbor.specs.View.{Scalar, number, minus, string, other, View, scalar, list}
 use Rattle.link_key.specs.AdditionalInfo.{additionalInfoIn}
 use Rattle.link_key.specs.Key.{keyWithAdditionalInfo, noKey}
-use Rattle.link_key_set.specs.KeySet.{noKeys, validKeys}
+use Rattle.link_key.specs.set.KeySet.{noKeys, validKeys}
 use Rattle.link_key.specs.declared.Key.{Key}
 use Rattle.link_key.specs.declared.additional_info.AdditionalInfo.{AdditionalInfo}
 use Rattle.link_key.specs.declared.additional_info.AdditionalInfo.the-variants as info
-use Rattle.link_key_set.specs.declared.key_set.KeySet.{KeySet}
+use Rattle.link_key.specs.declared.set.key_set.KeySet.{KeySet}
 use Rattle.refusal.specs.declared.Verdict.the-variants as verdict
 use Rattle.cojp.specs.declared.key_set.KeysRead.{KeysRead}
 use Rattle.cojp.specs.Reading.{Reading, refused, read, Judgement, broken, unfit, good, concluded}

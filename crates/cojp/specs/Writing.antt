@@ -12,7 +12,7 @@ use Rattle.cbor.specs.Encode.{encode}
 use Rattle.cbor.specs.Item.{Item, Items, Pairs, unsigned, bytes, array, map, none, more, empty, pair}
 use Rattle.cbor.specs.View.{Scalar}
 use Rattle.link_key.specs.AdditionalInfo.{additionalInfoBytes}
-use Rattle.link_key_set.specs.KeySet.{keysOf, validSet, noAdditionalInfos}
+use Rattle.link_key.specs.set.KeySet.{keysOf, validSet, noAdditionalInfos}
 use Rattle.link_key.specs.declared.Key.{Key}
 use Rattle.link_key.specs.declared.additional_info.AdditionalInfo.{AdditionalInfo}
 use Rattle.link_key.specs.declared.additional_info.AdditionalInfo.the-variants as info

@@ -1,7 +1,7 @@
 // Link-layer key sets as a parameter.
 use crate::disposition::Disposition;
-use link_key_set::KeySet;
-use link_key_set::key_set::no_keys;
+use link_key::set::KeySet;
+use link_key::set::key_set::no_keys;
 use refusal::Verdict;
 ghost use mathlib.Core.Path.{_≡_};
 ghost use Rattle.cojp.specs.KeySet.{noKeysParameter};

@@ -77,7 +77,7 @@ pub fn published_examples()
 pub fn reads_in_range_law()
     ensures { λ r. ⌜ ReadsInRange ⌝ }
 {
-    link_key_set::laws();
+    link_key::set::laws();
     cbor::laws();
 }
 

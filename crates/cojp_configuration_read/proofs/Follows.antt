@@ -3,7 +3,7 @@ use mathlib.Core.Path.{_≡_, ap, sym, _∙_}
 use Rattle.refusal.specs.declared.Refusal.{Refusal}
 use Rattle.refusal.specs.declared.Verdict.{Verdict}
 use Rattle.refusal.specs.declared.Verdict.the-variants as verdict
-use Rattle.link_key_set.specs.declared.key_set.KeySet.{KeySet}
+use Rattle.link_key.specs.declared.set.key_set.KeySet.{KeySet}
 use Rattle.cojp.specs.KeySet.{keysParameter, noKeysParameter, keysAnswer}
 use Rattle.cojp.specs.Reading.{Reading, refused, read, resultOf, malformedAs}
 use Rattle.cojp.specs.declared.key_set.KeysParameter.{KeysParameter}

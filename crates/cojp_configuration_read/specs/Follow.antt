@@ -3,7 +3,7 @@ use Prim.Native.Nat.{ℕ}
 use mathlib.Core.List.{List}
 use mathlib.Core.Path.{_≡_}
 use lib.ListN.{drop}
-use Rattle.link_key_set.specs.declared.key_set.KeySet.{KeySet}
+use Rattle.link_key.specs.declared.set.key_set.KeySet.{KeySet}
 use Rattle.cojp.specs.Bytes.{afterValue, EndsAt}
 use Rattle.cojp.specs.KeySet.{keysParameter, keysAnswer}
 use Rattle.cojp.specs.Reading.{Reading, resultOf, Accepting}

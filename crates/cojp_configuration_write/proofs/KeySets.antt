@@ -13,10 +13,10 @@ use Rattle.cbor.specs.Encode.{shortest, encode, encodes, encodePairs, extraOf}
 use Rattle.cbor.specs.HeadLaws.{HeadLaws}
 use Rattle.cbor.specs.Item.{Items, unsigned, bytes, array, none, more, empty, count}
 use Rattle.cbor.specs.Writing.{seam}
-use Rattle.link_key_set.specs.KeySet.{keysOf}
+use Rattle.link_key.specs.set.KeySet.{keysOf}
 use Rattle.link_key.specs.declared.Key.{Key}
 use Rattle.link_key.specs.declared.additional_info.AdditionalInfo.the-variants.{Absent}
-use Rattle.link_key_set.specs.declared.key_set.KeySet.{KeySet}
+use Rattle.link_key.specs.declared.set.key_set.KeySet.{KeySet}
 use Rattle.cojp.specs.Reading.{ifTaken}
 use Rattle.cojp.specs.Writing.{labelled, chain, leaseItems, usageItems, additionalInfoItems, groupItems, groupsItems, keysPairs}
 use Rattle.cojp.specs.declared.key_set.KeysParameter.{KeysParameter}

@@ -13,7 +13,7 @@ use cojp_octets_write::plus;
 use cojp_octets_write::put_head;
 use cojp_range::is_taken;
 use link_key::Key;
-use link_key_set::KeySet;
+use link_key::set::KeySet;
 ghost use mathlib.Core.Path.{_≡_};
 ghost use Prim.Native.Nat.{_+_, _≤_};
 ghost use lib.ListN.{length};
@@ -21,7 +21,7 @@ ghost use Rattle.cbor.specs.Answer.{Wrote};
 ghost use Rattle.cbor.specs.Encode.{encodes, encodePairs};
 ghost use Rattle.cbor.specs.Item.{array, count};
 ghost use Rattle.cojp.specs.Writing.{labelled, keysPairs, groupItems, groupsItems};
-ghost use Rattle.link_key_set.specs.KeySet.{keysOf};
+ghost use Rattle.link_key.specs.set.KeySet.{keysOf};
 ghost use Rattle.cojp_octets_write.specs.Size.{ItemsSize, PairsSize};
 ghost use Rattle.cojp_configuration_write.specs.Room.{keyLength, setLength};
 

@@ -17,11 +17,11 @@ use Rattle.cbor.specs.declared.value.Value.the-variants as vv
 use Rattle.cbor.proofs.value.Value as value
 use Rattle.link_key.specs.AdditionalInfo.{additionalInfoIn}
 use Rattle.link_key.specs.Key.{keyWithAdditionalInfo, noKey, validKey}
-use Rattle.link_key_set.specs.KeySet.{noKeys, allValid, noneTwice, eachOnce, validKeys}
-use Rattle.link_key_set.specs.Seen.{joins, Exactly, OneMore, WithOneMore}
+use Rattle.link_key.specs.set.KeySet.{noKeys, allValid, noneTwice, eachOnce, validKeys}
+use Rattle.link_key.specs.set.Seen.{joins, Exactly, OneMore, WithOneMore}
 use Rattle.link_key.specs.declared.Key.{Key}
 use Rattle.link_key.specs.declared.additional_info.AdditionalInfo.{AdditionalInfo}
-use Rattle.link_key_set.specs.declared.key_set.KeySet.{KeySet}
+use Rattle.link_key.specs.declared.set.key_set.KeySet.{KeySet}
 use Rattle.cojp_key_set_read.specs.Groups.{GroupAt, GroupRest, additionalInfoAnswer, additionalInfoBefore, storable, someFew}
 use Rattle.cojp.specs.Bytes.{valueView, membersAt, afterMembers, EndsAt}
 use Rattle.cojp.specs.KeySet.{keySetOf, Groups, notGroups, groupsOf, group, groups, keysIn, keysConcluded, keysReadAs}

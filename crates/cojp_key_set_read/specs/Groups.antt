@@ -9,7 +9,7 @@ use lib.ListN.{length, take, drop}
 use Rattle.link_key.specs.AdditionalInfo.{additionalInfoIn}
 use Rattle.link_key.specs.declared.additional_info.AdditionalInfo.{AdditionalInfo}
 use Rattle.link_key.specs.declared.additional_info.AdditionalInfo.the-variants as info
-use Rattle.link_key_set.specs.declared.key_set.KeySet.{KeySet}
+use Rattle.link_key.specs.declared.set.key_set.KeySet.{KeySet}
 use Rattle.cojp.specs.Bytes.{membersAt, afterMembers}
 use Rattle.cojp.specs.KeySet.{Groups, notGroups, group, groups}
 use Rattle.cojp_key_set_read.specs.declared.group.Group.{Group}

@@ -5,7 +5,7 @@ use Rattle.cbor.specs.Decode.{payloadBy, decodeBy, heading, argument, next, dig
 use Rattle.cbor.specs.View.{scalarAt}
 use Rattle.cbor.specs.Encode.{bytesOf, infoOf, extraOf, shortest}
 use Rattle.link_key.specs.Key.{validKey, hasNoAdditionalInfo}
-use Rattle.link_key_set.specs.KeySet.{validKeys, validSet}
+use Rattle.link_key.specs.set.KeySet.{validKeys, validSet}
 use Rattle.short_address.specs.Address.{isAddress}
 use Rattle.cojp.specs.Configuration.{configurationTaking}
 use Rattle.cojp.specs.ErrorReports.{added}

@@ -13,8 +13,8 @@ use Rattle.cbor.specs.Laws.{ItemLaws}
 use Rattle.cbor.specs.Strict.{headBy}
 use Rattle.cbor.specs.View.{View, viewOf}
 use Rattle.cbor.specs.declared.value.Label.the-variants as label
-use Rattle.link_key_set.specs.KeyLaws.{KeyLaws}
-use Rattle.link_key_set.specs.KeySet.{keysOf}
+use Rattle.link_key.specs.set.KeyLaws.{KeyLaws}
+use Rattle.link_key.specs.set.KeySet.{keysOf}
 use Rattle.cojp.specs.Address.{noAddressParameter, addressRead}
 use Rattle.cojp.specs.Configuration.{emptyConfiguration, withKeys, withAddress, withJrc, withNetwork, withPrefix, withBlacklist, withRate}
 use Rattle.cojp.specs.Configuration.{noted, configurationTaking, configurationForm, acceptConfiguration, readConfigurationBy}

@@ -13,8 +13,8 @@ use Rattle.cbor.specs.Item.{Item, Items, Pairs, unsigned, bytes, array, none, m
 use Rattle.cbor.specs.Item.{Fit, Fits, FitPairs}
 use Rattle.link_key.specs.AdditionalInfo.{additionalInfoBytes}
 use Rattle.link_key.specs.Key.{validKey}
-use Rattle.link_key_set.specs.KeyLaws.{KeyLaws}
-use Rattle.link_key_set.specs.KeySet.{keysOf}
+use Rattle.link_key.specs.set.KeyLaws.{KeyLaws}
+use Rattle.link_key.specs.set.KeySet.{keysOf}
 use Rattle.link_key.specs.declared.Key.{Key}
 use Rattle.link_key.specs.declared.additional_info.AdditionalInfo.{AdditionalInfo}
 use Rattle.link_key.specs.declared.additional_info.AdditionalInfo.the-variants as info

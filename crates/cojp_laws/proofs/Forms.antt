@@ -6,8 +6,8 @@ use mathlib.Core.List.{List, List·Memᴰ}
 use native.Mathlib.Omega.{arith}
 use lib.Dec.{leb}
 use Rattle.lemmas.specs.logic.Tests.{both-left, both-right}
-use Rattle.link_key_set.specs.KeyLaws.{KeyLaws}
-use Rattle.link_key_set.specs.KeySet.{keysOf}
+use Rattle.link_key.specs.set.KeyLaws.{KeyLaws}
+use Rattle.link_key.specs.set.KeySet.{keysOf}
 use Rattle.link_key.specs.declared.Key.{Key}
 use Rattle.link_key.specs.declared.additional_info.AdditionalInfo.{AdditionalInfo}
 use Rattle.link_key.specs.declared.additional_info.AdditionalInfo.the-variants as info

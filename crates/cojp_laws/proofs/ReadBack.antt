@@ -15,11 +15,11 @@ use Rattle.cbor.specs.View.{Scalar, string, scalar, labelOf, viewOf, scalarsOf}
 use Rattle.cbor.specs.declared.value.Label.the-variants as label
 use Rattle.cbor.specs.Laws.{ItemLaws}
 use Rattle.cbor.specs.Strict.{headBy}
-use Rattle.link_key_set.specs.KeySet.{keysOf}
+use Rattle.link_key.specs.set.KeySet.{keysOf}
 use Rattle.link_key.specs.declared.Key.{Key}
 use Rattle.link_key.specs.declared.additional_info.AdditionalInfo.{AdditionalInfo}
 use Rattle.link_key.specs.declared.additional_info.AdditionalInfo.the-variants as info
-use Rattle.link_key_set.specs.KeyLaws.{KeyLaws}
+use Rattle.link_key.specs.set.KeyLaws.{KeyLaws}
 use Rattle.short_address.specs.Address.{isAddress}
 use Rattle.cojp.specs.Address.{addressOf, addressParameter, noAddressParameter, addressIn, addressRead}
 use Rattle.cojp.specs.KeySet.{keySetOf, keysParameter, noKeysParameter, group, further, groups, valued, groupsOf, keysReadAs}

@@ -14,7 +14,7 @@ use Rattle.cbor.specs.Encode.{encode}
 use Rattle.cbor.specs.HeadLaws.{HeadLaws}
 use Rattle.cbor.specs.Item.{map}
 use Rattle.cbor.specs.Laws.{ItemLaws, Bytes}
-use Rattle.link_key_set.specs.KeyLaws.{KeyLaws}
+use Rattle.link_key.specs.set.KeyLaws.{KeyLaws}
 use Rattle.cojp.specs.Lists.{stringsIn, errorReportsIn, some}
 use Rattle.cojp.specs.Request.{owing}
 use Rattle.cojp.specs.Version.{byVersion, allowsAdditionalInfo}

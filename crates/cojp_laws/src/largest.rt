@@ -9,7 +9,7 @@ pub fn largest_configuration(c: Configuration)
     cbor::laws();
     cbor::head_laws();
     cojp_list_read::laws();
-    link_key_set::laws();
+    link_key::set::laws();
 }
 
 // So a configuration of the draft within its limits is written.
@@ -19,7 +19,7 @@ pub fn draft_written(c: Configuration)
     cbor::laws();
     cbor::head_laws();
     cojp_list_read::laws();
-    link_key_set::laws();
+    link_key::set::laws();
 }
 
 // And one takes as many.

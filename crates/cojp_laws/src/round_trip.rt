@@ -19,7 +19,7 @@ pub fn configuration_round_trip(c: Configuration)
     cbor::laws();
     cbor::head_laws();
     cojp_list_read::laws();
-    link_key_set::laws();
+    link_key::set::laws();
 }
 
 // The same of the first bytes of the destination, as many as were written, whatever stood in it.

@@ -12,7 +12,7 @@ use Rattle.cbor.specs.Decode.{decodeBy, heading, argument, next, digits, majorO
 use Rattle.cbor.specs.Encode.{shortest, infoOf, extraOf, bytesOf}
 use Rattle.cbor.specs.View.{Scalar, scalarAt}
 use Rattle.lemmas.specs.lists.Same.{same-refl}
-use Rattle.link_key_set.specs.Lists.{allOf}
+use Rattle.link_key.specs.set.Lists.{allOf}
 use Rattle.lemmas.specs.logic.Tests.{both-left, both-right, both}
 use Rattle.cojp.specs.Bytes.{membersAt}
 use Rattle.cojp.specs.ErrorReports.{errorReportList, isReportable, validErrorReport, validErrorReports}

@@ -11,7 +11,7 @@ use Rattle.cbor.specs.Decode.{heading}
 use Rattle.cbor.specs.View.{Scalar, number, minus, string, other, View, scalar, list}
 use Rattle.short_address.specs.Address.{isAddress}
 use Rattle.link_key.specs.Key.{noKey}
-use Rattle.link_key_set.specs.KeySet.{keysOf, validKeys}
+use Rattle.link_key.specs.set.KeySet.{keysOf, validKeys}
 use Rattle.link_key.specs.declared.Key.{Key}
 use Rattle.cojp.specs.Address.{addressIn, addressOf, addressConcluded, addressRead}
 use Rattle.cojp.specs.Configuration.{emptyConfiguration, withKeys, withAddress, withJrc, withNetwork, withPrefix, withUnknownCount}

@@ -7,7 +7,7 @@ use mathlib.Core.Option.{none, some}
 use Rattle.refusal.specs.declared.Refusal.{Refusal}
 use Rattle.refusal.specs.declared.Verdict.the-variants.{Accepted, Refused}
 use Rattle.cojp.specs.Configuration.{emptyConfiguration}
-use Rattle.link_key_set.specs.KeySet.{keysOf}
+use Rattle.link_key.specs.set.KeySet.{keysOf}
 use Rattle.cojp.specs.ErrorReports.{noErrorReports}
 use Rattle.cojp.specs.Lists.{noListParameter, bytesIn as listBytes}
 use Rattle.cojp.specs.Octets.{bytesIn, noOctetsParameter}

@@ -3,7 +3,7 @@ use mathlib.Core.Path.{refl}
 use Rattle.cbor.specs.Decode.{payloadBy, decodeBy, heading, argument, next, digits, members, pairs, majorOf}
 use Rattle.cbor.specs.Encode.{infoOf, shortest, extraOf, bytesOf}
 use Rattle.link_key.specs.Key.{validKey}
-use Rattle.link_key_set.specs.KeySet.{validKeys}
+use Rattle.link_key.specs.set.KeySet.{validKeys}
 use Rattle.short_address.specs.Address.{isAddress}
 use Rattle.cojp.specs.Address.{addressIn}
 use Rattle.cojp.specs.Configuration.{configurationTaking}

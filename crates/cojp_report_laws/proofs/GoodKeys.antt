@@ -15,7 +15,7 @@ use Rattle.link_key.specs.Key.{validKey}
 use Rattle.link_key.specs.declared.Key.{Key}
 use Rattle.link_key.specs.declared.additional_info.AdditionalInfo.{AdditionalInfo}
 use Rattle.link_key.specs.declared.additional_info.AdditionalInfo.the-variants as info
-use Rattle.link_key_set.specs.KeySet.{has, noneTwice, allValid, validKeys}
+use Rattle.link_key.specs.set.KeySet.{has, noneTwice, allValid, validKeys}
 use Rattle.cojp.specs.KeySet.{Groups, notGroups, groupsOf, group, further, groups, identified, used, valued, keysConcluded, keysReadAs, keySetOf, keysParameter, noKeysParameter}
 use Rattle.cojp.specs.Reading.{malformedAs, good, unfit}
 use Rattle.cojp.specs.declared.key_set.KeysParameter.{KeysParameter}

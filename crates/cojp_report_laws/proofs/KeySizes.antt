@@ -24,7 +24,7 @@ use Rattle.link_key.specs.Key.{keyWithAdditionalInfo, noKey}
 use Rattle.link_key.specs.declared.Key.{Key}
 use Rattle.link_key.specs.declared.additional_info.AdditionalInfo.{AdditionalInfo}
 use Rattle.link_key.specs.declared.additional_info.AdditionalInfo.the-variants as info
-use Rattle.link_key_set.specs.KeySet.{validKeys}
+use Rattle.link_key.specs.set.KeySet.{validKeys}
 use Rattle.cojp_report_laws.proofs.Items.{headSize, plainsSize, viewSize}
 use Rattle.cojp_report_laws.proofs.Parameters.{labelled-size, string-size}
 

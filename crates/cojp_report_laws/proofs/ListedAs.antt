@@ -20,7 +20,7 @@ use Rattle.cojp.specs.declared.error_report.ErrorReport.{ErrorReport}
 use Rattle.cojp.specs.declared.error_report.ErrorReports.{ErrorReports}
 use Rattle.cojp_list_read.specs.Laws.{ListLaws}
 use Rattle.cojp_list_read.specs.Listed.{membersOf, listing, listedIn}
-use Rattle.link_key_set.specs.Lists.{allOf}
+use Rattle.link_key.specs.set.Lists.{allOf}
 use Rattle.lemmas.specs.logic.Tests.{both-left, both-right, never}
 use Rattle.cojp_report_laws.specs.ListedAs.{listedBytes, listedReport, listedPair, ListedAs}
 

@@ -2,7 +2,7 @@
 use mathlib.Core.Path.{_≡_, refl}
 use mathlib.Core.Bool.{Bool, true, false}
 use Rattle.cbor.specs.View.{View, number, minus, string, other, scalar, list}
-use Rattle.link_key_set.specs.declared.key_set.KeySet.{KeySet}
+use Rattle.link_key.specs.declared.set.key_set.KeySet.{KeySet}
 use Rattle.cojp.specs.Address.{noAddressParameter, addressConcluded}
 use Rattle.cojp.specs.KeySet.{noKeysParameter, keysConcluded}
 use Rattle.cojp.specs.Lists.{listTaken}

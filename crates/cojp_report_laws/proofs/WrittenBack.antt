@@ -39,7 +39,7 @@ use Rattle.cojp.specs.declared.disposition.Disposition.{Disposition}
 use Rattle.cojp.specs.declared.disposition.Disposition.the-variants.{Absent, Taken, Discarded}
 use Rattle.cojp.specs.declared.request.JoinRequest.{JoinRequest}
 use Rattle.cojp.specs.declared.version.Version.{Version}
-use Rattle.link_key_set.specs.KeySet.{keysOf}
+use Rattle.link_key.specs.set.KeySet.{keysOf}
 use Rattle.cojp_report_laws.specs.WrittenBack.{WritesWithin, WrittenBack}
 use Rattle.cojp_report_laws.proofs.Bounded.{Within, payload-bound}
 use Rattle.cojp_report_laws.proofs.ConfigurationSizes.{parts, Sized, none-sized, wider, passing, taking}

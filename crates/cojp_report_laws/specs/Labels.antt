@@ -13,7 +13,7 @@ use Rattle.cbor.specs.Strict.{headBy}
 use Rattle.cbor.specs.View.{View, labelOf, viewOf, ifMap}
 use Rattle.cbor.specs.declared.value.Label.{Label}
 use Rattle.cbor.specs.declared.value.Label.the-variants as label
-use Rattle.link_key_set.specs.Lists.{anyOf}
+use Rattle.link_key.specs.set.Lists.{anyOf}
 
 -- key set, short address, JRC address, blacklist and join rate
 abbrev pub configurationLabels : List ℕ

@@ -17,7 +17,7 @@ use Rattle.cojp.specs.Request.{readRequestBy}
 use Rattle.cojp.specs.declared.configuration.ConfigurationRead.{ConfigurationRead}
 use Rattle.cojp.specs.declared.request.RequestRead.{RequestRead}
 use Rattle.cojp.specs.declared.version.Version.the-variants.{Published}
-use Rattle.link_key_set.specs.Lists.{anyOf}
+use Rattle.link_key.specs.set.Lists.{anyOf}
 use Rattle.cojp_report_laws.specs.Labels.{configurationLabels, requestLabels, Known, knownIn, labelsVerdict, payloadVerdict}
 
 -- a network identifier is a byte string of at most 16 bytes

@@ -20,8 +20,8 @@ use Rattle.link_key.specs.declared.Key.{Key}
 use Rattle.link_key.specs.declared.additional_info.AdditionalInfo.{AdditionalInfo}
 use Rattle.link_key.specs.declared.additional_info.AdditionalInfo.the-variants.{Absent, Four, Eight}
 use Rattle.link_key.specs.declared.additional_info.PaddedBytes.{PaddedBytes}
-use Rattle.link_key_set.specs.Lists.{allOf}
-use Rattle.link_key_set.specs.declared.key_set.KeySet.{KeySet}
+use Rattle.link_key.specs.set.Lists.{allOf}
+use Rattle.link_key.specs.declared.set.key_set.KeySet.{KeySet}
 use Rattle.key_image.specs.AdditionalInfo.{such, isZero, isPaddedBytes, additionalInfoTo, additionalInfoFrom, additionalInfoFields, additionalInfoPart}
 use Rattle.key_image.specs.Key.{keyFields, keyTo, keyFrom, keyPart, setFields, setTo, setFrom, keySetPart, countedFields, countedTo, countedFrom, countedSetPart}
 use Rattle.key_image.specs.Laws.{KeyImages}

@@ -10,7 +10,7 @@ use Rattle.image.specs.Part.{Part, byte, octets, both, viewed}
 use Rattle.link_key.specs.AdditionalInfo.{paddedBytes}
 use Rattle.link_key.specs.declared.additional_info.AdditionalInfo.{AdditionalInfo}
 use Rattle.link_key.specs.declared.additional_info.AdditionalInfo.the-variants.{Absent, Four, Eight}
-use Rattle.link_key_set.specs.Lists.{allOf}
+use Rattle.link_key.specs.set.Lists.{allOf}
 
 -- those values of a part alone that pass a test
 abbrev pub such : {A : Type 0} → (A → Bool) → Part A → Part A

@@ -6,7 +6,7 @@ use Rattle.image.specs.Part.{Part, byte, number, octets, both, viewed, times}
 use Rattle.link_key.specs.Key.{keyWithAdditionalInfo}
 use Rattle.link_key.specs.declared.Key.{Key}
 use Rattle.link_key.specs.declared.additional_info.AdditionalInfo.{AdditionalInfo}
-use Rattle.link_key_set.specs.declared.key_set.KeySet.{KeySet}
+use Rattle.link_key.specs.declared.set.key_set.KeySet.{KeySet}
 use Rattle.link_key_counters.specs.declared.CountedSet.{CountedSet}
 use Rattle.key_image.specs.AdditionalInfo.{additionalInfoPart}
 

@@ -5,7 +5,7 @@ use crate::key::put_key;
 use image::number_at;
 use image::put_number;
 use link_key::Key;
-use link_key_set::KeySet;
+use link_key::set::KeySet;
 ghost use mathlib.Core.List.{[], _∷_};
 ghost use mathlib.Core.Path.{_≡_};
 ghost use Prim.Native.Nat.{_+_, _≤_, _<_};

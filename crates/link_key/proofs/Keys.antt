@@ -9,17 +9,17 @@ use borrow.Author.Tests.{leb-true, eqb-true, eq-eqb, le-leb}
 use lib.Dec.{leb, eqb}
 use lib.ListN.{length}
 use Rattle.refusal.specs.declared.Refusal.the-variants.{Range}
-use Rattle.link_key_usage.specs.Usage.{usageOf, familyOf, familyCovers, listed, knownType, entryAt, entrySays}
+use Rattle.link_key.specs.usage.Usage.{usageOf, familyOf, familyCovers, listed, knownType, entryAt, entrySays}
 use Rattle.link_key.specs.Same.{sameBytes}
 use Rattle.link_key.specs.AdditionalInfo.{additionalInfoBytes}
 use Rattle.link_key.specs.Key.{keyWithAdditionalInfo, validKey, sameKey, sameSecret, covers, coverageOf, coverageSays, foundKey}
 use Rattle.link_key.specs.declared.Key.{Key}
 use Rattle.link_key.specs.declared.additional_info.AdditionalInfo.{AdditionalInfo}
-use Rattle.link_key_usage.specs.declared.Coverage.the-variants.{Covered, Refused}
-use Rattle.link_key_usage.specs.declared.Entry.the-variants as entry
-use Rattle.link_key_usage.specs.declared.Usage.{Usage}
-use Rattle.link_key_usage.specs.declared.Family.{Family}
-use Rattle.link_key_usage.specs.declared.Family.the-variants.{K1K2Encrypted, K1K2, K1, K2, K2Encrypted}
+use Rattle.link_key.specs.declared.usage.Coverage.the-variants.{Covered, Refused}
+use Rattle.link_key.specs.declared.usage.Entry.the-variants as entry
+use Rattle.link_key.specs.declared.usage.Usage.{Usage}
+use Rattle.link_key.specs.declared.usage.Family.{Family}
+use Rattle.link_key.specs.declared.usage.Family.the-variants.{K1K2Encrypted, K1K2, K1, K2, K2Encrypted}
 use Rattle.lemmas.specs.logic.Tests.{both-left, both-right, first}
 use Rattle.link_key.proofs.Same.{same-self, same-equal}
 use Rattle.link_key.proofs.Infos.{info-equal}

@@ -9,13 +9,13 @@ use Rattle.refusal.specs.Refusal.{numberOf}
 use Rattle.refusal.specs.declared.Refusal.the-variants.{Range}
 use Rattle.link_key.specs.Same.{sameBytes}
 use Rattle.link_key.specs.AdditionalInfo.{additionalInfoBytes, noAdditionalInfo}
-use Rattle.link_key_usage.specs.Usage.{familyOf, familyCovers, listed, knownType}
+use Rattle.link_key.specs.usage.Usage.{familyOf, familyCovers, listed, knownType}
 use Rattle.link_key.specs.declared.Key.{Key}
 use Rattle.link_key.specs.declared.FoundKey.{FoundKey}
 use Rattle.link_key.specs.declared.additional_info.AdditionalInfo.{AdditionalInfo}
 use Rattle.link_key.specs.declared.additional_info.AdditionalInfo.the-variants as info
-use Rattle.link_key_usage.specs.declared.Coverage.{Coverage}
-use Rattle.link_key_usage.specs.declared.Coverage.the-variants as coverage
+use Rattle.link_key.specs.declared.usage.Coverage.{Coverage}
+use Rattle.link_key.specs.declared.usage.Coverage.the-variants as coverage
 
 -- the one place that makes a key
 abbrev pub keyWithAdditionalInfo : ℕ → ℕ → List ℕ → AdditionalInfo → Key

@@ -2,3 +2,5 @@ pub mod Same
 pub mod AdditionalInfo
 pub mod Key
 pub mod Laws
+pub mod usage
+pub mod set

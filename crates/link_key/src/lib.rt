@@ -1,15 +1,17 @@
 // A link-layer key: its limits, when two are equal, and which frames it covers.
 pub mod additional_info;
 pub mod compare;
+pub mod set;
+pub mod usage;
 
+use crate::usage::Coverage;
+use crate::usage::Entry;
+use crate::usage::entry_at;
 pub use additional_info::AdditionalInfo;
 pub use additional_info::PaddedBytes;
 pub use additional_info::additional_info_bytes;
 pub use additional_info::same_additional_info;
 pub use compare::same_bytes;
-use link_key_usage::Coverage;
-use link_key_usage::Entry;
-use link_key_usage::entry_at;
 use refusal::Refusal;
 ghost use mathlib.Core.Path.{_≡_};
 ghost use Rattle.link_key.specs.Key.{keyWithAdditionalInfo, keyOf, noKey, validKey, hasNoAdditionalInfo, sameKey, sameSecret, covers, coverageOf};

@@ -15,11 +15,11 @@ use Rattle.link_key.specs.Same.{sameBytes}
 use Rattle.link_key.specs.Key.{sameSecret}
 use Rattle.link_key.specs.declared.Key.{Key}
 use Rattle.link_key.proofs.Same.{same-self, same-equal}
-use Rattle.link_key_set.specs.KeySet.{keysOf, validSet, has, noneTwice}
-use Rattle.link_key_set.specs.Lists.{firstOf}
-use Rattle.link_key_set.specs.declared.key_set.KeySet.{KeySet}
-use Rattle.link_key_set.proofs.Lists.{first-is}
-use Rattle.link_key_set.proofs.KeySets.{has-none, valid-set, valid-few}
+use Rattle.link_key.specs.set.KeySet.{keysOf, validSet, has, noneTwice}
+use Rattle.link_key.specs.set.Lists.{firstOf}
+use Rattle.link_key.specs.declared.set.key_set.KeySet.{KeySet}
+use Rattle.link_key.proofs.set.Lists.{first-is}
+use Rattle.link_key.proofs.set.KeySets.{has-none, valid-set, valid-few}
 use Rattle.link_key_counters.specs.Counters.{Slot, slot, slotsFrom, slotsOf, serves, firstServing, raised, counterIn, keptCounter, keptCounters, inheritCounters}
 use Rattle.link_key_counters.specs.declared.CountedSet.{CountedSet}
 use Rattle.link_key_counter_laws.specs.Kept.{Holds, Sound, KeptLaws}

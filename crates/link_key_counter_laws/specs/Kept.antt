@@ -8,8 +8,8 @@ use mathlib.Core.Option.{some}
 use lib.ListN.{length}
 use Rattle.link_key.specs.Key.{sameSecret}
 use Rattle.link_key.specs.declared.Key.{Key}
-use Rattle.link_key_set.specs.KeySet.{keysOf, validSet, noneTwice}
-use Rattle.link_key_set.specs.declared.key_set.KeySet.{KeySet}
+use Rattle.link_key.specs.set.KeySet.{keysOf, validSet, noneTwice}
+use Rattle.link_key.specs.declared.set.key_set.KeySet.{KeySet}
 use Rattle.link_key_counters.specs.Counters.{Slot, firstServing, raised, withZeroCounters, keptCounter, inheritCounters}
 use Rattle.link_key_counters.specs.declared.CountedSet.{CountedSet}
 

@@ -9,9 +9,9 @@ use lib.ListN.{getD}
 use Rattle.link_key.specs.Key.{covers}
 use Rattle.link_key.specs.declared.Key.{Key}
 use Rattle.lemmas.specs.logic.Tests.{both-left}
-use Rattle.link_key_set.specs.KeySet.{keysOf}
-use Rattle.link_key_set.specs.declared.key_set.KeySet.{KeySet}
-use Rattle.link_key_set.proofs.Lists.{any-one, first-is, first-finds}
+use Rattle.link_key.specs.set.KeySet.{keysOf}
+use Rattle.link_key.specs.declared.set.key_set.KeySet.{KeySet}
+use Rattle.link_key.proofs.set.Lists.{any-one, first-is, first-finds}
 use Rattle.link_key_counters.specs.Counters.{Slot, slot, slotsFrom, slotsOf, countedSet, isUsedUp, serves, firstServing, takenCounterOn, takeCounter}
 use Rattle.link_key_counters.specs.Counters.{keptCounters, inheritCounters}
 use Rattle.link_key_counters.specs.CounterLaws.{SlotOf, CounterLaws}

@@ -11,7 +11,7 @@ use lib.Seq.{getD-take}
 use Rattle.link_key.specs.Key.{covers}
 use Rattle.link_key.specs.declared.Key.{Key}
 use Rattle.lemmas.specs.logic.Tests.{both-right}
-use Rattle.link_key_set.proofs.Lists.{first-is}
+use Rattle.link_key.proofs.set.Lists.{first-is}
 use Rattle.link_key_counters.specs.Counters.{Slot, slot, slotsFrom, slotsOf, lastCounter, isUsedUp, serves, firstServing, placeOf}
 use Rattle.link_key_counters.specs.declared.CountedSet.{CountedSet}
 use Rattle.link_key_counters.proofs.Slots.{past}

@@ -12,8 +12,8 @@ use lib.Seq.{take-suc, set-at, append-snoc, length-take-le, getD-take}
 use Rattle.link_key.specs.Key.{keyOf, covers}
 use Rattle.link_key.specs.declared.Key.{Key}
 use Rattle.link_key.proofs.Same.{next}
-use Rattle.link_key_set.specs.KeySet.{keysOf}
-use Rattle.link_key_set.specs.declared.key_set.KeySet.{KeySet}
+use Rattle.link_key.specs.set.KeySet.{keysOf}
+use Rattle.link_key.specs.declared.set.key_set.KeySet.{KeySet}
 use Rattle.link_key_counters.specs.Counters.{Slot, slot, slotsFrom, lastCounter, serves, keptCounter, keptCounters}
 use Rattle.link_key_counters.specs.declared.CountedSet.{CountedSet}
 

@@ -6,8 +6,8 @@ use mathlib.Core.List.{List·Memᴰ}
 use mathlib.Core.Option.{some}
 use Rattle.link_key.specs.Key.{covers}
 use Rattle.link_key.specs.declared.Key.{Key}
-use Rattle.link_key_set.specs.KeySet.{keysOf}
-use Rattle.link_key_set.specs.declared.key_set.KeySet.{KeySet}
+use Rattle.link_key.specs.set.KeySet.{keysOf}
+use Rattle.link_key.specs.declared.set.key_set.KeySet.{KeySet}
 use Rattle.link_key_counters.specs.Counters.{Slot, slotsOf, countedSet, serves, firstServing, takenCounterOn, takeCounter, keptCounters, inheritCounters}
 use Rattle.link_key_counters.specs.declared.CountedSet.{CountedSet}
 

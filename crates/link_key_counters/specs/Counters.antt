@@ -7,9 +7,9 @@ use lib.Dec.{eqb}
 use lib.ListN.{length, getD, set, replicate}
 use Rattle.link_key.specs.Key.{noKey, sameSecret, covers}
 use Rattle.link_key.specs.declared.Key.{Key}
-use Rattle.link_key_set.specs.Lists.{firstOf}
-use Rattle.link_key_set.specs.KeySet.{keysOf, noKeys}
-use Rattle.link_key_set.specs.declared.key_set.KeySet.{KeySet}
+use Rattle.link_key.specs.set.Lists.{firstOf}
+use Rattle.link_key.specs.set.KeySet.{keysOf, noKeys}
+use Rattle.link_key.specs.declared.set.key_set.KeySet.{KeySet}
 use Rattle.link_key_counters.specs.declared.CountedSet.{CountedSet}
 use Rattle.link_key_counters.specs.declared.TakenCounter.{TakenCounter}
 

@@ -1,8 +1,8 @@
 // A key set with a frame counter for each of its keys.
 use link_key::Key;
 use link_key::no_key;
-use link_key_set::KeySet;
-use link_key_set::key_set::no_keys;
+use link_key::set::KeySet;
+use link_key::set::key_set::no_keys;
 ghost use mathlib.Core.Path.{_≡_};
 ghost use Rattle.link_key_counters.specs.Counters.{withZeroCounters, noCounted, firstServing, placeOf, takeCounter, keptCounter, inheritCounters};
 ghost use Rattle.link_key_counters.specs.CounterLaws.{CounterLaws};

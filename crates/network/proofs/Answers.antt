@@ -5,7 +5,7 @@ use mathlib.Core.Bool.{Bool, true, false, cond, not, _&&_}
 use Rattle.refusal.specs.declared.Verdict.the-variants.{Accepted}
 use Rattle.lemmas.specs.logic.Tests.{never}
 use Rattle.link_key.specs.Key.{sameKey}
-use Rattle.link_key_set.specs.KeySet.{has}
+use Rattle.link_key.specs.set.KeySet.{has}
 use Rattle.node_key_sets.specs.Frames as sets
 use Rattle.node_key_sets.specs.declared.frames.Change.{Change}
 use Rattle.node_key_sets.specs.declared.frames.Change.the-variants as change

@@ -12,8 +12,8 @@ use lib.ListN.{length}
 use Rattle.refusal.specs.declared.Refusal.the-variants as refusal
 use Rattle.link_key.specs.Key.{validKey, hasNoAdditionalInfo, sameKey, sameSecret, covers}
 use Rattle.lemmas.specs.logic.Tests.{never, both-left, both-right, neither-left, neither-right}
-use Rattle.link_key_set.specs.Lists.{anyOf, allOf}
-use Rattle.link_key_set.specs.KeySet.{validKeys, validSet, Apart}
+use Rattle.link_key.specs.set.Lists.{anyOf, allOf}
+use Rattle.link_key.specs.set.KeySet.{validKeys, validSet, Apart}
 use Rattle.link_key_counters.specs.Counters.{Slot, lastCounter, isUsedUp, takeCounter, inheritCounters}
 use Rattle.link_key.specs.declared.Key.{Key}
 use Rattle.cbor.specs.Decode.{payloadBy, decodeBy, heading, argument, next, digits, members, pairs, majorOf}

@@ -7,7 +7,7 @@ use mathlib.Core.List.{List·Memᴰ, List·Memᴰ·head as at, List·Memᴰ·tai
 use mathlib.Core.Logic.{_⊎_, inl, inr, ⊎-elim}
 use lib.Dec.{lit<}
 use Rattle.lemmas.specs.logic.Tests.{never}
-use Rattle.link_key_set.specs.KeySet.{Apart}
+use Rattle.link_key.specs.set.KeySet.{Apart}
 use Rattle.node.specs.Node.{activeOf, pendingOf}
 use Rattle.node.specs.Range.{Valid}
 use Rattle.node_laws.specs.Laws.{Takes}

@@ -4,7 +4,7 @@ use mathlib.Core.Path.{_≡_, refl}
 use mathlib.Core.List.{List·Memᴰ·head as at}
 use lib.Dec.{lit<}
 use Rattle.refusal.specs.declared.Refusal.the-variants as refusal
-use Rattle.link_key_set.specs.KeySet.{Apart}
+use Rattle.link_key.specs.set.KeySet.{Apart}
 use Rattle.node.specs.Node.{activeOf, pendingOf}
 use Rattle.node.specs.Range.{Valid}
 use Rattle.node_laws.specs.Laws.{Takes}

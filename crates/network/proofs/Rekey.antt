@@ -13,7 +13,7 @@ use lib.Dec.{eqb}
 use borrow.Author.Tests.{eq-eqb, ne-eqb}
 use lib.ListN.{length}
 use Rattle.lemmas.specs.logic.Tests.{never}
-use Rattle.link_key_set.specs.KeySet.{Covers}
+use Rattle.link_key.specs.set.KeySet.{Covers}
 use Rattle.link_key.specs.declared.Key.{Key}
 use Rattle.node.specs.Node.{activeOf, pendingOf}
 use Rattle.node.specs.Range.{Valid}

@@ -8,7 +8,7 @@ use Rattle.refusal.specs.declared.Refusal.{Refusal}
 use Rattle.refusal.specs.declared.Verdict.the-variants.{Refused, Accepted}
 use Rattle.link_key.specs.Key.{sameKey}
 use Rattle.link_key.specs.declared.Key.{Key}
-use Rattle.link_key_set.specs.KeySet.{has}
+use Rattle.link_key.specs.set.KeySet.{has}
 use Rattle.node.specs.Frames.{send, receive}
 use Rattle.node.specs.Node.{activeOf}
 use Rattle.node.specs.declared.node.Node.{Node}

@@ -3,7 +3,7 @@ use Prim.Native.Nat.{ℕ, _<_}
 use mathlib.Core.Path.{_≡_}
 use mathlib.Core.List.{List, [], _++_, List·Memᴰ}
 use lib.ListN.{length}
-use Rattle.link_key_set.specs.KeySet.{Apart, Covers}
+use Rattle.link_key.specs.set.KeySet.{Apart, Covers}
 use Rattle.link_key.specs.declared.Key.{Key}
 use Rattle.node.specs.Node.{activeOf, pendingOf}
 use Rattle.node.specs.Range.{Valid}

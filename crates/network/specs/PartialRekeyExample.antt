@@ -7,7 +7,7 @@ use mathlib.Core.Bool.{Bool, not, _||_}
 use mathlib.Core.List.{List, [], _∷_, _++_}
 use lib.Dec.{eqb}
 use lib.ListN.{replicate}
-use Rattle.link_key_set.specs.KeySet.{noKeys}
+use Rattle.link_key.specs.set.KeySet.{noKeys}
 use Rattle.link_key.specs.Key.{keyOf}
 use Rattle.link_key.specs.declared.Key.{Key}
 use Rattle.link_key_counters.specs.Counters.{withZeroCounters}

@@ -5,7 +5,7 @@ use Prim.Native.Nat.{ℕ}
 use mathlib.Core.Path.{_≡_}
 use mathlib.Core.List.{List, [], _∷_, _++_}
 use lib.ListN.{replicate}
-use Rattle.link_key_set.specs.KeySet.{noKeys}
+use Rattle.link_key.specs.set.KeySet.{noKeys}
 use Rattle.link_key.specs.Key.{keyWithAdditionalInfo}
 use Rattle.link_key.specs.declared.Key.{Key}
 use Rattle.link_key.specs.declared.additional_info.AdditionalInfo.the-variants as info

@@ -4,9 +4,9 @@ use mathlib.Core.Path.{_≡_}
 use mathlib.Core.Bool.{true}
 use mathlib.Core.List.{List, [], _∷_, _++_}
 use lib.ListN.{replicate}
-use Rattle.link_key_set.specs.KeySet.{noKeys}
+use Rattle.link_key.specs.set.KeySet.{noKeys}
 use Rattle.link_key.specs.declared.Key.{Key}
-use Rattle.link_key_set.specs.declared.key_set.KeySet.{KeySet}
+use Rattle.link_key.specs.declared.set.key_set.KeySet.{KeySet}
 use Rattle.link_key.specs.Key.{keyOf}
 use Rattle.cojp.specs.KeySet.{keySetOf}
 use Rattle.cojp.specs.Octets.{octetsOf}

@@ -7,7 +7,7 @@ use native.Mathlib.Omega.{arith}
 use borrow.Author.Tests.{eqb-true}
 use lib.Dec.{eqb}
 use Rattle.image.specs.Part.{AllBytes}
-use Rattle.link_key_set.specs.KeyLaws.{KeyLaws}
+use Rattle.link_key.specs.set.KeyLaws.{KeyLaws}
 use Rattle.cbor.specs.Strict.{headBy}
 use Rattle.cbor.specs.View.{View}
 use Rattle.cojp.specs.Configuration.{emptyConfiguration, withKeys, withAddress, withJrc, withNetwork, withPrefix, labelStatusFor, configurationPassing, takingFor, noted, configurationTaking, configurationForm, configurationAnswer, readConfigurationBy}

@@ -9,7 +9,7 @@ use lib.Dec.{leb, eqb}
 use lib.ListN.{length}
 use lib.Seq.{take-length}
 use Rattle.image.specs.Part.{AllBytes, octets}
-use Rattle.link_key_set.specs.KeyLaws.{KeyLaws}
+use Rattle.link_key.specs.set.KeyLaws.{KeyLaws}
 use Rattle.cojp.specs.Octets.{padded, copiedFrom}
 use Rattle.cojp.specs.declared.version.Version.{Version}
 use Rattle.cojp.specs.declared.version.Version.the-variants.{Draft, Published}

@@ -23,10 +23,10 @@ use Rattle.cojp.specs.declared.disposition.Disposition.the-variants.{Discarded}
 use Rattle.cojp.specs.declared.version.Version.{Version}
 use Rattle.cojp.specs.declared.version.Version.the-variants.{Draft, Published}
 use Rattle.link_key.specs.Key.{noKey}
-use Rattle.link_key_usage.specs.Usage.{knownType}
+use Rattle.link_key.specs.usage.Usage.{knownType}
 use Rattle.link_key_counters.specs.Counters.{takeCounter}
-use Rattle.link_key_set.specs.KeyLaws.{KeyLaws}
-use Rattle.link_key_set.specs.KeySet.{has}
+use Rattle.link_key.specs.set.KeyLaws.{KeyLaws}
+use Rattle.link_key.specs.set.KeySet.{has}
 use Rattle.node.specs.Delivery.{placementOf, fittedBy, fitted, configured, undelivered, owesIdentifier, placedBy, apply, deliverVerdict, applyRead, deliverBy, readFor, deliver}
 use Rattle.node.specs.Frames as frames
 use Rattle.node.specs.Lease.{holds}

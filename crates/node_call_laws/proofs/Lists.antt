@@ -15,7 +15,7 @@ use Rattle.key_image.specs.Key.{keyPart}
 use Rattle.link_key.specs.Key.{covers}
 use Rattle.link_key.specs.declared.Key.{Key}
 use Rattle.link_key_counters.specs.Counters.{Slot, slot, slotsFrom, serves, counterIn}
-use Rattle.link_key_set.specs.Lists.{firstOf}
+use Rattle.link_key.specs.set.Lists.{firstOf}
 
 -- what holds in both cases
 pub by-cond : {A : Type 0} (P : A → Type 0) (b : Bool) {x y : A} → (b ≡ true → P x) → (b ≡ false → P y) → P (cond b x y)

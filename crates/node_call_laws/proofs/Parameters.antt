@@ -19,8 +19,8 @@ use Rattle.link_key.specs.Key.{noKey, validKey}
 use Rattle.link_key.specs.declared.Key.{Key}
 use Rattle.link_key.specs.declared.additional_info.AdditionalInfo.{AdditionalInfo}
 use Rattle.link_key.specs.declared.additional_info.AdditionalInfo.the-variants as info
-use Rattle.link_key_set.specs.KeyLaws.{KeyLaws}
-use Rattle.link_key_set.specs.KeySet.{allValid, noneTwice, validKeys}
+use Rattle.link_key.specs.set.KeyLaws.{KeyLaws}
+use Rattle.link_key.specs.set.KeySet.{allValid, noneTwice, validKeys}
 use Rattle.cbor.specs.Encode.{bytesOf, infoOf, extraOf, shortest, encode}
 use Rattle.cbor.specs.View.{Scalar, number, minus, string, other, View, scalar, list}
 use Rattle.cojp.specs.Address.{addressBy, addressIn, addressJudged, addressParameter, noAddressParameter, addressRead}

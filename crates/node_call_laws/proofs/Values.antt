@@ -15,9 +15,9 @@ use Rattle.key_image.specs.Key.{keyPart, keySetPart, countedSetPart}
 use Rattle.link_key.specs.Key.{noKey, sameSecret, covers}
 use Rattle.link_key.specs.declared.Key.{Key}
 use Rattle.link_key.specs.declared.additional_info.AdditionalInfo.the-variants.{Absent}
-use Rattle.link_key_set.specs.KeySet.{noKeys, keysOf, named, findKey, validSet, sameKeys, shares}
-use Rattle.link_key_set.specs.declared.key_set.KeySet.{KeySet}
-use Rattle.link_key_usage.specs.Usage.{knownType}
+use Rattle.link_key.specs.set.KeySet.{noKeys, keysOf, named, findKey, validSet, sameKeys, shares}
+use Rattle.link_key.specs.declared.set.key_set.KeySet.{KeySet}
+use Rattle.link_key.specs.usage.Usage.{knownType}
 use Rattle.link_key_counters.specs.Counters.{Slot, withZeroCounters, noCounted, keptCounter, inheritCounters, takenCounterOn, firstServing, serves, takeCounter}
 use Rattle.link_key_counters.specs.declared.CountedSet.{CountedSet}
 use Rattle.cojp.specs.ErrorReports.{noErrorReports, errorReportOf, added}

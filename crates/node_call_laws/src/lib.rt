@@ -5,5 +5,5 @@ ghost use Rattle.node_call_laws.specs.Fits.{CallsFit};
 pub fn calls_valid_law()
     ensures { λ _. ⌜ CallsFit ⌝ }
 {
-    link_key_set::laws();
+    link_key::set::laws();
 }

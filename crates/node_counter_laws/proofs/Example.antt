@@ -3,7 +3,7 @@ use mathlib.Core.Path.{_≡_, refl}
 use mathlib.Core.Bool.{true}
 use mathlib.Core.List.{List·Memᴰ·head as at, List·Memᴰ·tail as past}
 use Rattle.link_key.specs.Key.{validKey, hasNoAdditionalInfo, sameKey, sameSecret, covers}
-use Rattle.link_key_set.specs.KeySet.{validKeys, validSet}
+use Rattle.link_key.specs.set.KeySet.{validKeys, validSet}
 use Rattle.link_key_counters.specs.Counters.{takeCounter, inheritCounters}
 use Rattle.cbor.specs.Decode.{payloadBy, decodeBy, heading, argument, next, digits, members, pairs, majorOf}
 use Rattle.cbor.specs.Encode.{bytesOf, infoOf, extraOf, shortest}

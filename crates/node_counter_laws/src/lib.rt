@@ -6,7 +6,7 @@ ghost use Rattle.node_counter_laws.specs.Example.{CountersExample};
 pub fn counters_rise_law()
     ensures { λ r. ⌜ CountersRise ⌝ }
 {
-    link_key_set::laws();
+    link_key::set::laws();
     link_key_counters::laws();
     link_key_counter_laws::kept_counters_law();
     node_laws::laws();

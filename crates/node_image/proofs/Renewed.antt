@@ -29,7 +29,7 @@ use Rattle.node.specs.declared.timing.PollResult.{PollResult}
 use Rattle.node_attempt.specs.declared.attempt.Attempt.{Attempt}
 use Rattle.node_key_sets.specs.Frames as sets
 use Rattle.node_key_sets.specs.declared.frames.SendKeyResult.{SendKeyResult}
-use Rattle.link_key_usage.specs.Usage.{knownType}
+use Rattle.link_key.specs.usage.Usage.{knownType}
 use Rattle.node_attempt.specs.declared.poll.Due.{Due}
 use Rattle.node_attempt.specs.declared.poll.Due.the-variants.{Refused}
 use Rattle.refusal.specs.declared.Refusal.{Refusal}

@@ -2,9 +2,9 @@
 use mathlib.Core.Path.{_≡_, refl, sym, ap, _∙_}
 use mathlib.Core.Bool.{Bool, true, false}
 use mathlib.Core.List.{List}
-use Rattle.link_key_set.specs.KeySet.{keysOf, validSet, sameKeys, shares}
+use Rattle.link_key.specs.set.KeySet.{keysOf, validSet, sameKeys, shares}
 use Rattle.link_key.specs.declared.Key.{Key}
-use Rattle.link_key_set.specs.declared.key_set.KeySet.{KeySet}
+use Rattle.link_key.specs.declared.set.key_set.KeySet.{KeySet}
 use lib.ListN.{replicate}
 use Rattle.link_key_counters.specs.CounterLaws.{CounterLaws}
 use Rattle.link_key_counters.specs.Counters.{slotsFrom, slotsOf, keptCounters, inheritCounters}

@@ -8,7 +8,7 @@ use Rattle.refusal.specs.declared.Refusal.{Refusal}
 use Rattle.refusal.specs.declared.Refusal.the-variants as refusal
 use Rattle.refusal.specs.declared.Verdict.the-variants as verdict
 use Rattle.link_key.specs.Key.{foundKey, covers}
-use Rattle.link_key_set.specs.KeySet.{has}
+use Rattle.link_key.specs.set.KeySet.{has}
 use Rattle.link_key.specs.declared.FoundKey.{FoundKey}
 use Rattle.link_key.specs.declared.Key.{Key}
 use Rattle.node_key_sets.specs.Sets.{activeIn, twoSets}
@@ -18,7 +18,7 @@ use Rattle.node_key_sets.specs.declared.frames.Change.the-variants as ch
 use Rattle.node_key_sets.specs.declared.frames.KeyAnswer.{KeyAnswer}
 use Rattle.node_key_sets.specs.declared.frames.SendKeyResult.{SendKeyResult}
 use Rattle.node_key_sets.specs.declared.sets.KeySets.{KeySets}
-use Rattle.link_key_usage.specs.Usage.{knownType}
+use Rattle.link_key.specs.usage.Usage.{knownType}
 use Rattle.link_key_counters.specs.Counters.{Slot, firstServing, takenCounterOn, takeCounter}
 use Rattle.link_key_counters.specs.declared.TakenCounter.{TakenCounter}
 

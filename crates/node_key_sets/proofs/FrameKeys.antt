@@ -13,10 +13,10 @@ use Rattle.refusal.specs.declared.Refusal.the-variants as refusal
 use Rattle.refusal.specs.declared.Verdict.{Verdict}
 use Rattle.refusal.specs.declared.Verdict.the-variants as verdict
 use Rattle.link_key.specs.Key.{validKey, covers}
-use Rattle.link_key_set.specs.KeySet.{has, Covers, findKey}
-use Rattle.link_key_usage.specs.Usage.{knownType}
+use Rattle.link_key.specs.set.KeySet.{has, Covers, findKey}
+use Rattle.link_key.specs.usage.Usage.{knownType}
 use Rattle.link_key.specs.declared.Key.{Key}
-use Rattle.link_key_set.specs.KeyLaws.{KeyLaws}
+use Rattle.link_key.specs.set.KeyLaws.{KeyLaws}
 use Rattle.link_key_counters.specs.CounterLaws.{CounterLaws}
 use Rattle.link_key_counters.specs.declared.TakenCounter.{TakenCounter}
 use Rattle.link_key_counters.specs.Counters.{Slot, slotsOf, lastCounter, isUsedUp, serves, firstServing, raised, takenCounterOn, takeCounter}

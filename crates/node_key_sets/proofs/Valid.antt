@@ -6,10 +6,10 @@ use borrow.Author.Tests.{eqb-true, not-true}
 use Rattle.refusal.specs.Verdict.{refused-not}
 use Rattle.refusal.specs.declared.Refusal.the-variants as refusal
 use Rattle.refusal.specs.declared.Verdict.the-variants as verdict
-use Rattle.link_key_set.specs.KeySet.{keysOf, validKeys, validSet, noAdditionalInfos, additionalInfoAllowed, sameKeys, shares}
+use Rattle.link_key.specs.set.KeySet.{keysOf, validKeys, validSet, noAdditionalInfos, additionalInfoAllowed, sameKeys, shares}
 use Rattle.link_key.specs.declared.Key.{Key}
-use Rattle.link_key_set.specs.declared.key_set.KeySet.{KeySet}
-use Rattle.link_key_set.specs.KeyLaws.{KeyLaws}
+use Rattle.link_key.specs.declared.set.key_set.KeySet.{KeySet}
+use Rattle.link_key.specs.set.KeyLaws.{KeyLaws}
 use Rattle.link_key_counters.specs.CounterLaws.{CounterLaws}
 use Rattle.link_key_counters.specs.Counters.{withZeroCounters, noCounted, inheritCounters}
 use Rattle.link_key_counters.specs.declared.CountedSet.{CountedSet}

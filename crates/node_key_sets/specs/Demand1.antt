@@ -7,10 +7,10 @@ use lib.Dec.{eqb}
 use Rattle.refusal.specs.Verdict.{verdictNumber}
 use Rattle.refusal.specs.declared.Refusal.{Refusal}
 use Rattle.refusal.specs.declared.Verdict.the-variants.{Refused}
-use Rattle.link_key_usage.specs.Usage.{knownType}
+use Rattle.link_key.specs.usage.Usage.{knownType}
 use Rattle.link_key.specs.Key.{noKey}
-use Rattle.link_key_set.specs.KeySet.{validSet}
-use Rattle.link_key_set.specs.declared.key_set.KeySet.{KeySet}
+use Rattle.link_key.specs.set.KeySet.{validSet}
+use Rattle.link_key.specs.declared.set.key_set.KeySet.{KeySet}
 use Rattle.node_key_sets.specs.Sets.{install}
 use Rattle.node_key_sets.specs.Frames.{sending, receivingKey, verifiedIn, changeVerdict, changeNumber}
 use Rattle.node_key_sets.specs.declared.frames.SendKeyResult.{SendKeyResult}

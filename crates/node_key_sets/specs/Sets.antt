@@ -5,9 +5,9 @@ use lib.Dec.{eqb}
 use Rattle.refusal.specs.declared.Refusal.{Refusal}
 use Rattle.refusal.specs.declared.Refusal.the-variants as refusal
 use Rattle.refusal.specs.declared.Verdict.the-variants as verdict
-use Rattle.link_key_set.specs.KeySet.{keysOf, validSet, noAdditionalInfos, sameKeys, shares}
+use Rattle.link_key.specs.set.KeySet.{keysOf, validSet, noAdditionalInfos, sameKeys, shares}
 use Rattle.link_key.specs.declared.Key.{Key}
-use Rattle.link_key_set.specs.declared.key_set.KeySet.{KeySet}
+use Rattle.link_key.specs.declared.set.key_set.KeySet.{KeySet}
 use Rattle.link_key_counters.specs.Counters.{Slot, slotsOf, withZeroCounters, noCounted, inheritCounters}
 use Rattle.link_key_counters.specs.declared.CountedSet.{CountedSet}
 use Rattle.node_key_sets.specs.declared.sets.KeySets.{KeySets}

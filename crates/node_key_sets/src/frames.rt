@@ -11,7 +11,7 @@ ghost use mathlib.Core.Bool.{cond, not, _&&_};
 ghost use lib.Dec.{eqb};
 ghost use Rattle.refusal.specs.declared.Refusal.the-variants as refusal;
 ghost use Rattle.link_key.specs.Key.{foundKey, covers};
-ghost use Rattle.link_key_usage.specs.Usage.{knownType};
+ghost use Rattle.link_key.specs.usage.Usage.{knownType};
 ghost use Rattle.node_key_sets.specs.Frames.{withKey, withoutKey, unsent, sending, heldKey, receivingKey};
 ghost use Rattle.node_key_sets.specs.Frames.{switched, effect, verifiedIn, hasSwitched};
 

@@ -1,13 +1,13 @@
 // The two sets: which may stand together, and where a new one goes.
+use link_key::set::KeySet;
 use link_key_counters::CountedSet;
 use link_key_counters::none_counted;
 use link_key_counters::with_zero_counters;
-use link_key_set::KeySet;
 use refusal::Refusal;
 use refusal::Verdict;
 ghost use mathlib.Core.Bool.{not, _&&_, _||_};
 ghost use mathlib.Core.Path.{_≡_};
-ghost use Rattle.link_key_set.specs.KeySet.{keysOf, additionalInfoAllowed, shares};
+ghost use Rattle.link_key.specs.set.KeySet.{keysOf, additionalInfoAllowed, shares};
 ghost use Rattle.node_key_sets.specs.Sets.{activeIn, pendingIn, isNone, noSets, noneOrValid, validAs, install, setAt, placing};
 
 // A set whose count is 0 stands for no set.
@@ -57,7 +57,7 @@ impl KeySets {
     fn apart(self, border: bool) -> bool
         ensures { λ r. ⌜ r ≡ (not (shares (activeIn self) (pendingIn self)) && (not border || isNone (self .pending .set))) ⌝ }
     {
-        link_key_set::laws();
+        link_key::set::laws();
         if self.pending.set.count == 0 {
             return true;
         }

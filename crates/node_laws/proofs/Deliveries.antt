@@ -14,13 +14,13 @@ use Rattle.refusal.specs.declared.Refusal.the-variants as refusal
 use Rattle.refusal.specs.declared.Verdict.{Verdict}
 use Rattle.refusal.specs.declared.Verdict.the-variants as verdict
 use Rattle.link_key.specs.declared.Key.{Key}
-use Rattle.link_key_set.specs.KeySet.{keysOf, additionalInfoAllowed}
-use Rattle.link_key_set.specs.declared.key_set.KeySet.{KeySet}
+use Rattle.link_key.specs.set.KeySet.{keysOf, additionalInfoAllowed}
+use Rattle.link_key.specs.declared.set.key_set.KeySet.{KeySet}
 use Rattle.link_key_counters.specs.Counters.{noCounted, inheritCounters}
 use Rattle.node_key_sets.specs.Sets.{twoSets, plainIn, placed, install}
 use Rattle.node_key_sets.specs.Sets as sets
 use Rattle.node_key_sets.specs.declared.sets.KeySets.{KeySets}
-use Rattle.link_key_set.specs.KeyLaws.{KeyLaws}
+use Rattle.link_key.specs.set.KeyLaws.{KeyLaws}
 use Rattle.link_key_counters.specs.CounterLaws.{CounterLaws}
 use Rattle.node_key_sets.proofs.Valid.{install-valid, install-plain, border-installs}
 use Rattle.node_attempt.specs.Attempt as attempt

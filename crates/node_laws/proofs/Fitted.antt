@@ -4,8 +4,8 @@ use mathlib.Core.Bool.{Bool, true, false, cond, not, _&&_}
 use Rattle.refusal.specs.declared.Refusal.the-variants.{Clash}
 use Rattle.refusal.specs.declared.Verdict.{Verdict}
 use Rattle.refusal.specs.declared.Verdict.the-variants.{Accepted, Refused}
-use Rattle.link_key_set.specs.KeySet.{keysOf, validSet, sameKeys, shares}
-use Rattle.link_key_set.specs.declared.key_set.KeySet.{KeySet}
+use Rattle.link_key.specs.set.KeySet.{keysOf, validSet, sameKeys, shares}
+use Rattle.link_key.specs.declared.set.key_set.KeySet.{KeySet}
 use Rattle.cojp.specs.Configuration.{withKeys}
 use Rattle.cojp.specs.KeySet.{noKeysParameter}
 use Rattle.cojp.specs.Reading.{ifTaken}

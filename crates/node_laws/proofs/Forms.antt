@@ -7,7 +7,7 @@ use lib.Dec.{leb}
 use Rattle.lemmas.specs.logic.Tests.{both, both-left, both-right, never}
 use Rattle.refusal.specs.declared.Verdict.{Verdict}
 use Rattle.refusal.specs.declared.Verdict.the-variants as verdict
-use Rattle.link_key_set.specs.KeySet.{keysOf, additionalInfoAllowed}
+use Rattle.link_key.specs.set.KeySet.{keysOf, additionalInfoAllowed}
 use Rattle.cojp.specs.ErrorReports.{errorReportsValid}
 use Rattle.cojp.specs.InRange.{InRange, ErrorReportsValid}
 use Rattle.cojp.specs.Lists.{stringsIn, kept}

@@ -6,9 +6,9 @@ use mathlib.Core.List.{[]}
 use borrow.Author.Tests.{eq-eqb}
 use Rattle.refusal.specs.declared.Refusal.{Refusal}
 use Rattle.refusal.specs.declared.Verdict.the-variants.{Refused}
-use Rattle.link_key_set.specs.KeySet.{Apart}
+use Rattle.link_key.specs.set.KeySet.{Apart}
 use Rattle.node_key_sets.specs.Frames.{changeVerdict}
-use Rattle.link_key_set.specs.KeyLaws.{KeyLaws}
+use Rattle.link_key.specs.set.KeyLaws.{KeyLaws}
 use Rattle.link_key_counters.specs.CounterLaws.{CounterLaws}
 use Rattle.cojp.specs.InRange.{ReadsInRange, ErrorReportsValid}
 use Rattle.node_key_sets.proofs.Valid.{sets-apart, border-empty}

@@ -9,7 +9,7 @@ use lib.ListN.{length, take, length-append, length-take}
 use borrow.Author.Tests.{le-leb, leb-true, eqb-true}
 use Rattle.refusal.specs.Order.{refusedIf, inOrder}
 use Rattle.lemmas.specs.logic.Tests.{both-left, both, first, third, fourth}
-use Rattle.link_key_set.specs.Lists.{allOf}
+use Rattle.link_key.specs.set.Lists.{allOf}
 use Rattle.refusal.specs.declared.Refusal.the-variants.{Owed, Room}
 use Rattle.cbor.specs.Answer.{refuse, emit, answer}
 use Rattle.cbor.specs.Encode.{encode, encodePairs, shortest}

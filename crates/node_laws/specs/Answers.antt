@@ -11,10 +11,10 @@ use Rattle.refusal.specs.Refusal.{numberOf}
 use Rattle.refusal.specs.Verdict.{verdictNumber, isAccepted}
 use Rattle.refusal.specs.Order.{refusedIf, inOrder}
 use Rattle.refusal.specs.declared.Verdict.the-variants.{Accepted}
-use Rattle.link_key_usage.specs.Usage.{knownType}
+use Rattle.link_key.specs.usage.Usage.{knownType}
 use Rattle.link_key.specs.Key.{covers}
 use Rattle.link_key.specs.declared.Key.{Key}
-use Rattle.link_key_set.specs.KeySet.{keysOf, sameKeys, shares, has}
+use Rattle.link_key.specs.set.KeySet.{keysOf, sameKeys, shares, has}
 use Rattle.link_key_counters.specs.Counters.{Slot, firstServing}
 use Rattle.cbor.specs.Answer.{answer}
 use Rattle.cbor.specs.Encode.{encode}

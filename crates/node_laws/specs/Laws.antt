@@ -8,9 +8,9 @@ use mathlib.Core.List.{List, [], _∷_, List·Memᴰ}
 use Rattle.refusal.specs.declared.Refusal.{Refusal}
 use Rattle.refusal.specs.declared.Verdict.the-variants.{Accepted, Refused}
 use Rattle.link_key.specs.Key.{covers, sameKey}
-use Rattle.link_key_set.specs.KeySet.{keysOf, Apart, Covers}
+use Rattle.link_key.specs.set.KeySet.{keysOf, Apart, Covers}
 use Rattle.link_key.specs.declared.Key.{Key}
-use Rattle.link_key_set.specs.declared.key_set.KeySet.{KeySet}
+use Rattle.link_key.specs.declared.set.key_set.KeySet.{KeySet}
 use Rattle.link_key_counters.specs.Counters.{Slot, slotsOf, serves, firstServing, raised}
 use Rattle.node_key_sets.specs.Sets.{slotsIn, twoSets}
 use Rattle.node_key_sets.specs.Frames.{withKey, changeVerdict}

@@ -25,7 +25,7 @@ pub fn demand1()
 pub fn laws()
     ensures { λ r. ⌜ NodeLaws ⌝ }
 {
-    link_key_set::laws();
+    link_key::set::laws();
     link_key_counters::laws();
     cojp::reads_in_range_law();
     cojp::error_reports_valid_law();

@@ -4,7 +4,7 @@ use Rattle.cbor.specs.Decode.{payloadBy, decodeBy, heading, argument, next, dig
 use Rattle.cbor.specs.Encode.{bytesOf, infoOf, extraOf, shortest}
 use Rattle.short_address.specs.Address.{isAddress}
 use Rattle.link_key.specs.Key.{validKey, hasNoAdditionalInfo, sameKey}
-use Rattle.link_key_set.specs.KeySet.{validKeys, validSet}
+use Rattle.link_key.specs.set.KeySet.{validKeys, validSet}
 use Rattle.cojp.specs.Address.{addressIn}
 use Rattle.cojp.specs.Parameter.{laterParameter, parameterOf}
 use Rattle.cojp.specs.Configuration.{configurationTaking}

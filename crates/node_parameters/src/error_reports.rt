@@ -3,7 +3,7 @@ use cojp::ErrorReport;
 use cojp::ErrorReports;
 use cojp::Version;
 ghost use mathlib.Core.Path.{_≡_};
-ghost use Rattle.link_key_set.specs.Lists.{allOf};
+ghost use Rattle.link_key.specs.set.Lists.{allOf};
 ghost use Rattle.cojp.specs.ErrorReports.{errorReportList, isReportable, validErrorReport, validErrorReports, errorReportsValid};
 
 // Whether a report may name the label: one of a published configuration.

@@ -3,7 +3,7 @@
 use Prim.Native.Nat.{ℕ}
 use Rattle.image.specs.Part.{Part, number, both, viewed, headed}
 use Rattle.key_image.specs.Key.{keySetPart}
-use Rattle.link_key_set.specs.declared.key_set.KeySet.{KeySet}
+use Rattle.link_key.specs.declared.set.key_set.KeySet.{KeySet}
 use Rattle.cojp.specs.declared.address.AddressParameter.{AddressParameter}
 use Rattle.cojp.specs.declared.configuration.Configuration.{Configuration}
 use Rattle.cojp.specs.declared.error_report.ErrorReports.{ErrorReports}

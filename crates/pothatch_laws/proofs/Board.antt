@@ -5,7 +5,7 @@ use mathlib.Core.Path.{_≡_, refl, ap, _∙_, subst}
 use native.Mathlib.Omega.{arith}
 use lib.ListN.{take, drop, replicate}
 use Rattle.link_key.specs.Key.{validKey, hasNoAdditionalInfo, sameKey, sameSecret, covers}
-use Rattle.link_key_set.specs.KeySet.{validKeys, validSet}
+use Rattle.link_key.specs.set.KeySet.{validKeys, validSet}
 use Rattle.link_key_counters.specs.Counters.{takeCounter, inheritCounters}
 use Rattle.short_address.specs.Address.{isAddress}
 use Rattle.cbor.specs.Decode.{payloadBy, decodeBy, heading, argument, next, digits, members, pairs, majorOf}

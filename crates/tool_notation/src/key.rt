@@ -2,7 +2,7 @@
 use link_key::AdditionalInfo;
 use link_key::Key;
 use link_key::additional_info_bytes;
-use link_key_set::KeySet;
+use link_key::set::KeySet;
 use tool_text::output::Buffer;
 use tool_text::output::Output;
 

@@ -3,7 +3,7 @@ use Prim.Native.Nat.{_*_, _-_, _≤_, _<_}
 use native.Mathlib.Omega.{arith}
 use borrow.Author.Needs.{needs}
 use lib.ListN.{length, take}
-use Rattle.link_key_set.specs.KeySet.{keysOf}
+use Rattle.link_key.specs.set.KeySet.{keysOf}
 use Rattle.cojp.specs.Writing.{groupsItems}
 use Rattle.cojp_octets_write.specs.Size.{ItemsSize}
 use Rattle.cojp_configuration_write.proofs.KeySets.{past, all-keys, sizes-step}

@@ -2,7 +2,7 @@
 use native.Mathlib.Omega.{arith}
 use borrow.Author.Needs.{needs}
 use Rattle.cbor.specs.Item.{array, empty}
-use Rattle.link_key_set.specs.KeySet.{keysOf}
+use Rattle.link_key.specs.set.KeySet.{keysOf}
 use Rattle.cojp.specs.Writing.{labelled, groupsItems}
 use Rattle.cojp_configuration_write.proofs.KeySets.{keys-size}
 use Rattle.cojp_octets_write.proofs.Sizes.{size-none}

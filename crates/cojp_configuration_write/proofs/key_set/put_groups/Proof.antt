@@ -7,7 +7,7 @@ use lib.ListN.{length, take, getD}
 use Rattle.cbor.specs.Answer.{Wrote}
 use Rattle.cbor.specs.Encode.{encodes}
 use Rattle.cbor.specs.Writing.{wrote-none, wrote-length}
-use Rattle.link_key_set.specs.KeySet.{keysOf}
+use Rattle.link_key.specs.set.KeySet.{keysOf}
 use Rattle.cojp.specs.Writing.{groupsItems}
 use Rattle.cojp_configuration_write.specs.Room.{keyLength}
 use Rattle.cojp_configuration_write.proofs.KeySets.{past, all-keys, groups-less, groups-room, groups-seam, group-length}

@@ -4,7 +4,7 @@ use borrow.Author.Needs.{needs}
 use lib.ListN.{length}
 use Rattle.cbor.specs.Item.{array, empty}
 use Rattle.cbor.specs.Writing.{wrote-none}
-use Rattle.link_key_set.specs.KeySet.{keysOf}
+use Rattle.link_key.specs.set.KeySet.{keysOf}
 use Rattle.cojp.specs.Writing.{labelled, groupsItems}
 use Rattle.cojp_octets_write.proofs.Joined.{wrote-same, same-room}
 use Rattle.cojp_configuration_write.proofs.KeySets.{keys-taken, set-length}

@@ -3,7 +3,7 @@ use native.Mathlib.Omega.{arith}
 use borrow.Author.Needs.{needs}
 use lib.ListN.{length-append}
 use Rattle.cbor.specs.Encode.{shortest}
-use Rattle.link_key_set.specs.KeySet.{keysOf}
+use Rattle.link_key.specs.set.KeySet.{keysOf}
 use Rattle.cojp_configuration_write.proofs.KeySets.{set-seam}
 use Rattle.cojp_configuration_write.proofs.key_set.put_set.Statement.{statement}
 use Rattle.cojp_configuration_write.proofs.key_set.put_set.Tie as tie

@@ -1,7 +1,7 @@
 -- `covers` meets its contract: an answer of the usage list tells whether the usage is listed, and its family.
 use mathlib.Core.Path.{sym, _∙_}
 use Rattle.link_key.specs.Key.{covers}
-use Rattle.link_key_usage.proofs.Usages.{refused, known}
+use Rattle.link_key.proofs.usage.Usages.{refused, known}
 use borrow.Author.Needs.{needs}
 use Rattle.link_key.proofs.Key.covers.Statement.{statement}
 use Rattle.link_key.proofs.Key.covers.Tie as tie

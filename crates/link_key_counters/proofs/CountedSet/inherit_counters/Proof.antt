@@ -4,7 +4,7 @@ use native.Mathlib.Omega.{arith}
 use mathlib.Core.Path.{_≡_, refl, _∙_, ap}
 use borrow.Author.Needs.{needs}
 use lib.ListN.{length}
-use Rattle.link_key_set.specs.KeySet.{keysOf}
+use Rattle.link_key.specs.set.KeySet.{keysOf}
 use Rattle.link_key_counters.specs.Counters.{countedSet, inheritCounters}
 use Rattle.link_key_counters.proofs.Slots.{within, written, write, written-all}
 use Rattle.link_key_counters.proofs.CountedSet.inherit_counters.Statement.{statement}

@@ -7,8 +7,8 @@ use borrow.Author.Needs.{needs}
 use lib.ListN.{length}
 use Rattle.link_key.specs.Key.{sameSecret}
 use Rattle.link_key.specs.declared.Key.{Key}
-use Rattle.link_key_set.specs.KeySet.{keysOf}
-use Rattle.link_key_set.specs.Lists.{firstOf}
+use Rattle.link_key.specs.set.KeySet.{keysOf}
+use Rattle.link_key.specs.set.Lists.{firstOf}
 use Rattle.link_key_counters.specs.Counters.{Slot, counterIn}
 use Rattle.link_key_counters.proofs.Slots.{firsts, within, rest, turn, stop}
 use Rattle.link_key_counters.proofs.CountedSet.kept_counter.Statement.{statement}

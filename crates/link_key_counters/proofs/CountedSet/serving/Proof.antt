@@ -6,8 +6,8 @@ use mathlib.Core.Logic.{⊎-elim}
 use mathlib.Core.Bool.{false}
 use borrow.Author.Needs.{needs}
 use lib.ListN.{length, getD}
-use Rattle.link_key_set.specs.KeySet.{keysOf}
-use Rattle.link_key_set.specs.Lists.{firstOf}
+use Rattle.link_key.specs.set.KeySet.{keysOf}
+use Rattle.link_key.specs.set.Lists.{firstOf}
 use Rattle.link_key_counters.specs.Counters.{serves, slot}
 use Rattle.link_key_counters.proofs.Slots.{past, firsts, within, rest, turn, stop, does-serve, not-covering, used-up}
 use Rattle.link_key_counters.proofs.CountedSet.serving.Statement.{statement}

@@ -6,7 +6,7 @@ use borrow.Author.Needs.{needs}
 use borrow.Author.Tests.{le-leb, lt-leb}
 use lib.Dec.{eqb}
 use Rattle.link_key.specs.Key.{covers}
-use Rattle.link_key_usage.specs.Usage.{knownType}
+use Rattle.link_key.specs.usage.Usage.{knownType}
 use Rattle.lemmas.specs.logic.Tests.{is-false, is-true}
 use Rattle.node_key_sets.proofs.frames.received.Statement.{statement}
 use Rattle.node_key_sets.proofs.frames.received.Tie as tie

@@ -5,7 +5,7 @@ use borrow.Author.Needs.{needs}
 use native.Mathlib.Omega.{arith}
 use lib.ListN.{take, drop, length-take}
 use Rattle.lemmas.specs.logic.Tests.{denied, granted}
-use Rattle.link_key_set.specs.Lists.{allOf}
+use Rattle.link_key.specs.set.Lists.{allOf}
 use Rattle.cojp.proofs.Reports.{firsts, next-report, no-report}
 use Rattle.cojp.specs.ErrorReports.{validErrorReport}
 use Rattle.node_parameters.proofs.error_reports.each_valid.Statement.{statement}

@@ -3,7 +3,7 @@ use mathlib.Core.Path.{sym, _∙_, ap}
 use mathlib.Core.Bool.{not, and-true, and-false}
 use borrow.Author.Needs.{needs}
 use borrow.Author.Tests.{ne-eqb}
-use Rattle.link_key_set.specs.KeySet.{shares}
+use Rattle.link_key.specs.set.KeySet.{shares}
 use Rattle.node_key_sets.specs.Sets.{activeIn, pendingIn}
 use Rattle.node_key_sets.proofs.Valid.{alone-apart}
 use Rattle.node_key_sets.proofs.sets.KeySets.apart.Statement.{statement}

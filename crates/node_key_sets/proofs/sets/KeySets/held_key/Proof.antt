@@ -1,6 +1,6 @@
 -- `held_key` meets its contract: the second search counts where the first finds nothing.
 use borrow.Author.Needs.{needs}
-use Rattle.link_key_set.specs.KeySet.{findKey}
+use Rattle.link_key.specs.set.KeySet.{findKey}
 use Rattle.node_key_sets.specs.Sets.{activeIn}
 use Rattle.node_key_sets.proofs.Answers.{was-found, not-found}
 use Rattle.node_key_sets.proofs.sets.KeySets.held_key.Statement.{statement}

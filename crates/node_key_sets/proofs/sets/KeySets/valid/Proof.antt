@@ -3,7 +3,7 @@ use mathlib.Core.Path.{_≡_, sym, _∙_}
 use mathlib.Core.Bool.{Bool, not, _&&_, _||_}
 use mathlib.Core.Logic.{⊎-elim}
 use borrow.Author.Needs.{needs}
-use Rattle.link_key_set.specs.KeySet.{noAdditionalInfos, shares, additionalInfoAllowed}
+use Rattle.link_key.specs.set.KeySet.{noAdditionalInfos, shares, additionalInfoAllowed}
 use Rattle.node_key_sets.specs.Sets.{activeIn, pendingIn, isNone, noneOrValid, valid, validAs}
 use Rattle.node_key_sets.specs.declared.sets.KeySets.{KeySets}
 use Rattle.lemmas.specs.logic.Tests.{and-next, and-stops}
