@@ -1,2 +1,3 @@
 pub mod Counters
 pub mod CounterLaws
+pub mod history

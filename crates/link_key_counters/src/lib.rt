@@ -1,4 +1,6 @@
 // A key set with a frame counter for each of its keys.
+pub mod history;
+
 use link_key::Key;
 use link_key::no_key;
 use link_key::set::KeySet;

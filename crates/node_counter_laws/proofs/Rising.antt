@@ -18,7 +18,7 @@ use Rattle.link_key.specs.declared.set.key_set.KeySet.{KeySet}
 use Rattle.link_key_counters.specs.CounterLaws.{CounterLaws}
 use Rattle.link_key_counters.specs.Counters.{Slot, firstServing, raised, keptCounter}
 use Rattle.link_key_counters.specs.declared.CountedSet.{CountedSet}
-use Rattle.link_key_counter_laws.specs.Kept.{Holds, Sound, KeptLaws}
+use Rattle.link_key_counters.specs.history.Kept.{Holds, Sound, KeptLaws}
 use Rattle.node_key_sets.specs.Sets as sets
 use Rattle.node_key_sets.specs.Sets.{activeIn, twoSets, unplaced, decideInstall, install}
 use Rattle.node_key_sets.specs.declared.sets.KeySets.{KeySets}

@@ -8,7 +8,7 @@ use mathlib.Core.List.{List, [], _∷_}
 use Rattle.refusal.specs.declared.Verdict.the-variants.{Accepted}
 use Rattle.link_key.specs.Key.{sameSecret}
 use Rattle.link_key.specs.declared.Key.{Key}
-use Rattle.link_key_counter_laws.specs.Kept.{Holds}
+use Rattle.link_key_counters.specs.history.Kept.{Holds}
 use Rattle.cojp.specs.declared.version.Version.{Version}
 use Rattle.node_parameters.specs.declared.octets.HeldOctets.{HeldOctets}
 use Rattle.node.specs.Node.{activeOf, made}

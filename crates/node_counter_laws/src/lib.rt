@@ -8,7 +8,7 @@ pub fn counters_rise_law()
 {
     link_key::set::laws();
     link_key_counters::laws();
-    link_key_counter_laws::kept_counters_law();
+    link_key_counters::history::kept_counters_law();
     node_laws::laws();
     node_laws::answers_law();
 }

@@ -20,9 +20,9 @@ use Rattle.link_key.specs.set.Lists.{firstOf}
 use Rattle.link_key.specs.declared.set.key_set.KeySet.{KeySet}
 use Rattle.link_key.proofs.set.Lists.{first-is}
 use Rattle.link_key.proofs.set.KeySets.{has-none, valid-set, valid-few}
 use Rattle.link_key_counters.specs.Counters.{Slot, slot, slotsFrom, slotsOf, serves, firstServing, raised, counterIn, keptCounter, keptCounters, inheritCounters}
 use Rattle.link_key_counters.specs.declared.CountedSet.{CountedSet}
-use Rattle.link_key_counter_laws.specs.Kept.{Holds, Sound, KeptLaws}
+use Rattle.link_key_counters.specs.history.Kept.{Holds, Sound, KeptLaws}
 
 -- ---- identifier and value
 secret-self : (k : Key) → sameSecret k k ≡ true
