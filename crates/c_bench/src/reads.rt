@@ -3,8 +3,8 @@ use crate::fold::configuration_number;
 use crate::fold::is_accepted;
 use crate::fold::verdict_number;
 use crate::fold::wide;
-use cojp_configuration_read::read_configuration;
-use cojp_request_read::read_request;
+use cojp_read::configuration::read_configuration;
+use cojp_read::request::read_request;
 
 // Reads a configuration and looks at few places of it: for timing.
 #[no_mangle]

@@ -1,8 +1,8 @@
 // Writing: an object is read from a payload and written again. What the writing takes is what this takes less the reading.
 use cbor::WriteResult;
-use cojp_configuration_read::read_configuration;
 use cojp_configuration_write::write_configuration;
-use cojp_request_read::read_request;
+use cojp_read::configuration::read_configuration;
+use cojp_read::request::read_request;
 use cojp_request_write::write_request;
 
 // How many bytes were written.

@@ -17,9 +17,9 @@ use tool_text::output::Output;
 
 pub fn read(version: Version, strict: bool, payload: &[u8]) -> ConfigurationRead {
     if strict {
-        return cojp_configuration_read::read_strict_configuration_as(payload, version);
+        return cojp_read::configuration::read_strict_configuration_as(payload, version);
     }
-    cojp_configuration_read::read_configuration_as(payload, version)
+    cojp_read::configuration::read_configuration_as(payload, version)
 }
 
 // The object, or the refusal.

@@ -27,12 +27,12 @@ pub fn answer(tail: Tail, payloads: &[u8], out: Output, buffer: &mut Buffer) -> 
 
 // Both payloads are read, the first one first.
 fn answer_two(first: &[u8], second: &[u8], out: Output, buffer: &mut Buffer) -> Output {
-    let one = cojp_configuration_read::read_configuration(first);
+    let one = cojp_read::configuration::read_configuration(first);
     let verdict = one.verdict;
     if let Verdict::Refused(refusal) = verdict {
         return tool_notation::put_refusal(out.text(b"first ", buffer), refusal, buffer);
     }
-    let other = cojp_configuration_read::read_configuration(second);
+    let other = cojp_read::configuration::read_configuration(second);
     let verdict = other.verdict;
     if let Verdict::Refused(refusal) = verdict {
         return tool_notation::put_refusal(out.text(b"second ", buffer), refusal, buffer);

@@ -13,9 +13,9 @@ use tool_text::output::Output;
 
 pub fn read(version: Version, strict: bool, payload: &[u8]) -> RequestRead {
     if strict {
-        return cojp_request_read::read_strict_request_as(payload, version);
+        return cojp_read::request::read_strict_request_as(payload, version);
     }
-    cojp_request_read::read_request_as(payload, version)
+    cojp_read::request::read_request_as(payload, version)
 }
 
 // The object, or the refusal.

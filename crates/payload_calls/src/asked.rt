@@ -2,10 +2,10 @@
 use cojp::ConfigurationRead;
 use cojp::RequestRead;
 use cojp::Version;
-use cojp_configuration_read::read_configuration_as;
-use cojp_configuration_read::read_strict_configuration_as;
-use cojp_request_read::read_request_as;
-use cojp_request_read::read_strict_request_as;
+use cojp_read::configuration::read_configuration_as;
+use cojp_read::configuration::read_strict_configuration_as;
+use cojp_read::request::read_request_as;
+use cojp_read::request::read_strict_request_as;
 ghost use mathlib.Core.Path.{_≡_};
 ghost use Rattle.payload_calls.specs.Asked.{isVersion, isReading, versionOf};
 ghost use Rattle.payload_calls.specs.Read.{requestAsked, configurationAsked};

@@ -40,14 +40,14 @@ fn named(is_request: bool, version: Version) -> Object {
 pub fn seen(object: Object, payload: &[u8]) -> Reading {
     let version = object.version;
     if object.is_request {
-        let read = cojp_request_read::read_request_as(payload, version);
+        let read = cojp_read::request::read_request_as(payload, version);
         let verdict = read.verdict;
         return Reading {
             verdict,
             passed: read.request.unknown,
         };
     }
-    let read = cojp_configuration_read::read_configuration_as(payload, version);
+    let read = cojp_read::configuration::read_configuration_as(payload, version);
     let verdict = read.verdict;
     Reading {
         verdict,
@@ -59,9 +59,9 @@ pub fn seen(object: Object, payload: &[u8]) -> Reading {
 pub fn rewrite(object: Object, payload: &[u8], dst: &mut [u8]) -> WriteResult {
     let version = object.version;
     if object.is_request {
-        let read = cojp_request_read::read_request_as(payload, version);
+        let read = cojp_read::request::read_request_as(payload, version);
         return cojp_request_write::write_request_as(dst, read.request, version);
     }
-    let read = cojp_configuration_read::read_configuration_as(payload, version);
+    let read = cojp_read::configuration::read_configuration_as(payload, version);
     cojp_configuration_write::write_configuration_as(dst, read.configuration, version)
 }

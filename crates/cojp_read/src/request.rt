@@ -1,0 +1,143 @@
+// Join requests of both forms are read from payloads: one scan, and one walk over the pairs of the map.
+// Join requests.
+mod parameter;
+mod role;
+mod unsupported;
+
+use crate::request::parameter::RequestParameter;
+use crate::request::parameter::request_parameter_of;
+use crate::request::role::role_once;
+use crate::request::unsupported::unsupported_once;
+use cojp::JoinRequest;
+use cojp::RequestRead;
+use cojp::Version;
+use cojp::empty_request;
+use cojp::is_owing;
+use cojp_map::PayloadResult;
+use cojp_map::item_end;
+use cojp_map::labelled_at;
+use cojp_map::octets_once;
+use cojp_map::open_payload;
+use refusal::Refusal;
+use refusal::Verdict;
+ghost use mathlib.Core.Path.{_≡_};
+ghost use mathlib.Core.Bool.{true};
+ghost use lib.ListN.{drop};
+ghost use Rattle.cojp.specs.Reading.{bind};
+ghost use Rattle.cojp.specs.Request.{requestState, emptyRequestState, requestForm, settled, refuseRequest, requestAnswer, readRequestBy, readRequestAs, readStrictRequestAs, readRequest, readStrictRequest};
+ghost use Rattle.cbor.specs.Strict.{headBy};
+ghost use Rattle.cojp_map.specs.Pairs.{walkAt};
+
+fn refused_request(why: Refusal) -> RequestRead
+    ensures { λ r. ⌜ r ≡ refuseRequest why ⌝ }
+{
+    let none = empty_request();
+    RequestRead {
+        verdict: Verdict::Refused(why),
+        request: none,
+    }
+}
+
+// The answer after the last pair: OWED where a network identifier is due.
+fn settled_request(request: JoinRequest, version: Version) -> RequestRead
+    ensures { λ r. ⌜ r ≡ requestAnswer (settled version (requestState true request)) ⌝ }
+{
+    let network = request.network;
+    let report = network.disposition;
+    if is_owing(version, request.role, report) {
+        return refused_request(Refusal::Owed);
+    }
+    RequestRead {
+        verdict: Verdict::Accepted,
+        request: request,
+    }
+}
+
+// The next pairs in payload order, up to the first refusal. The parameters are stored where they stand.
+fn take_pairs(s: &[u8], mut at: usize, mut left: u64, version: Version) -> RequestRead
+    ensures { λ r. ⌜ r ≡ requestAnswer (bind (walkAt (requestForm version) left emptyRequestState (drop at (now (s .entry)))) (settled version)) ⌝ }
+{
+    let mut named = false;
+    let mut q = empty_request();
+    while 0 < left {
+        let pair = labelled_at(s, at);
+        let mut verdict = pair.verdict;
+        let parameter = request_parameter_of(version, pair.label);
+        match parameter {
+            RequestParameter::Role => {
+                let r = role_once(s, pair.value, version, named, q.errors);
+                verdict = r.verdict;
+                q.role = r.role;
+                let faults = r.errors;
+                q.errors = faults;
+                named = true;
+                at = r.next;
+            }
+            RequestParameter::Network => {
+                let held = q.network;
+                let report = held.disposition;
+                let r = octets_once(s, pair.value, report, 0, version);
+                verdict = r.verdict;
+                q.network = r.parameter.repacked();
+                at = r.next;
+            }
+            RequestParameter::Unsupported => {
+                let r = unsupported_once(s, pair.value, q.unsupported, q.errors);
+                verdict = r.verdict;
+                let unsupported = r.parameter;
+                q.unsupported = unsupported;
+                let faults = r.errors;
+                q.errors = faults;
+                at = r.next;
+            }
+            RequestParameter::Unknown => {
+                q.unknown += 1;
+                at = item_end(s, pair.value);
+            }
+        }
+        if let Verdict::Refused(why) = verdict {
+            return refused_request(why);
+        }
+        left -= 1;
+    }
+    settled_request(q, version)
+}
+
+// Reads a join request of a form from a payload, strictly or not.
+fn read_by(payload: &[u8], version: Version, strict: bool) -> RequestRead
+    ensures { λ r. ⌜ r ≡ readRequestBy version (headBy strict) (now (payload .entry)) ⌝ }
+{
+    let opened = open_payload(payload, strict);
+    match opened {
+        PayloadResult::Refused(k) => refused_request(k),
+        PayloadResult::Pairs { count, start } => take_pairs(payload, start, count, version),
+    }
+}
+
+// Reads a join request of document 01's form from a payload.
+pub fn read_request(payload: &[u8]) -> RequestRead
+    ensures { λ r. ⌜ r ≡ readRequest (now (payload .entry)) ⌝ }
+{
+    read_by(payload, Version::Draft, false)
+}
+
+// Reads a join request of document 01's form from a payload whose heads must all be the shortest: else LOOSE.
+pub fn read_strict_request(payload: &[u8]) -> RequestRead
+    ensures { λ r. ⌜ r ≡ readStrictRequest (now (payload .entry)) ⌝ }
+{
+    read_by(payload, Version::Draft, true)
+}
+
+// Reads a join request of a form from a payload.
+pub fn read_request_as(payload: &[u8], version: Version) -> RequestRead
+    ensures { λ r. ⌜ r ≡ readRequestAs version (now (payload .entry)) ⌝ }
+{
+    read_by(payload, version, false)
+}
+
+// Reads a join request of a form from a payload whose heads must all be the shortest: else LOOSE.
+pub fn read_strict_request_as(payload: &[u8], version: Version) -> RequestRead
+    ensures { λ r. ⌜ r ≡ readStrictRequestAs version (now (payload .entry)) ⌝ }
+{
+    read_by(payload, version, true)
+}
