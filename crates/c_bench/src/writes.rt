@@ -1,9 +1,9 @@
 // Writing: an object is read from a payload and written again. What the writing takes is what this takes less the reading.
 use cbor::WriteResult;
-use cojp_configuration_write::write_configuration;
 use cojp_read::configuration::read_configuration;
 use cojp_read::request::read_request;
-use cojp_request_write::write_request;
+use cojp_write::configuration::write_configuration;
+use cojp_write::request::write_request;
 
 // How many bytes were written.
 fn length(written: WriteResult) -> usize {

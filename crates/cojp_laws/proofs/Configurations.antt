@@ -42,7 +42,7 @@ use Rattle.cojp.specs.declared.disposition.Disposition.the-variants.{Absent, Di
 use Rattle.cojp.specs.declared.version.Version.{Version}
 use Rattle.cojp.specs.declared.version.Version.the-variants.{Draft, Published}
 use Rattle.cojp_list_read.specs.Laws.{ListLaws}
-use Rattle.cojp_octets_write.proofs.Limits.{Judged, configuration-fits}
+use Rattle.cojp_write.proofs.octets.Limits.{Judged, configuration-fits}
 use Rattle.cojp_laws.specs.RoundTrip.{ConfigurationBack, ConfigurationRoundTrip}
 use Rattle.cojp_laws.proofs.Forms.{OfForm, of-form, keys-fitting, list-kept, draft-taken, published-taken}
 use Rattle.cojp_laws.proofs.ReadBack.{then, parameter-read, payload-read, following-good, kept-if}

@@ -21,7 +21,7 @@ use Rattle.cojp.specs.Writing.{octetsPairs, owingPlan, fits, requestPairs, requ
 use Rattle.cojp.specs.declared.list.ListParameter.{ListParameter}
 use Rattle.cojp.specs.declared.disposition.Disposition.{Disposition}
 use Rattle.cojp.specs.declared.disposition.Disposition.the-variants.{Absent, Taken, Discarded}
-use Rattle.cojp_octets_write.specs.Plan.{stringInRange, octetsPlan, arrayBytes, listBytes, listFits, arrayPlan, listParameterPlan}
+use Rattle.cojp_write.specs.octets.Plan.{stringInRange, octetsPlan, arrayBytes, listBytes, listFits, arrayPlan, listParameterPlan}
 use Rattle.cojp_laws.specs.Demand1.{numberSaid, noRoom, tooLong, Refusing, WritersDemand1}
 
 kept : (b : Bool) (n : ℕ) (k : Refusal) (d e : List ℕ) → cond b (Length n) (Refused Room) ≡ Refused k → cond b e d ≡ d

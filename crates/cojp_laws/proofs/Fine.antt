@@ -31,8 +31,8 @@ use Rattle.cojp.specs.declared.disposition.Disposition.{Disposition}
 use Rattle.cojp.specs.declared.disposition.Disposition.the-variants.{Absent, Taken, Discarded}
 use Rattle.cojp.specs.declared.version.Version.{Version}
 use Rattle.cojp.specs.declared.version.Version.the-variants.{Draft, Published}
-use Rattle.cojp_octets_write.proofs.Joined.{join-count, join-length, chain-count, chain-length, labelled-length, array-length}
-use Rattle.cojp_octets_write.proofs.Strings.{string-length}
+use Rattle.cojp_write.proofs.octets.Joined.{join-count, join-length, chain-count, chain-length, labelled-length, array-length}
+use Rattle.cojp_write.proofs.octets.Strings.{string-length}
 use Rattle.cojp_laws.proofs.Forms.{not-taken, Fitting}
 
 -- ---- at most k members in at most m bytes

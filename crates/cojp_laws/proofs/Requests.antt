@@ -28,8 +28,8 @@ use Rattle.cojp.specs.declared.request.JoinRequest.{JoinRequest}
 use Rattle.cojp.specs.declared.version.Version.{Version}
 use Rattle.cojp.specs.declared.version.Version.the-variants.{Draft, Published}
 use Rattle.cojp_list_read.specs.Laws.{ListLaws}
-use Rattle.cojp_octets_write.proofs.Limits.{request-fits}
-use Rattle.cojp_octets_write.specs.Fits.{RequestFits}
+use Rattle.cojp_write.proofs.octets.Limits.{request-fits}
+use Rattle.cojp_write.specs.octets.Fits.{RequestFits}
 use Rattle.cojp_laws.specs.RoundTrip.{RequestRoundTrip}
 use Rattle.cojp_laws.proofs.Forms.{ReportsOf, reports-of, list-kept}
 use Rattle.cojp_laws.proofs.ReadBack.{then, parameter-read, payload-read, following-good, kept-if}

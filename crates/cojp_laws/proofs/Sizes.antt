@@ -25,9 +25,9 @@ use Rattle.cojp.specs.declared.request.JoinRequest.{JoinRequest}
 use Rattle.cojp.specs.declared.version.Version.{Version}
 use Rattle.cojp.specs.declared.version.Version.the-variants.{Draft}
 use Rattle.cojp_list_read.specs.Laws.{ListLaws}
-use Rattle.cojp_octets_write.specs.Fits.{RequestFits}
-use Rattle.cojp_octets_write.proofs.Limits.{Judged, configuration-fits}
-use Rattle.cojp_octets_write.proofs.Maps.{map-length}
+use Rattle.cojp_write.specs.octets.Fits.{RequestFits}
+use Rattle.cojp_write.proofs.octets.Limits.{Judged, configuration-fits}
+use Rattle.cojp_write.proofs.octets.Maps.{map-length}
 use Rattle.cojp_laws.specs.Largest.{LargestConfiguration, DraftWritten, PayloadsFit}
 use Rattle.cojp_laws.proofs.Fine.{Fine, fine-join, fine-role, fine-octets, fine-address, fine-keys, fine-rate, jrc-in-range, groupsRoom}
 use Rattle.cojp_laws.proofs.FineLists.{strings-fit, some-fit, fine-list}

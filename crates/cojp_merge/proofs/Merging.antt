@@ -22,7 +22,7 @@ use Rattle.cojp.specs.declared.octets.OctetsParameter.{OctetsParameter}
 use Rattle.cojp.specs.declared.disposition.Disposition.{Disposition}
 use Rattle.cojp.specs.declared.disposition.Disposition.the-variants.{Absent, Taken, Discarded}
 use Rattle.cojp.specs.declared.version.Version.the-variants.{Draft}
-use Rattle.cojp_octets_write.proofs.Limits.{configuration-fits}
+use Rattle.cojp_write.proofs.octets.Limits.{configuration-fits}
 use Rattle.lemmas.specs.logic.Tests.{both-left, both-right}
 use Rattle.cojp_merge.specs.Laws.{Associative, NeutralFirst, NeutralSecond, StaysInRange, RefusedEmpty}
 use Rattle.cojp_merge.specs.Merge.{merged, mergeAnswer, outsideLimits}

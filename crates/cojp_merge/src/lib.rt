@@ -12,7 +12,7 @@ use cojp::empty_configuration;
 use cojp::no_error_reports;
 use cojp::no_list;
 use cojp::no_rate;
-use cojp_range::configuration_in_range;
+use cojp_write::range::configuration_in_range;
 use keys::later_keys;
 use octets::later_octets;
 use refusal::Refusal;

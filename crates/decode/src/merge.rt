@@ -52,7 +52,7 @@ fn put_merged(
         return tool_notation::put_refusal(out, refusal, buffer);
     }
     let mut dst = [0u8; 256];
-    let written = cojp_configuration_write::write_configuration(&mut dst, merged.configuration);
+    let written = cojp_write::configuration::write_configuration(&mut dst, merged.configuration);
     match written {
         WriteResult::Refused(refusal) => tool_notation::put_refusal(out, refusal, buffer),
         WriteResult::Length(len) => {

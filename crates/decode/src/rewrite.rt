@@ -31,7 +31,7 @@ fn rewrite_request(version: Version, strict: bool, payload: &[u8], dst: &mut [u8
     let verdict = read.verdict;
     match verdict {
         Verdict::Refused(refusal) => WriteResult::Refused(refusal),
-        Verdict::Accepted => cojp_request_write::write_request_as(dst, read.request, version),
+        Verdict::Accepted => cojp_write::request::write_request_as(dst, read.request, version),
     }
 }
 
@@ -46,7 +46,7 @@ fn rewrite_configuration(
     match verdict {
         Verdict::Refused(refusal) => WriteResult::Refused(refusal),
         Verdict::Accepted => {
-            cojp_configuration_write::write_configuration_as(dst, read.configuration, version)
+            cojp_write::configuration::write_configuration_as(dst, read.configuration, version)
         }
     }
 }

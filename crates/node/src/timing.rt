@@ -4,7 +4,7 @@ use cbor::WriteResult;
 use cojp::JoinRequest;
 use cojp::no_error_reports;
 use cojp_list_read::unsupported_of;
-use cojp_request_write::write_request_as;
+use cojp_write::request::write_request_as;
 use node_attempt::Attempt;
 use node_attempt::Due;
 use node_attempt::attempt::waiting_from;

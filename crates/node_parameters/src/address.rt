@@ -4,7 +4,7 @@ use cojp::Disposition;
 use cojp::ShortAddress;
 use cojp::Version;
 use cojp::no_address;
-use cojp_range::is_taken;
+use cojp_write::range::is_taken;
 use short_address::is_address;
 ghost use mathlib.Core.Path.{_≡_};
 ghost use Prim.Native.Nat.{_-_};

@@ -4,7 +4,7 @@ use cojp::ItemList;
 use cojp::ListParameter;
 use cojp::no_list;
 use cojp_list_read::is_blacklist;
-use cojp_range::is_taken;
+use cojp_write::range::is_taken;
 ghost use mathlib.Core.Path.{_≡_};
 ghost use Rattle.node_parameters.specs.Blacklist.{absentList, validList, listAfter};
 

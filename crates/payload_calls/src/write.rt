@@ -2,8 +2,8 @@
 use crate::asked::is_version;
 use crate::asked::version_of;
 use crate::store::store_length;
-use cojp_configuration_write::write_configuration_as;
-use cojp_request_write::write_request_as;
+use cojp_write::configuration::write_configuration_as;
+use cojp_write::request::write_request_as;
 use image::RANGE;
 use object_image::configuration_in;
 use object_image::is_configuration;

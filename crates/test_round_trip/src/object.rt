@@ -60,8 +60,8 @@ pub fn rewrite(object: Object, payload: &[u8], dst: &mut [u8]) -> WriteResult {
     let version = object.version;
     if object.is_request {
         let read = cojp_read::request::read_request_as(payload, version);
-        return cojp_request_write::write_request_as(dst, read.request, version);
+        return cojp_write::request::write_request_as(dst, read.request, version);
     }
     let read = cojp_read::configuration::read_configuration_as(payload, version);
-    cojp_configuration_write::write_configuration_as(dst, read.configuration, version)
+    cojp_write::configuration::write_configuration_as(dst, read.configuration, version)
 }

@@ -1,0 +1,4 @@
+pub mod range
+pub mod octets
+pub mod request
+pub mod configuration

@@ -1,0 +1,4 @@
+pub mod configuration;
+pub mod octets;
+pub mod range;
+pub mod request;
