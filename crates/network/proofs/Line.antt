@@ -46,8 +46,8 @@ use Rattle.node.specs.Frames.{sending, send, sendCounter, afterSend, receive, v
 use Rattle.node_laws.specs.Calls.{perform}
 use Rattle.node_laws.specs.Laws.{Takes, Unspent}
 use Rattle.node.specs.declared.node.Node.{Node}
-use Rattle.node_delivery.specs.Delivery.{mayCome}
-use Rattle.node_delivery.specs.declared.Delivery.the-variants.{Update}
+use Rattle.node_attempt.specs.delivery.Delivery.{mayCome}
+use Rattle.node_attempt.specs.declared.delivery.Delivery.the-variants.{Update}
 use Rattle.network.specs.Network.{Network, nodeAt, withNode}
 use Rattle.network.specs.Turn.{judged, turn}
 use Rattle.network.specs.Events.{Event, turning, calling, step, run, Admissible, AdmissibleEvent, Throughout}

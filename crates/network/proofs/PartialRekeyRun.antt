@@ -11,7 +11,7 @@ use Rattle.link_key.specs.set.KeySet.{Apart}
 use Rattle.node.specs.Node.{activeOf, pendingOf}
 use Rattle.node.specs.Range.{Valid}
 use Rattle.node_laws.specs.Laws.{Takes}
-use Rattle.node_delivery.specs.declared.Delivery.the-variants.{Update}
+use Rattle.node_attempt.specs.declared.delivery.Delivery.the-variants.{Update}
 use Rattle.network.specs.Network.{nodeAt}
 use Rattle.network.specs.Events.{turning, run, Admissible, Throughout}
 use Rattle.network.specs.Rounds.{Neighbours, Towards, Hops, here, hop, AllLinked, Round, Rounds, none, more}

@@ -18,7 +18,7 @@ use Rattle.node.specs.Node.{activeOf, pendingOf, keyed}
 use Rattle.node.specs.Frames.{sendCounter}
 use Rattle.node.specs.declared.node.Node.{Node}
 use Rattle.node_laws.specs.Laws.{Takes}
-use Rattle.node_delivery.specs.declared.Delivery.the-variants.{Update}
+use Rattle.node_attempt.specs.declared.delivery.Delivery.the-variants.{Update}
 use Rattle.network.specs.Network.{Network, nodeAt}
 use Rattle.network.specs.Events.{Event, turning, run, Admissible, Throughout}
 use Rattle.network.specs.Rounds.{Links, Neighbours, Towards, Hops, AllLinked, Rounds}

@@ -15,7 +15,7 @@ use Rattle.cojp.specs.declared.version.Version.the-variants.{Published}
 use Rattle.node.specs.Node.{activeOf, pendingOf}
 use Rattle.node_laws.specs.Calls.{delivering}
 use Rattle.node_laws.specs.Laws.{Takes}
-use Rattle.node_delivery.specs.declared.Delivery.the-variants.{JoinAnswer, Update}
+use Rattle.node_attempt.specs.declared.delivery.Delivery.the-variants.{JoinAnswer, Update}
 use Rattle.network.specs.Network.{Network, nodeAt}
 use Rattle.network.specs.Events.{Event, turning, calling, run, Admissible, Throughout}
 use Rattle.network.specs.Rounds.{Neighbours, Hops, AllLinked, Rounds}

@@ -9,7 +9,7 @@ use Rattle.cbor.specs.Encode.{bytesOf}
 use Rattle.cojp.specs.Octets.{padded}
 use Rattle.image.specs.Part.{AllBytes}
 use Rattle.node.specs.Node.{activeOf, pendingOf}
-use Rattle.node_delivery.specs.declared.Delivery.the-variants.{Update}
+use Rattle.node_attempt.specs.declared.delivery.Delivery.the-variants.{Update}
 use Rattle.node_image.specs.Node.{nodeImage}
 use Rattle.node_laws.specs.Calls.{delivering, perform}
 use Rattle.node_laws.specs.Laws.{Takes}

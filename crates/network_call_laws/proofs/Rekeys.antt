@@ -11,7 +11,7 @@ use Rattle.link_key.specs.Laws.{SameKeyLaws}
 use Rattle.link_key.specs.declared.Key.{Key}
 use Rattle.node.specs.Frames.{send, sendCounter}
 use Rattle.node.specs.declared.node.Node.{Node}
-use Rattle.node_delivery.specs.declared.Delivery.{Delivery}
+use Rattle.node_attempt.specs.declared.delivery.Delivery.{Delivery}
 use Rattle.node_image.specs.Answers.{frameKeyImage}
 use Rattle.node_image.specs.Node.{nodeImage}
 use Rattle.node_laws.specs.Calls.{sending, delivering, perform}

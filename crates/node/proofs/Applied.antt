@@ -14,8 +14,8 @@ use Rattle.node_key_sets.specs.declared.sets.InstallDecision.{InstallDecision}
 use Rattle.node_key_sets.specs.declared.sets.InstallDecision.the-variants as place
 use Rattle.node_key_sets.specs.declared.sets.InstallResult.{InstallResult}
 use Rattle.node_key_sets.specs.declared.sets.InstallSlot.{InstallSlot}
-use Rattle.node_delivery.specs.Delivery.{mayCome}
-use Rattle.node_delivery.specs.declared.Delivery.{Delivery}
+use Rattle.node_attempt.specs.delivery.Delivery.{mayCome}
+use Rattle.node_attempt.specs.declared.delivery.Delivery.{Delivery}
 use Rattle.cojp.specs.Configuration.{withKeys, readConfigurationAs}
 use Rattle.cojp.specs.KeySet.{noKeysParameter}
 use Rattle.cojp.specs.Reading.{ifTaken}

@@ -10,8 +10,8 @@ use Rattle.refusal.specs.declared.Verdict.the-variants as verdict
 use Rattle.node_key_sets.specs.Sets.{placed, install}
 use Rattle.node_key_sets.specs.declared.sets.KeySets.{KeySets}
 use Rattle.node_key_sets.specs.declared.sets.InstallResult.{InstallResult}
-use Rattle.node_delivery.specs.Delivery.{attemptAfter, asksIdentifier, mayCome}
-use Rattle.node_delivery.specs.declared.Delivery.{Delivery}
+use Rattle.node_attempt.specs.delivery.Delivery.{attemptAfter, asksIdentifier, mayCome}
+use Rattle.node_attempt.specs.declared.delivery.Delivery.{Delivery}
 use Rattle.cojp.specs.Reading.{ifTaken}
 use Rattle.cojp.specs.Configuration.{withKeys, readConfigurationAs}
 use Rattle.cojp.specs.KeySet.{noKeysParameter}

@@ -7,7 +7,7 @@ use cojp::error_reports_of;
 use cojp::no_key_set;
 use cojp_read::configuration::read_configuration_as;
 use cojp_write::range::is_taken;
-use node_delivery::Delivery;
+use node_attempt::delivery::Delivery;
 use node_key_sets::InstallDecision;
 use node_parameters::Dispositions;
 use node_parameters::dispositions::dispositions_of;
@@ -16,7 +16,7 @@ use refusal::Refusal;
 use refusal::Verdict;
 ghost use mathlib.Core.Path.{_≡_};
 ghost use Rattle.node.specs.Delivery.{undelivered, owesIdentifier, deliver};
-ghost use Rattle.node_delivery.specs.declared.Delivery.the-variants as delivery;
+ghost use Rattle.node_attempt.specs.declared.delivery.Delivery.the-variants as delivery;
 
 // Beside a refusal stand the empty report and the node as it was.
 pub struct DeliveryResult {

@@ -12,6 +12,6 @@ pub use frames::VerifyResult;
 pub use lease::LeaseStatus;
 pub use node::MakeResult;
 pub use node::Node;
-pub use node_delivery::Delivery;
+pub use node_attempt::delivery::Delivery;
 pub use timing::PollResult;
 pub use timing::StartResult;

@@ -1,3 +1,4 @@
 pub mod Attempt
 pub mod Poll
 pub mod Demand1
+pub mod delivery

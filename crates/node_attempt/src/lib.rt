@@ -1,5 +1,6 @@
 // A node's join attempt: phase, clock and timing.
 pub mod attempt;
+pub mod delivery;
 pub mod poll;
 
 pub use attempt::Attempt;

@@ -46,8 +46,8 @@ use Rattle.node_attempt.specs.declared.attempt.Attempt.{Attempt}
 use Rattle.node_attempt.specs.declared.attempt.Phase.the-variants as phase
 use Rattle.node_attempt.specs.declared.poll.Due.{Due}
 use Rattle.node_attempt.specs.declared.poll.Due.the-variants as due
-use Rattle.node_delivery.specs.Delivery.{phaseAfter}
-use Rattle.node_delivery.specs.declared.Delivery.{Delivery}
+use Rattle.node_attempt.specs.delivery.Delivery.{phaseAfter}
+use Rattle.node_attempt.specs.declared.delivery.Delivery.{Delivery}
 use Rattle.node_image.specs.Answers.{dispositionsImage, frameKeyImage}
 use Rattle.node_image.specs.Attempt.{attemptPart}
 use Rattle.node_image.specs.Held.{heldOctetsPart, heldAddressPart, heldListPart, heldRatePart}

@@ -33,7 +33,7 @@ use Rattle.node.specs.declared.timing.StartResult.{StartResult}
 use Rattle.node_attempt.specs.Poll.{dueVerdict}
 use Rattle.node_attempt.specs.declared.poll.Due.{Due}
 use Rattle.node_attempt.specs.declared.poll.Due.the-variants as due
-use Rattle.node_delivery.specs.declared.Delivery.{Delivery}
+use Rattle.node_attempt.specs.declared.delivery.Delivery.{Delivery}
 use Rattle.node_image.specs.Answers.{dispositionsImage, frameKeyImage}
 use Rattle.node_image.specs.Node.{nodeImage}
 use Rattle.node_image.specs.Version.{versionOf}

@@ -10,7 +10,7 @@ ghost use mathlib.Core.Path.{_≡_};
 ghost use lib.ListN.{length, replicate};
 ghost use Rattle.refusal.specs.Verdict.{verdictNumber};
 ghost use Rattle.image.specs.Effects.{onAccept};
-ghost use Rattle.node_delivery.specs.declared.Delivery.the-variants as delivery;
+ghost use Rattle.node_attempt.specs.declared.delivery.Delivery.the-variants as delivery;
 ghost use Rattle.node_image.specs.Answers.{dispositionsImage};
 ghost use Rattle.node_image.specs.Node.{nodeImage};
 ghost use Rattle.node_laws.specs.Calls.{delivering};

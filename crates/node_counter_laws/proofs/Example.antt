@@ -32,7 +32,7 @@ use Rattle.node.specs.Delivery.{fitted, configured, apply, deliverVerdict, deli
 use Rattle.node.specs.Frames as node
 use Rattle.node.specs.Frames.{send, sendCounter, afterSend}
 use Rattle.node_laws.specs.Calls.{perform}
-use Rattle.node_delivery.specs.Delivery.{mayCome}
+use Rattle.node_attempt.specs.delivery.Delivery.{mayCome}
 use Rattle.node_counter_laws.specs.Rising.{after, Answers, Stays, CountersRise}
 use Rattle.node_counter_laws.specs.Example.{cafe, key, joining, joined, sent, kept, left, CountersExample}
 

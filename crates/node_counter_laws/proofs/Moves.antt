@@ -25,7 +25,7 @@ use Rattle.node_key_sets.specs.declared.frames.Change.the-variants as change
 use Rattle.node_key_sets.specs.declared.sets.KeySets.{KeySets}
 use Rattle.node_attempt.specs.Poll as attempt
 use Rattle.node_attempt.specs.declared.poll.Due.the-variants as due
-use Rattle.node_delivery.specs.declared.Delivery.{Delivery}
+use Rattle.node_attempt.specs.declared.delivery.Delivery.{Delivery}
 use Rattle.node.specs.Delivery.{placementOf, fitted, configured, undelivered, owesIdentifier, placedBy, apply, deliverVerdict, applyRead, deliverBy, readFor, deliver}
 use Rattle.node.specs.Frames.{send, reported, reportedBy, verified}
 use Rattle.node.specs.Node.{isBorder}

@@ -39,9 +39,9 @@ use Rattle.node_parameters.specs.Rate.{rateAfter}
 use Rattle.node_parameters.specs.Dispositions.{discarded, dispositionsOf}
 use Rattle.node.specs.Node.{isBorder}
 use Rattle.node.specs.Delivery.{placementOf, fittedBy, fitted, configured, undelivered, owesIdentifier, placedBy, apply}
-use Rattle.node_delivery.specs.Delivery.{asksIdentifier}
+use Rattle.node_attempt.specs.delivery.Delivery.{asksIdentifier}
 use Rattle.node_laws.specs.Same.{octetsHeld, addressHeld, listHeld, rateHeld, SameNode, SameCounters, SameOutcome, AppliesAlike}
-use Rattle.node_delivery.specs.declared.Delivery.{Delivery}
+use Rattle.node_attempt.specs.declared.delivery.Delivery.{Delivery}
 use Rattle.node_parameters.specs.declared.blacklist.HeldList.{HeldList}
 use Rattle.node_parameters.specs.declared.octets.HeldOctets.{HeldOctets}
 use Rattle.node_parameters.specs.declared.rate.HeldRate.{HeldRate}

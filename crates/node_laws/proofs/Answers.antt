@@ -49,8 +49,8 @@ use Rattle.node_attempt.specs.declared.attempt.Phase.the-variants as phase
 use Rattle.node_attempt.specs.declared.poll.Due.{Due}
 use Rattle.node_attempt.specs.declared.poll.Due.the-variants as due
 use Rattle.node_attempt.proofs.Attempts.{count-valid}
-use Rattle.node_delivery.specs.Delivery.{belongs, mayCome}
-use Rattle.node_delivery.specs.declared.Delivery.{Delivery}
+use Rattle.node_attempt.specs.delivery.Delivery.{belongs, mayCome}
+use Rattle.node_attempt.specs.declared.delivery.Delivery.{Delivery}
 use Rattle.node_parameters.specs.Lease.{holdsAt}
 use Rattle.node_parameters.specs.Octets.{validOctets}
 use Rattle.node_parameters.specs.Dispositions.{dispositionsOf}

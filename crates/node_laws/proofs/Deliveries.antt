@@ -45,10 +45,10 @@ use Rattle.node_parameters.specs.Dispositions.{noDispositions, dispositionsOf}
 use Rattle.node.specs.Node.{isBorder, clockOf, validRole}
 use Rattle.node.specs.Range.{versionValid, othersValid, valid, Valid}
 use Rattle.node.specs.Delivery.{placementOf, fitted, configured, undelivered, delivered, owesIdentifier, placedBy, apply, deliverVerdict, applyRead, deliverBy, readFor, deliver}
-use Rattle.node_delivery.specs.Delivery.{attemptAfter, belongs, mayCome}
+use Rattle.node_attempt.specs.delivery.Delivery.{attemptAfter, belongs, mayCome}
 use Rattle.node_laws.specs.Laws.{configurationIn, Takes, Installed}
-use Rattle.node_delivery.specs.declared.Delivery.{Delivery}
-use Rattle.node_delivery.specs.declared.Delivery.the-variants.{JoinAnswer, Update}
+use Rattle.node_attempt.specs.declared.delivery.Delivery.{Delivery}
+use Rattle.node_attempt.specs.declared.delivery.Delivery.the-variants.{JoinAnswer, Update}
 use Rattle.node.specs.declared.delivery.DeliveryResult.{DeliveryResult}
 use Rattle.node_parameters.specs.declared.dispositions.Dispositions.{Dispositions}
 use Rattle.node_parameters.specs.declared.octets.HeldOctets.{HeldOctets}

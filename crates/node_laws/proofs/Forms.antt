@@ -33,7 +33,7 @@ use Rattle.node_parameters.specs.Dispositions.{borderOnly, dispositionsOf}
 use Rattle.node_parameters.specs.declared.blacklist.HeldList.{HeldList}
 use Rattle.node_parameters.specs.declared.octets.HeldOctets.{HeldOctets}
 use Rattle.node_parameters.specs.declared.rate.HeldRate.{HeldRate}
-use Rattle.node_delivery.specs.declared.Delivery.{Delivery}
+use Rattle.node_attempt.specs.declared.delivery.Delivery.{Delivery}
 use Rattle.node.specs.Delivery.{placementOf, fittedBy, fitted, configured}
 use Rattle.node.specs.Node.{isBorder}
 use Rattle.node.specs.Range.{draftValid, publishedValid, versionValid}

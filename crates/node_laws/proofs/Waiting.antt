@@ -22,9 +22,9 @@ use Rattle.node_attempt.specs.Poll as attempt
 use Rattle.node_attempt.specs.declared.attempt.Attempt.{Attempt}
 use Rattle.node_attempt.specs.declared.poll.Due.the-variants as due
 use Rattle.node_attempt.specs.declared.poll.AttemptResult.{AttemptResult}
-use Rattle.node_delivery.specs.Delivery.{attemptAfter, belongs, mayCome}
-use Rattle.node_delivery.specs.declared.Delivery.{Delivery}
-use Rattle.node_delivery.specs.declared.Delivery.the-variants.{JoinAnswer, Update}
+use Rattle.node_attempt.specs.delivery.Delivery.{attemptAfter, belongs, mayCome}
+use Rattle.node_attempt.specs.declared.delivery.Delivery.{Delivery}
+use Rattle.node_attempt.specs.declared.delivery.Delivery.the-variants.{JoinAnswer, Update}
 use Rattle.node_key_sets.specs.declared.sets.KeySets.{KeySets}
 use Rattle.node_parameters.specs.declared.octets.HeldOctets.{HeldOctets}
 use Rattle.node.specs.Node.{made}

@@ -32,8 +32,8 @@ use Rattle.cojp.specs.declared.version.Version.the-variants.{Published}
 use Rattle.node_key_sets.specs.Frames.{heldKey, changeNumber, hasSwitched, hasKept}
 use Rattle.node_attempt.specs.Attempt.{firstTimeout}
 use Rattle.node_attempt.specs.Poll.{dueNumber, notYet, sendsAgain, givesUp}
-use Rattle.node_delivery.specs.Delivery.{belongs}
-use Rattle.node_delivery.specs.declared.Delivery.{Delivery}
+use Rattle.node_attempt.specs.delivery.Delivery.{belongs}
+use Rattle.node_attempt.specs.declared.delivery.Delivery.{Delivery}
 use Rattle.node_parameters.specs.Lease.{holdsAt}
 use Rattle.node_parameters.specs.Octets.{validOctets, identifierIn}
 use Rattle.node_parameters.specs.Dispositions.{dispositionsOf}

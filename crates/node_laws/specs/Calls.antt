@@ -20,7 +20,7 @@ use Rattle.node_parameters.specs.Dispositions.{noDispositions}
 use Rattle.node.specs.Delivery.{deliver}
 use Rattle.node.specs.Lease.{holds, holdingVerdict}
 use Rattle.node.specs.Frames.{send, sendCounter, afterSend, receive, verified}
-use Rattle.node_delivery.specs.declared.Delivery.{Delivery}
+use Rattle.node_attempt.specs.declared.delivery.Delivery.{Delivery}
 use Rattle.node_parameters.specs.declared.dispositions.Dispositions.{Dispositions}
 use Rattle.node.specs.declared.lease.LeaseStatus.{LeaseStatus}
 use Rattle.node.specs.declared.lease.LeaseStatus.the-variants as holding

@@ -30,7 +30,7 @@ use Rattle.node.specs.Delivery.{fitted, readFor, deliver}
 use Rattle.node.specs.Frames.{send, sendCounter, afterSend, receive, verified}
 use Rattle.node_laws.specs.Calls.{NodeCall, perform}
 use Rattle.node_laws.specs.Same.{octetsHeld}
-use Rattle.node_delivery.specs.declared.Delivery.{Delivery}
+use Rattle.node_attempt.specs.declared.delivery.Delivery.{Delivery}
 use Rattle.node.specs.declared.node.Node.{Node}
 
 -- ---- the words of the laws

@@ -7,8 +7,8 @@ use Rattle.refusal.specs.declared.Refusal.{Refusal}
 use Rattle.refusal.specs.declared.Verdict.the-variants.{Accepted, Refused}
 use Rattle.cojp.specs.declared.version.Version.{Version}
 use Rattle.node_attempt.specs.Attempt.{isWaiting}
-use Rattle.node_delivery.specs.declared.Delivery.{Delivery}
-use Rattle.node_delivery.specs.declared.Delivery.the-variants.{JoinAnswer}
+use Rattle.node_attempt.specs.declared.delivery.Delivery.{Delivery}
+use Rattle.node_attempt.specs.declared.delivery.Delivery.the-variants.{JoinAnswer}
 use Rattle.node_parameters.specs.declared.octets.HeldOctets.{HeldOctets}
 use Rattle.node.specs.Node.{made}
 use Rattle.node.specs.Timing.{start, poll}

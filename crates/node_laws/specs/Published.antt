@@ -9,7 +9,7 @@ use Rattle.refusal.specs.declared.Verdict.the-variants.{Accepted}
 use Rattle.link_key.specs.Key.{keyOf}
 use Rattle.cojp.specs.ErrorReports.{errorReportOf, errorReportList}
 use Rattle.cojp.specs.declared.disposition.Disposition.the-variants.{Discarded}
-use Rattle.node_delivery.specs.declared.Delivery.the-variants.{Update}
+use Rattle.node_attempt.specs.declared.delivery.Delivery.the-variants.{Update}
 use Rattle.node.specs.Delivery.{deliver}
 use Rattle.node.specs.Lease.{holds}
 use Rattle.node.specs.Node.{activeOf, pendingOf}

@@ -28,8 +28,8 @@ use Rattle.cojp.specs.declared.rate.RateParameter.{RateParameter}
 use Rattle.cojp.specs.declared.disposition.Disposition.{Disposition}
 use Rattle.cojp.specs.declared.disposition.Disposition.the-variants.{Absent, Taken, Discarded}
 use Rattle.cojp_merge.specs.Merge.{merged}
-use Rattle.node_delivery.specs.Delivery.{attemptAfter}
-use Rattle.node_delivery.specs.declared.Delivery.the-variants.{Update}
+use Rattle.node_attempt.specs.delivery.Delivery.{attemptAfter}
+use Rattle.node_attempt.specs.declared.delivery.Delivery.the-variants.{Update}
 use Rattle.node_key_sets.specs.Sets.{activeIn, twoSets, placed, unplaced, install}
 use Rattle.node_key_sets.specs.declared.sets.KeySets.{KeySets}
 use Rattle.node_key_sets.specs.declared.sets.InstallResult.{InstallResult}

@@ -30,8 +30,8 @@ use Rattle.cojp_merge.specs.Laws.{MergeLaws, TakesEqual}
 use Rattle.cojp_merge.specs.Merge.{merged, mergeAnswer}
 use Rattle.lemmas.specs.logic.Tests.{both-left, both-right}
 use Rattle.node_attempt.specs.Attempt as attempt
-use Rattle.node_delivery.specs.Delivery.{belongs, mayCome}
-use Rattle.node_delivery.specs.declared.Delivery.the-variants.{Update}
+use Rattle.node_attempt.specs.delivery.Delivery.{belongs, mayCome}
+use Rattle.node_attempt.specs.declared.delivery.Delivery.the-variants.{Update}
 use Rattle.node.specs.Delivery.{placementOf, fittedBy, fitted, apply, applyRead, deliver, deliverBy, deliverVerdict, readFor}
 use Rattle.node.specs.Range.{valid}
 use Rattle.node.specs.declared.delivery.DeliveryResult.{DeliveryResult}

@@ -14,8 +14,8 @@ use Rattle.cojp.specs.declared.octets.OctetsParameter.{OctetsParameter}
 use Rattle.cojp.specs.declared.disposition.Disposition.{Disposition}
 use Rattle.cojp.specs.declared.disposition.Disposition.the-variants.{Absent, Taken, Discarded}
 use Rattle.cojp_merge.specs.Laws.{TakesEqual}
-use Rattle.node_delivery.specs.Delivery.{attemptAfter}
-use Rattle.node_delivery.specs.declared.Delivery.the-variants.{Update}
+use Rattle.node_attempt.specs.delivery.Delivery.{attemptAfter}
+use Rattle.node_attempt.specs.declared.delivery.Delivery.the-variants.{Update}
 use Rattle.node_key_sets.specs.Sets.{placed, install}
 use Rattle.node_key_sets.specs.declared.sets.InstallResult.{InstallResult}
 use Rattle.node_parameters.specs.Octets.{octetsAfter}

@@ -14,7 +14,7 @@ use Rattle.cojp.specs.KeySet.{groups, identified, used, valued}
 use Rattle.cojp.specs.Octets.{padded, octetsJudged}
 use Rattle.cojp.specs.Walk.{payloadReadBy}
 use Rattle.node_attempt.specs.Attempt as attempt
-use Rattle.node_delivery.specs.Delivery.{mayCome}
+use Rattle.node_attempt.specs.delivery.Delivery.{mayCome}
 use Rattle.node_key_sets.specs.Sets as sets
 use Rattle.node_key_sets.specs.Sets.{install}
 use Rattle.node_parameters.specs.Dispositions.{dispositionsOf}

@@ -14,7 +14,7 @@ use Rattle.cojp.specs.KeySet.{keySetOf}
 use Rattle.cojp.specs.declared.version.Version.the-variants.{Draft}
 use Rattle.node_attempt.specs.Attempt.{attempt}
 use Rattle.node_attempt.specs.declared.attempt.Phase.the-variants.{Joined}
-use Rattle.node_delivery.specs.declared.Delivery.the-variants.{Update}
+use Rattle.node_attempt.specs.declared.delivery.Delivery.the-variants.{Update}
 use Rattle.link_key_counters.specs.Counters.{withZeroCounters, noCounted}
 use Rattle.node_key_sets.specs.Sets.{twoSets}
 use Rattle.node_parameters.specs.Blacklist.{absentList}

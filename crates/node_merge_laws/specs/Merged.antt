@@ -18,7 +18,7 @@ use Rattle.cojp.specs.declared.configuration.Configuration.{Configuration}
 use Rattle.cojp.specs.declared.version.Version.the-variants.{Draft}
 use Rattle.cojp_merge.specs.Merge.{merged, mergeAnswer}
 use Rattle.link_key_counters.specs.Counters.{withZeroCounters}
-use Rattle.node_delivery.specs.declared.Delivery.the-variants.{Update}
+use Rattle.node_attempt.specs.declared.delivery.Delivery.the-variants.{Update}
 use Rattle.node_key_sets.specs.Sets.{twoSets}
 use Rattle.node.specs.Delivery.{apply, deliver}
 use Rattle.node.specs.Node.{isBorder, keyed}

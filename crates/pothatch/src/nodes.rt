@@ -1,6 +1,6 @@
 // Nodes.
 ghost use Rattle.node_calls.specs.Calls.{Makes, Starts, Does, Changes, Tells, Gives};
-ghost use Rattle.node_delivery.specs.declared.Delivery.the-variants.{JoinAnswer, Update};
+ghost use Rattle.node_attempt.specs.declared.delivery.Delivery.the-variants.{JoinAnswer, Update};
 ghost use Rattle.node_laws.specs.Calls.{polling, delivering, asking, sending, receiving, reporting};
 
 // Makes a node, idle.

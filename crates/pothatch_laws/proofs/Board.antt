@@ -29,8 +29,8 @@ use Rattle.node_attempt.specs.Attempt.{mayStart}
 use Rattle.node_attempt.specs.Poll as poll
 use Rattle.node_parameters.specs.Lease.{holdsAt}
 use Rattle.node_parameters.specs.Dispositions.{dispositionsOf}
-use Rattle.node_delivery.specs.Delivery.{mayCome}
-use Rattle.node_delivery.specs.declared.Delivery.the-variants.{JoinAnswer}
+use Rattle.node_attempt.specs.delivery.Delivery.{mayCome}
+use Rattle.node_attempt.specs.declared.delivery.Delivery.the-variants.{JoinAnswer}
 use Rattle.node.specs.Node.{made}
 use Rattle.node.specs.Range.{versionValid, valid}
 use Rattle.node.specs.Timing as timing

@@ -13,7 +13,7 @@ use Rattle.cojp.specs.declared.version.Version.the-variants.{Draft}
 use Rattle.node.specs.Node.{emptyNode, made}
 use Rattle.node.specs.declared.node.Node.{Node}
 use Rattle.node_call_laws.specs.Fits.{CallsFit}
-use Rattle.node_delivery.specs.declared.Delivery.the-variants.{JoinAnswer, Update}
+use Rattle.node_attempt.specs.declared.delivery.Delivery.the-variants.{JoinAnswer, Update}
 use Rattle.node_image.specs.Node.{nodeImage}
 use Rattle.node_laws.specs.Calls.{starting, polling, delivering, reporting, perform}
 use Rattle.node_parameters.specs.declared.octets.HeldOctets.{HeldOctets}

@@ -3,7 +3,7 @@ use Prim.Native.Nat.{ℕ}
 use mathlib.Core.List.{List, [], _∷_, _++_}
 use mathlib.Core.Path.{_≡_}
 use lib.ListN.{take, drop, replicate}
-use Rattle.node_delivery.specs.declared.Delivery.the-variants.{JoinAnswer}
+use Rattle.node_attempt.specs.declared.delivery.Delivery.the-variants.{JoinAnswer}
 use Rattle.node_laws.specs.Calls.{starting, polling, delivering, asking, sending, receiving, reporting}
 use Rattle.pothatch_laws.specs.Node.{Call, making, calling, NodeOutput, nodeOutput, Did}
 use Rattle.pothatch_laws.specs.Runs.{Runs}

@@ -6,7 +6,7 @@ use lib.ListN.{replicate}
 use Rattle.refusal.specs.declared.Verdict.{Verdict}
 use Rattle.node_attempt.specs.Poll.{dueVerdict}
 use Rattle.node_key_sets.specs.Frames.{changeVerdict, hasSwitched}
-use Rattle.node_delivery.specs.declared.Delivery.the-variants as call
+use Rattle.node_attempt.specs.declared.delivery.Delivery.the-variants as call
 use Rattle.cojp.specs.declared.version.Version.the-variants.{Draft}
 use Rattle.node.specs.Node.{made}
 use Rattle.node.specs.Timing as timing

@@ -17,7 +17,7 @@ use Rattle.cojp_list_read.specs.Listed.{listedIn}
 use Rattle.node_key_sets.specs.Sets as sets
 use Rattle.node_attempt.specs.Attempt as attempt
 use Rattle.node_attempt.specs.Attempt.{mayStart}
-use Rattle.node_delivery.specs.Delivery.{mayCome}
+use Rattle.node_attempt.specs.delivery.Delivery.{mayCome}
 use Rattle.node_parameters.specs.Dispositions.{dispositionsOf}
 use Rattle.node.specs.Delivery.{fitted, configured, apply, deliverVerdict, deliver}
 use Rattle.node.specs.Node.{made}

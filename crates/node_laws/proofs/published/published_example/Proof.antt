@@ -25,7 +25,7 @@ use Rattle.node_key_sets.specs.Sets.{install}
 use Rattle.node_key_sets.specs.Frames.{receivingKey, verifiedIn}
 use Rattle.node_attempt.specs.Attempt as attempt
 use Rattle.node_attempt.specs.Attempt.{mayStart}
-use Rattle.node_delivery.specs.Delivery.{mayCome}
+use Rattle.node_attempt.specs.delivery.Delivery.{mayCome}
 use Rattle.node_parameters.specs.Lease.{holdsAt}
 use Rattle.node_parameters.specs.Dispositions.{dispositionsOf}
 use Rattle.node.specs.Delivery.{fitted, configured, apply, deliverVerdict, deliver}

@@ -5,8 +5,8 @@ use mathlib.Core.Logic.{⊎-elim}
 use borrow.Author.Needs.{needs}
 use Rattle.lemmas.specs.logic.Tests.{and-next, and-stops}
 use Rattle.node.specs.Node.{isBorder}
-use Rattle.node_delivery.specs.Delivery.{asksIdentifier}
-use Rattle.node_delivery.specs.declared.Delivery.{Delivery}
+use Rattle.node_attempt.specs.delivery.Delivery.{asksIdentifier}
+use Rattle.node_attempt.specs.declared.delivery.Delivery.{Delivery}
 use Rattle.node.specs.declared.node.Node.{Node}
 use Rattle.node.proofs.node.Node.owes_identifier.Statement.{statement}
 use Rattle.node.proofs.node.Node.owes_identifier.Tie as tie

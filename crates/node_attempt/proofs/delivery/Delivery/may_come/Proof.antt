@@ -2,9 +2,9 @@
 use borrow.Author.Needs.{needs}
 use borrow.Author.Tests.{le-leb, lt-leb}
 use Rattle.lemmas.specs.logic.Tests.{denied, granted, is-false, is-true}
-use Rattle.node_delivery.specs.Delivery.{mayCome}
-use Rattle.node_delivery.proofs.Delivery.may_come.Statement.{statement}
-use Rattle.node_delivery.proofs.Delivery.may_come.Tie as tie
+use Rattle.node_attempt.specs.delivery.Delivery.{mayCome}
+use Rattle.node_attempt.proofs.delivery.Delivery.may_come.Statement.{statement}
+use Rattle.node_attempt.proofs.delivery.Delivery.may_come.Tie as tie
 
 valid-requires : tie.Need-valid-requires
 valid-requires c κs = search needs

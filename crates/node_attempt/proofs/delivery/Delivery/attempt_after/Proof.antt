@@ -1,7 +1,7 @@
 -- `attempt_after` meets its contract: the phase is the call's, the clock the time.
 use borrow.Author.Needs.{needs}
-use Rattle.node_delivery.proofs.Delivery.attempt_after.Statement.{statement}
-use Rattle.node_delivery.proofs.Delivery.attempt_after.Tie as tie
+use Rattle.node_attempt.proofs.delivery.Delivery.attempt_after.Statement.{statement}
+use Rattle.node_attempt.proofs.delivery.Delivery.attempt_after.Tie as tie
 
 phase-after-requires : tie.Need-phase-after-requires
 phase-after-requires c κs = search needs

@@ -1,14 +1,14 @@
 // Deliveries: a configuration comes in a join answer (join response) or in a parameter update. When one may be handed over, and what it
 // does to the join attempt.
-use node_attempt::Attempt;
-use node_attempt::Phase;
-use node_attempt::attempt::is_joined;
-use node_attempt::attempt::is_waiting;
+use crate::attempt::Attempt;
+use crate::attempt::Phase;
+use crate::attempt::is_joined;
+use crate::attempt::is_waiting;
 use refusal::Refusal;
 use refusal::Verdict;
 ghost use mathlib.Core.Path.{_≡_};
-ghost use Rattle.node_delivery.specs.Demand1.{DeliveryDemand1};
-ghost use Rattle.node_delivery.specs.Delivery.{phaseAfter, attemptAfter, belongs, asksIdentifier, mayCome};
+ghost use Rattle.node_attempt.specs.delivery.Demand1.{DeliveryDemand1};
+ghost use Rattle.node_attempt.specs.delivery.Delivery.{phaseAfter, attemptAfter, belongs, asksIdentifier, mayCome};
 
 // A longer payload is LONG.
 const PAYLOAD_MOST: usize = 256;

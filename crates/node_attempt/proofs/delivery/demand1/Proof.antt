@@ -1,7 +1,7 @@
 -- Demand 1 for deliveries: the first test is whether the attempt is valid.
-use Rattle.node_delivery.specs.Delivery.{mayCome}
-use Rattle.node_delivery.proofs.demand1.Statement.{statement}
-use Rattle.node_delivery.proofs.demand1.Tie as tie
+use Rattle.node_attempt.specs.delivery.Delivery.{mayCome}
+use Rattle.node_attempt.proofs.delivery.demand1.Statement.{statement}
+use Rattle.node_attempt.proofs.delivery.demand1.Tie as tie
 
 returns : tie.Need-returns
 unfolding mayCome

@@ -3,10 +3,10 @@ use Prim.Native.Nat.{ℕ}
 use mathlib.Core.Path.{_≡_}
 use mathlib.Core.Bool.{false}
 use Rattle.refusal.specs.Verdict.{verdictNumber}
 use Rattle.node_attempt.specs.Attempt.{valid}
 use Rattle.node_attempt.specs.declared.attempt.Attempt.{Attempt}
-use Rattle.node_delivery.specs.Delivery.{mayCome}
-use Rattle.node_delivery.specs.declared.Delivery.{Delivery}
+use Rattle.node_attempt.specs.delivery.Delivery.{mayCome}
+use Rattle.node_attempt.specs.declared.delivery.Delivery.{Delivery}
 
 abbrev pub DeliveryDemand1 : Type 0
 DeliveryDemand1 =

@@ -5,12 +5,12 @@ use lib.Dec.{leb}
 use Rattle.refusal.specs.declared.Refusal.the-variants as refusal
 use Rattle.refusal.specs.declared.Verdict.{Verdict}
 use Rattle.refusal.specs.declared.Verdict.the-variants as verdict
 use Rattle.node_attempt.specs.Attempt.{isWaiting, isJoined, attempt, valid}
 use Rattle.node_attempt.specs.declared.attempt.Attempt.{Attempt}
 use Rattle.node_attempt.specs.declared.attempt.Phase.{Phase}
 use Rattle.node_attempt.specs.declared.attempt.Phase.the-variants as phase
-use Rattle.node_delivery.specs.declared.Delivery.{Delivery}
-use Rattle.node_delivery.specs.declared.Delivery.the-variants.{JoinAnswer, Update}
+use Rattle.node_attempt.specs.declared.delivery.Delivery.{Delivery}
+use Rattle.node_attempt.specs.declared.delivery.Delivery.the-variants.{JoinAnswer, Update}
 
 -- the time is the new clock, and an accepted join answer makes the node joined
 abbrev pub phaseAfter : Delivery → Phase → Phase
