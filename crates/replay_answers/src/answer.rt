@@ -7,7 +7,7 @@ use tool_text::output::Buffer;
 use tool_text::output::Output;
 use trace::ReplayResult;
 use trace::ReplayStatistics;
-use trace_walker::replay;
+use trace::walker::replay;
 
 // Replays the trace and writes its answer; one that is too long is not replayed.
 pub fn put_trace(out: Output, trace: &[u8], buffer: &mut Buffer) -> Output {

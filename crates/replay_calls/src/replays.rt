@@ -36,7 +36,7 @@ pub fn replay(trace: &[u8], node: &mut [u8], out: &mut [u8]) -> u32
         clear(node);
         return RANGE;
     }
-    let played = trace_walker::replay(trace);
+    let played = trace::walker::replay(trace);
     let made = played.node;
     let report = played.statistics;
     store_node(played.made, made, node);

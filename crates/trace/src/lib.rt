@@ -3,6 +3,7 @@ mod count;
 mod done;
 pub mod state;
 pub mod walk;
+pub mod walker;
 
 pub use state::Progress;
 pub use state::ReplayResult;

@@ -1,8 +1,8 @@
 -- The invariant: while the walk goes on, what is left to play is the whole; then the last step is. The measure is what is left of the trace.
 use borrow.Author.Needs.{needs}
 use Rattle.trace.proofs.Turns.{Held, left, begins, complete, stopped, again, less, done}
-use Rattle.trace_walker.proofs.walk.Statement.{statement}
-use Rattle.trace_walker.proofs.walk.Tie as tie
+use Rattle.trace.proofs.walker.walk.Statement.{statement}
+use Rattle.trace.proofs.walker.walk.Tie as tie
 
 abbrev Inv-loop : tie.InvT-loop
 Inv-loop trace last₀ going₀ last going = Held going trace last

@@ -34,13 +34,13 @@ use denote.Triple.Spec.{Meets, tripleOf}
 use denote.Triple.Table.{entered}
 use denote.Triple.Walked.{says, Stays, stay-none, walkOf, goes-none, Walks, ends-at, walked, walk-meets}
 use denote.Exit.{yes}
-use Rattle.trace_walker.specs.declared.Walker.{Walker}
-use Rattle.trace_walker.proofs.Walker as T
-use Rattle.trace_walker.proofs.Walker.Laws as T′
-use Rattle.trace_walker.proofs.Walker.moved.Key.{name as #trace-walker·moved}
-use Rattle.trace_walker.proofs.Walker.moved as moved
-use Rattle.trace_walker.proofs.Walker.moved.Statement as stated
-use Rattle.trace_walker.proofs.Walker.moved.Code as code
+use Rattle.trace.specs.declared.walker.Walker.{Walker}
+use Rattle.trace.proofs.walker.Walker as T
+use Rattle.trace.proofs.walker.Walker.Laws as T′
+use Rattle.trace.proofs.walker.Walker.moved.Key.{name as #trace-walker·moved}
+use Rattle.trace.proofs.walker.Walker.moved as moved
+use Rattle.trace.proofs.walker.Walker.moved.Statement as stated
+use Rattle.trace.proofs.walker.Walker.moved.Code as code
 
 -- the struct's type, over the signature's lifetimes
 abbrev B : Lfts 1 → RattleType

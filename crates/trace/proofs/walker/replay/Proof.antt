@@ -2,9 +2,9 @@
 use native.Mathlib.Omega.{arith}
 use mathlib.Core.Path.{_∙_, ap}
 use borrow.Author.Needs.{needs}
 use Rattle.trace.specs.Step.{replayedBy}
-use Rattle.trace_walker.proofs.replay.Statement.{statement}
-use Rattle.trace_walker.proofs.replay.Tie as tie
+use Rattle.trace.proofs.walker.replay.Statement.{statement}
+use Rattle.trace.proofs.walker.replay.Tie as tie
 
 replay-exact-law-requires : tie.Need-replay-exact-law-requires
 replay-exact-law-requires c κs = search needs

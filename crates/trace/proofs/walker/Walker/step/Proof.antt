@@ -40,24 +40,24 @@ use denote.Triple.Table.{entered, cited}
 use denote.Triple.Walked.{says, Stays, stay-dropped, walkOf, goes-dropped, Walks, ends-at, walked, walk-meets}
 use denote.Exit.{yes}
 use denote.Triple.Clauses.{ensured, lasts}
 use Rattle.trace.specs.Step as trace
 use Rattle.trace.specs.declared.state.State.{State}
 use Rattle.trace.specs.declared.state.StepResult.{StepResult}
 use Rattle.trace.proofs.state.State as S
 use Rattle.trace.proofs.state.State.Laws as S′
 use Rattle.trace.proofs.state.StepResult as R
 use Rattle.trace.proofs.state.StepResult.Laws as R′
 use Rattle.trace.proofs.walk.step as callee
 use Rattle.trace.proofs.walk.step.Symbol as callee-def
 use Rattle.trace.proofs.walk.step.Symbol.{name as #trace·step}
 use Rattle.trace.proofs.walk.step.Met as callee-thm
-use Rattle.trace_walker.specs.declared.Walker.{Walker}
-use Rattle.trace_walker.proofs.Walker as T
-use Rattle.trace_walker.proofs.Walker.Laws as T′
-use Rattle.trace_walker.proofs.Walker.step.Key.{name as #trace-walker·step}
-use Rattle.trace_walker.proofs.Walker.step as step
-use Rattle.trace_walker.proofs.Walker.step.Statement as stated
-use Rattle.trace_walker.proofs.Walker.step.Code as code
+use Rattle.trace.specs.declared.walker.Walker.{Walker}
+use Rattle.trace.proofs.walker.Walker as T
+use Rattle.trace.proofs.walker.Walker.Laws as T′
+use Rattle.trace.proofs.walker.Walker.step.Key.{name as #trace-walker·step}
+use Rattle.trace.proofs.walker.Walker.step as step
+use Rattle.trace.proofs.walker.Walker.step.Statement as stated
+use Rattle.trace.proofs.walker.Walker.step.Code as code
 
 -- the walker's type, over the signature's lifetimes
 abbrev B : Lfts 1 → RattleType

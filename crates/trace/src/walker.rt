@@ -1,15 +1,15 @@
 // The walker over a recorded trace: the lent trace and a place in it (document 01's form). The borrow checker covers no function over such a
-// struct, so each is thin and proved by hand; the work is done by `trace::step`, which takes the slice and the place.
-use trace::Progress;
-use trace::ReplayResult;
-use trace::State;
-use trace::StepResult;
-use trace::nothing_yet;
-use trace::reached;
-use trace::step;
+// struct, so each is thin and proved by hand; the work is done by `crate::walk::step`, which takes the slice and the place.
+use crate::state::Progress;
+use crate::state::ReplayResult;
+use crate::state::State;
+use crate::state::StepResult;
+use crate::state::nothing_yet;
+use crate::state::reached;
+use crate::walk::step;
 ghost use mathlib.Core.Path.{_≡_};
 ghost use Rattle.trace.specs.Replay as whole;
 ghost use Rattle.trace.specs.Step as steps;
 
 pub struct Walker<'a> {
     pub trace: &'a [u8],
@@ -71,6 +71,6 @@ fn walk(trace: &[u8]) -> StepResult
 pub fn replay(trace: &[u8]) -> ReplayResult
     ensures { λ r. ⌜ r ≡ whole.replay (now (trace .entry)) ⌝ }
 {
-    trace::replay_exact_law();
+    crate::replay_exact_law();
     walk(trace).replayed()
 }
