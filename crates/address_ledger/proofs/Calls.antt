@@ -18,7 +18,7 @@ use Rattle.address_places.specs.declared.slot.SlotFound.the-variants.{Held, Fre
 use Rattle.address_places.proofs.Scan.{length-places}
 use Rattle.address_places.proofs.Found.{held-is}
 use Rattle.address_places.proofs.Fit.{fit-all, hold-all}
-use Rattle.address_range.specs.Range.{inLimits, judged, counted, Usable}
+use Rattle.address_ledger.specs.range.Range.{inLimits, judged, counted, Usable}
 use Rattle.address_ledger.specs.Ledger.{Outcome, outcome, answered, emptyLedger, ledgerOf, withSummary, fewer, more, openedBy, opened}
 use Rattle.address_ledger.specs.Ledger.{granting, grantedBy, granted, givingBack, givenBackBy, givenBack, freeCount}
 use Rattle.address_ledger.specs.declared.answer.AddressAnswer.the-variants.{Address, Refused}

@@ -12,7 +12,7 @@ use Rattle.address_places.specs.Marks.{summaryOf, refreshed, slotFoundBy}
 use Rattle.address_places.specs.declared.groups.Summary.{Summary}
 use Rattle.address_places.specs.declared.slot.SlotFound.{SlotFound}
 use Rattle.address_places.specs.declared.slot.SlotFound.the-variants.{Held, Free, Nothing}
-use Rattle.address_range.specs.Range.{inLimits, judged, counted}
+use Rattle.address_ledger.specs.range.Range.{inLimits, judged, counted}
 use Rattle.address_ledger.specs.declared.answer.AddressAnswer.{AddressAnswer}
 use Rattle.address_ledger.specs.declared.answer.AddressAnswer.the-variants.{Address, Refused}
 use Rattle.address_ledger.specs.declared.answer.CallResult.{CallResult}

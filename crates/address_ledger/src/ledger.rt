@@ -5,6 +5,9 @@ use crate::answer::FreeAnswer;
 use crate::answer::OpenResult;
 use crate::free::one_less;
 use crate::free::one_more;
+use crate::range::count;
+use crate::range::in_limits;
+use crate::range::judge;
 use address_places::SLOT;
 use address_places::SlotFound;
 use address_places::find_board;
@@ -12,9 +15,6 @@ use address_places::find_slot;
 use address_places::hold_slot;
 use address_places::refresh_group;
 use address_places::summarize;
-use address_range::count;
-use address_range::in_limits;
-use address_range::judge;
 use refusal::Refusal;
 use refusal::Verdict;
 ghost use mathlib.Core.Path.{_≡_};
@@ -22,7 +22,7 @@ ghost use Prim.Native.Nat.{_+_, _<_};
 ghost use lib.ListN.{length};
 ghost use Rattle.address_places.specs.Slot.{slots, slotFound};
 ghost use Rattle.address_places.specs.Marks.{slotFoundBy};
-ghost use Rattle.address_range.specs.Range.{Usable};
+ghost use Rattle.address_ledger.specs.range.Range.{Usable};
 ghost use Rattle.address_ledger.specs.Ledger.{opened, outcome, answered, fewer, more, granted, granting, givenBack, givingBack, freeCount};
 
 // A range of short addresses, the first one and how many there are, how many of them are free, and where. Its memory is lent at each call.

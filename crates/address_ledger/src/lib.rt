@@ -2,6 +2,7 @@
 mod answer;
 mod free;
 mod ledger;
+pub mod range;
 
 pub use answer::AddressAnswer;
 pub use answer::CallResult;

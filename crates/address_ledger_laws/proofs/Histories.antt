@@ -11,7 +11,7 @@ use lib.Seq.{getD-drop}
 use Rattle.refusal.specs.declared.Refusal.the-variants.{Full, Unknown}
 use Rattle.refusal.specs.declared.Verdict.the-variants.{Accepted}
 use Rattle.address_places.specs.Slot.{slotAt, slots, lowest, heldBy, countFree, slotFound, hold, freed}
-use Rattle.address_range.specs.Range.{judged, counted}
+use Rattle.address_ledger.specs.range.Range.{judged, counted}
 use Rattle.address_ledger.specs.Ledger.{Outcome, outcome, withSummary, cut, fewer, more, opened, granting, granted, givingBack, givenBack, freeCount}
 use Rattle.address_ledger.specs.declared.answer.AddressAnswer.{AddressAnswer}
 use Rattle.address_ledger.specs.declared.answer.AddressAnswer.the-variants.{Address, Refused}
@@ -19,7 +19,7 @@ use Rattle.address_ledger.specs.declared.ledger.Ledger.{Ledger}
 use Rattle.address_ledger.specs.declared.answer.FreeAnswer.the-variants as free
 use Rattle.address_places.specs.declared.slot.SlotFound.{SlotFound}
 use Rattle.address_places.specs.declared.slot.SlotFound.the-variants.{Held, Free, Nothing}
-use Rattle.address_range.proofs.Judged.{usable, within-limits}
+use Rattle.address_ledger.proofs.range.Judged.{usable, within-limits}
 use Rattle.address_places.proofs.Scan.{length-places}
 use Rattle.address_places.specs.Marks.{summaryOf}
 use Rattle.address_places.proofs.Found.{held-is, free-is, nothing-is}

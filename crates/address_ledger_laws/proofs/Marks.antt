@@ -16,8 +16,8 @@ use Rattle.address_places.specs.declared.slot.SlotFound.the-variants.{Held, Fre
 use Rattle.address_places.proofs.Scan.{length-places}
 use Rattle.address_places.proofs.Found.{held-within}
 use Rattle.address_places.proofs.Offers.{freeAt, held-told, free-inside-of}
-use Rattle.address_range.specs.Range.{judged, counted, Usable}
-use Rattle.address_range.proofs.Judged.{usable}
+use Rattle.address_ledger.specs.range.Range.{judged, counted, Usable}
+use Rattle.address_ledger.proofs.range.Judged.{usable}
 use Rattle.address_ledger.specs.Ledger.{Outcome, countedOf, placesOf, judgedOf, openedBy, opened, granting, grantedBy, granted, givingBack, givenBackBy, givenBack}
 use Rattle.address_ledger.specs.declared.answer.AddressAnswer.the-variants.{Address, Refused}
 use Rattle.address_ledger.specs.declared.ledger.Ledger.{Ledger}

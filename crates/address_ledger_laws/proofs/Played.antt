@@ -7,7 +7,7 @@ use lib.ListN.{getD}
 use Rattle.address_places.specs.Slot.{slotAt, slots, same, isFree, heldBy, lowest, has, countFree, slotFound, hold, freed}
 use Rattle.address_places.specs.Marks.{marked, withMark, marksOf, refreshed, freeBy, slotFoundBy}
 use Rattle.short_address.specs.Address.{isAddress, bytesOf}
-use Rattle.address_range.specs.Range.{inLimits, judged, counted}
+use Rattle.address_ledger.specs.range.Range.{inLimits, judged, counted}
 use Rattle.address_ledger.specs.Ledger.{openedBy, opened, granting, grantedBy, granted, givingBack, givenBackBy, givenBack, freeCount}
 use Rattle.address_ledger_laws.specs.History.{listed, addressOf, enter, strike, afterAsk, afterGive, step, run, after, wholeBoards}
 use Rattle.address_ledger_laws.specs.Example.{lent, LedgerExample}

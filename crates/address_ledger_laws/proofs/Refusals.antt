@@ -12,7 +12,7 @@ use Rattle.refusal.specs.declared.Verdict.{Verdict}
 use Rattle.refusal.specs.declared.Verdict.the-variants as verdict
 use Rattle.address_places.specs.Slot.{Slot, heldBy, isFree, has, slotFound}
 use Rattle.address_places.specs.Marks.{marked, freeBy, slotFoundBy}
-use Rattle.address_range.specs.Range.{inLimits, judged}
+use Rattle.address_ledger.specs.range.Range.{inLimits, judged}
 use Rattle.address_ledger.specs.Ledger.{Outcome, countedOf, placesOf, judgedOf, emptyLedger, openedBy, opened, granting, grantedBy, granted, givingBack, givenBackBy, givenBack, freeCount}
 use Rattle.address_ledger.specs.Answers.{addressVerdict, addressValue, freeVerdict, freeValue}
 use Rattle.address_ledger.specs.declared.ledger.Ledger.{Ledger}

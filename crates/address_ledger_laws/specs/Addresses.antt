@@ -9,7 +9,7 @@ use lib.ListN.{length}
 use Rattle.refusal.specs.declared.Refusal.the-variants.{Full, Unknown}
 use Rattle.refusal.specs.declared.Verdict.the-variants.{Accepted}
 use Rattle.short_address.specs.Address.{isAddress, bytesOf}
-use Rattle.address_range.specs.Range.{judged, counted}
+use Rattle.address_ledger.specs.range.Range.{judged, counted}
 use Rattle.address_ledger.specs.Ledger.{outcome, opened, granted, givenBack, freeCount}
 use Rattle.address_ledger.specs.declared.answer.AddressAnswer.the-variants.{Address, Refused}
 use Rattle.address_ledger.specs.declared.answer.FreeAnswer.the-variants.{Count}

@@ -8,7 +8,7 @@ use lib.Dec.{eqb, ltb}
 use lib.ListN.{length, getD}
 use Rattle.refusal.specs.declared.Verdict.the-variants.{Accepted}
 use Rattle.address_places.specs.Slot.{same}
-use Rattle.address_range.specs.Range.{judged, counted}
+use Rattle.address_ledger.specs.range.Range.{judged, counted}
 use Rattle.address_ledger.specs.Ledger.{opened, granted, givenBack}
 use Rattle.address_ledger.specs.declared.answer.AddressAnswer.{AddressAnswer}
 use Rattle.address_ledger.specs.declared.answer.AddressAnswer.the-variants.{Address, Refused}

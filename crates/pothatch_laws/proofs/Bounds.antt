@@ -18,7 +18,7 @@ use Rattle.address_places.specs.Marks.{bit, withMark, groupAt, groupOf, marksOf
 use Rattle.address_places.specs.Slot.{Slot, slots, isFree, has, countFree, hold, freed, slotFound}
 use Rattle.address_places.specs.declared.slot.SlotFound.{SlotFound}
 use Rattle.address_places.specs.declared.slot.SlotFound.the-variants.{Held, Free, Nothing}
-use Rattle.address_range.specs.Range.{inLimits, judged, counted}
+use Rattle.address_ledger.specs.range.Range.{inLimits, judged, counted}
 use Rattle.address_ledger.specs.Ledger.{countedOf, placesOf, judgedOf, cut, opened, openedBy, granted, grantedBy, granting, givenBack, givenBackBy, givingBack}
 use Rattle.address_ledger.specs.declared.ledger.Ledger.{Ledger}
 use Rattle.address_ledger_laws.specs.Demand1.{asking, returning, perform}

@@ -3,11 +3,11 @@ use Prim.Native.Nat.{_≤_}
 use mathlib.Core.Path.{sym, _∙_}
 use native.Mathlib.Omega.{arith}
 use borrow.Author.Needs.{needs}
-use Rattle.address_range.specs.Range.{counted}
-use Rattle.address_range.proofs.Judged.{counted-most}
-use Rattle.address_range.proofs.Counted.{ends-here, goes-on}
-use Rattle.address_range.proofs.count_down.Statement.{statement}
-use Rattle.address_range.proofs.count_down.Tie as tie
+use Rattle.address_ledger.specs.range.Range.{counted}
+use Rattle.address_ledger.proofs.range.Judged.{counted-most}
+use Rattle.address_ledger.proofs.range.Counted.{ends-here, goes-on}
+use Rattle.address_ledger.proofs.range.count_down.Statement.{statement}
+use Rattle.address_ledger.proofs.range.count_down.Tie as tie
 
 abbrev Inv-loop : tie.InvT-loop
 Inv-loop first size n₀ n = (n ≤ size) × (counted first size ≤ n)

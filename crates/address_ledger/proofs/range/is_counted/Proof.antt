@@ -2,8 +2,8 @@
 use mathlib.Core.Path.{ap, _∙_}
 use borrow.Author.Needs.{needs}
 use Rattle.short_address.specs.Address.{isAddress}
-use Rattle.address_range.proofs.is_counted.Statement.{statement}
-use Rattle.address_range.proofs.is_counted.Tie as tie
+use Rattle.address_ledger.proofs.range.is_counted.Statement.{statement}
+use Rattle.address_ledger.proofs.range.is_counted.Tie as tie
 
 cast-bytes-of : tie.Need-cast-bytes-of
 cast-bytes-of c = search needs

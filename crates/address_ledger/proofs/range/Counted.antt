@@ -6,7 +6,7 @@ use native.Mathlib.Omega.{arith}
 use borrow.Author.Tests.{ltb-true, ltb-false, lt-ltb, le-ltb}
 use lib.Dec.{ltb}
 use Rattle.short_address.specs.Address.{isAddress, bytesOf, AddressLaws}
-use Rattle.address_range.specs.Range.{counted}
+use Rattle.address_ledger.specs.range.Range.{counted}
 
 module _ (laws : AddressLaws) where
   number-by : (first n : ℕ) (x : Bool) → first + suc n ≤ 0x10000 → ltb first 0xfffe ≡ x

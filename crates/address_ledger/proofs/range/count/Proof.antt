@@ -1,9 +1,9 @@
 -- Within the limits they are counted; outside none is.
 use mathlib.Core.Path.{sym, _∙_}
 use borrow.Author.Needs.{needs}
-use Rattle.address_range.proofs.Judged.{within-end, counted-within, counted-outside}
-use Rattle.address_range.proofs.count.Statement.{statement}
-use Rattle.address_range.proofs.count.Tie as tie
+use Rattle.address_ledger.proofs.range.Judged.{within-end, counted-within, counted-outside}
+use Rattle.address_ledger.proofs.range.count.Statement.{statement}
+use Rattle.address_ledger.proofs.range.count.Tie as tie
 
 in-limits-requires : tie.Need-in-limits-requires
 in-limits-requires c κs = search needs

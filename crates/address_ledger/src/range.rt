@@ -7,7 +7,7 @@ use short_address::is_address;
 ghost use mathlib.Core.Path.{_≡_};
 ghost use Prim.Native.Nat.{_+_, _≤_, _<_};
 ghost use Rattle.short_address.specs.Address.{isAddress, bytesOf};
-ghost use Rattle.address_range.specs.Range.{inLimits, judged, counted, countedIn};
+ghost use Rattle.address_ledger.specs.range.Range.{inLimits, judged, counted, countedIn};
 
 const SIZE_MOST: usize = 4096;
 

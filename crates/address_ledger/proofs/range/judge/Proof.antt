@@ -2,9 +2,9 @@
 use mathlib.Core.Path.{sym, _∙_}
 use native.Mathlib.Omega.{arith}
 use borrow.Author.Needs.{needs}
-use Rattle.address_range.proofs.Judged.{outside, memory-short, accepted, within-size}
-use Rattle.address_range.proofs.judge.Statement.{statement}
-use Rattle.address_range.proofs.judge.Tie as tie
+use Rattle.address_ledger.proofs.range.Judged.{outside, memory-short, accepted, within-size}
+use Rattle.address_ledger.proofs.range.judge.Statement.{statement}
+use Rattle.address_ledger.proofs.range.judge.Tie as tie
 
 in-limits-requires : tie.Need-in-limits-requires
 in-limits-requires c κs = search needs

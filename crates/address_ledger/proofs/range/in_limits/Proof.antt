@@ -1,9 +1,9 @@
 -- Each test that fails is one of the definition's, and all before it passed.
 use native.Mathlib.Omega.{arith}
 use borrow.Author.Needs.{needs}
-use Rattle.address_range.proofs.Judged.{size-none, size-over, end-over, limits-hold}
-use Rattle.address_range.proofs.in_limits.Statement.{statement}
-use Rattle.address_range.proofs.in_limits.Tie as tie
+use Rattle.address_ledger.proofs.range.Judged.{size-none, size-over, end-over, limits-hold}
+use Rattle.address_ledger.proofs.range.in_limits.Statement.{statement}
+use Rattle.address_ledger.proofs.range.in_limits.Tie as tie
 
 returns : tie.Need-returns
 returns c =

@@ -8,7 +8,7 @@ use lib.Dec.{leb}
 use Rattle.short_address.specs.Address.{isAddress, bytesOf}
 use Rattle.refusal.specs.declared.Refusal.the-variants.{Room, Range}
 use Rattle.refusal.specs.declared.Verdict.the-variants.{Accepted, Refused}
-use Rattle.address_range.specs.Range.{inLimits, judged, counted, countedIn, Usable}
+use Rattle.address_ledger.specs.range.Range.{inLimits, judged, counted, countedIn, Usable}
 
 -- ---- the limits
 module _ (first size : ℕ) where
