@@ -3,8 +3,8 @@ use Prim.Native.Nat.{_-_, _≤_}
 use mathlib.Core.Path.{_≡_}
 use lib.ListN.{length}
 use borrow.Author.Needs.{needs}
-use Rattle.ledger_bench.proofs.ledger_play.Statement.{statement}
-use Rattle.ledger_bench.proofs.ledger_play.Tie as tie
+use Rattle.bench.proofs.ledger.ledger_play.Statement.{statement}
+use Rattle.bench.proofs.ledger.ledger_play.Tie as tie
 
 abbrev Inv-loop : tie.InvT-loop
 Inv-loop first size memory₀ script played₀ at₀ memory played at = (at ≤ length script) × (length memory ≡ length memory₀)

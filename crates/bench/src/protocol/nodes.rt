@@ -1,6 +1,6 @@
 // Calls of one ordinary node with the keys of a join answer, `n` of each kind. The clock goes on by a millisecond a call.
-use crate::fold::keys_number;
-use crate::fold::wide;
+use crate::protocol::fold::keys_number;
+use crate::protocol::fold::wide;
 use node::Node;
 use node_parameters::octets::absent_octets;
 

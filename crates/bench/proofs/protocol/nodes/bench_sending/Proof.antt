@@ -1,14 +1,14 @@
 -- No more calls are made than were asked for.
 use Prim.Native.Nat.{_-_, _≤_}
 use borrow.Author.Needs.{needs}
-use Rattle.c_bench.proofs.nodes.bench_receiving.Statement.{statement}
-use Rattle.c_bench.proofs.nodes.bench_receiving.Tie as tie
+use Rattle.bench.proofs.protocol.nodes.bench_sending.Statement.{statement}
+use Rattle.bench.proofs.protocol.nodes.bench_sending.Tie as tie
 
 abbrev Inv-loop : tie.InvT-loop
-Inv-loop dst answer id n node seen₀ i₀ seen i = i ≤ n
+Inv-loop dst answer id n node₀ seen₀ i₀ node seen i = i ≤ n
 
 abbrev μ-loop : tie.MeasureT-loop
-μ-loop dst answer id n node seen₀ i₀ seen i = n - i
+μ-loop dst answer id n node₀ seen₀ i₀ node seen i = n - i
 
 joined-requires : tie.Need-joined-requires Inv-loop μ-loop
 joined-requires c κs = search needs
@@ -16,8 +16,8 @@ joined-requires c κs = search needs
 loop-holds : tie.Need-loop-holds Inv-loop μ-loop
 loop-holds c = search needs
 
-receiving-key-requires : tie.Need-receiving-key-requires Inv-loop μ-loop
-receiving-key-requires c κs = search needs
+sending-key-requires : tie.Need-sending-key-requires Inv-loop μ-loop
+sending-key-requires c κs = search needs
 
 wide-requires : tie.Need-wide-requires Inv-loop μ-loop
 wide-requires c κs = search needs
@@ -37,17 +37,17 @@ same-length c = search needs
 returns : tie.Need-returns Inv-loop μ-loop
 returns c = search needs
 
-pub bench-receiving-spec : {M : Type 1} → statement M
-bench-receiving-spec =
+pub bench-sending-spec : {M : Type 1} → statement M
+bench-sending-spec =
     tie.close
     (tie.spec
     Inv-loop
     μ-loop
     joined-requires
     loop-holds
-    receiving-key-requires
-    wide-requires
     add-i
+    sending-key-requires
+    wide-requires
     loop-less
     loop-again
     same-length

@@ -1,8 +1,8 @@
 -- No more calls are made than were asked for.
 use Prim.Native.Nat.{_-_, _≤_}
 use borrow.Author.Needs.{needs}
-use Rattle.c_bench.proofs.nodes.bench_update.Statement.{statement}
-use Rattle.c_bench.proofs.nodes.bench_update.Tie as tie
+use Rattle.bench.proofs.protocol.nodes.bench_update.Statement.{statement}
+use Rattle.bench.proofs.protocol.nodes.bench_update.Tie as tie
 
 abbrev Inv-loop : tie.InvT-loop
 Inv-loop dst answer update id n node₀ i₀ node i = i ≤ n

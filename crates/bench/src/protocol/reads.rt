@@ -1,8 +1,8 @@
 // Reading.
-use crate::fold::configuration_number;
-use crate::fold::is_accepted;
-use crate::fold::verdict_number;
-use crate::fold::wide;
+use crate::protocol::fold::configuration_number;
+use crate::protocol::fold::is_accepted;
+use crate::protocol::fold::verdict_number;
+use crate::protocol::fold::wide;
 use cojp_read::configuration::read_configuration;
 use cojp_read::request::read_request;
 
