@@ -10,14 +10,14 @@ use lib.Seq.{length-paste}
 use Rattle.refusal.specs.declared.Refusal.{Refusal}
 use Rattle.refusal.specs.declared.Refusal.the-variants.{Range, Full, Unknown}
 use Rattle.refusal.specs.declared.Verdict.the-variants as verdict
-use Rattle.address_places.specs.Slot.{slots, fit, heldBy, lowest, has, slotFound, hold, holdWithin, freed}
-use Rattle.address_places.specs.Marks.{summaryOf, refreshed, slotFoundBy}
-use Rattle.address_places.specs.declared.groups.Summary.{Summary}
-use Rattle.address_places.specs.declared.slot.SlotFound.{SlotFound}
-use Rattle.address_places.specs.declared.slot.SlotFound.the-variants.{Held, Free, Nothing}
-use Rattle.address_places.proofs.Scan.{length-places}
-use Rattle.address_places.proofs.Found.{held-is}
-use Rattle.address_places.proofs.Fit.{fit-all, hold-all}
+use Rattle.address_slots.specs.Slot.{slots, fit, heldBy, lowest, has, slotFound, hold, holdWithin, freed}
+use Rattle.address_slots.specs.Marks.{summaryOf, refreshed, slotFoundBy}
+use Rattle.address_slots.specs.declared.groups.Summary.{Summary}
+use Rattle.address_slots.specs.declared.slot.SlotFound.{SlotFound}
+use Rattle.address_slots.specs.declared.slot.SlotFound.the-variants.{Held, Free, Nothing}
+use Rattle.address_slots.proofs.Scan.{length-places}
+use Rattle.address_slots.proofs.Found.{held-is}
+use Rattle.address_slots.proofs.Fit.{fit-all, hold-all}
 use Rattle.address_ledger.specs.range.Range.{inLimits, judged, counted, Usable}
 use Rattle.address_ledger.specs.Ledger.{Outcome, outcome, answered, emptyLedger, ledgerOf, withSummary, fewer, more, openedBy, opened}
 use Rattle.address_ledger.specs.Ledger.{granting, grantedBy, granted, givingBack, givenBackBy, givenBack, freeCount}

@@ -7,11 +7,11 @@ use lib.ListN.{length}
 use Rattle.refusal.specs.declared.Refusal.the-variants.{Range, Full, Unknown}
 use Rattle.refusal.specs.declared.Verdict.{Verdict}
 use Rattle.refusal.specs.declared.Verdict.the-variants as verdict
-use Rattle.address_places.specs.Slot.{Slot, slots, hold, freed, slotFound}
-use Rattle.address_places.specs.Marks.{summaryOf, refreshed, slotFoundBy}
-use Rattle.address_places.specs.declared.groups.Summary.{Summary}
-use Rattle.address_places.specs.declared.slot.SlotFound.{SlotFound}
-use Rattle.address_places.specs.declared.slot.SlotFound.the-variants.{Held, Free, Nothing}
+use Rattle.address_slots.specs.Slot.{Slot, slots, hold, freed, slotFound}
+use Rattle.address_slots.specs.Marks.{summaryOf, refreshed, slotFoundBy}
+use Rattle.address_slots.specs.declared.groups.Summary.{Summary}
+use Rattle.address_slots.specs.declared.slot.SlotFound.{SlotFound}
+use Rattle.address_slots.specs.declared.slot.SlotFound.the-variants.{Held, Free, Nothing}
 use Rattle.address_ledger.specs.range.Range.{inLimits, judged, counted}
 use Rattle.address_ledger.specs.declared.answer.AddressAnswer.{AddressAnswer}
 use Rattle.address_ledger.specs.declared.answer.AddressAnswer.the-variants.{Address, Refused}

@@ -1,5 +1,5 @@
 // The range of an address ledger: its limits, the memory that it needs, and how many of its addresses count.
-use address_places::SLOT;
+use address_slots::SLOT;
 use refusal::Refusal;
 use refusal::Verdict;
 use short_address::bytes_of;

@@ -8,15 +8,15 @@ use borrow.Author.Tests.{ltb-true, ltb-false}
 use lib.Dec.{ltb}
 use lib.ListN.{length, drop, set}
 use Rattle.refusal.specs.declared.Refusal.{Refusal}
-use Rattle.address_places.specs.Slot.{slots, lowest, heldBy, isFree, slotFound, freed}
+use Rattle.address_slots.specs.Slot.{slots, lowest, heldBy, isFree, slotFound, freed}
 use Rattle.address_ledger.specs.range.Range.{counted}
 use Rattle.address_ledger.specs.Ledger.{granting, granted, givingBack, givenBack}
 use Rattle.address_ledger.specs.declared.answer.AddressAnswer.the-variants.{Address, Refused}
-use Rattle.address_places.specs.declared.slot.SlotFound.{SlotFound}
-use Rattle.address_places.specs.declared.slot.SlotFound.the-variants.{Held, Free, Nothing}
+use Rattle.address_slots.specs.declared.slot.SlotFound.{SlotFound}
+use Rattle.address_slots.specs.declared.slot.SlotFound.the-variants.{Held, Free, Nothing}
 use Rattle.address_ledger.proofs.range.Judged.{usable}
-use Rattle.address_places.proofs.Scan.{length-places}
-use Rattle.address_places.proofs.Found.{held-is, free-is, nothing-is}
+use Rattle.address_slots.proofs.Scan.{length-places}
+use Rattle.address_slots.proofs.Found.{held-is, free-is, nothing-is}
 use Rattle.address_ledger.proofs.Calls.{back-accepted}
 use Rattle.address_ledger_laws.specs.History.{gives, listed, taken, Moment, step, after}
 use Rattle.address_ledger_laws.specs.Laws.{FreedAgain}

@@ -8,7 +8,7 @@ use lib.Dec.{eqb}
 use lib.ListN.{length, take, drop, set, length-set, length-drop}
 use lib.Seq.{paste, length-paste, drop-paste, take-take, take-add, take-at, drop-at, drop-drop, take-all, length-take-le, take-set-le, drop-set-lt, drop-set-add, getD-set-same, getD-set-other}
 use Rattle.address_ledger_laws.specs.Written.{HoldsNow, FreeNow}
-use Rattle.address_places.specs.Slot.{Slot, slotAt, slots, isFree, hold, freed}
+use Rattle.address_slots.specs.Slot.{Slot, slotAt, slots, isFree, hold, freed}
 
 -- a place is its nine bytes
 place-nine : (m : List ℕ) → slotAt (take 9 m) ≡ slotAt m

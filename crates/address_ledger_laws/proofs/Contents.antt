@@ -10,17 +10,17 @@ use lib.ListN.{length, getD, take, drop, length-drop}
 use lib.Seq.{drop-drop}
 use Rattle.refusal.specs.declared.Refusal.the-variants.{Unknown}
 use Rattle.refusal.specs.declared.Verdict.the-variants.{Accepted}
-use Rattle.address_places.specs.Slot.{Slot, slotAt, slots, same, lowest, has, heldBy, isFree, slotFound}
+use Rattle.address_slots.specs.Slot.{Slot, slotAt, slots, same, lowest, has, heldBy, isFree, slotFound}
 use Rattle.address_ledger.specs.range.Range.{judged, counted}
 use Rattle.address_ledger.specs.Ledger.{outcome, granting, givingBack, givenBack}
 use Rattle.address_ledger.specs.declared.answer.AddressAnswer.the-variants.{Refused}
 use Rattle.address_ledger.specs.declared.ledger.Ledger.{Ledger}
-use Rattle.address_places.specs.declared.slot.SlotFound.{SlotFound}
-use Rattle.address_places.specs.declared.slot.SlotFound.the-variants.{Held, Free, Nothing}
+use Rattle.address_slots.specs.declared.slot.SlotFound.{SlotFound}
+use Rattle.address_slots.specs.declared.slot.SlotFound.the-variants.{Held, Free, Nothing}
 use Rattle.address_ledger.proofs.range.Judged.{usable}
-use Rattle.address_places.proofs.Scan.{length-places, mark-here, held-not, held-same}
-use Rattle.address_places.proofs.Found.{held-is}
-use Rattle.address_places.proofs.Passing.{sought-held}
+use Rattle.address_slots.proofs.Scan.{length-places, mark-here, held-not, held-same}
+use Rattle.address_slots.proofs.Found.{held-is}
+use Rattle.address_slots.proofs.Passing.{sought-held}
 use Rattle.address_ledger.proofs.Calls.{grant-accepted, back-accepted}
 use Rattle.address_ledger_laws.proofs.Marks.{walk-accepted}
 use Rattle.address_ledger_laws.specs.AnyMemory.{HeldAt, FreeAt, LowestAt, NoneAt, AnyMemory}

@@ -10,20 +10,20 @@ use lib.ListN.{length, getD, drop, set}
 use lib.Seq.{getD-drop}
 use Rattle.refusal.specs.declared.Refusal.the-variants.{Full, Unknown}
 use Rattle.refusal.specs.declared.Verdict.the-variants.{Accepted}
-use Rattle.address_places.specs.Slot.{slotAt, slots, lowest, heldBy, countFree, slotFound, hold, freed}
+use Rattle.address_slots.specs.Slot.{slotAt, slots, lowest, heldBy, countFree, slotFound, hold, freed}
 use Rattle.address_ledger.specs.range.Range.{judged, counted}
 use Rattle.address_ledger.specs.Ledger.{Outcome, outcome, withSummary, cut, fewer, more, opened, granting, granted, givingBack, givenBack, freeCount}
 use Rattle.address_ledger.specs.declared.answer.AddressAnswer.{AddressAnswer}
 use Rattle.address_ledger.specs.declared.answer.AddressAnswer.the-variants.{Address, Refused}
 use Rattle.address_ledger.specs.declared.ledger.Ledger.{Ledger}
 use Rattle.address_ledger.specs.declared.answer.FreeAnswer.the-variants as free
-use Rattle.address_places.specs.declared.slot.SlotFound.{SlotFound}
-use Rattle.address_places.specs.declared.slot.SlotFound.the-variants.{Held, Free, Nothing}
+use Rattle.address_slots.specs.declared.slot.SlotFound.{SlotFound}
+use Rattle.address_slots.specs.declared.slot.SlotFound.the-variants.{Held, Free, Nothing}
 use Rattle.address_ledger.proofs.range.Judged.{usable, within-limits}
-use Rattle.address_places.proofs.Scan.{length-places}
-use Rattle.address_places.specs.Marks.{summaryOf}
-use Rattle.address_places.proofs.Found.{held-is, free-is, nothing-is}
-use Rattle.address_places.proofs.Offers.{freeAt, lowest-free}
+use Rattle.address_slots.proofs.Scan.{length-places}
+use Rattle.address_slots.specs.Marks.{summaryOf}
+use Rattle.address_slots.proofs.Found.{held-is, free-is, nothing-is}
+use Rattle.address_slots.proofs.Offers.{freeAt, lowest-free}
 use Rattle.address_ledger.proofs.Calls.{open-accepted, back-accepted, free-within}
 use Rattle.address_ledger_laws.specs.History.{Call, opens, asks, gives, counts, Holding, listed, addressOf, afterAsk, afterGive, Moment, step, run, after, wholeBoards, Begins}
 use Rattle.address_ledger_laws.specs.Laws.{HeldAndFree, OneHolder, SameAgain, GivesBack}

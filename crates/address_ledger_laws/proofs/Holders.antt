@@ -8,7 +8,7 @@ use native.Mathlib.Omega.{arith}
 use borrow.Author.Tests.{lt-ltb, le-ltb, ne-eqb}
 use lib.Dec.{eqb, ltb, leb·suc-suc}
 use lib.ListN.{length, set}
-use Rattle.address_places.specs.Slot.{Slot, same, isFree, heldBy, lowest, countFree}
+use Rattle.address_slots.specs.Slot.{Slot, same, isFree, heldBy, lowest, countFree}
 use Rattle.address_ledger_laws.specs.History.{Holding, listed, taken, addressOf, enter, strike}
 
 abbrev pub holding : List ℕ → ℕ → Holding

@@ -8,18 +8,18 @@ use borrow.Author.Tests.{ltb-false}
 use lib.ListN.{length, drop}
 use Rattle.refusal.specs.declared.Verdict.{Verdict}
 use Rattle.refusal.specs.declared.Verdict.the-variants as verdict
-use Rattle.address_places.specs.Slot.{slots, heldBy, lowest, has, countFree, slotFound}
+use Rattle.address_slots.specs.Slot.{slots, heldBy, lowest, has, countFree, slotFound}
 use Rattle.address_ledger.specs.range.Range.{judged, counted}
 use Rattle.address_ledger.specs.Ledger.{countedOf, placesOf, judgedOf, cut, openedBy, opened, granting, grantedBy, granted, givingBack, givenBackBy, givenBack}
 use Rattle.address_ledger.specs.declared.answer.AddressAnswer.the-variants.{Address}
 use Rattle.address_ledger.specs.declared.ledger.Ledger.{Ledger}
-use Rattle.address_places.specs.declared.slot.SlotFound.{SlotFound}
-use Rattle.address_places.specs.declared.slot.SlotFound.the-variants.{Held, Free, Nothing}
+use Rattle.address_slots.specs.declared.slot.SlotFound.{SlotFound}
+use Rattle.address_slots.specs.declared.slot.SlotFound.the-variants.{Held, Free, Nothing}
 use Rattle.address_ledger.proofs.range.Judged.{usable}
-use Rattle.address_places.proofs.Scan.{length-places}
-use Rattle.address_places.specs.Marks.{slotFoundBy}
-use Rattle.address_places.proofs.Found.{held-is}
-use Rattle.address_places.proofs.Offers.{free-inside, held-told, free-told}
+use Rattle.address_slots.proofs.Scan.{length-places}
+use Rattle.address_slots.specs.Marks.{slotFoundBy}
+use Rattle.address_slots.proofs.Found.{held-is}
+use Rattle.address_slots.proofs.Offers.{free-inside, held-told, free-told}
 use Rattle.address_ledger_laws.specs.Counts.{RightCount, RightStays, withFree, SameBut, AnyCount, Moves}
 use Rattle.address_ledger_laws.proofs.Bytes.{places-hold, places-freed, cleared, cleared-is}
 use Rattle.address_ledger_laws.proofs.Counting.{count-less, count-more}

@@ -8,8 +8,8 @@ use borrow.Author.Tests.{eq-eqb, ne-eqb, lt-ltb, ltb-true, ltb-false}
 use lib.Dec.{eqb, ltb}
 use lib.ListN.{take, drop, set}
 use lib.Seq.{drop-drop, take-set-le, drop-set-lt, drop-set-add}
-use Rattle.address_places.specs.Slot.{Slot, isFree, has}
-use Rattle.address_places.specs.Marks.{bit, marked, withMark, groupAt, marksOf, refreshed}
+use Rattle.address_slots.specs.Slot.{Slot, isFree, has}
+use Rattle.address_slots.specs.Marks.{bit, marked, withMark, groupAt, marksOf, refreshed}
 
 -- ---- one bit and the rest
 pub lowest-bit : (b : Bool) (y : ℕ) → eqb ((bit b + 2 * y) % 2) 1 ≡ b

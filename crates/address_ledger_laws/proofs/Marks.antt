@@ -9,13 +9,13 @@ use borrow.Author.Tests.{lt-ltb, ltb-false}
 use lib.ListN.{length, drop}
 use Rattle.refusal.specs.declared.Verdict.{Verdict}
 use Rattle.refusal.specs.declared.Verdict.the-variants as verdict
-use Rattle.address_places.specs.Slot.{slots, heldBy, isFree, lowest, has, slotFound, hold, freed}
-use Rattle.address_places.specs.Marks.{marked, groupAt, marksOf, refreshed, slotFoundBy}
-use Rattle.address_places.specs.declared.slot.SlotFound.{SlotFound}
-use Rattle.address_places.specs.declared.slot.SlotFound.the-variants.{Held, Free, Nothing}
-use Rattle.address_places.proofs.Scan.{length-places}
-use Rattle.address_places.proofs.Found.{held-within}
-use Rattle.address_places.proofs.Offers.{freeAt, held-told, free-inside-of}
+use Rattle.address_slots.specs.Slot.{slots, heldBy, isFree, lowest, has, slotFound, hold, freed}
+use Rattle.address_slots.specs.Marks.{marked, groupAt, marksOf, refreshed, slotFoundBy}
+use Rattle.address_slots.specs.declared.slot.SlotFound.{SlotFound}
+use Rattle.address_slots.specs.declared.slot.SlotFound.the-variants.{Held, Free, Nothing}
+use Rattle.address_slots.proofs.Scan.{length-places}
+use Rattle.address_slots.proofs.Found.{held-within}
+use Rattle.address_slots.proofs.Offers.{freeAt, held-told, free-inside-of}
 use Rattle.address_ledger.specs.range.Range.{judged, counted, Usable}
 use Rattle.address_ledger.proofs.range.Judged.{usable}
 use Rattle.address_ledger.specs.Ledger.{Outcome, countedOf, placesOf, judgedOf, openedBy, opened, granting, grantedBy, granted, givingBack, givenBackBy, givenBack}

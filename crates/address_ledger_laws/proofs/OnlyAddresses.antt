@@ -12,18 +12,18 @@ use Rattle.refusal.specs.declared.Refusal.the-variants.{Full, Unknown}
 use Rattle.refusal.specs.declared.Verdict.{Verdict}
 use Rattle.refusal.specs.declared.Verdict.the-variants as verdict
 use Rattle.short_address.specs.Address.{isAddress, bytesOf, AddressLaws}
-use Rattle.address_places.specs.Slot.{Slot, slots, lowest, has, countFree, slotFound}
-use Rattle.address_places.specs.Marks.{slotFoundBy}
+use Rattle.address_slots.specs.Slot.{Slot, slots, lowest, has, countFree, slotFound}
+use Rattle.address_slots.specs.Marks.{slotFoundBy}
 use Rattle.address_ledger.specs.range.Range.{judged, counted}
 use Rattle.address_ledger.specs.Ledger.{outcome, countedOf, placesOf, judgedOf, granting, grantedBy, granted, givingBack, givenBackBy, givenBack, freeCount}
 use Rattle.address_ledger.specs.declared.answer.AddressAnswer.the-variants.{Address, Refused}
 use Rattle.address_ledger.specs.declared.ledger.Ledger.{Ledger}
-use Rattle.address_places.specs.declared.slot.SlotFound.{SlotFound}
-use Rattle.address_places.specs.declared.slot.SlotFound.the-variants.{Held, Free, Nothing}
+use Rattle.address_slots.specs.declared.slot.SlotFound.{SlotFound}
+use Rattle.address_slots.specs.declared.slot.SlotFound.the-variants.{Held, Free, Nothing}
 use Rattle.address_ledger.proofs.range.Judged.{end-limit, within-limits}
 use Rattle.address_ledger.proofs.range.Counted.{counted-number, counted-is-address, other-is-none}
-use Rattle.address_places.proofs.Found.{held-within}
-use Rattle.address_places.proofs.Offers.{held-inside, free-inside-of}
+use Rattle.address_slots.proofs.Found.{held-within}
+use Rattle.address_slots.proofs.Offers.{held-inside, free-inside-of}
 use Rattle.address_ledger.specs.declared.answer.FreeAnswer.the-variants.{Count}
 use Rattle.address_ledger.proofs.Calls as calls
 use Rattle.address_ledger_laws.specs.Addresses.{AddressesAlone, TwoAlone}

@@ -4,8 +4,8 @@ use mathlib.Core.Path.{_≡_, refl}
 use native.Mathlib.Omega.{arith}
 use borrow.Author.Tests.{eqb-false}
 use lib.ListN.{getD}
-use Rattle.address_places.specs.Slot.{slotAt, slots, same, isFree, heldBy, lowest, has, countFree, slotFound, hold, freed}
-use Rattle.address_places.specs.Marks.{marked, withMark, marksOf, refreshed, freeBy, slotFoundBy}
+use Rattle.address_slots.specs.Slot.{slotAt, slots, same, isFree, heldBy, lowest, has, countFree, slotFound, hold, freed}
+use Rattle.address_slots.specs.Marks.{marked, withMark, marksOf, refreshed, freeBy, slotFoundBy}
 use Rattle.short_address.specs.Address.{isAddress, bytesOf}
 use Rattle.address_ledger.specs.range.Range.{inLimits, judged, counted}
 use Rattle.address_ledger.specs.Ledger.{openedBy, opened, granting, grantedBy, granted, givingBack, givenBackBy, givenBack, freeCount}

@@ -10,14 +10,14 @@ use Rattle.refusal.specs.Verdict.{verdictNumber}
 use Rattle.refusal.specs.declared.Refusal.{Refusal}
 use Rattle.refusal.specs.declared.Verdict.{Verdict}
 use Rattle.refusal.specs.declared.Verdict.the-variants as verdict
-use Rattle.address_places.specs.Slot.{Slot, heldBy, isFree, has, slotFound}
-use Rattle.address_places.specs.Marks.{marked, freeBy, slotFoundBy}
+use Rattle.address_slots.specs.Slot.{Slot, heldBy, isFree, has, slotFound}
+use Rattle.address_slots.specs.Marks.{marked, freeBy, slotFoundBy}
 use Rattle.address_ledger.specs.range.Range.{inLimits, judged}
 use Rattle.address_ledger.specs.Ledger.{Outcome, countedOf, placesOf, judgedOf, emptyLedger, openedBy, opened, granting, grantedBy, granted, givingBack, givenBackBy, givenBack, freeCount}
 use Rattle.address_ledger.specs.Answers.{addressVerdict, addressValue, freeVerdict, freeValue}
 use Rattle.address_ledger.specs.declared.ledger.Ledger.{Ledger}
-use Rattle.address_places.specs.declared.slot.SlotFound.{SlotFound}
-use Rattle.address_places.specs.declared.slot.SlotFound.the-variants.{Held, Free, Nothing}
+use Rattle.address_slots.specs.declared.slot.SlotFound.{SlotFound}
+use Rattle.address_slots.specs.declared.slot.SlotFound.the-variants.{Held, Free, Nothing}
 use Rattle.address_ledger_laws.specs.Demand1.{LedgerCall, opening, asking, returning, counting, perform, Untouched, offers, refusalNumber, Demand1}
 
 -- ---- a refusal leaves everything

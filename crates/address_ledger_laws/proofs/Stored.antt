@@ -8,12 +8,12 @@ use borrow.Author.Tests.{ltb-false}
 use lib.ListN.{length}
 use Rattle.refusal.specs.declared.Verdict.{Verdict}
 use Rattle.refusal.specs.declared.Verdict.the-variants as verdict
-use Rattle.address_places.specs.Slot.{heldBy, lowest, has, slotFound, freed}
-use Rattle.address_places.specs.Marks.{slotFoundBy}
-use Rattle.address_places.specs.declared.slot.SlotFound.{SlotFound}
-use Rattle.address_places.specs.declared.slot.SlotFound.the-variants.{Held, Free, Nothing}
-use Rattle.address_places.proofs.Found.{held-within}
-use Rattle.address_places.proofs.Offers.{held-told, free-inside-of}
+use Rattle.address_slots.specs.Slot.{heldBy, lowest, has, slotFound, freed}
+use Rattle.address_slots.specs.Marks.{slotFoundBy}
+use Rattle.address_slots.specs.declared.slot.SlotFound.{SlotFound}
+use Rattle.address_slots.specs.declared.slot.SlotFound.the-variants.{Held, Free, Nothing}
+use Rattle.address_slots.proofs.Found.{held-within}
+use Rattle.address_slots.proofs.Offers.{held-told, free-inside-of}
 use Rattle.address_ledger.specs.Ledger.{countedOf, placesOf, judgedOf, granting, grantedBy, granted, givingBack, givenBackBy, givenBack}
 use Rattle.address_ledger.specs.declared.answer.AddressAnswer.the-variants.{Address}
 use Rattle.address_ledger.specs.declared.ledger.Ledger.{Ledger}

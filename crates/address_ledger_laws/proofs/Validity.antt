@@ -9,7 +9,7 @@ use borrow.Author.Tests.{eqb-true}
 use lib.Dec.{eqb}
 use lib.ListN.{getD, drop}
 use lib.Seq.{getD-drop, drop-drop}
-use Rattle.address_places.specs.Slot.{slotAt, slots}
+use Rattle.address_slots.specs.Slot.{slotAt, slots}
 use Rattle.address_ledger_laws.specs.History.{Holding}
 use Rattle.address_ledger_laws.specs.Laws.{Stands}
 use Rattle.address_ledger_laws.proofs.Holders.{holding, heldFrom}

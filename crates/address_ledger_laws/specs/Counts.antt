@@ -5,7 +5,7 @@ use mathlib.Core.Bool.{true, false}
 use mathlib.Core.List.{List}
 use lib.ListN.{length}
 use Rattle.refusal.specs.declared.Verdict.the-variants.{Accepted}
-use Rattle.address_places.specs.Slot.{heldBy, has, countFree}
+use Rattle.address_slots.specs.Slot.{heldBy, has, countFree}
 use Rattle.address_ledger.specs.Ledger.{Outcome, countedOf, placesOf, judgedOf, cut, ledgerOf, opened, granted, givenBack}
 use Rattle.address_ledger.specs.declared.answer.AddressAnswer.the-variants.{Address}
 use Rattle.address_ledger.specs.declared.ledger.Ledger.{Ledger}

@@ -9,8 +9,8 @@ use Rattle.refusal.specs.Verdict.{verdictNumber}
 use Rattle.refusal.specs.declared.Refusal.{Refusal}
 use Rattle.refusal.specs.declared.Verdict.{Verdict}
 use Rattle.refusal.specs.declared.Verdict.the-variants as verdict
-use Rattle.address_places.specs.Slot.{Slot, heldBy, isFree, has}
-use Rattle.address_places.specs.Marks.{marked}
+use Rattle.address_slots.specs.Slot.{Slot, heldBy, isFree, has}
+use Rattle.address_slots.specs.Marks.{marked}
 use Rattle.address_ledger.specs.range.Range.{inLimits}
 use Rattle.address_ledger.specs.Ledger.{placesOf, emptyLedger, opened, granted, givenBack, freeCount}
 use Rattle.address_ledger.specs.Answers.{addressVerdict, addressValue, freeVerdict, freeValue}

@@ -7,7 +7,7 @@ use mathlib.Core.List.{List, [], _∷_}
 use lib.Dec.{eqb, ltb}
 use lib.ListN.{length, getD}
 use Rattle.refusal.specs.declared.Verdict.the-variants.{Accepted}
-use Rattle.address_places.specs.Slot.{same}
+use Rattle.address_slots.specs.Slot.{same}
 use Rattle.address_ledger.specs.range.Range.{judged, counted}
 use Rattle.address_ledger.specs.Ledger.{opened, granted, givenBack}
 use Rattle.address_ledger.specs.declared.answer.AddressAnswer.{AddressAnswer}

@@ -6,7 +6,7 @@ use mathlib.Core.List.{List, List·Memᴰ}
 use lib.ListN.{length, getD, take, drop}
 use Rattle.refusal.specs.declared.Refusal.{Refusal}
 use Rattle.refusal.specs.declared.Refusal.the-variants.{Unknown}
-use Rattle.address_places.specs.Slot.{slots, countFree}
+use Rattle.address_slots.specs.Slot.{slots, countFree}
 use Rattle.address_ledger.specs.range.Range.{counted}
 use Rattle.address_ledger.specs.Ledger.{outcome, granted, givenBack, freeCount}
 use Rattle.address_ledger.specs.declared.answer.AddressAnswer.the-variants.{Address, Refused}

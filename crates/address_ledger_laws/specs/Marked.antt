@@ -8,8 +8,8 @@ use lib.ListN.{length}
 use Rattle.refusal.specs.declared.Refusal.the-variants.{Full}
 use Rattle.refusal.specs.declared.Verdict.{Verdict}
 use Rattle.refusal.specs.declared.Verdict.the-variants as verdict
-use Rattle.address_places.specs.Slot.{Slot, heldBy, isFree, lowest, has, slotFound}
-use Rattle.address_places.specs.Marks.{marked, groupAt, marksOf}
+use Rattle.address_slots.specs.Slot.{Slot, heldBy, isFree, lowest, has, slotFound}
+use Rattle.address_slots.specs.Marks.{marked, groupAt, marksOf}
 use Rattle.address_ledger.specs.Ledger.{Outcome, outcome, countedOf, placesOf, judgedOf, opened, granting, granted, givenBack}
 use Rattle.address_ledger.specs.declared.answer.AddressAnswer.the-variants.{Address, Refused}
 use Rattle.address_ledger.specs.declared.ledger.Ledger.{Ledger}

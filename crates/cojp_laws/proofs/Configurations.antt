@@ -41,7 +41,7 @@ use Rattle.cojp.specs.declared.disposition.Disposition.{Disposition}
 use Rattle.cojp.specs.declared.disposition.Disposition.the-variants.{Absent, Discarded}
 use Rattle.cojp.specs.declared.version.Version.{Version}
 use Rattle.cojp.specs.declared.version.Version.the-variants.{Draft, Published}
-use Rattle.cojp_list_read.specs.Laws.{ListLaws}
+use Rattle.cojp_list.specs.Laws.{ListLaws}
 use Rattle.cojp_write.proofs.octets.Limits.{Judged, configuration-fits}
 use Rattle.cojp_laws.specs.RoundTrip.{ConfigurationBack, ConfigurationRoundTrip}
 use Rattle.cojp_laws.proofs.Forms.{OfForm, of-form, keys-fitting, list-kept, draft-taken, published-taken}

@@ -22,7 +22,7 @@ use Rattle.cojp.specs.declared.list.ItemList.{ItemList}
 use Rattle.cojp.specs.declared.list.ListParameter.{ListParameter}
 use Rattle.cojp.specs.declared.version.Version.{Version}
 use Rattle.cojp.specs.declared.version.Version.the-variants.{Draft, Published}
-use Rattle.cojp_list_read.specs.Laws.{ListWritten}
+use Rattle.cojp_list.specs.Laws.{ListWritten}
 use Rattle.cojp_laws.proofs.Fine.{Fine, FineItems, fine-if, fine-none, fine-array}
 
 -- ---- bytes are bytes in every part

@@ -43,7 +43,7 @@ use Rattle.cojp.specs.declared.disposition.Disposition.{Disposition}
 use Rattle.cojp.specs.declared.disposition.Disposition.the-variants.{Absent, Taken, Discarded}
 use Rattle.cojp.specs.declared.version.Version.{Version}
 use Rattle.cojp.specs.declared.version.Version.the-variants.{Draft, Published}
-use Rattle.cojp_list_read.specs.Laws.{ListRoundTrip}
+use Rattle.cojp_list.specs.Laws.{ListRoundTrip}
 use Rattle.cojp_laws.proofs.Fine.{Fine, octets-few}
 use Rattle.cojp_laws.proofs.Forms.{Fitting}
 

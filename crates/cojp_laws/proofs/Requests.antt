@@ -27,7 +27,7 @@ use Rattle.cojp.specs.declared.request.RequestState.{RequestState}
 use Rattle.cojp.specs.declared.request.JoinRequest.{JoinRequest}
 use Rattle.cojp.specs.declared.version.Version.{Version}
 use Rattle.cojp.specs.declared.version.Version.the-variants.{Draft, Published}
-use Rattle.cojp_list_read.specs.Laws.{ListLaws}
+use Rattle.cojp_list.specs.Laws.{ListLaws}
 use Rattle.cojp_write.proofs.octets.Limits.{request-fits}
 use Rattle.cojp_write.specs.octets.Fits.{RequestFits}
 use Rattle.cojp_laws.specs.RoundTrip.{RequestRoundTrip}

@@ -24,7 +24,7 @@ use Rattle.cojp.specs.declared.configuration.Configuration.{Configuration}
 use Rattle.cojp.specs.declared.request.JoinRequest.{JoinRequest}
 use Rattle.cojp.specs.declared.version.Version.{Version}
 use Rattle.cojp.specs.declared.version.Version.the-variants.{Draft}
-use Rattle.cojp_list_read.specs.Laws.{ListLaws}
+use Rattle.cojp_list.specs.Laws.{ListLaws}
 use Rattle.cojp_write.specs.octets.Fits.{RequestFits}
 use Rattle.cojp_write.proofs.octets.Limits.{Judged, configuration-fits}
 use Rattle.cojp_write.proofs.octets.Maps.{map-length}

@@ -8,7 +8,7 @@ pub fn largest_configuration(c: Configuration)
 {
     cbor::laws();
     cbor::head_laws();
-    cojp_list_read::laws();
+    cojp_list::laws();
     link_key::set::laws();
 }
 
@@ -18,7 +18,7 @@ pub fn draft_written(c: Configuration)
 {
     cbor::laws();
     cbor::head_laws();
-    cojp_list_read::laws();
+    cojp_list::laws();
     link_key::set::laws();
 }
 

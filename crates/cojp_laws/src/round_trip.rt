@@ -9,7 +9,7 @@ pub fn request_round_trip(q: JoinRequest)
 {
     cbor::laws();
     cbor::head_laws();
-    cojp_list_read::laws();
+    cojp_list::laws();
 }
 
 // What is written of a configuration in either form reads back as the same configuration, read strictly or not.
@@ -18,7 +18,7 @@ pub fn configuration_round_trip(c: Configuration)
 {
     cbor::laws();
     cbor::head_laws();
-    cojp_list_read::laws();
+    cojp_list::laws();
     link_key::set::laws();
 }
 

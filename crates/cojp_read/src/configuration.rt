@@ -16,7 +16,7 @@ use cojp::Parameter;
 use cojp::Version;
 use cojp::empty_configuration;
 use cojp::parameter_of;
-use cojp_key_set_read::read_keys;
+use cojp_key_set::read_keys;
 use cojp_map::PayloadResult;
 use cojp_map::item_end;
 use cojp_map::labelled_at;

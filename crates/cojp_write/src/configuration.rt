@@ -123,7 +123,7 @@ fn emit_configuration(dst: &mut [u8], c: Configuration) -> WriteResult
     ensures { λ r. ⌜ Did (fits (encode (map (configurationPairs c)))) (now (dst .entry)) r (now (dst .exit)) ⌝ }
 {
     cbor::head_laws();
-    cojp_list_read::laws();
+    cojp_list::laws();
     let size = configuration_size(c);
     let members = size.members;
     let whole = 1 + size.bytes;

@@ -81,7 +81,7 @@ pub(crate) fn emit_request(dst: &mut [u8], q: JoinRequest, owed: bool) -> WriteR
     ensures { λ r. ⌜ Did (owingPlan owed (fits (encode (map (requestPairs q))))) (now (dst .entry)) r (now (dst .exit)) ⌝ }
 {
     cbor::head_laws();
-    cojp_list_read::laws();
+    cojp_list::laws();
     let size = request_size(q);
     let members = size.members;
     let whole = 1 + size.bytes;

@@ -13,7 +13,7 @@ use Rattle.cbor.specs.declared.write.WriteResult.the-variants as written
 use Rattle.cojp.specs.ErrorReports.{noErrorReports}
 use Rattle.cojp.specs.Writing.{requestPlan}
 use Rattle.cojp.specs.declared.request.JoinRequest.{JoinRequest}
-use Rattle.cojp_list_read.specs.Listed.{listedIn}
+use Rattle.cojp_list.specs.Listed.{listedIn}
 use Rattle.node_attempt.specs.Attempt.{mayStart, waitingFrom}
 use Rattle.node_attempt.specs.Poll as attempt
 use Rattle.node_attempt.specs.declared.poll.Due.{Due}

@@ -3,7 +3,7 @@ use crate::node::Node;
 use cbor::WriteResult;
 use cojp::JoinRequest;
 use cojp::no_error_reports;
-use cojp_list_read::unsupported_of;
+use cojp_list::unsupported_of;
 use cojp_write::request::write_request_as;
 use node_attempt::Attempt;
 use node_attempt::Due;

@@ -67,7 +67,7 @@ use Rattle.node.specs.declared.frames.VerifyResult.{VerifyResult}
 use Rattle.node.specs.declared.frames.SendResult.{SendResult}
 use Rattle.node.specs.declared.lease.LeaseStatus.the-variants as holding
 use Rattle.node.specs.declared.node.Node.{Node}
-use Rattle.cojp_list_read.specs.Laws.{ListLaws}
+use Rattle.cojp_list.specs.Laws.{ListLaws}
 use Rattle.cbor.specs.HeadLaws.{HeadLaws}
 use Rattle.node_laws.specs.Answers.{early, reached, isPolled, isDue, clashes, isMissing, isUncovered, writtenNumber, AnswersSay}
 use Rattle.node_laws.specs.Phases.{waits}

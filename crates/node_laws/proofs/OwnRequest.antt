@@ -32,8 +32,8 @@ use Rattle.cojp.specs.declared.disposition.Disposition.{Disposition}
 use Rattle.cojp.specs.declared.disposition.Disposition.the-variants.{Absent, Taken, Discarded}
 use Rattle.cojp.specs.declared.version.Version.{Version}
 use Rattle.cojp.specs.declared.version.Version.the-variants.{Draft, Published}
-use Rattle.cojp_list_read.specs.Laws.{ListLaws}
-use Rattle.cojp_list_read.specs.Listed.{listing, listedIn}
+use Rattle.cojp_list.specs.Laws.{ListLaws}
+use Rattle.cojp_list.specs.Listed.{listing, listedIn}
 use Rattle.node_parameters.specs.Octets.{validOctets, validJrc, identifierIn}
 use Rattle.node_parameters.specs.declared.octets.HeldOctets.{HeldOctets}
 use Rattle.node.specs.Node.{validRole}

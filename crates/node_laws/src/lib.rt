@@ -50,7 +50,7 @@ pub fn answers_law()
     link_key_counters::laws();
     cojp::reads_in_range_law();
     cbor::head_laws();
-    cojp_list_read::laws();
+    cojp_list::laws();
 }
 
 // When a node waits for its join answer: by an accepted start alone, and until an accepted join answer or giving up.

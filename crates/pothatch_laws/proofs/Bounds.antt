@@ -14,10 +14,10 @@ use Rattle.refusal.specs.Verdict.{verdictNumber}
 use Rattle.refusal.specs.declared.Verdict.{Verdict}
 use Rattle.refusal.specs.declared.Verdict.the-variants as verdict
 use Rattle.short_address.specs.Address.{isAddress, bytesOf}
-use Rattle.address_places.specs.Marks.{bit, withMark, groupAt, groupOf, marksOf, refreshed, slotFoundBy}
-use Rattle.address_places.specs.Slot.{Slot, slots, isFree, has, countFree, hold, freed, slotFound}
-use Rattle.address_places.specs.declared.slot.SlotFound.{SlotFound}
-use Rattle.address_places.specs.declared.slot.SlotFound.the-variants.{Held, Free, Nothing}
+use Rattle.address_slots.specs.Marks.{bit, withMark, groupAt, groupOf, marksOf, refreshed, slotFoundBy}
+use Rattle.address_slots.specs.Slot.{Slot, slots, isFree, has, countFree, hold, freed, slotFound}
+use Rattle.address_slots.specs.declared.slot.SlotFound.{SlotFound}
+use Rattle.address_slots.specs.declared.slot.SlotFound.the-variants.{Held, Free, Nothing}
 use Rattle.address_ledger.specs.range.Range.{inLimits, judged, counted}
 use Rattle.address_ledger.specs.Ledger.{countedOf, placesOf, judgedOf, cut, opened, openedBy, granted, grantedBy, granting, givenBack, givenBackBy, givingBack}
 use Rattle.address_ledger.specs.declared.ledger.Ledger.{Ledger}

@@ -12,7 +12,7 @@ use Rattle.cojp.specs.Lists.{stringsIn}
 use Rattle.cojp.specs.Writing.{join, keysPairs, addressPairs, octetsPairs, listPairs, ratePairs, configurationPairs}
 use Rattle.cojp.specs.declared.configuration.Configuration.{Configuration}
 use Rattle.cojp.specs.declared.octets.OctetsParameter.{OctetsParameter}
-use Rattle.cojp_list_read.specs.Laws.{ListWritten}
+use Rattle.cojp_list.specs.Laws.{ListWritten}
 use Rattle.cojp_write.specs.octets.Fits.{ConfigurationFits}
 use Rattle.cojp_write.specs.octets.Plan.{listBytes}
 use Rattle.cojp_write.specs.octets.Size.{Sizes, PairsSize}

@@ -26,7 +26,7 @@ use Rattle.cojp.specs.declared.list.ItemList.{ItemList}
 use Rattle.cojp.specs.declared.list.ListParameter.{ListParameter}
 use Rattle.cojp.specs.declared.disposition.Disposition.{Disposition}
 use Rattle.cojp.specs.declared.disposition.Disposition.the-variants.{Absent, Taken, Discarded}
-use Rattle.cojp_list_read.specs.Laws.{ListWritten}
+use Rattle.cojp_list.specs.Laws.{ListWritten}
 use Rattle.cojp_write.specs.octets.Plan.{arrayBytes, listBytes, listCount, listFits, arrayPlan, listParameterPlan}
 use Rattle.cojp_write.specs.octets.Size.{Sizes}
 use Rattle.cojp_write.specs.declared.octets.size.Size.{Size}

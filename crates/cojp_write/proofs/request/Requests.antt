@@ -11,7 +11,7 @@ use Rattle.cbor.specs.Item.{Pairs, map, countPairs}
 use Rattle.cojp.specs.Lists.{errorReportsIn, some}
 use Rattle.cojp.specs.Writing.{join, rolePairs, octetsPairs, listPairs, requestPairs}
 use Rattle.cojp.specs.declared.request.JoinRequest.{JoinRequest}
-use Rattle.cojp_list_read.specs.Laws.{ListWritten}
+use Rattle.cojp_list.specs.Laws.{ListWritten}
 use Rattle.cojp_write.specs.octets.Fits.{RequestFits}
 use Rattle.cojp_write.specs.octets.Plan.{listBytes}
 use Rattle.cojp_write.specs.octets.Size.{Sizes, PairsSize}

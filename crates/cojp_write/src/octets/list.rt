@@ -7,7 +7,7 @@ use cbor::write::head_len;
 use cbor::write::write_head;
 use cojp::ItemList;
 use cojp::ListParameter;
-use cojp_list_read::write_list;
+use cojp_list::write_list;
 use refusal::Refusal;
 ghost use mathlib.Core.Path.{_≡_};
 ghost use Prim.Native.Nat.{_≤_};

@@ -35,7 +35,7 @@ use Rattle.cojp_read.proofs.configuration.refused_configuration.Reads a
 use Rattle.cojp_read.proofs.configuration.once.address_once.Reads as address-once-reads
 use Rattle.cojp_read.proofs.configuration.once.allows_additional_info.Reads as is-allowed-reads
 use Rattle.cojp_read.proofs.configuration.once.keys_once.Reads as keys-once-reads
-use Rattle.cojp_key_set_read.proofs.read_keys.Reads as read-keys-reads
+use Rattle.cojp_key_set.proofs.read_keys.Reads as read-keys-reads
 use Rattle.cojp_read.proofs.configuration.published.blacklist_once.Reads as blacklist-once-reads
 use Rattle.cojp_read.proofs.configuration.published.noted_label.Reads as noted-label-reads
 use Rattle.cojp_read.proofs.configuration.published.rate_once.Reads as rate-once-reads

@@ -19,7 +19,7 @@ use Rattle.cojp.specs.Configuration.{configurationTaking}
 use Rattle.cojp.specs.ErrorReports.{validErrorReports, errorReportsValid, added}
 use Rattle.cojp.specs.Reported.{errorReportsOf}
 use Rattle.cojp.specs.Writing.{requestInRange, requestPlan}
-use Rattle.cojp_list_read.specs.Listed.{listedIn}
+use Rattle.cojp_list.specs.Listed.{listedIn}
 use Rattle.node_key_sets.specs.Sets as sets
 use Rattle.node_key_sets.specs.Sets.{install}
 use Rattle.node_key_sets.specs.Frames.{receivingKey, verifiedIn}

@@ -1,7 +1,7 @@
 -- The count is moved, the group of the place is marked anew, and the range stays.
 use borrow.Author.Needs.{needs}
 use lib.ListN.{length}
-use Rattle.address_places.proofs.Fit.{fit-all}
+use Rattle.address_slots.proofs.Fit.{fit-all}
 use Rattle.address_ledger.proofs.Calls.{written}
 use Rattle.address_ledger.proofs.ledger.Ledger.fewer.Statement.{statement}
 use Rattle.address_ledger.proofs.ledger.Ledger.fewer.Tie as tie

@@ -2,8 +2,8 @@
 use mathlib.Core.Path.{sym, ap, _∙_}
 use native.Mathlib.Omega.{arith}
 use borrow.Author.Needs.{needs}
-use Rattle.address_places.proofs.Fit.{hold-all}
-use Rattle.address_places.proofs.Offers.{held-inside, free-inside-of}
+use Rattle.address_slots.proofs.Fit.{hold-all}
+use Rattle.address_slots.proofs.Offers.{held-inside, free-inside-of}
 use Rattle.address_ledger.specs.declared.ledger.Ledger.{Ledger}
 use Rattle.address_ledger.proofs.Calls.{sought-is, still-usable, grant-held, grant-free, grant-nothing}
 use Rattle.address_ledger.proofs.ledger.Ledger.grant_in.Statement.{statement}

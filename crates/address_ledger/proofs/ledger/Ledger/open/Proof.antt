@@ -2,7 +2,7 @@
 use mathlib.Core.Path.{sym, _∙_}
 use borrow.Author.Needs.{needs}
 use lib.ListN.{length}
-use Rattle.address_places.proofs.Fit.{fit-all}
+use Rattle.address_slots.proofs.Fit.{fit-all}
 use Rattle.address_ledger.proofs.range.Judged.{usable, counted-is}
 use Rattle.address_ledger.proofs.Calls.{open-refused, open-accepted}
 use Rattle.address_ledger.proofs.ledger.Ledger.open.Statement.{statement}
