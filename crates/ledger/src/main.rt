@@ -1,12 +1,13 @@
 // The desk tool ledger: one ledger of short addresses over one memory, called by lines of standard input (docs/TOOLS.md).
 mod answer;
+mod commands;
 mod memory;
 mod state;
 
-use ledger_commands::Board;
-use ledger_commands::Bytes;
-use ledger_commands::command_of;
-use ledger_commands::next_line;
+use crate::commands::Board;
+use crate::commands::Bytes;
+use crate::commands::command_of;
+use crate::commands::next_line;
 use memory::Memory;
 use state::LedgerState;
 use state::execute;

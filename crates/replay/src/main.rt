@@ -1,8 +1,10 @@
 // The desk tool replay: plays recorded nights again, from lines of HEX or from files, and writes what the unit did (docs/TOOLS.md).
-use replay_answers::Trace;
-use replay_answers::answer_files;
-use replay_answers::are_named;
-use replay_answers::put_trace;
+mod answer;
+mod files;
+
+use answer::put_trace;
+use files::answer_files;
+use files::are_named;
 use tool_text::hex::Hex;
 use tool_text::hex::Payload;
 use tool_text::line::Form;
@@ -13,6 +15,11 @@ use tool_text::output::Output;
 use tool_text::session::Session;
 use tool_text::word::NONE;
 use tool_text::word::Word;
+
+// A trace has up to 1,048,576 bytes; the array has one byte more, so that a longer trace is detected.
+pub type Trace = [u8; 1048577];
+
+pub const LONGEST: usize = 1048576;
 
 // A command and HEX.
 const FORM: Form = Form {

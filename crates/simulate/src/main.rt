@@ -1,18 +1,20 @@
 // The desk tool simulate: up to 16 nodes, made and called by lines of standard input (docs/TOOLS.md).
+mod answers;
 mod bench;
+mod commands;
 mod nodes;
 mod perform;
 
+use crate::answers::put_answer;
+use crate::answers::reply::lent;
+use crate::answers::reply::marked;
+use crate::answers::reply::reply_node;
+use crate::commands::command::Made;
+use crate::commands::next_command;
 use nodes::Nodes;
 use nodes::execute;
 use nodes::load;
 use nodes::no_nodes;
-use simulate_answers::put_answer;
-use simulate_answers::reply::lent;
-use simulate_answers::reply::marked;
-use simulate_answers::reply::reply_node;
-use simulate_commands::command::Made;
-use simulate_commands::next_command;
 use tool_text::output::Buffer;
 use tool_text::session::Session;
 

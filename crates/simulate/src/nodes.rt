@@ -1,15 +1,15 @@
 // The nodes of a simulation, by number.
+use crate::answers::Reply;
+use crate::commands::Command;
+use crate::commands::Verb;
+use crate::commands::command::byte;
+use crate::commands::command::index;
 use crate::perform::no_node;
 use crate::perform::perform;
 use network::Answer;
 use network_turn::turn;
 use node::Node;
 use node_key_sets::Change;
-use simulate_answers::Reply;
-use simulate_commands::Command;
-use simulate_commands::Verb;
-use simulate_commands::command::byte;
-use simulate_commands::command::index;
 
 // The nodes 0 to 15; one that was not made stands there too, and no command names it.
 pub type Nodes = [Node; 16];

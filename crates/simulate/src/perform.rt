@@ -1,6 +1,14 @@
 // What a command does to one node, and what it is answered.
+use crate::answers::Reply;
+use crate::answers::reply::delivery_reply;
+use crate::answers::reply::start_reply;
 use crate::bench::edited;
 use crate::bench::with_counter;
+use crate::commands::Command;
+use crate::commands::Edit;
+use crate::commands::Verb;
+use crate::commands::command::byte;
+use crate::commands::command::counter;
 use cojp::Octets;
 use cojp::Version;
 use node::DeliveryResult;
@@ -10,14 +18,6 @@ use node::StartResult;
 use node_parameters::HeldOctets;
 use node_parameters::octets::absent_octets;
 use refusal::Verdict;
-use simulate_answers::Reply;
-use simulate_answers::reply::delivery_reply;
-use simulate_answers::reply::start_reply;
-use simulate_commands::Command;
-use simulate_commands::Edit;
-use simulate_commands::Verb;
-use simulate_commands::command::byte;
-use simulate_commands::command::counter;
 use tool_text::line_error::LineError;
 
 // The node as the command left it, and what it is answered.
