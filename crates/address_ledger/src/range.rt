@@ -15,7 +15,7 @@ const SIZE_MOST: usize = 4096;
 const END: usize = 65536;
 
 // Whether the range is in its limits.
-pub fn in_limits(first: usize, size: usize) -> bool
+pub(crate) fn in_limits(first: usize, size: usize) -> bool
     ensures { λ r. ⌜ r ≡ inLimits first size ⌝ }
 {
     if size == 0 {
@@ -34,7 +34,7 @@ pub fn in_limits(first: usize, size: usize) -> bool
 }
 
 // Whether range and memory can be a ledger: RANGE comes first, then ROOM.
-pub fn judge(first: usize, size: usize, len: usize) -> Verdict
+pub(crate) fn judge(first: usize, size: usize, len: usize) -> Verdict
     ensures { λ r. ⌜ r ≡ judged first size len ⌝ }
 {
     if in_limits(first, size) {

@@ -127,7 +127,7 @@ pub fn read_head(s: &[u8], at: usize) -> HeadResult
 }
 
 // The head at a place; in a strict reading a head that is not the shortest is LOOSE.
-pub fn read_head_by(s: &[u8], at: usize, strict: bool) -> HeadResult
+pub(crate) fn read_head_by(s: &[u8], at: usize, strict: bool) -> HeadResult
     ensures { λ r. ⌜ r ≡ headAnswer (length (now (s .entry))) (headBy strict (drop at (now (s .entry)))) ⌝ }
 {
     let h = read_head(s, at);

@@ -9,7 +9,7 @@ pub mod write;
 pub use head::Head;
 pub use head::HeadResult;
 pub use head::read_head;
-pub use head::read_head_by;
+pub(crate) use head::read_head_by;
 pub use item::OpenResult;
 pub use item::SkipResult;
 pub use value::Label;

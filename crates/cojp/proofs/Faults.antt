@@ -18,8 +18,8 @@ use Rattle.cojp.specs.declared.configuration.Configuration.{Configuratio
 use Rattle.cojp.specs.declared.error_report.ErrorReport.{ErrorReport}
 use Rattle.cojp.specs.declared.error_report.ErrorReports.{ErrorReports}
 use Rattle.cojp.specs.declared.reported.Bad.{Bad}
-use Rattle.cojp.specs.declared.version.Version.{Version}
-use Rattle.cojp.specs.declared.version.Version.the-variants.{Draft, Published}
+use Rattle.protocol_version.specs.declared.Version.{Version}
+use Rattle.protocol_version.specs.declared.Version.the-variants.{Draft, Published}
 
 pub record Listed (f : ErrorReports) : Type 0 where
   pub places : length (f .reports) ≡ 5

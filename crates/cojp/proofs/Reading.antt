@@ -30,7 +30,7 @@ use Rattle.cojp.specs.KeySet.{keysIn, keysJudgedAs, keysReadAs, keySetOf
 use Rattle.cojp.specs.ErrorReports.{noErrorReports, isReportable, errorReportsValid}
 use Rattle.cojp.specs.Lists.{stringsIn}
 use Rattle.cojp.specs.Parameter.{parameterOf, laterParameter}
-use Rattle.cojp.specs.Version.{byVersion, allowsAdditionalInfo}
+use Rattle.protocol_version.specs.Version.{byVersion, allowsAdditionalInfo}
 use Rattle.cojp.specs.Walk.{payloadRead}
 use Rattle.cojp.specs.Configuration.{emptyConfiguration, withKeys, withAddress, withJrc, withNetwork, withPrefix, withUnknownCount}
 use Rattle.cojp.specs.Configuration.{labelStatusFor, takingFor, noted, configurationTaking, configurationForm, configurationAnswer}
@@ -46,8 +46,8 @@ use Rattle.cojp.specs.declared.octets.OctetsParameter.{OctetsParameter}
 use Rattle.cojp.specs.declared.parameter.Parameter.{Parameter}
 use Rattle.cojp.specs.declared.parameter.Parameter.the-variants as name
 use Rattle.cojp.specs.declared.disposition.Disposition.the-variants.{Taken, Discarded}
-use Rattle.cojp.specs.declared.version.Version.{Version}
-use Rattle.cojp.specs.declared.version.Version.the-variants.{Draft, Published}
+use Rattle.protocol_version.specs.declared.Version.{Version}
+use Rattle.protocol_version.specs.declared.Version.the-variants.{Draft, Published}
 use Rattle.cojp.specs.declared.walk.LabelStatus.the-variants.{First}
 use Rattle.lemmas.specs.logic.Tests.{both-left, both-right}
 use Rattle.cojp.proofs.Faults.{Listed, none-listed, added-listed, listed-valid}

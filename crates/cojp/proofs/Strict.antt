@@ -28,7 +28,7 @@ use Rattle.cojp.specs.Reading.{Reading, refused, read, bind, mapReading,
 use Rattle.cojp.specs.Request.{emptyRequestState, withRole, withNetwork as withIdentifier, roleJudged, roleConcluded, roleGathered}
 use Rattle.cojp.specs.Request.{requestTaking, requestForm, requestAnswer, owing, settled}
 use Rattle.cojp.specs.Parameter.{parameterOf}
-use Rattle.cojp.specs.Version.{allowsAdditionalInfo}
+use Rattle.protocol_version.specs.Version.{allowsAdditionalInfo}
 use Rattle.cojp.specs.Walk.{Form, knownRead, pairRead, pairsRead, mapRead, scannedRead, payloadRead, payloadReadBy}
 use Rattle.cojp.specs.declared.configuration.Configuration.{Configuration}
 use Rattle.cojp.specs.declared.parameter.Parameter.{Parameter}
@@ -37,8 +37,8 @@ use Rattle.cojp.specs.declared.disposition.Disposition.the-variants.{Tak
 use Rattle.cojp.specs.declared.request.RequestState.{RequestState}
 use Rattle.cojp.specs.declared.request.JoinRequest.{JoinRequest}
 use Rattle.cojp.specs.declared.request.RequestRead.{RequestRead}
-use Rattle.cojp.specs.declared.version.Version.{Version}
-use Rattle.cojp.specs.declared.version.Version.the-variants.{Draft, Published}
+use Rattle.protocol_version.specs.declared.Version.{Version}
+use Rattle.protocol_version.specs.declared.Version.the-variants.{Draft, Published}
 use Rattle.cojp.specs.declared.walk.LabelStatus.{LabelStatus}
 use Rattle.cojp.specs.declared.walk.LabelStatus.the-variants.{Unknown, First, Repeated}
 

@@ -7,7 +7,7 @@ use Rattle.refusal.specs.declared.Verdict.the-variants as verdict
 use Rattle.cbor.specs.Decode.{Outcome, Heading, heading}
 use Rattle.cbor.specs.Strict.{strictHeading}
 use Rattle.cbor.specs.View.{View}
-use Rattle.cojp.specs.Version.{byVersion, allowsAdditionalInfo}
+use Rattle.protocol_version.specs.Version.{byVersion, allowsAdditionalInfo}
 use Rattle.cojp.specs.Reading.{Reading, refused, read, mapReading, byVersionOf}
 use Rattle.cojp.specs.Octets.{noOctetsParameter, octetsRead}
 use Rattle.cojp.specs.Address.{noAddressParameter, addressRead}
@@ -28,8 +28,8 @@ use Rattle.cojp.specs.declared.parameter.Parameter.{Parameter}
 use Rattle.cojp.specs.declared.parameter.Parameter.the-variants as name
 use Rattle.cojp.specs.declared.rate.RateParameter.{RateParameter}
 use Rattle.cojp.specs.declared.disposition.Disposition.the-variants.{Absent, Discarded}
-use Rattle.cojp.specs.declared.version.Version.{Version}
-use Rattle.cojp.specs.declared.version.Version.the-variants.{Draft}
+use Rattle.protocol_version.specs.declared.Version.{Version}
+use Rattle.protocol_version.specs.declared.Version.the-variants.{Draft}
 use Rattle.cojp.specs.declared.walk.LabelStatus.{LabelStatus}
 use Rattle.cojp.specs.declared.walk.LabelStatus.the-variants.{Unknown}
 

@@ -15,7 +15,7 @@ use Rattle.cojp.specs.declared.configuration.ConfigurationRead.{Configur
 use Rattle.cojp.specs.declared.octets.OctetsParameter.{OctetsParameter}
 use Rattle.cojp.specs.declared.disposition.Disposition.the-variants.{Absent, Taken, Discarded}
 use Rattle.cojp.specs.declared.request.RequestRead.{RequestRead}
-use Rattle.cojp.specs.declared.version.Version.the-variants.{Published}
+use Rattle.protocol_version.specs.declared.Version.the-variants.{Published}
 
 -- a payload and what it must be read as
 pub data Example : Type 0 where

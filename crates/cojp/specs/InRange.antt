@@ -9,7 +9,7 @@ use Rattle.cojp.specs.ErrorReports.{errorReportsValid}
 use Rattle.cojp.specs.Reported.{errorReportsOf}
 use Rattle.cojp.specs.Writing.{keysInRange, addressInRange, jrcInRange, octetsInRange, ofVersion}
 use Rattle.cojp.specs.declared.configuration.Configuration.{Configuration}
-use Rattle.cojp.specs.declared.version.Version.{Version}
+use Rattle.protocol_version.specs.declared.Version.{Version}
 
 pub record InRange (v : Version) (c : Configuration) : Type 0 where
   pub keys : keysInRange (c .keys) ≡ true

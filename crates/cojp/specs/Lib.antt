@@ -1,4 +1,3 @@
-pub mod Version
 pub mod Reading
 pub mod Octets
 pub mod Address

@@ -2,10 +2,10 @@
 use Prim.Native.Nat.{ℕ}
 use mathlib.Core.Bool.{cond}
 use lib.Dec.{eqb}
-use Rattle.cojp.specs.Version.{byVersion}
+use Rattle.protocol_version.specs.Version.{byVersion}
 use Rattle.cojp.specs.declared.parameter.Parameter.{Parameter}
 use Rattle.cojp.specs.declared.parameter.Parameter.the-variants.{Keys, Address, Jrc, Network, Prefix, Blacklist, Rate, Unknown}
-use Rattle.cojp.specs.declared.version.Version.{Version}
+use Rattle.protocol_version.specs.declared.Version.{Version}
 
 -- the labels after 4: 5 network identifier and 6 prefix in the draft, 6 blacklist and 7 join rate in the published form
 unfoldable pub laterParameter : Version → ℕ → Parameter

@@ -25,7 +25,7 @@ use Rattle.cojp.specs.declared.list.ListParameter.{ListParameter}
 use Rattle.cojp.specs.declared.octets.OctetsParameter.{OctetsParameter}
 use Rattle.cojp.specs.declared.disposition.Disposition.the-variants.{Absent, Taken, Discarded}
 use Rattle.cojp.specs.declared.request.RequestRead.{RequestRead}
-use Rattle.cojp.specs.declared.version.Version.the-variants.{Published}
+use Rattle.protocol_version.specs.declared.Version.the-variants.{Published}
 
 -- ---- what is expected
 -- one report, and two

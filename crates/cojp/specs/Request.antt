@@ -14,7 +14,7 @@ use Rattle.cojp.specs.ErrorReports.{noErrorReports, added}
 use Rattle.cojp.specs.Lists.{noListParameter, unsupportedTaken}
 use Rattle.cojp.specs.Reading.{Reading, refused, read, bind, mapReading, Judgement, broken, unfit, good, concluded, byVersionOf, ifTaken}
 use Rattle.cojp.specs.Octets.{noOctetsParameter, octetsRead}
-use Rattle.cojp.specs.Version.{byVersion}
+use Rattle.protocol_version.specs.Version.{byVersion}
 use Rattle.cojp.specs.Walk.{Form, labelStatusOf, payloadReadBy}
 use Rattle.cojp.specs.declared.error_report.ErrorReports.{ErrorReports}
 use Rattle.cojp.specs.declared.list.ListParameter.{ListParameter}
@@ -24,8 +24,8 @@ use Rattle.cojp.specs.declared.disposition.Disposition.the-variants.{Abs
 use Rattle.cojp.specs.declared.request.RequestState.{RequestState}
 use Rattle.cojp.specs.declared.request.JoinRequest.{JoinRequest}
 use Rattle.cojp.specs.declared.request.RequestRead.{RequestRead}
-use Rattle.cojp.specs.declared.version.Version.{Version}
-use Rattle.cojp.specs.declared.version.Version.the-variants.{Draft, Published}
+use Rattle.protocol_version.specs.declared.Version.{Version}
+use Rattle.protocol_version.specs.declared.Version.the-variants.{Draft, Published}
 use Rattle.cojp.specs.declared.walk.LabelStatus.{LabelStatus}
 use Rattle.cojp.specs.declared.walk.LabelStatus.the-variants.{Unknown, First, Repeated}
 

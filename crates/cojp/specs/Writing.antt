@@ -21,7 +21,7 @@ use Rattle.cojp.specs.Lists.{Picked, stringsIn, errorReportsIn, some, it
 use Rattle.cojp.specs.Octets.{bytesIn}
 use Rattle.short_address.specs.Address.{isAddress}
 use Rattle.cojp.specs.Request.{owing}
-use Rattle.cojp.specs.Version.{byVersion}
+use Rattle.protocol_version.specs.Version.{byVersion}
 use Rattle.cojp.specs.declared.address.AddressParameter.{AddressParameter}
 use Rattle.cojp.specs.declared.configuration.Configuration.{Configuration}
 use Rattle.cojp.specs.declared.key_set.KeysParameter.{KeysParameter}
@@ -30,7 +30,7 @@ use Rattle.cojp.specs.declared.octets.OctetsParameter.{OctetsParameter}
 use Rattle.cojp.specs.declared.rate.RateParameter.{RateParameter}
 use Rattle.cojp.specs.declared.disposition.Disposition.{Disposition}
 use Rattle.cojp.specs.declared.request.JoinRequest.{JoinRequest}
-use Rattle.cojp.specs.declared.version.Version.{Version}
+use Rattle.protocol_version.specs.declared.Version.{Version}
 
 -- one after the other
 abbrev pub join : Pairs → Pairs → Pairs

@@ -13,7 +13,6 @@ pub mod parameter;
 pub mod rate;
 pub mod reported;
 pub mod request;
-pub mod version;
 pub mod walk;
 
 pub use address::AddressParameter;
@@ -55,7 +54,6 @@ pub use request::RequestRead;
 pub use request::RequestState;
 pub use request::empty_request;
 pub use request::is_owing;
-pub use version::Version;
 pub use walk::LabelStatus;
 ghost use Rattle.cojp.specs.Bytes.{EndUnique};
 ghost use Rattle.cojp.specs.Examples.{MarkedExamples};

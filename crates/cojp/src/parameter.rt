@@ -1,5 +1,5 @@
 // The parameters of a configuration, and the labels that name them.
-use crate::version::Version;
+use protocol_version::Version;
 ghost use mathlib.Core.Path.{_≡_};
 ghost use Rattle.cojp.specs.Parameter.{parameterOf, laterParameter};
 

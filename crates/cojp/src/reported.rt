@@ -6,7 +6,7 @@ use crate::error_report::ErrorReports;
 use crate::error_report::no_error_reports;
 use crate::parameter::Parameter;
 use crate::parameter::parameter_of;
-use crate::version::Version;
+use protocol_version::Version;
 ghost use mathlib.Core.Path.{_≡_};
 ghost use mathlib.Core.Bool.{cond};
 ghost use Rattle.cojp.specs.ErrorReports.{noErrorReports, errorReportList, added};

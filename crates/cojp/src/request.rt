@@ -6,13 +6,13 @@ use crate::list::ListParameter;
 use crate::list::no_list;
 use crate::octets::OctetsParameter;
 use crate::octets::no_octets;
-use crate::version::Version;
+use protocol_version::Version;
 use refusal::Verdict;
 ghost use mathlib.Core.Path.{_≡_};
 ghost use mathlib.Core.Bool.{true};
 ghost use lib.Dec.{eqb};
 ghost use Rattle.cojp.specs.Request.{emptyRequest, owing};
-ghost use Rattle.cojp.specs.Version.{byVersion};
+ghost use Rattle.protocol_version.specs.Version.{byVersion};
 
 // Role 0 is an ordinary node, 1 the border router (6LBR). In the published form `unsupported` has what a node could not act on, and `faults`
 // what was bad in this request; in the draft both are empty. `unknown` labels were passed over.

@@ -24,7 +24,7 @@ fn no_additional_info() -> AdditionalInfoRead
 }
 
 // The additional information that `len` bytes from a place on are, if they are 4 or 8.
-pub fn additional_info_at(s: &[u8], at: usize, len: usize) -> AdditionalInfoRead
+pub(crate) fn additional_info_at(s: &[u8], at: usize, len: usize) -> AdditionalInfoRead
     requires { ⌜ at + len ≤ length (now s) ⌝ }
     ensures { λ r. ⌜ r ≡ additionalInfoAnswer (additionalInfoIn (take len (drop at (now (s .entry))))) ⌝ }
 {

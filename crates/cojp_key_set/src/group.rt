@@ -26,7 +26,7 @@ pub enum Group {
 
 // The group at the front of a part of the payload, where `left` members are left. `allowsAdditionalInfo` tells whether keys may have additional
 // information.
-pub fn read_group(part: &[u8], left: u64, allowed: bool) -> Group
+pub(crate) fn read_group(part: &[u8], left: u64, allowed: bool) -> Group
     requires { ⌜ 0 < left ⌝ }
     ensures { λ r. ⌜ GroupAt allowed (now (part .entry)) left (groups allowed (membersAt left (now (part .entry)))) r ⌝ }
     ensures rest { λ r. ⌜ GroupRest (now (part .entry)) 0 left r ⌝ }

@@ -25,7 +25,7 @@ use Rattle.cojp.specs.Octets.{bytesIn, noOctetsParameter, octetsRead}
 use Rattle.cojp.specs.Parameter.{parameterOf, laterParameter}
 use Rattle.cojp.specs.Rate.{noRateParameter, rateTaken}
 use Rattle.cojp.specs.Reading.{read, ifTaken}
-use Rattle.cojp.specs.Version.{byVersion, allowsAdditionalInfo}
+use Rattle.protocol_version.specs.Version.{byVersion, allowsAdditionalInfo}
 use Rattle.cojp.specs.Walk.{pairRead, pairsRead}
 use Rattle.cojp.specs.Writing.{join, octetsPairs, addressPairs, groupsItems, keysPairs, listPairs, ratePairs, fits}
 use Rattle.cojp.specs.Writing.{configurationPairs, configurationInRange, configurationPlan}
@@ -39,8 +39,8 @@ use Rattle.cojp.specs.declared.octets.OctetsParameter.{OctetsParameter}
 use Rattle.cojp.specs.declared.rate.RateParameter.{RateParameter}
 use Rattle.cojp.specs.declared.disposition.Disposition.{Disposition}
 use Rattle.cojp.specs.declared.disposition.Disposition.the-variants.{Absent, Discarded}
-use Rattle.cojp.specs.declared.version.Version.{Version}
-use Rattle.cojp.specs.declared.version.Version.the-variants.{Draft, Published}
+use Rattle.protocol_version.specs.declared.Version.{Version}
+use Rattle.protocol_version.specs.declared.Version.the-variants.{Draft, Published}
 use Rattle.cojp_list.specs.Laws.{ListLaws}
 use Rattle.cojp_write.proofs.octets.Limits.{Judged, configuration-fits}
 use Rattle.cojp_laws.specs.RoundTrip.{ConfigurationBack, ConfigurationRoundTrip}

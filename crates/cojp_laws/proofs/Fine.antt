@@ -20,7 +20,7 @@ use Rattle.link_key.specs.declared.additional_info.AdditionalInfo.{AdditionalIn
 use Rattle.link_key.specs.declared.additional_info.AdditionalInfo.the-variants as info
 use Rattle.cojp.specs.Octets.{bytesIn}
 use Rattle.cojp.specs.Reading.{ifTaken}
-use Rattle.cojp.specs.Version.{byVersion}
+use Rattle.protocol_version.specs.Version.{byVersion}
 use Rattle.cojp.specs.Writing.{join, chain, labelled, rolePairs, octetsPairs, leaseItems, addressPairs, usageItems, additionalInfoItems, groupItems, groupsItems, keysPairs, ratePairs}
 use Rattle.cojp.specs.Writing.{octetsInRange, jrcInRange, keysInRange, missing}
 use Rattle.cojp.specs.declared.address.AddressParameter.{AddressParameter}
@@ -29,8 +29,8 @@ use Rattle.cojp.specs.declared.octets.OctetsParameter.{OctetsParameter}
 use Rattle.cojp.specs.declared.rate.RateParameter.{RateParameter}
 use Rattle.cojp.specs.declared.disposition.Disposition.{Disposition}
 use Rattle.cojp.specs.declared.disposition.Disposition.the-variants.{Absent, Taken, Discarded}
-use Rattle.cojp.specs.declared.version.Version.{Version}
-use Rattle.cojp.specs.declared.version.Version.the-variants.{Draft, Published}
+use Rattle.protocol_version.specs.declared.Version.{Version}
+use Rattle.protocol_version.specs.declared.Version.the-variants.{Draft, Published}
 use Rattle.cojp_write.proofs.octets.Joined.{join-count, join-length, chain-count, chain-length, labelled-length, array-length}
 use Rattle.cojp_write.proofs.octets.Strings.{string-length}
 use Rattle.cojp_laws.proofs.Forms.{not-taken, Fitting}

@@ -16,12 +16,12 @@ use Rattle.cbor.specs.Laws.{ItemLaws, Bytes, Suffix}
 use Rattle.cbor.specs.View.{Scalar, number, minus, string, other, ScalarValid, scalarAt, andOn, scalarsAt}
 use Rattle.cojp.specs.Lists.{Picked, nothing, picked, before, scalarItem, itemsOf, stringsIn, errorReportsIn, some, isInteger, bytesIn, listAnswer, fitting, sameAs, kept, pickedItems, itemsIn}
 use Rattle.cojp.specs.Bytes.{membersAt}
-use Rattle.cojp.specs.Version.{byVersion}
+use Rattle.protocol_version.specs.Version.{byVersion}
 use Rattle.cojp.specs.Writing.{labelled, listPairs, listInRange, missing}
 use Rattle.cojp.specs.declared.list.ItemList.{ItemList}
 use Rattle.cojp.specs.declared.list.ListParameter.{ListParameter}
-use Rattle.cojp.specs.declared.version.Version.{Version}
-use Rattle.cojp.specs.declared.version.Version.the-variants.{Draft, Published}
+use Rattle.protocol_version.specs.declared.Version.{Version}
+use Rattle.protocol_version.specs.declared.Version.the-variants.{Draft, Published}
 use Rattle.cojp_list.specs.Laws.{ListWritten}
 use Rattle.cojp_laws.proofs.Fine.{Fine, FineItems, fine-if, fine-none, fine-array}
 

@@ -13,7 +13,7 @@ use Rattle.link_key.specs.declared.additional_info.AdditionalInfo.{AdditionalIn
 use Rattle.link_key.specs.declared.additional_info.AdditionalInfo.the-variants as info
 use Rattle.cbor.specs.View.{Scalar}
 use Rattle.cojp.specs.Lists.{Picked, stringsIn, errorReportsIn, some, kept}
-use Rattle.cojp.specs.Version.{byVersion, allowsAdditionalInfo}
+use Rattle.protocol_version.specs.Version.{byVersion, allowsAdditionalInfo}
 use Rattle.cojp.specs.Writing.{octetsInRange, listInRange, keysWithoutAdditionalInfo, missing, ofVersion, requestInRange}
 use Rattle.cojp.specs.declared.configuration.Configuration.{Configuration}
 use Rattle.cojp.specs.declared.key_set.KeysParameter.{KeysParameter}
@@ -21,8 +21,8 @@ use Rattle.cojp.specs.declared.list.ListParameter.{ListParameter}
 use Rattle.cojp.specs.declared.disposition.Disposition.{Disposition}
 use Rattle.cojp.specs.declared.disposition.Disposition.the-variants.{Absent, Taken, Discarded}
 use Rattle.cojp.specs.declared.request.JoinRequest.{JoinRequest}
-use Rattle.cojp.specs.declared.version.Version.{Version}
-use Rattle.cojp.specs.declared.version.Version.the-variants.{Draft, Published}
+use Rattle.protocol_version.specs.declared.Version.{Version}
+use Rattle.protocol_version.specs.declared.Version.the-variants.{Draft, Published}
 
 pub not-taken : (r : Disposition) → missing r ≡ true → r ≡ Taken → ⊥
 not-taken Absent h e = let z : _≡_ {A = ℕ} 0 1 = cc in omega arith

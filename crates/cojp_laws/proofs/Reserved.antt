@@ -20,7 +20,7 @@ use Rattle.cojp.specs.Writing.{keysInRange, addressInRange, jrcInRange, octetsI
 use Rattle.cojp.specs.declared.configuration.Configuration.{Configuration}
 use Rattle.cojp.specs.declared.configuration.ConfigurationRead.{ConfigurationRead}
 use Rattle.cojp.specs.declared.disposition.Disposition.{Disposition}
-use Rattle.cojp.specs.declared.version.Version.{Version}
+use Rattle.protocol_version.specs.declared.Version.{Version}
 use Rattle.cojp_laws.specs.Addresses.{HoldsReserved, ObjectAddresses}
 
 empty-none : HoldsReserved emptyConfiguration → ⊥

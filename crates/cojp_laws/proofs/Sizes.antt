@@ -17,13 +17,13 @@ use Rattle.cbor.specs.Laws.{ItemLaws, Bytes}
 use Rattle.link_key.specs.set.KeyLaws.{KeyLaws}
 use Rattle.cojp.specs.Lists.{stringsIn, errorReportsIn, some}
 use Rattle.cojp.specs.Request.{owing}
-use Rattle.cojp.specs.Version.{byVersion, allowsAdditionalInfo}
+use Rattle.protocol_version.specs.Version.{byVersion, allowsAdditionalInfo}
 use Rattle.cojp.specs.Writing.{fits, requestPairs, requestInRange, owingPlan, requestPlan}
 use Rattle.cojp.specs.Writing.{configurationPairs, configurationInRange, configurationPlan}
 use Rattle.cojp.specs.declared.configuration.Configuration.{Configuration}
 use Rattle.cojp.specs.declared.request.JoinRequest.{JoinRequest}
-use Rattle.cojp.specs.declared.version.Version.{Version}
-use Rattle.cojp.specs.declared.version.Version.the-variants.{Draft}
+use Rattle.protocol_version.specs.declared.Version.{Version}
+use Rattle.protocol_version.specs.declared.Version.the-variants.{Draft}
 use Rattle.cojp_list.specs.Laws.{ListLaws}
 use Rattle.cojp_write.specs.octets.Fits.{RequestFits}
 use Rattle.cojp_write.proofs.octets.Limits.{Judged, configuration-fits}

@@ -13,7 +13,7 @@ use Rattle.cojp.specs.declared.parameter.Parameter.{Parameter}
 use Rattle.cojp.specs.declared.parameter.Parameter.the-variants as name
 use Rattle.cojp.specs.declared.disposition.Disposition.{Disposition}
 use Rattle.cojp.specs.declared.disposition.Disposition.the-variants.{Absent, Taken, Discarded}
-use Rattle.cojp.specs.declared.version.Version.the-variants.{Published}
+use Rattle.protocol_version.specs.declared.Version.the-variants.{Published}
 use Rattle.cojp_laws.specs.RoundTrip.{Kept}
 
 not-bad : (r : Disposition) → Kept r → isBad r ≡ false

@@ -11,7 +11,7 @@ use Rattle.cojp.specs.Configuration.{readConfigurationBy}
 use Rattle.cojp.specs.Writing.{configurationPlan}
 use Rattle.cojp.specs.declared.configuration.Configuration.{Configuration}
 use Rattle.cojp.specs.declared.disposition.Disposition.the-variants.{Taken}
-use Rattle.cojp.specs.declared.version.Version.{Version}
+use Rattle.protocol_version.specs.declared.Version.{Version}
 
 -- the configuration holds one of the two
 pub record HoldsReserved (c : Configuration) : Type 0 where

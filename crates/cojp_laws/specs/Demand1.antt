@@ -19,7 +19,7 @@ use Rattle.cojp.specs.declared.configuration.Configuration.{Configuration}
 use Rattle.cojp.specs.declared.list.ListParameter.{ListParameter}
 use Rattle.cojp.specs.declared.octets.OctetsParameter.{OctetsParameter}
 use Rattle.cojp.specs.declared.request.JoinRequest.{JoinRequest}
-use Rattle.cojp.specs.declared.version.Version.{Version}
+use Rattle.protocol_version.specs.declared.Version.{Version}
 use Rattle.cojp_write.specs.octets.Plan.{stringInRange, octetsPlan, listBytes, listFits, listParameterPlan}
 
 -- the number that is answered to a plan, the destination holding d

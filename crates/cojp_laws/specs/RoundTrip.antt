@@ -21,7 +21,7 @@ use Rattle.cojp.specs.declared.disposition.Disposition.{Disposition}
 use Rattle.cojp.specs.declared.disposition.Disposition.the-variants.{Discarded}
 use Rattle.cojp.specs.declared.request.JoinRequest.{JoinRequest}
 use Rattle.cojp.specs.declared.request.RequestRead.{RequestRead}
-use Rattle.cojp.specs.declared.version.Version.{Version}
+use Rattle.protocol_version.specs.declared.Version.{Version}
 
 abbrev pub Kept : Disposition → Type 0
 Kept r = r ≡ Discarded → ⊥

@@ -2,9 +2,9 @@
 use crate::pair::item_end;
 use cojp::Disposition;
 use cojp::OctetsRead;
-use cojp::Version;
 use cojp::no_octets;
 use cojp::read_octets;
+use protocol_version::Version;
 use refusal::Refusal;
 use refusal::Verdict;
 ghost use mathlib.Core.Path.{_≡_};

@@ -31,7 +31,7 @@ use Rattle.cojp.specs.declared.parameter.Parameter.{Parameter}
 use Rattle.cojp.specs.declared.parameter.Parameter.the-variants as name
 use Rattle.cojp.specs.declared.disposition.Disposition.{Disposition}
 use Rattle.cojp.specs.declared.disposition.Disposition.the-variants.{Absent, Taken, Discarded}
-use Rattle.cojp.specs.declared.version.Version.the-variants.{Draft}
+use Rattle.protocol_version.specs.declared.Version.the-variants.{Draft}
 use Rattle.cojp.proofs.Walks.{Gives, payload-gives}
 use Rattle.cojp_merge.specs.Laws.{TakesEqual, ReadsExactly}
 use Rattle.cojp_merge.specs.Merge.{merged}

@@ -21,7 +21,7 @@ use Rattle.cojp.specs.declared.key_set.KeysParameter.{KeysParameter}
 use Rattle.cojp.specs.declared.octets.OctetsParameter.{OctetsParameter}
 use Rattle.cojp.specs.declared.disposition.Disposition.{Disposition}
 use Rattle.cojp.specs.declared.disposition.Disposition.the-variants.{Absent, Taken, Discarded}
-use Rattle.cojp.specs.declared.version.Version.the-variants.{Draft}
+use Rattle.protocol_version.specs.declared.Version.the-variants.{Draft}
 use Rattle.cojp_write.proofs.octets.Limits.{configuration-fits}
 use Rattle.lemmas.specs.logic.Tests.{both-left, both-right}
 use Rattle.cojp_merge.specs.Laws.{Associative, NeutralFirst, NeutralSecond, StaysInRange, RefusedEmpty}

@@ -11,7 +11,7 @@ use Rattle.cojp.specs.Reading.{ifTaken}
 use Rattle.cojp.specs.Same.{SameConfiguration}
 use Rattle.cojp.specs.Writing.{configurationInRange}
 use Rattle.cojp.specs.declared.configuration.Configuration.{Configuration}
-use Rattle.cojp.specs.declared.version.Version.the-variants.{Draft}
+use Rattle.protocol_version.specs.declared.Version.the-variants.{Draft}
 use Rattle.cojp_merge.specs.Merge.{merged, mergeAnswer}
 
 -- ---- three configurations come to the same in either bracket, reports included

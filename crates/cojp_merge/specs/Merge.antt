@@ -10,7 +10,7 @@ use Rattle.cojp.specs.Reading.{ifTaken}
 use Rattle.cojp.specs.Writing.{configurationInRange}
 use Rattle.cojp.specs.declared.configuration.Configuration.{Configuration}
 use Rattle.cojp.specs.declared.disposition.Disposition.the-variants.{Absent}
-use Rattle.cojp.specs.declared.version.Version.the-variants.{Draft}
+use Rattle.protocol_version.specs.declared.Version.the-variants.{Draft}
 use Rattle.cojp_merge.specs.declared.MergeResult.{MergeResult}
 
 -- each parameter with its report from the second where that is taken, else from the first; a key set whole, a lease with its address. What is

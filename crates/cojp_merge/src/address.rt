@@ -4,7 +4,7 @@ use cojp::Disposition;
 ghost use mathlib.Core.Path.{_≡_};
 ghost use Rattle.cojp.specs.Reading.{ifTaken};
 
-pub fn later_address(first: AddressParameter, second: AddressParameter) -> AddressParameter
+pub(crate) fn later_address(first: AddressParameter, second: AddressParameter) -> AddressParameter
     ensures { λ r. ⌜ r ≡ ifTaken (second .disposition) second first ⌝ }
 {
     let report = second.disposition;

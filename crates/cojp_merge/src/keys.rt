@@ -4,7 +4,7 @@ use cojp::KeysParameter;
 ghost use mathlib.Core.Path.{_≡_};
 ghost use Rattle.cojp.specs.Reading.{ifTaken};
 
-pub fn later_keys(first: KeysParameter, second: KeysParameter) -> KeysParameter
+pub(crate) fn later_keys(first: KeysParameter, second: KeysParameter) -> KeysParameter
     ensures { λ r. ⌜ r ≡ ifTaken (second .disposition) second first ⌝ }
 {
     let report = second.disposition;

@@ -7,7 +7,6 @@ mod octets;
 use address::later_address;
 use cojp::Configuration;
 use cojp::Disposition;
-use cojp::Version;
 use cojp::empty_configuration;
 use cojp::no_error_reports;
 use cojp::no_list;
@@ -15,6 +14,7 @@ use cojp::no_rate;
 use cojp_write::range::configuration_in_range;
 use keys::later_keys;
 use octets::later_octets;
+use protocol_version::Version;
 use refusal::Refusal;
 use refusal::Verdict;
 ghost use mathlib.Core.Path.{_≡_};
@@ -86,7 +86,7 @@ pub fn laws()
 {}
 
 // The merged configuration takes no more than 232 bytes.
-pub fn merged_size(first: Configuration, second: Configuration)
+pub fn merged_size_law(first: Configuration, second: Configuration)
     ensures { λ r. ⌜ LargestConfiguration (merged first second) ⌝ }
 {
     let both = merge_parameters(first, second);

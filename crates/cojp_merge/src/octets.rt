@@ -4,7 +4,7 @@ use cojp::OctetsParameter;
 ghost use mathlib.Core.Path.{_≡_};
 ghost use Rattle.cojp.specs.Reading.{ifTaken};
 
-pub fn later_octets(first: OctetsParameter, second: OctetsParameter) -> OctetsParameter
+pub(crate) fn later_octets(first: OctetsParameter, second: OctetsParameter) -> OctetsParameter
     ensures { λ r. ⌜ r ≡ ifTaken (second .disposition) second first ⌝ }
 {
     let report = second.disposition;

@@ -5,7 +5,6 @@ mod published;
 
 use crate::configuration::once::KeysStep;
 use crate::configuration::once::address_once;
-use crate::configuration::once::allows_additional_info;
 use crate::configuration::once::keys_once;
 use crate::configuration::published::blacklist_once;
 use crate::configuration::published::noted_label;
@@ -13,7 +12,6 @@ use crate::configuration::published::rate_once;
 use cojp::ConfigurationRead;
 use cojp::KeysParameter;
 use cojp::Parameter;
-use cojp::Version;
 use cojp::empty_configuration;
 use cojp::parameter_of;
 use cojp_key_set::read_keys;
@@ -22,11 +20,12 @@ use cojp_map::item_end;
 use cojp_map::labelled_at;
 use cojp_map::octets_once;
 use cojp_map::open_payload;
+use protocol_version::Version;
 use refusal::Refusal;
 use refusal::Verdict;
 ghost use mathlib.Core.Path.{_≡_};
 ghost use lib.ListN.{drop};
-ghost use Rattle.cojp.specs.Configuration.{emptyConfiguration, configurationForm, refuseConfiguration, configurationAnswer, readConfigurationBy, readConfigurationAs, readStrictConfigurationAs, readConfiguration, readStrictConfiguration};
+ghost use Rattle.cojp.specs.Configuration.{emptyConfiguration, configurationForm, refuseConfiguration, configurationAnswer, readConfigurationBy};
 ghost use Rattle.cbor.specs.Strict.{headBy};
 ghost use Rattle.cojp_map.specs.Pairs.{walkAt};
 
@@ -44,7 +43,7 @@ fn refused_configuration(why: Refusal) -> ConfigurationRead
 // stored where they stand, and each answer is returned where it is made: to hand a Configuration on costs a fifth of a short read. The
 // empty one is made before the scan, so that its stores are through when it is read again. The pairs are read from a slice of their own,
 // so that the payload's place and length need not be fetched from memory as one.
-fn read_by(payload: &[u8], version: Version, strict: bool) -> ConfigurationRead
+pub fn read_configuration(payload: &[u8], version: Version, strict: bool) -> ConfigurationRead
     ensures { λ r. ⌜ r ≡ readConfigurationBy version (headBy strict) (now (payload .entry)) ⌝ }
 {
     let mut c = empty_configuration();
@@ -58,7 +57,7 @@ fn read_by(payload: &[u8], version: Version, strict: bool) -> ConfigurationRead
             while 0 < left {
                 let pair = labelled_at(s, at);
                 let mut verdict = pair.verdict;
-                if allows_additional_info(version) {
+                if version.allows_additional_info() {
                     c.labels = noted_label(c.labels, version, pair.label);
                 }
                 let named = parameter_of(version, pair.label);
@@ -66,7 +65,7 @@ fn read_by(payload: &[u8], version: Version, strict: bool) -> ConfigurationRead
                     Parameter::Keys => {
                         let before = c.keys;
                         let held = before.disposition;
-                        let allowed = allows_additional_info(version);
+                        let allowed = version.allows_additional_info();
                         let r = read_keys(s, pair.value, allowed);
                         let parameter = r.parameter;
                         c.keys = parameter;
@@ -149,32 +148,4 @@ fn read_by(payload: &[u8], version: Version, strict: bool) -> ConfigurationRead
             };
         }
     }
-}
-
-// Reads a configuration of document 01's form from a payload.
-pub fn read_configuration(payload: &[u8]) -> ConfigurationRead
-    ensures { λ r. ⌜ r ≡ readConfiguration (now (payload .entry)) ⌝ }
-{
-    read_by(payload, Version::Draft, false)
-}
-
-// Reads a configuration of document 01's form from a payload whose heads must all be the shortest: else LOOSE.
-pub fn read_strict_configuration(payload: &[u8]) -> ConfigurationRead
-    ensures { λ r. ⌜ r ≡ readStrictConfiguration (now (payload .entry)) ⌝ }
-{
-    read_by(payload, Version::Draft, true)
-}
-
-// Reads a configuration of a form from a payload.
-pub fn read_configuration_as(payload: &[u8], version: Version) -> ConfigurationRead
-    ensures { λ r. ⌜ r ≡ readConfigurationAs version (now (payload .entry)) ⌝ }
-{
-    read_by(payload, version, false)
-}
-
-// Reads a configuration of a form from a payload whose heads must all be the shortest: else LOOSE.
-pub fn read_strict_configuration_as(payload: &[u8], version: Version) -> ConfigurationRead
-    ensures { λ r. ⌜ r ≡ readStrictConfigurationAs version (now (payload .entry)) ⌝ }
-{
-    read_by(payload, version, true)
 }

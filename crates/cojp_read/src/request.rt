@@ -10,7 +10,6 @@ use crate::request::role::role_once;
 use crate::request::unsupported::unsupported_once;
 use cojp::JoinRequest;
 use cojp::RequestRead;
-use cojp::Version;
 use cojp::empty_request;
 use cojp::is_owing;
 use cojp_map::PayloadResult;
@@ -18,13 +17,14 @@ use cojp_map::item_end;
 use cojp_map::labelled_at;
 use cojp_map::octets_once;
 use cojp_map::open_payload;
+use protocol_version::Version;
 use refusal::Refusal;
 use refusal::Verdict;
 ghost use mathlib.Core.Path.{_≡_};
 ghost use mathlib.Core.Bool.{true};
 ghost use lib.ListN.{drop};
 ghost use Rattle.cojp.specs.Reading.{bind};
-ghost use Rattle.cojp.specs.Request.{requestState, emptyRequestState, requestForm, settled, refuseRequest, requestAnswer, readRequestBy, readRequestAs, readStrictRequestAs, readRequest, readStrictRequest};
+ghost use Rattle.cojp.specs.Request.{requestState, emptyRequestState, requestForm, settled, refuseRequest, requestAnswer, readRequestBy};
 ghost use Rattle.cbor.specs.Strict.{headBy};
 ghost use Rattle.cojp_map.specs.Pairs.{walkAt};
 
@@ -103,8 +103,8 @@ fn take_pairs(s: &[u8], mut at: usize, mut left: u64, version: Version) -> Reque
     settled_request(q, version)
 }
 
-// Reads a join request of a form from a payload, strictly or not.
-fn read_by(payload: &[u8], version: Version, strict: bool) -> RequestRead
+// Reads a join request from a payload. A strict reading refuses a head that is longer than necessary as LOOSE.
+pub fn read_request(payload: &[u8], version: Version, strict: bool) -> RequestRead
     ensures { λ r. ⌜ r ≡ readRequestBy version (headBy strict) (now (payload .entry)) ⌝ }
 {
     let opened = open_payload(payload, strict);
@@ -112,32 +112,4 @@ fn read_by(payload: &[u8], version: Version, strict: bool) -> RequestRead
         PayloadResult::Refused(k) => refused_request(k),
         PayloadResult::Pairs { count, start } => take_pairs(payload, start, count, version),
     }
-}
-
-// Reads a join request of document 01's form from a payload.
-pub fn read_request(payload: &[u8]) -> RequestRead
-    ensures { λ r. ⌜ r ≡ readRequest (now (payload .entry)) ⌝ }
-{
-    read_by(payload, Version::Draft, false)
-}
-
-// Reads a join request of document 01's form from a payload whose heads must all be the shortest: else LOOSE.
-pub fn read_strict_request(payload: &[u8]) -> RequestRead
-    ensures { λ r. ⌜ r ≡ readStrictRequest (now (payload .entry)) ⌝ }
-{
-    read_by(payload, Version::Draft, true)
-}
-
-// Reads a join request of a form from a payload.
-pub fn read_request_as(payload: &[u8], version: Version) -> RequestRead
-    ensures { λ r. ⌜ r ≡ readRequestAs version (now (payload .entry)) ⌝ }
-{
-    read_by(payload, version, false)
-}
-
-// Reads a join request of a form from a payload whose heads must all be the shortest: else LOOSE.
-pub fn read_strict_request_as(payload: &[u8], version: Version) -> RequestRead
-    ensures { λ r. ⌜ r ≡ readStrictRequestAs version (now (payload .entry)) ⌝ }
-{
-    read_by(payload, version, true)
 }

@@ -15,7 +15,7 @@ use Rattle.cojp.specs.Lists.{stringsIn}
 use Rattle.cojp.specs.Octets.{noOctetsParameter, octetsRead}
 use Rattle.cojp.specs.Parameter.{parameterOf}
 use Rattle.cojp.specs.Reading.{byVersionOf}
-use Rattle.cojp.specs.Version.{allowsAdditionalInfo}
+use Rattle.protocol_version.specs.Version.{allowsAdditionalInfo}
 use Rattle.cojp.specs.Writing.{keysPairs, addressPairs, octetsPairs, listPairs, ratePairs}
 use Rattle.cojp.specs.declared.address.AddressParameter.{AddressParameter}
 use Rattle.cojp.specs.declared.configuration.Configuration.{Configuration}
@@ -23,7 +23,7 @@ use Rattle.cojp.specs.declared.key_set.KeysParameter.{KeysParameter}
 use Rattle.cojp.specs.declared.parameter.Parameter.{Parameter}
 use Rattle.cojp.specs.declared.parameter.Parameter.the-variants as name
 use Rattle.cojp.specs.declared.disposition.Disposition.the-variants.{Discarded}
-use Rattle.cojp.specs.declared.version.Version.{Version}
+use Rattle.protocol_version.specs.declared.Version.{Version}
 use Rattle.cojp.specs.declared.walk.LabelStatus.the-variants.{First}
 use Rattle.cojp_rfc9031_laws.proofs.Items.{viewSize, ViewFits}
 use Rattle.cojp_rfc9031_laws.proofs.KeptLists.{strings-picked}

@@ -23,7 +23,7 @@ use Rattle.cojp.specs.declared.list.ListParameter.{ListParameter}
 use Rattle.cojp.specs.declared.octets.OctetsParameter.{OctetsParameter}
 use Rattle.cojp.specs.declared.rate.RateParameter.{RateParameter}
 use Rattle.cojp.specs.declared.disposition.Disposition.the-variants.{Absent, Discarded}
-use Rattle.cojp.specs.declared.version.Version.the-variants.{Published}
+use Rattle.protocol_version.specs.declared.Version.the-variants.{Published}
 use Rattle.lemmas.specs.logic.Tests.{never}
 use Rattle.cojp_rfc9031_laws.specs.Good.{keysAs, KeysJudged, noAddressAs, AddressJudged, octetsAs, JrcJudged, listAs, BlacklistJudged, rateAs, RateJudged}
 use Rattle.cojp_rfc9031_laws.specs.GoodValues.{CameAs, Configured}

@@ -18,7 +18,7 @@ use Rattle.cojp.specs.declared.octets.OctetsParameter.{OctetsParameter}
 use Rattle.cojp.specs.declared.disposition.Disposition.{Disposition}
 use Rattle.cojp.specs.declared.disposition.Disposition.the-variants.{Absent, Taken, Discarded}
 use Rattle.cojp.specs.declared.request.RequestState.{RequestState}
-use Rattle.cojp.specs.declared.version.Version.the-variants.{Published}
+use Rattle.protocol_version.specs.declared.Version.the-variants.{Published}
 use Rattle.lemmas.specs.logic.Tests.{never}
 use Rattle.cojp_rfc9031_laws.specs.Good.{octetsAs, NetworkJudged, listAs, EntriesJudged}
 use Rattle.cojp_rfc9031_laws.specs.GoodValues.{CameAs, Requested}

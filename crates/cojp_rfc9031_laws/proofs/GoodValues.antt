@@ -23,7 +23,7 @@ use Rattle.cojp.specs.Request.{emptyRequestState, owing, requestAnswer, request
 use Rattle.cojp.specs.Walk.{Form, payloadReadBy}
 use Rattle.cojp.specs.declared.configuration.Configuration.{Configuration}
 use Rattle.cojp.specs.declared.request.RequestState.{RequestState}
-use Rattle.cojp.specs.declared.version.Version.the-variants.{Published}
+use Rattle.protocol_version.specs.declared.Version.the-variants.{Published}
 use Rattle.cojp_rfc9031_laws.specs.GoodValues.{Configured, Requested, GoodValues}
 use Rattle.cojp_rfc9031_laws.specs.Labels.{configurationLabels, requestLabels, Known, knownIn, labelsVerdict, payloadVerdict, mapPairs, pairsIn}
 use Rattle.cojp_rfc9031_laws.specs.Verdicts.{configurationOf, requestOf}

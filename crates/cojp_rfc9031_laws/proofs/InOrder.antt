@@ -32,7 +32,7 @@ use Rattle.cojp.specs.declared.error_report.ErrorReports.{ErrorReports}
 use Rattle.cojp.specs.declared.disposition.Disposition.{Disposition}
 use Rattle.cojp.specs.declared.disposition.Disposition.the-variants.{Absent, Taken, Discarded}
 use Rattle.cojp.specs.declared.request.RequestState.{RequestState}
-use Rattle.cojp.specs.declared.version.Version.the-variants.{Published}
+use Rattle.protocol_version.specs.declared.Version.the-variants.{Published}
 use Rattle.lemmas.specs.logic.Tests.{never}
 use Rattle.cojp_rfc9031_laws.specs.InOrder.{malformed, reportAt, isDiscarded, isAbsent, badAmong, timesIn, ReportsInOrder, requestReports, roleIn, RequestInOrder}
 use Rattle.cojp_rfc9031_laws.specs.Labels.{configurationLabels, requestLabels, isIn, Known, labelsOf, knownIn, labelsVerdict, payloadVerdict, pairsIn}

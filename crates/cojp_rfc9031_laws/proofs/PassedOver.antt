@@ -30,7 +30,7 @@ use Rattle.cojp.specs.Reading.{Reading, refused, read, bind, mapReading, byVers
 use Rattle.cojp.specs.Request.{roleJudged, roleConcluded, emptyRequestState, withRole, withUnsupported, withError, roleLabelStatus, requestLabelStatus}
 use Rattle.cojp.specs.Request.{roleGathered, listGathered, requestTaking, requestForm, owing, settled, requestAnswer}
 use Rattle.cojp.specs.Request as request
-use Rattle.cojp.specs.Version.{allowsAdditionalInfo}
+use Rattle.protocol_version.specs.Version.{allowsAdditionalInfo}
 use Rattle.cojp.specs.Walk.{Form, labelStatusOf, knownRead, pairRead, pairsRead, scannedRead, payloadReadBy}
 use Rattle.cojp.specs.declared.configuration.Configuration.{Configuration}
 use Rattle.cojp.specs.declared.list.ListParameter.{ListParameter}
@@ -39,8 +39,8 @@ use Rattle.cojp.specs.declared.parameter.Parameter.the-variants as name
 use Rattle.cojp.specs.declared.disposition.Disposition.{Disposition}
 use Rattle.cojp.specs.declared.disposition.Disposition.the-variants.{Absent, Taken, Discarded}
 use Rattle.cojp.specs.declared.request.RequestState.{RequestState}
-use Rattle.cojp.specs.declared.version.Version.{Version}
-use Rattle.cojp.specs.declared.version.Version.the-variants.{Draft, Published}
+use Rattle.protocol_version.specs.declared.Version.{Version}
+use Rattle.protocol_version.specs.declared.Version.the-variants.{Draft, Published}
 use Rattle.cojp.specs.declared.walk.LabelStatus.{LabelStatus}
 use Rattle.cojp.specs.declared.walk.LabelStatus.the-variants.{Unknown, First, Repeated}
 use Rattle.cojp_rfc9031_laws.specs.Labels.{isIn, mapPairs, pairsIn}

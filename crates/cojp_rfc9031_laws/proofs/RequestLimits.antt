@@ -22,7 +22,7 @@ use Rattle.cojp.specs.Octets.{noOctetsParameter, octetsRead}
 use Rattle.cojp.specs.Reading.{Reading, refused, read, mapReading, bind, byVersionOf, broken, unfit, good, ifTaken}
 use Rattle.cojp.specs.Request.{roleJudged, emptyRequestState, withRole, withNetwork, withUnsupported, withErrors, withError, roleLabelStatus, requestPassing, requestLabelStatus}
 use Rattle.cojp.specs.Request.{roleGathered, listGathered, requestTaking, requestForm, owing, settled, requestAnswer, refuseRequest, readRequestBy, readRequestAs}
-use Rattle.cojp.specs.Version.{byVersion}
+use Rattle.protocol_version.specs.Version.{byVersion}
 use Rattle.cojp.specs.Walk.{labelStatusOf, payloadReadBy}
 use Rattle.cojp.specs.Writing.{rolePairs, octetsPairs, listPairs, octetsInRange, listInRange, missing, requestInRange}
 use Rattle.cojp.specs.declared.error_report.ErrorReports.{ErrorReports}
@@ -32,8 +32,8 @@ use Rattle.cojp.specs.declared.disposition.Disposition.the-variants.{Absent, Ta
 use Rattle.cojp.specs.declared.request.RequestState.{RequestState}
 use Rattle.cojp.specs.declared.request.JoinRequest.{JoinRequest}
 use Rattle.cojp.specs.declared.request.RequestRead.{RequestRead}
-use Rattle.cojp.specs.declared.version.Version.{Version}
-use Rattle.cojp.specs.declared.version.Version.the-variants.{Draft, Published}
+use Rattle.protocol_version.specs.declared.Version.{Version}
+use Rattle.protocol_version.specs.declared.Version.the-variants.{Draft, Published}
 use Rattle.cojp.specs.declared.walk.LabelStatus.the-variants.{Unknown, First}
 use Rattle.cojp_rfc9031_laws.specs.InRange.{RequestReadsInRange}
 use Rattle.cojp_rfc9031_laws.proofs.Bounded.{Within, payload-bound}

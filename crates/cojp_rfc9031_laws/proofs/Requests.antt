@@ -23,7 +23,7 @@ use Rattle.cojp.specs.declared.list.ListParameter.{ListParameter}
 use Rattle.cojp.specs.declared.disposition.Disposition.{Disposition}
 use Rattle.cojp.specs.declared.disposition.Disposition.the-variants.{Absent, Taken, Discarded}
 use Rattle.cojp.specs.declared.request.RequestState.{RequestState}
-use Rattle.cojp.specs.declared.version.Version.the-variants.{Published}
+use Rattle.protocol_version.specs.declared.Version.the-variants.{Published}
 use Rattle.cojp.specs.declared.walk.LabelStatus.the-variants.{First, Repeated}
 use Rattle.lemmas.specs.logic.Tests.{never, neither-left, neither-right}
 use Rattle.cojp_rfc9031_laws.specs.InOrder.{reportsOf, requestReports, roleRead, roleIn}

@@ -38,7 +38,7 @@ use Rattle.cojp.specs.declared.rate.RateParameter.{RateParameter}
 use Rattle.cojp.specs.declared.disposition.Disposition.{Disposition}
 use Rattle.cojp.specs.declared.disposition.Disposition.the-variants.{Absent, Taken, Discarded}
 use Rattle.cojp.specs.declared.request.JoinRequest.{JoinRequest}
-use Rattle.cojp.specs.declared.version.Version.{Version}
+use Rattle.protocol_version.specs.declared.Version.{Version}
 use Rattle.link_key.specs.set.KeySet.{keysOf}
 use Rattle.cojp_rfc9031_laws.specs.WrittenBack.{WritesWithin, WrittenBack}
 use Rattle.cojp_rfc9031_laws.proofs.Bounded.{Within, payload-bound}

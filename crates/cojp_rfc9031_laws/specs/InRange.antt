@@ -10,7 +10,7 @@ use Rattle.cbor.specs.Strict.{headBy}
 use Rattle.cojp.specs.Request.{owing, readRequestBy}
 use Rattle.cojp.specs.Writing.{requestInRange}
 use Rattle.cojp.specs.declared.request.JoinRequest.{JoinRequest}
-use Rattle.cojp.specs.declared.version.Version.{Version}
+use Rattle.protocol_version.specs.declared.Version.{Version}
 
 pub record RequestInRange (v : Version) (q : JoinRequest) : Type 0 where
   pub in-range : requestInRange v q ≡ true

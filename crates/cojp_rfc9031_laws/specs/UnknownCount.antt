@@ -11,9 +11,9 @@ use Rattle.cbor.specs.declared.value.Label.{Label}
 use Rattle.cbor.specs.declared.value.Label.the-variants as label
 use Rattle.cojp.specs.Configuration.{readConfigurationBy}
 use Rattle.cojp.specs.Request.{readRequestBy}
-use Rattle.cojp.specs.Version.{byVersion}
-use Rattle.cojp.specs.declared.version.Version.{Version}
-use Rattle.cojp.specs.declared.version.Version.the-variants.{Draft, Published}
+use Rattle.protocol_version.specs.Version.{byVersion}
+use Rattle.protocol_version.specs.declared.Version.{Version}
+use Rattle.protocol_version.specs.declared.Version.the-variants.{Draft, Published}
 use Rattle.cojp_rfc9031_laws.specs.Labels.{configurationLabels, requestLabels, isIn, pairsIn}
 
 -- the draft's: key set, short address, JRC address, network identifier and prefix

@@ -16,7 +16,7 @@ use Rattle.cojp.specs.Configuration.{readConfigurationBy}
 use Rattle.cojp.specs.Request.{readRequestBy}
 use Rattle.cojp.specs.declared.configuration.ConfigurationRead.{ConfigurationRead}
 use Rattle.cojp.specs.declared.request.RequestRead.{RequestRead}
-use Rattle.cojp.specs.declared.version.Version.the-variants.{Published}
+use Rattle.protocol_version.specs.declared.Version.the-variants.{Published}
 use Rattle.link_key.specs.set.Lists.{anyOf}
 use Rattle.cojp_rfc9031_laws.specs.Labels.{configurationLabels, requestLabels, Known, knownIn, labelsVerdict, payloadVerdict}
 

@@ -11,8 +11,8 @@ use Rattle.cbor.specs.Strict.{headBy}
 use Rattle.cojp.specs.Configuration.{readConfigurationBy}
 use Rattle.cojp.specs.Request.{readRequestBy}
 use Rattle.cojp.specs.Writing.{requestPlan, configurationPlan}
-use Rattle.cojp.specs.declared.version.Version.{Version}
-use Rattle.cojp.specs.declared.version.Version.the-variants.{Draft}
+use Rattle.protocol_version.specs.declared.Version.{Version}
+use Rattle.protocol_version.specs.declared.Version.the-variants.{Draft}
 
 -- the plan is a payload, no longer than p
 pub record WritesWithin (plan : Plan) (p : List ℕ) : Type 0 where

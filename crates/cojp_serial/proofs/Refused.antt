@@ -11,7 +11,7 @@ use Rattle.cbor.specs.Strict.{headBy}
 use Rattle.cojp.specs.Configuration.{emptyConfiguration, refuseConfiguration, readConfigurationBy}
 use Rattle.cojp.specs.Laws.{ReadersDemand1}
 use Rattle.cojp.specs.Request.{emptyRequest, refuseRequest, readRequestBy}
-use Rattle.cojp.specs.declared.version.Version.{Version}
+use Rattle.protocol_version.specs.declared.Version.{Version}
 use Rattle.cojp_serial.specs.State.{partAnswer, partStore, endRead, endState}
 use Rattle.cojp_serial.specs.Calls.{Reader, request, configuration, resetting, sending, ending, Held, decisionOn, told, verdictIn}
 use Rattle.cojp_serial.specs.Laws.{EmptyBeside, Left, as-before, overrun-marked, end-marked, RefusedCalls}

@@ -14,7 +14,7 @@ use Rattle.cbor.specs.Strict.{headBy}
 use Rattle.cojp.specs.Configuration.{refuseConfiguration, readConfigurationBy}
 use Rattle.cojp.specs.Request.{refuseRequest, readRequestBy}
 use Rattle.cojp.specs.Walk.{payloadReadBy}
-use Rattle.cojp.specs.declared.version.Version.{Version}
+use Rattle.protocol_version.specs.declared.Version.{Version}
 use Rattle.cojp_serial.specs.State.{partAnswer, partStore}
 use Rattle.cojp_serial.specs.Calls.{Reader, request, configuration, sending, ending, resetting, Held, decisionOn, wholeRead, told, left, sent, joined}
 use Rattle.cojp_serial.specs.Laws.{EndReadsTheWhole}

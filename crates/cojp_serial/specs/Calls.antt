@@ -13,7 +13,7 @@ use Rattle.cojp.specs.Configuration.{readConfigurationBy}
 use Rattle.cojp.specs.Request.{readRequestBy}
 use Rattle.cojp.specs.declared.configuration.ConfigurationRead.{ConfigurationRead}
 use Rattle.cojp.specs.declared.request.RequestRead.{RequestRead}
-use Rattle.cojp.specs.declared.version.Version.{Version}
+use Rattle.protocol_version.specs.declared.Version.{Version}
 use Rattle.cojp_serial.specs.State.{emptyState, decisionOf, partAnswer, partStore, endState, requestEnd, configurationEnd}
 use Rattle.cojp_serial.specs.declared.state.SerialState.{SerialState}
 use Rattle.cojp_serial.specs.declared.state.PartDecision.{PartDecision}

@@ -9,8 +9,8 @@ use lib.ListN.{replicate}
 use Rattle.refusal.specs.declared.Refusal.the-variants.{Cut, Long, Phase, Range, Role}
 use Rattle.refusal.specs.declared.Verdict.the-variants.{Accepted, Refused}
 use Rattle.cojp.specs.Request.{readRequest}
-use Rattle.cojp.specs.declared.version.Version.{Version}
-use Rattle.cojp.specs.declared.version.Version.the-variants.{Draft, Published}
+use Rattle.protocol_version.specs.declared.Version.{Version}
+use Rattle.protocol_version.specs.declared.Version.the-variants.{Draft, Published}
 use Rattle.cojp_serial.specs.Calls.{request, configuration, SerialCall, resetting, sending, ending, joinRequest, Held}
 use Rattle.cojp_serial.specs.Calls.{told, leftBy, answers, verdictIn, verdicts}
 use Rattle.cojp_serial.specs.Loans.{Loan, loan, loanAnswers}

@@ -7,16 +7,10 @@ pub mod state;
 
 pub use configuration::ConfigurationEnd;
 pub use configuration::end_configuration;
-pub use configuration::end_configuration_as;
-pub use configuration::end_strict_configuration;
-pub use configuration::end_strict_configuration_as;
 pub use parts::PartResult;
 pub use parts::part;
 pub use request::RequestEnd;
 pub use request::end_request;
-pub use request::end_request_as;
-pub use request::end_strict_request;
-pub use request::end_strict_request_as;
 pub use state::PartDecision;
 pub use state::SerialState;
 pub use state::reset;

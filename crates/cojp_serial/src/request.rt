@@ -2,15 +2,14 @@
 use crate::state::PartDecision;
 use crate::state::SerialState;
 use cojp::RequestRead;
-use cojp::Version;
 use cojp::empty_request;
-use cojp_read::request::read_request_as;
-use cojp_read::request::read_strict_request_as;
+use cojp_read::read_request;
+use protocol_version::Version;
 use refusal::Refusal;
 use refusal::Verdict;
 ghost use mathlib.Core.Path.{_≡_};
 ghost use Rattle.cbor.specs.Strict.{headBy};
-ghost use Rattle.cojp.specs.Request.{refuseRequest, readRequestBy, readRequest, readStrictRequest, readRequestAs, readStrictRequestAs};
+ghost use Rattle.cojp.specs.Request.{refuseRequest, readRequestBy};
 ghost use Rattle.cojp_serial.specs.State.{requestEnd};
 
 // The answer of the reading, or the refusal beside the empty request; and the arrival afterwards.
@@ -33,17 +32,9 @@ fn refused_request(why: Refusal, arrival: SerialState) -> RequestEnd
     }
 }
 
-fn request_by(payload: &[u8], version: Version, strict: bool) -> RequestRead
-    ensures { λ r. ⌜ r ≡ readRequestBy version (headBy strict) (now (payload .entry)) ⌝ }
-{
-    if strict {
-        return read_strict_request_as(payload, version);
-    }
-    read_request_as(payload, version)
-}
-
-// The reading gets the bytes that arrived, and no others of the store.
-fn end_request_by(arrival: SerialState, store: &[u8], version: Version, strict: bool) -> RequestEnd
+// Reads what arrived as a join request and marks the end, whatever the reading answers. The reading gets the bytes that arrived and no others of the
+// store.
+pub fn end_request(arrival: SerialState, store: &[u8], version: Version, strict: bool) -> RequestEnd
     ensures { λ r. ⌜ r ≡ requestEnd (readRequestBy version (headBy strict)) arrival (now (store .entry)) ⌝ }
 {
     let course = arrival.decision(store.len(), 0);
@@ -53,7 +44,7 @@ fn end_request_by(arrival: SerialState, store: &[u8], version: Version, strict: 
         PartDecision::Ended => refused_request(Refusal::Phase, arrival),
         PartDecision::Open => {
             let n = arrival.arrived;
-            let read = request_by(&store[..n], version, strict);
+            let read = read_request(&store[..n], version, strict);
             let ended = arrival.end_marked();
             RequestEnd {
                 read: read,
@@ -61,32 +52,4 @@ fn end_request_by(arrival: SerialState, store: &[u8], version: Version, strict: 
             }
         }
     }
-}
-
-// Reads what arrived as a join request of document 01's form, and marks the end, whatever the reading says.
-pub fn end_request(arrival: SerialState, store: &[u8]) -> RequestEnd
-    ensures { λ r. ⌜ r ≡ requestEnd readRequest arrival (now (store .entry)) ⌝ }
-{
-    end_request_by(arrival, store, Version::Draft, false)
-}
-
-// The same, its heads read strictly.
-pub fn end_strict_request(arrival: SerialState, store: &[u8]) -> RequestEnd
-    ensures { λ r. ⌜ r ≡ requestEnd readStrictRequest arrival (now (store .entry)) ⌝ }
-{
-    end_request_by(arrival, store, Version::Draft, true)
-}
-
-// Reads what arrived as a join request of a form, and marks the end, whatever the reading says.
-pub fn end_request_as(arrival: SerialState, store: &[u8], version: Version) -> RequestEnd
-    ensures { λ r. ⌜ r ≡ requestEnd (readRequestAs version) arrival (now (store .entry)) ⌝ }
-{
-    end_request_by(arrival, store, version, false)
-}
-
-// The same, its heads read strictly.
-pub fn end_strict_request_as(arrival: SerialState, store: &[u8], version: Version) -> RequestEnd
-    ensures { λ r. ⌜ r ≡ requestEnd (readStrictRequestAs version) arrival (now (store .entry)) ⌝ }
-{
-    end_request_by(arrival, store, version, true)
 }

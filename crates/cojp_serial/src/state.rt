@@ -30,7 +30,7 @@ pub fn reset() -> SerialState
 
 impl SerialState {
     // How `n` bytes more find this arrival and a store of `lent` bytes.
-    pub fn decision(self, lent: usize, n: usize) -> PartDecision
+    pub(crate) fn decision(self, lent: usize, n: usize) -> PartDecision
         ensures { λ r. ⌜ r ≡ decisionOf self lent n ⌝ }
     {
         let arrived = self.arrived;
@@ -53,7 +53,7 @@ impl SerialState {
     }
 
     // The overrun is marked, and nothing else changes.
-    pub fn overran(self) -> SerialState
+    pub(crate) fn overran(self) -> SerialState
         ensures { λ r. ⌜ r ≡ overran self ⌝ }
     {
         SerialState {
@@ -64,7 +64,7 @@ impl SerialState {
     }
 
     // The end is marked, and nothing else changes.
-    pub fn end_marked(self) -> SerialState
+    pub(crate) fn end_marked(self) -> SerialState
         ensures { λ r. ⌜ r ≡ endMarked self ⌝ }
     {
         SerialState {

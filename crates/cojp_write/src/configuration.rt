@@ -26,7 +26,7 @@ use cojp::Configuration;
 use cojp::ListParameter;
 use cojp::OctetsParameter;
 use cojp::RateParameter;
-use cojp::Version;
+use protocol_version::Version;
 use refusal::Refusal;
 ghost use mathlib.Core.Bool.{true};
 ghost use mathlib.Core.List.{_++_};
@@ -37,7 +37,7 @@ ghost use Rattle.cbor.specs.Answer.{Did, Wrote};
 ghost use Rattle.cbor.specs.Encode.{shortest, encode, encodePairs};
 ghost use Rattle.cbor.specs.Item.{map};
 ghost use Rattle.cojp.specs.Writing.{fits, ratePairs, configurationPairs, configurationPlan};
-ghost use Rattle.cojp.specs.declared.version.Version.the-variants.{Draft};
+ghost use Rattle.protocol_version.specs.declared.Version.the-variants.{Draft};
 ghost use Rattle.cojp_write.specs.configuration.Room.{
   StringsFit,
   stringsLength,
@@ -137,18 +137,11 @@ fn emit_configuration(dst: &mut [u8], c: Configuration) -> WriteResult
 }
 
 // Writes a configuration in a form: RANGE, ROOM, or the length written.
-pub fn write_configuration_as(dst: &mut [u8], c: Configuration, version: Version) -> WriteResult
+pub fn write_configuration(dst: &mut [u8], c: Configuration, version: Version) -> WriteResult
     ensures { λ r. ⌜ Did (configurationPlan version c) (now (dst .entry)) r (now (dst .exit)) ⌝ }
 {
     if !configuration_in_range(version, c) {
         return WriteResult::Refused(Refusal::Range);
     }
     emit_configuration(dst, c)
-}
-
-// Writes a configuration of the draft: RANGE, ROOM, or the length written.
-pub fn write_configuration(dst: &mut [u8], c: Configuration) -> WriteResult
-    ensures { λ r. ⌜ Did (configurationPlan Draft c) (now (dst .entry)) r (now (dst .exit)) ⌝ }
-{
-    write_configuration_as(dst, c, Version::Draft)
 }

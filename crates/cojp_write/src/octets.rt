@@ -14,15 +14,15 @@ use cbor::write::write_bytes;
 use cbor::write::write_head;
 use cojp::Octets;
 use cojp::OctetsParameter;
-pub use list::list_size;
-pub use list::write_list_parameter;
-pub use put::put_head;
-pub use put::put_list;
-pub use put::put_octets;
+pub(crate) use list::list_size;
+pub(crate) use list::write_list_parameter;
+pub(crate) use put::put_head;
+pub(crate) use put::put_list;
+pub(crate) use put::put_octets;
 use refusal::Refusal;
 pub use size::Size;
-pub use size::no_size;
-pub use size::plus;
+pub(crate) use size::no_size;
+pub(crate) use size::plus;
 ghost use mathlib.Core.Path.{_≡_};
 ghost use Prim.Native.Nat.{_≤_};
 ghost use lib.ListN.{length};
@@ -46,7 +46,7 @@ fn known_len(value: Octets) -> usize
 }
 
 // How much there is to write of a parameter under a label.
-pub fn octets_size(label: u64, p: OctetsParameter) -> Size
+pub(crate) fn octets_size(label: u64, p: OctetsParameter) -> Size
     ensures { λ r. ⌜ PairsSize (octetsPairs label p) 1 26 r ⌝ }
 {
     cbor::head_laws();
@@ -100,7 +100,7 @@ fn string_in_range(label: u64, p: OctetsParameter) -> bool
 }
 
 // Writes a parameter under a label, where it is taken: RANGE, ROOM, or the length written.
-pub fn write_octets(dst: &mut [u8], label: u64, p: OctetsParameter) -> WriteResult
+pub(crate) fn write_octets(dst: &mut [u8], label: u64, p: OctetsParameter) -> WriteResult
     ensures { λ r. ⌜ Did (octetsPlan label p) (now (dst .entry)) r (now (dst .exit)) ⌝ }
 {
     if string_in_range(label, p) {

@@ -4,9 +4,9 @@ pub mod parameter;
 pub mod report;
 
 pub use object::configuration_in_range;
-pub use object::request_in_range;
-pub use parameter::address_in_range;
-pub use parameter::jrc_in_range;
-pub use parameter::keys_in_range;
-pub use parameter::octets_in_range;
+pub(crate) use object::request_in_range;
+pub(crate) use parameter::address_in_range;
+pub(crate) use parameter::jrc_in_range;
+pub(crate) use parameter::keys_in_range;
+pub(crate) use parameter::octets_in_range;
 pub use report::is_taken;

@@ -12,8 +12,8 @@ use crate::range::object::request_in_range;
 use cbor::WriteResult;
 use cbor::write::write_head;
 use cojp::JoinRequest;
-use cojp::Version;
 use cojp::is_owing;
+use protocol_version::Version;
 use refusal::Refusal;
 ghost use mathlib.Core.List.{_++_};
 ghost use Prim.Native.Nat.{_≤_};
@@ -25,7 +25,7 @@ ghost use Rattle.cojp.specs.Writing.{rolePairs, requestPairs, owingPlan, fits, 
 ghost use Rattle.cojp_write.specs.octets.Fits.{RequestFits};
 ghost use Rattle.cojp_write.specs.octets.Size.{Sizes, PairsSize};
 ghost use Rattle.cojp_write.specs.request.Room.{requestCount, requestBytes, requestLength};
-ghost use Rattle.cojp.specs.declared.version.Version.the-variants.{Draft};
+ghost use Rattle.protocol_version.specs.declared.Version.the-variants.{Draft};
 
 // Role 0 is omitted.
 fn role_size(role: u8) -> Size
@@ -98,7 +98,7 @@ pub(crate) fn emit_request(dst: &mut [u8], q: JoinRequest, owed: bool) -> WriteR
 }
 
 // Writes a join request in a form: RANGE, OWED, ROOM, or the length written.
-pub fn write_request_as(dst: &mut [u8], q: JoinRequest, version: Version) -> WriteResult
+pub fn write_request(dst: &mut [u8], q: JoinRequest, version: Version) -> WriteResult
     ensures { λ r. ⌜ Did (requestPlan version q) (now (dst .entry)) r (now (dst .exit)) ⌝ }
 {
     if !request_in_range(version, q) {
@@ -108,11 +108,4 @@ pub fn write_request_as(dst: &mut [u8], q: JoinRequest, version: Version) -> Wri
     let report = network.disposition;
     let owed = is_owing(version, q.role, report);
     emit_request(dst, q, owed)
-}
-
-// Writes a join request of the draft: RANGE, OWED, ROOM, or the length written.
-pub fn write_request(dst: &mut [u8], q: JoinRequest) -> WriteResult
-    ensures { λ r. ⌜ Did (requestPlan Draft q) (now (dst .entry)) r (now (dst .exit)) ⌝ }
-{
-    write_request_as(dst, q, Version::Draft)
 }

@@ -1,5 +1,5 @@
 // What a line asks of decode.
-use cojp::Version;
+use protocol_version::Version;
 use tool_text::decimal::Decimal;
 use tool_text::line::Line;
 use tool_text::word::Word;

@@ -9,18 +9,11 @@ use cojp::KeysParameter;
 use cojp::ListParameter;
 use cojp::RateParameter;
 use cojp::ShortAddress;
-use cojp::Version;
+use protocol_version::Version;
 use refusal::Verdict;
 use tool_notation::put_passed;
 use tool_text::output::Buffer;
 use tool_text::output::Output;
-
-pub fn read(version: Version, strict: bool, payload: &[u8]) -> ConfigurationRead {
-    if strict {
-        return cojp_read::configuration::read_strict_configuration_as(payload, version);
-    }
-    cojp_read::configuration::read_configuration_as(payload, version)
-}
 
 // The object, or the refusal.
 pub fn put_read(

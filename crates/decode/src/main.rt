@@ -105,10 +105,10 @@ fn answer_hex(
 fn answer_object(reading: Reading, payload: &[u8], out: Output, buffer: &mut Buffer) -> Output {
     let version = reading.version;
     if reading.is_request {
-        let read = request::read(version, reading.strict, payload);
+        let read = cojp_read::read_request(payload, version, reading.strict);
         return request::put_read(out, version, read, buffer);
     }
-    let read = configuration::read(version, reading.strict, payload);
+    let read = cojp_read::read_configuration(payload, version, reading.strict);
     configuration::put_read(out, version, read, buffer)
 }
 

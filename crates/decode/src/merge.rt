@@ -1,6 +1,7 @@
 // The command `merge HEX + HEX`: two configurations joined and written.
 use cbor::WriteResult;
 use cojp::Configuration;
+use protocol_version::Version;
 use refusal::Verdict;
 use tool_text::line::Tail;
 use tool_text::line_error::LineError;
@@ -27,12 +28,12 @@ pub fn answer(tail: Tail, payloads: &[u8], out: Output, buffer: &mut Buffer) -> 
 
 // Both payloads are read, the first one first.
 fn answer_two(first: &[u8], second: &[u8], out: Output, buffer: &mut Buffer) -> Output {
-    let one = cojp_read::configuration::read_configuration(first);
+    let one = cojp_read::read_configuration(first, Version::Draft, false);
     let verdict = one.verdict;
     if let Verdict::Refused(refusal) = verdict {
         return tool_notation::put_refusal(out.text(b"first ", buffer), refusal, buffer);
     }
-    let other = cojp_read::configuration::read_configuration(second);
+    let other = cojp_read::read_configuration(second, Version::Draft, false);
     let verdict = other.verdict;
     if let Verdict::Refused(refusal) = verdict {
         return tool_notation::put_refusal(out.text(b"second ", buffer), refusal, buffer);
@@ -52,7 +53,7 @@ fn put_merged(
         return tool_notation::put_refusal(out, refusal, buffer);
     }
     let mut dst = [0u8; 256];
-    let written = cojp_write::configuration::write_configuration(&mut dst, merged.configuration);
+    let written = cojp_write::write_configuration(&mut dst, merged.configuration, Version::Draft);
     match written {
         WriteResult::Refused(refusal) => tool_notation::put_refusal(out, refusal, buffer),
         WriteResult::Length(len) => {

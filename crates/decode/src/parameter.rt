@@ -1,7 +1,7 @@
 // A parameter of an object: absent, bad, or what was taken.
 use cojp::Disposition;
 use cojp::OctetsParameter;
-use cojp::Version;
+use protocol_version::Version;
 use tool_text::output::Buffer;
 use tool_text::output::Output;
 

@@ -5,18 +5,11 @@ use cojp::Disposition;
 use cojp::JoinRequest;
 use cojp::ListParameter;
 use cojp::RequestRead;
-use cojp::Version;
+use protocol_version::Version;
 use refusal::Verdict;
 use tool_notation::put_passed;
 use tool_text::output::Buffer;
 use tool_text::output::Output;
-
-pub fn read(version: Version, strict: bool, payload: &[u8]) -> RequestRead {
-    if strict {
-        return cojp_read::request::read_strict_request_as(payload, version);
-    }
-    cojp_read::request::read_request_as(payload, version)
-}
 
 // The object, or the refusal.
 pub fn put_read(out: Output, version: Version, read: RequestRead, buffer: &mut Buffer) -> Output {

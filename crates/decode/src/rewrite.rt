@@ -1,7 +1,7 @@
 // The command `rewrite READING HEX`: the object that was read, written again.
 use crate::command::Reading;
 use cbor::WriteResult;
-use cojp::Version;
+use protocol_version::Version;
 use refusal::Verdict;
 use tool_text::output::Buffer;
 use tool_text::output::Output;
@@ -27,11 +27,11 @@ fn rewrite(reading: Reading, payload: &[u8], dst: &mut [u8]) -> WriteResult {
 }
 
 fn rewrite_request(version: Version, strict: bool, payload: &[u8], dst: &mut [u8]) -> WriteResult {
-    let read = crate::request::read(version, strict, payload);
+    let read = cojp_read::read_request(payload, version, strict);
     let verdict = read.verdict;
     match verdict {
         Verdict::Refused(refusal) => WriteResult::Refused(refusal),
-        Verdict::Accepted => cojp_write::request::write_request_as(dst, read.request, version),
+        Verdict::Accepted => cojp_write::write_request(dst, read.request, version),
     }
 }
 
@@ -41,12 +41,10 @@ fn rewrite_configuration(
     payload: &[u8],
     dst: &mut [u8],
 ) -> WriteResult {
-    let read = crate::configuration::read(version, strict, payload);
+    let read = cojp_read::read_configuration(payload, version, strict);
     let verdict = read.verdict;
     match verdict {
         Verdict::Refused(refusal) => WriteResult::Refused(refusal),
-        Verdict::Accepted => {
-            cojp_write::configuration::write_configuration_as(dst, read.configuration, version)
-        }
+        Verdict::Accepted => { cojp_write::write_configuration(dst, read.configuration, version) }
     }
 }

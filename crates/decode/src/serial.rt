@@ -2,11 +2,11 @@
 use crate::command::Reading;
 use crate::configuration;
 use crate::request;
-use cojp::Version;
 use cojp_serial::ConfigurationEnd;
 use cojp_serial::PartResult;
 use cojp_serial::RequestEnd;
 use cojp_serial::SerialState;
+use protocol_version::Version;
 use refusal::Verdict;
 use tool_text::output::Buffer;
 use tool_text::output::Output;
@@ -99,36 +99,17 @@ pub fn end(
     let version = reading.version;
     let lent = tool_text::first(store, cable.lent);
     if reading.is_request {
-        let end = end_request(cable.state, lent, version, reading.strict);
+        let end = cojp_serial::end_request(cable.state, lent, version, reading.strict);
         let arrival = end.state;
         return Answered {
             serial: cable.with(arrival),
             out: request::put_read(out, version, end.read, buffer),
         };
     }
-    let end = end_configuration(cable.state, lent, version, reading.strict);
+    let end = cojp_serial::end_configuration(cable.state, lent, version, reading.strict);
     let arrival = end.state;
     Answered {
         serial: cable.with(arrival),
         out: configuration::put_read(out, version, end.read, buffer),
     }
-}
-
-fn end_request(arrival: SerialState, store: &[u8], version: Version, strict: bool) -> RequestEnd {
-    if strict {
-        return cojp_serial::end_strict_request_as(arrival, store, version);
-    }
-    cojp_serial::end_request_as(arrival, store, version)
-}
-
-fn end_configuration(
-    arrival: SerialState,
-    store: &[u8],
-    version: Version,
-    strict: bool,
-) -> ConfigurationEnd {
-    if strict {
-        return cojp_serial::end_strict_configuration_as(arrival, store, version);
-    }
-    cojp_serial::end_configuration_as(arrival, store, version)
 }

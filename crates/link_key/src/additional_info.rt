@@ -38,7 +38,7 @@ pub fn additional_info_bytes(info: AdditionalInfo) -> PaddedBytes
 }
 
 // Whether two keys' additional information agrees: both have none, or both have the same bytes.
-pub fn same_additional_info(a: AdditionalInfo, b: AdditionalInfo) -> bool
+pub(crate) fn same_additional_info(a: AdditionalInfo, b: AdditionalInfo) -> bool
     ensures { λ r. ⌜ r ≡ sameBytes (additionalInfoBytes a) (additionalInfoBytes b) ⌝ }
 {
     let x = additional_info_bytes(a);

@@ -10,7 +10,7 @@ use crate::usage::entry_at;
 pub use additional_info::AdditionalInfo;
 pub use additional_info::PaddedBytes;
 pub use additional_info::additional_info_bytes;
-pub use additional_info::same_additional_info;
+pub(crate) use additional_info::same_additional_info;
 pub use compare::same_bytes;
 use refusal::Refusal;
 ghost use mathlib.Core.Path.{_≡_};

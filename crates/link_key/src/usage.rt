@@ -107,7 +107,7 @@ pub fn entry_at(usage: u8) -> Entry
 
 impl Family {
     // Whether keys of the family cover the frame type, 0 beacon or 1 data; no key covers another type.
-    pub fn covers_type(self, frame_type: u8) -> bool
+    pub(crate) fn covers_type(self, frame_type: u8) -> bool
         ensures { λ r. ⌜ r ≡ familyCovers self «frame_type» ⌝ }
     {
         match self {

@@ -12,7 +12,7 @@ use Rattle.link_key.specs.Key.{keyOf}
 use Rattle.link_key.specs.declared.Key.{Key}
 use Rattle.link_key_counters.specs.Counters.{withZeroCounters}
 use Rattle.cojp.specs.KeySet.{keySetOf}
-use Rattle.cojp.specs.declared.version.Version.the-variants.{Published}
+use Rattle.protocol_version.specs.declared.Version.the-variants.{Published}
 use Rattle.node_key_sets.specs.Sets.{twoSets}
 use Rattle.node.specs.Node.{activeOf, pendingOf, keyed}
 use Rattle.node.specs.Frames.{sendCounter}

@@ -11,7 +11,7 @@ use Rattle.link_key.specs.declared.Key.{Key}
 use Rattle.link_key.specs.declared.additional_info.AdditionalInfo.the-variants as info
 use Rattle.cojp.specs.ErrorReports.{errorReportOf, errorReportList}
 use Rattle.cojp.specs.KeySet.{keySetOf}
-use Rattle.cojp.specs.declared.version.Version.the-variants.{Published}
+use Rattle.protocol_version.specs.declared.Version.the-variants.{Published}
 use Rattle.node.specs.Node.{activeOf, pendingOf}
 use Rattle.node_laws.specs.Calls.{delivering}
 use Rattle.node_laws.specs.Laws.{Takes}

@@ -10,8 +10,8 @@ use Rattle.link_key.specs.declared.set.key_set.KeySet.{KeySet}
 use Rattle.link_key.specs.Key.{keyOf}
 use Rattle.cojp.specs.KeySet.{keySetOf}
 use Rattle.cojp.specs.Octets.{octetsOf}
-use Rattle.cojp.specs.declared.version.Version.{Version}
-use Rattle.cojp.specs.declared.version.Version.the-variants.{Draft, Published}
+use Rattle.protocol_version.specs.declared.Version.{Version}
+use Rattle.protocol_version.specs.declared.Version.the-variants.{Draft, Published}
 use Rattle.link_key_counters.specs.Counters.{withZeroCounters}
 use Rattle.node_key_sets.specs.Sets.{twoSets}
 use Rattle.node_attempt.specs.Attempt.{attempt}

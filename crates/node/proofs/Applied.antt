@@ -19,12 +19,12 @@ use Rattle.node_attempt.specs.declared.delivery.Delivery.{Delivery}
 use Rattle.cojp.specs.Configuration.{withKeys, readConfigurationAs}
 use Rattle.cojp.specs.KeySet.{noKeysParameter}
 use Rattle.cojp.specs.Reading.{ifTaken}
-use Rattle.cojp.specs.Version.{byVersion}
+use Rattle.protocol_version.specs.Version.{byVersion}
 use Rattle.cojp.specs.declared.configuration.Configuration.{Configuration}
 use Rattle.cojp.specs.declared.configuration.ConfigurationRead.{ConfigurationRead}
 use Rattle.cojp.specs.declared.disposition.Disposition.the-variants.{Discarded}
-use Rattle.cojp.specs.declared.version.Version.{Version}
-use Rattle.cojp.specs.declared.version.Version.the-variants.{Draft, Published}
+use Rattle.protocol_version.specs.declared.Version.{Version}
+use Rattle.protocol_version.specs.declared.Version.the-variants.{Draft, Published}
 use Rattle.node_parameters.specs.Dispositions.{dispositionsOf}
 use Rattle.node_parameters.proofs.Taken.{taken-is, taken-not}
 use Rattle.node.specs.Delivery.{placementOf, fittedBy, fitted, configured, undelivered, delivered, owesIdentifier, placedBy, apply, deliverVerdict, deliver}

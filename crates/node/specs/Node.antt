@@ -11,8 +11,8 @@ use Rattle.node_key_sets.specs.declared.sets.KeySets.{KeySets}
 use Rattle.node_attempt.specs.Attempt.{idle}
 use Rattle.node_attempt.specs.declared.attempt.Attempt.{Attempt}
 use Rattle.cojp.specs.ErrorReports.{noErrorReports}
-use Rattle.cojp.specs.declared.version.Version.{Version}
-use Rattle.cojp.specs.declared.version.Version.the-variants.{Draft}
+use Rattle.protocol_version.specs.declared.Version.{Version}
+use Rattle.protocol_version.specs.declared.Version.the-variants.{Draft}
 use Rattle.node_parameters.specs.Blacklist.{absentList}
 use Rattle.node_parameters.specs.Lease.{absentAddress}
 use Rattle.node_parameters.specs.Octets.{absentOctets, knownOctets, validOctets}

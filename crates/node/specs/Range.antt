@@ -2,7 +2,7 @@
 use mathlib.Core.Path.{_≡_}
 use mathlib.Core.Bool.{Bool, true, not, _&&_}
 use Rattle.cojp.specs.ErrorReports.{errorReportsValid}
-use Rattle.cojp.specs.Version.{byVersion, allowsAdditionalInfo}
+use Rattle.protocol_version.specs.Version.{byVersion, allowsAdditionalInfo}
 use Rattle.node_key_sets.specs.Sets as sets
 use Rattle.node_attempt.specs.Attempt as attempt
 use Rattle.node_parameters.specs.Blacklist.{validList}

@@ -2,16 +2,16 @@
 use crate::node::Node;
 use cojp::Disposition;
 use cojp::OctetsParameter;
-use cojp::Version;
 use cojp::error_reports_of;
 use cojp::no_key_set;
-use cojp_read::configuration::read_configuration_as;
+use cojp_read::read_configuration;
 use cojp_write::range::is_taken;
 use node_attempt::delivery::Delivery;
 use node_key_sets::InstallDecision;
 use node_parameters::Dispositions;
 use node_parameters::dispositions::dispositions_of;
 use node_parameters::dispositions::no_dispositions;
+use protocol_version::Version;
 use refusal::Refusal;
 use refusal::Verdict;
 ghost use mathlib.Core.Path.{_≡_};
@@ -57,7 +57,7 @@ impl Node {
             return self.undelivered(why);
         }
         let version = self.version;
-        let read = read_configuration_as(payload, version);
+        let read = read_configuration(payload, version, false);
         let verdict = read.verdict;
         if let Verdict::Refused(why) = verdict {
             return self.undelivered(why);

@@ -1,6 +1,5 @@
 // One node's state, and how a node is made.
 use cojp::ErrorReports;
-use cojp::Version;
 use cojp::no_error_reports;
 use node_attempt::Attempt;
 use node_attempt::attempt::idle;
@@ -14,10 +13,10 @@ use node_parameters::address::absent_address;
 use node_parameters::blacklist::absent_list;
 use node_parameters::octets::absent_octets;
 use node_parameters::rate::absent_rate;
+use protocol_version::Version;
 use refusal::Refusal;
 use refusal::Verdict;
 ghost use mathlib.Core.Path.{_≡_};
-ghost use Rattle.cojp.specs.declared.version.Version.the-variants.{Draft, Published};
 ghost use Rattle.node.specs.Node.{freshNode, unmade, made};
 
 pub struct Node {
@@ -72,22 +71,6 @@ fn not_made() -> MakeResult
     }
 }
 
-// A node of a form. RANGE: role over 1, identifier over 16 bytes.
-fn make(version: Version, role: u8, network: HeldOctets) -> MakeResult
-    ensures { λ r. ⌜ r ≡ made version role network ⌝ }
-{
-    if 1 < role {
-        return not_made();
-    }
-    if !network.valid() {
-        return not_made();
-    }
-    MakeResult {
-        verdict: Verdict::Accepted,
-        node: fresh_node(version, role, network.known()),
-    }
-}
-
 impl Node {
     pub const FIRST_TIMEOUT_LEAST: u64 = Attempt::FIRST_TIMEOUT_LEAST;
 
@@ -95,18 +78,20 @@ impl Node {
 
     pub const RETRANSMISSIONS: u8 = Attempt::RETRANSMISSIONS;
 
-    // A node of document 01's form with this role, idle, and perhaps with a network identifier. RANGE: role over 1, identifier over 16
-    // bytes.
-    pub fn new(role: u8, network: HeldOctets) -> MakeResult
-        ensures { λ r. ⌜ r ≡ made Draft role network ⌝ }
+    // An idle node of this version and role, perhaps with a network identifier. RANGE: role over 1, identifier over 16 bytes. Beside a refusal is
+    // the empty node of the draft.
+    pub fn new(version: Version, role: u8, network: HeldOctets) -> MakeResult
+        ensures { λ r. ⌜ r ≡ made version role network ⌝ }
     {
-        make(Version::Draft, role, network)
-    }
-
-    // The same of RFC 9031's form. Beside a refusal stands the empty node of the draft.
-    pub fn published(role: u8, network: HeldOctets) -> MakeResult
-        ensures { λ r. ⌜ r ≡ made Published role network ⌝ }
-    {
-        make(Version::Published, role, network)
+        if 1 < role {
+            return not_made();
+        }
+        if !network.valid() {
+            return not_made();
+        }
+        MakeResult {
+            verdict: Verdict::Accepted,
+            node: fresh_node(version, role, network.known()),
+        }
     }
 }

@@ -1,20 +1,9 @@
 // Which nodes may be handed in.
 use crate::node::Node;
-use cojp::Version;
 use node_parameters::error_reports::error_reports_valid;
+use protocol_version::Version;
 ghost use mathlib.Core.Path.{_≡_};
-ghost use Rattle.cojp.specs.Version.{allowsAdditionalInfo};
 ghost use Rattle.node.specs.Range.{draftValid, publishedValid, versionValid, othersValid, valid};
-
-// Whether a form's keys may have additional information.
-fn allows_additional_info(version: Version) -> bool
-    ensures { λ r. ⌜ r ≡ allowsAdditionalInfo version ⌝ }
-{
-    match version {
-        Version::Draft => false,
-        Version::Published => true,
-    }
-}
 
 impl Node {
     // Whether a node of the draft has nothing that belongs to the published form.
@@ -60,7 +49,7 @@ impl Node {
     {
         let attempt = self.attempt;
         let version = self.version;
-        let allowed = allows_additional_info(version);
+        let allowed = version.allows_additional_info();
         self.sets.valid(self.role == 1, allowed)
             && attempt.valid()
             && self.address.valid(attempt.clock)

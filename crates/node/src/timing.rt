@@ -4,7 +4,7 @@ use cbor::WriteResult;
 use cojp::JoinRequest;
 use cojp::no_error_reports;
 use cojp_list::unsupported_of;
-use cojp_write::request::write_request_as;
+use cojp_write::write_request;
 use node_attempt::Attempt;
 use node_attempt::Due;
 use node_attempt::attempt::waiting_from;
@@ -92,7 +92,7 @@ impl Node {
             Verdict::Refused(why) => self.unstarted(why),
             Verdict::Accepted => {
                 let version = self.version;
-                let written = write_request_as(dst, self.request(), version);
+                let written = write_request(dst, self.request(), version);
                 self.started(written, time, timeout)
             }
         }

@@ -24,7 +24,7 @@ pub struct Attempt {
     pub count: u8,
 }
 
-pub fn is_waiting(phase: Phase) -> bool
+pub(crate) fn is_waiting(phase: Phase) -> bool
     ensures { λ r. ⌜ r ≡ isWaiting phase ⌝ }
 {
     match phase {
@@ -33,7 +33,7 @@ pub fn is_waiting(phase: Phase) -> bool
     }
 }
 
-pub fn is_joined(phase: Phase) -> bool
+pub(crate) fn is_joined(phase: Phase) -> bool
     ensures { λ r. ⌜ r ≡ isJoined phase ⌝ }
 {
     match phase {
@@ -55,7 +55,7 @@ pub fn idle() -> Attempt
     }
 }
 
-pub fn first_timeout(timeout: u64) -> bool
+pub(crate) fn first_timeout(timeout: u64) -> bool
     ensures { λ r. ⌜ r ≡ firstTimeout timeout ⌝ }
 {
     Attempt::FIRST_TIMEOUT_LEAST <= timeout && timeout <= Attempt::FIRST_TIMEOUT_MOST

@@ -11,8 +11,8 @@ use lib.Seq.{take-length}
 use Rattle.image.specs.Part.{AllBytes, octets}
 use Rattle.link_key.specs.set.KeyLaws.{KeyLaws}
 use Rattle.cojp.specs.Octets.{padded, copiedFrom}
-use Rattle.cojp.specs.declared.version.Version.{Version}
-use Rattle.cojp.specs.declared.version.Version.the-variants.{Draft, Published}
+use Rattle.protocol_version.specs.declared.Version.{Version}
+use Rattle.protocol_version.specs.declared.Version.the-variants.{Draft, Published}
 use Rattle.node.specs.Node.{validRole, freshNode, made}
 use Rattle.node.specs.declared.node.MakeResult.{MakeResult}
 use Rattle.node_calls.specs.Calls.{networkOf, madeOf}

@@ -16,12 +16,12 @@ use Rattle.cojp.specs.Configuration.{withKeys}
 use Rattle.cojp.specs.ErrorReports.{noErrorReports, errorReportList}
 use Rattle.cojp.specs.KeySet.{noKeysParameter}
 use Rattle.cojp.specs.Reported.{errorReportsOf}
-use Rattle.cojp.specs.Version.{byVersion}
+use Rattle.protocol_version.specs.Version.{byVersion}
 use Rattle.cojp.specs.declared.configuration.Configuration.{Configuration}
 use Rattle.cojp.specs.declared.configuration.ConfigurationRead.{ConfigurationRead}
 use Rattle.cojp.specs.declared.disposition.Disposition.the-variants.{Discarded}
-use Rattle.cojp.specs.declared.version.Version.{Version}
-use Rattle.cojp.specs.declared.version.Version.the-variants.{Draft, Published}
+use Rattle.protocol_version.specs.declared.Version.{Version}
+use Rattle.protocol_version.specs.declared.Version.the-variants.{Draft, Published}
 use Rattle.link_key.specs.Key.{noKey}
 use Rattle.link_key.specs.usage.Usage.{knownType}
 use Rattle.link_key_counters.specs.Counters.{takeCounter}

@@ -19,8 +19,8 @@ use Rattle.cojp.specs.declared.list.ListParameter.{ListParameter}
 use Rattle.cojp.specs.declared.disposition.Disposition.the-variants.{Absent, Discarded}
 use Rattle.cojp.specs.declared.request.RequestState.{RequestState}
 use Rattle.cojp.specs.declared.request.JoinRequest.{JoinRequest}
-use Rattle.cojp.specs.declared.version.Version.{Version}
-use Rattle.cojp.specs.declared.version.Version.the-variants.{Draft, Published}
+use Rattle.protocol_version.specs.declared.Version.{Version}
+use Rattle.protocol_version.specs.declared.Version.the-variants.{Draft, Published}
 use Rattle.cojp.specs.declared.walk.LabelStatus.{LabelStatus}
 use Rattle.cojp.specs.declared.walk.LabelStatus.the-variants.{Unknown, First, Repeated}
 use Rattle.object_image.specs.Lists.{listParameterPart}

@@ -16,8 +16,8 @@ use Rattle.cbor.specs.declared.value.Label.{Label}
 use Rattle.cbor.specs.declared.value.Label.the-variants as label
 use Rattle.cojp.specs.Reading.{Reading, refused, read, bind, mapReading, byVersionOf}
 use Rattle.cojp.specs.Walk.{Form, knownRead, pairRead, pairsRead, mapRead, scannedRead, payloadReadBy}
-use Rattle.cojp.specs.declared.version.Version.{Version}
-use Rattle.cojp.specs.declared.version.Version.the-variants.{Draft, Published}
+use Rattle.protocol_version.specs.declared.Version.{Version}
+use Rattle.protocol_version.specs.declared.Version.the-variants.{Draft, Published}
 use Rattle.node_call_laws.proofs.Items.{Word, ViewOk, PairsOk, no-pairs, a-pair, Ok, OutOk, payload-ok}
 use Rattle.node_call_laws.proofs.Lists.{by-cond}
 use Rattle.node_call_laws.proofs.Parameters.{ReadOk}

@@ -7,7 +7,7 @@ use Rattle.image.specs.Part.{AllBytes}
 use Rattle.cbor.specs.Strict.{headBy}
 use Rattle.cojp.specs.Configuration.{readConfigurationBy}
 use Rattle.cojp.specs.Request.{readRequestBy}
-use Rattle.cojp.specs.declared.version.Version.{Version}
+use Rattle.protocol_version.specs.declared.Version.{Version}
 use Rattle.node.specs.declared.node.Node.{Node}
 use Rattle.node_calls.specs.Calls.{madeOf}
 use Rattle.node_image.specs.Answers.{dispositionsImage, frameKeyImage}

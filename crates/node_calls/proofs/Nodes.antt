@@ -14,8 +14,8 @@ use Rattle.image.specs.Effects.{onAccept}
 use Rattle.image.specs.Lent.{hands-told}
 use Rattle.image.specs.Part.{isImage}
 use Rattle.cojp.specs.Octets.{copiedFrom}
-use Rattle.cojp.specs.declared.version.Version.{Version}
-use Rattle.cojp.specs.declared.version.Version.the-variants.{Draft, Published}
+use Rattle.protocol_version.specs.declared.Version.{Version}
+use Rattle.protocol_version.specs.declared.Version.the-variants.{Draft, Published}
 use Rattle.node.specs.Delivery.{deliver}
 use Rattle.node.specs.Frames.{sending, send, sendCounter, afterSend, receive, verified}
 use Rattle.node.specs.Lease.{holds, holdingVerdict, holdingNumber}

@@ -8,6 +8,7 @@ use node::MakeResult;
 use node::Node;
 use node_parameters::HeldOctets;
 use node_parameters::octets::absent_octets;
+use protocol_version::Version;
 ghost use mathlib.Core.Path.{_≡_};
 ghost use Rattle.node_calls.specs.Calls.{networkOf, madeOf, Makes};
 
@@ -32,9 +33,9 @@ fn made_of(form: u8, role: u8, has_network: u8, network: &[u8]) -> MakeResult
 {
     let held = network_of(has_network, network);
     if form == 0 {
-        return Node::new(role, held);
+        return Node::new(Version::Draft, role, held);
     }
-    Node::published(role, held)
+    Node::new(Version::Published, role, held)
 }
 
 // Makes a node. RANGE: form, role or has_network over 1, a network identifier over 16 bytes.

@@ -9,7 +9,7 @@ use lib.ListN.{length, drop, getD}
 use lib.Seq.{drop-drop}
 use Rattle.cbor.specs.Answer.{Wrote}
 use Rattle.cojp.specs.declared.error_report.ErrorReports.{ErrorReports}
-use Rattle.cojp.specs.declared.version.Version.{Version}
+use Rattle.protocol_version.specs.declared.Version.{Version}
 use Rattle.image.specs.Fields.{whole-struct, four-fields}
 use Rattle.image.specs.Part.{Part, byte, both, isHeaded, isImage}
 use Rattle.lemmas.specs.logic.Tests.{both-left}

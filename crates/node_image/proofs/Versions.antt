@@ -9,8 +9,8 @@ use lib.Dec.{leb}
 use lib.ListN.{drop, getD}
 use Rattle.image.specs.CodecLaws.{code-lawful}
 use Rattle.image.specs.Part.{RoundTrips}
-use Rattle.cojp.specs.declared.version.Version.{Version}
-use Rattle.cojp.specs.declared.version.Version.the-variants.{Draft, Published}
+use Rattle.protocol_version.specs.declared.Version.{Version}
+use Rattle.protocol_version.specs.declared.Version.the-variants.{Draft, Published}
 use Rattle.node_image.proofs.Places.{first-at}
 use Rattle.node_image.specs.Version.{versionNumber, versionOf, versionPart}
 

@@ -3,7 +3,7 @@
 use Prim.Native.Nat.{ℕ}
 use Rattle.image.specs.Part.{Part, byte, both, viewed, headed}
 use Rattle.cojp.specs.declared.error_report.ErrorReports.{ErrorReports}
-use Rattle.cojp.specs.declared.version.Version.{Version}
+use Rattle.protocol_version.specs.declared.Version.{Version}
 use Rattle.key_image.specs.Key.{countedSetPart}
 use Rattle.link_key_counters.specs.declared.CountedSet.{CountedSet}
 use Rattle.node.specs.declared.node.Node.{Node}

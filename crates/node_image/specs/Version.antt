@@ -1,8 +1,8 @@
 -- The form that a node speaks, one byte: 0 draft, 1 published.
 use Prim.Native.Nat.{ℕ, zero, suc}
 use Rattle.image.specs.Part.{Part, code}
-use Rattle.cojp.specs.declared.version.Version.{Version}
-use Rattle.cojp.specs.declared.version.Version.the-variants.{Draft, Published}
+use Rattle.protocol_version.specs.declared.Version.{Version}
+use Rattle.protocol_version.specs.declared.Version.the-variants.{Draft, Published}
 
 abbrev pub versionNumber : Version → ℕ
 versionNumber Draft = 0

@@ -1,6 +1,6 @@
 // The form that a node speaks, in an image.
-use cojp::Version;
 use image::put_byte;
+use protocol_version::Version;
 ghost use mathlib.Core.Path.{_≡_};
 ghost use Prim.Native.Nat.{_+_, _≤_};
 ghost use lib.ListN.{length, drop};

@@ -20,7 +20,7 @@ use Rattle.cojp.specs.Reading.{ifTaken}
 use Rattle.cojp.specs.Octets.{bytesIn}
 use Rattle.cojp.specs.Lists.{bytesIn as listBytes}
 use Rattle.cojp.specs.Same.{leaseOf, addressTaken, listTaken, rateTaken, SameConfiguration}
-use Rattle.cojp.specs.Version.{byVersion}
+use Rattle.protocol_version.specs.Version.{byVersion}
 use Rattle.cojp.specs.Writing.{keysInRange}
 use Rattle.cojp.specs.declared.address.AddressParameter.{AddressParameter}
 use Rattle.cojp.specs.declared.address.ShortAddress.{ShortAddress}
@@ -30,8 +30,8 @@ use Rattle.cojp.specs.declared.octets.Octets.{Octets}
 use Rattle.cojp.specs.declared.rate.RateParameter.{RateParameter}
 use Rattle.cojp.specs.declared.disposition.Disposition.{Disposition}
 use Rattle.cojp.specs.declared.disposition.Disposition.the-variants.{Absent, Taken, Discarded}
-use Rattle.cojp.specs.declared.version.Version.{Version}
-use Rattle.cojp.specs.declared.version.Version.the-variants.{Draft, Published}
+use Rattle.protocol_version.specs.declared.Version.{Version}
+use Rattle.protocol_version.specs.declared.Version.the-variants.{Draft, Published}
 use Rattle.node_parameters.specs.Blacklist.{listAfter}
 use Rattle.node_parameters.specs.Lease.{addressAfter}
 use Rattle.node_parameters.specs.Octets.{octetsAfter}

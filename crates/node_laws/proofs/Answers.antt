@@ -23,14 +23,14 @@ use Rattle.cbor.specs.Answer.{Plan, answer}
 use Rattle.cbor.specs.declared.write.WriteResult.{WriteResult}
 use Rattle.cbor.specs.declared.write.WriteResult.the-variants as written
 use Rattle.cojp.specs.InRange.{ReadsInRange}
-use Rattle.cojp.specs.Version.{byVersion}
+use Rattle.protocol_version.specs.Version.{byVersion}
 use Rattle.cojp.specs.Writing.{keysInRange, requestPlan}
 use Rattle.cojp.specs.declared.configuration.Configuration.{Configuration}
 use Rattle.cojp.specs.declared.configuration.ConfigurationRead.{ConfigurationRead}
 use Rattle.cojp.specs.declared.key_set.KeysParameter.{KeysParameter}
 use Rattle.cojp.specs.declared.disposition.Disposition.the-variants.{Discarded}
-use Rattle.cojp.specs.declared.version.Version.{Version}
-use Rattle.cojp.specs.declared.version.Version.the-variants.{Draft, Published}
+use Rattle.protocol_version.specs.declared.Version.{Version}
+use Rattle.protocol_version.specs.declared.Version.the-variants.{Draft, Published}
 use Rattle.link_key_counters.specs.CounterLaws.{CounterLaws}
 use Rattle.link_key_counters.specs.Counters.{Slot, firstServing, takenCounterOn}
 use Rattle.link_key_counters.specs.declared.TakenCounter.{TakenCounter}

@@ -32,7 +32,7 @@ use Rattle.node_parameters.proofs.Leases.{later}
 use Rattle.cojp.specs.Reading.{ifTaken}
 use Rattle.short_address.specs.Address.{isAddress}
 use Rattle.cojp.specs.InRange.{InRange, ReadsInRange, ErrorReportsValid}
-use Rattle.cojp.specs.Version.{allowsAdditionalInfo}
+use Rattle.protocol_version.specs.Version.{allowsAdditionalInfo}
 use Rattle.cojp.specs.declared.address.ShortAddress.{ShortAddress}
 use Rattle.cojp.specs.declared.configuration.Configuration.{Configuration}
 use Rattle.cojp.specs.declared.configuration.ConfigurationRead.{ConfigurationRead}

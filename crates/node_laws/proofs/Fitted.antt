@@ -9,13 +9,13 @@ use Rattle.link_key.specs.declared.set.key_set.KeySet.{KeySet}
 use Rattle.cojp.specs.Configuration.{withKeys}
 use Rattle.cojp.specs.KeySet.{noKeysParameter}
 use Rattle.cojp.specs.Reading.{ifTaken}
-use Rattle.cojp.specs.Version.{byVersion}
+use Rattle.protocol_version.specs.Version.{byVersion}
 use Rattle.cojp.specs.Writing.{keysInRange}
 use Rattle.cojp.specs.declared.configuration.Configuration.{Configuration}
 use Rattle.cojp.specs.declared.disposition.Disposition.{Disposition}
 use Rattle.cojp.specs.declared.disposition.Disposition.the-variants.{Absent, Taken, Discarded}
-use Rattle.cojp.specs.declared.version.Version.{Version}
-use Rattle.cojp.specs.declared.version.Version.the-variants.{Draft, Published}
+use Rattle.protocol_version.specs.declared.Version.{Version}
+use Rattle.protocol_version.specs.declared.Version.the-variants.{Draft, Published}
 use Rattle.node_key_sets.specs.Sets.{placed, install}
 use Rattle.node_key_sets.specs.declared.sets.KeySets.{KeySets}
 use Rattle.node_key_sets.proofs.Valid.{placeBy}

@@ -13,7 +13,7 @@ use Rattle.cojp.specs.InRange.{InRange, ErrorReportsValid}
 use Rattle.cojp.specs.Lists.{stringsIn, kept}
 use Rattle.cojp.specs.Reading.{ifTaken}
 use Rattle.cojp.specs.Reported.{errorReportsOf}
-use Rattle.cojp.specs.Version.{byVersion, allowsAdditionalInfo}
+use Rattle.protocol_version.specs.Version.{byVersion, allowsAdditionalInfo}
 use Rattle.cojp.specs.Writing.{keysInRange, keysWithoutAdditionalInfo, listInRange, missing, ofVersion}
 use Rattle.cojp.specs.declared.configuration.Configuration.{Configuration}
 use Rattle.cojp.specs.declared.list.ItemList.{ItemList}
@@ -23,8 +23,8 @@ use Rattle.cojp.specs.declared.octets.OctetsParameter.{OctetsParameter}
 use Rattle.cojp.specs.declared.rate.RateParameter.{RateParameter}
 use Rattle.cojp.specs.declared.disposition.Disposition.{Disposition}
 use Rattle.cojp.specs.declared.disposition.Disposition.the-variants.{Absent, Taken, Discarded}
-use Rattle.cojp.specs.declared.version.Version.{Version}
-use Rattle.cojp.specs.declared.version.Version.the-variants.{Draft, Published}
+use Rattle.protocol_version.specs.declared.Version.{Version}
+use Rattle.protocol_version.specs.declared.Version.the-variants.{Draft, Published}
 use Rattle.node_key_sets.specs.declared.sets.KeySets.{KeySets}
 use Rattle.node_parameters.specs.Blacklist.{validList, listAfter}
 use Rattle.node_parameters.specs.Octets.{validOctets, octetsAfter}

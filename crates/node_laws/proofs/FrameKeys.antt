@@ -17,7 +17,7 @@ use Rattle.link_key_counters.specs.CounterLaws.{CounterLaws}
 use Rattle.link_key_counters.specs.Counters.{Slot, slotsOf, lastCounter, isUsedUp, firstServing, raised}
 use Rattle.link_key_counters.specs.declared.CountedSet.{CountedSet}
 use Rattle.lemmas.specs.logic.Tests.{both-right}
-use Rattle.cojp.specs.Version.{allowsAdditionalInfo}
+use Rattle.protocol_version.specs.Version.{allowsAdditionalInfo}
 use Rattle.node_key_sets.specs.Sets.{twoSets, plainIn}
 use Rattle.node_key_sets.specs.Frames as sets-spec
 use Rattle.node_key_sets.specs.Frames.{withKey, withoutKey, receivingKey, verifiedIn, switched}

@@ -8,9 +8,9 @@ use Rattle.refusal.specs.declared.Refusal.the-variants.{Range}
 use Rattle.refusal.specs.declared.Verdict.the-variants.{Accepted}
 use Rattle.lemmas.specs.logic.Tests.{all-four}
 use Rattle.cojp.specs.ErrorReports.{validErrorReports, errorReportsValid}
-use Rattle.cojp.specs.Version.{allowsAdditionalInfo}
-use Rattle.cojp.specs.declared.version.Version.{Version}
-use Rattle.cojp.specs.declared.version.Version.the-variants.{Draft, Published}
+use Rattle.protocol_version.specs.Version.{allowsAdditionalInfo}
+use Rattle.protocol_version.specs.declared.Version.{Version}
+use Rattle.protocol_version.specs.declared.Version.the-variants.{Draft, Published}
 use Rattle.node_key_sets.specs.Sets as sets
 use Rattle.node_key_sets.specs.Sets.{noSets, plainIn}
 use Rattle.node_attempt.specs.Attempt as attempt

@@ -21,7 +21,7 @@ use Rattle.cojp.specs.Lists.{errorReportsIn, some, bytesIn, itemsIn, kept, noLi
 use Rattle.cojp.specs.Octets as octets
 use Rattle.cojp.specs.Reading.{ifTaken}
 use Rattle.cojp.specs.Request.{owing}
-use Rattle.cojp.specs.Version.{byVersion}
+use Rattle.protocol_version.specs.Version.{byVersion}
 use Rattle.cojp.specs.Writing.{join, labelled, rolePairs, octetsPairs, listPairs, requestPairs}
 use Rattle.cojp.specs.Writing.{octetsInRange, listInRange, missing, requestInRange, requestPlan}
 use Rattle.cojp.specs.declared.error_report.ErrorReports.{ErrorReports}
@@ -30,8 +30,8 @@ use Rattle.cojp.specs.declared.octets.OctetsParameter.{OctetsParameter}
 use Rattle.cojp.specs.declared.request.JoinRequest.{JoinRequest}
 use Rattle.cojp.specs.declared.disposition.Disposition.{Disposition}
 use Rattle.cojp.specs.declared.disposition.Disposition.the-variants.{Absent, Taken, Discarded}
-use Rattle.cojp.specs.declared.version.Version.{Version}
-use Rattle.cojp.specs.declared.version.Version.the-variants.{Draft, Published}
+use Rattle.protocol_version.specs.declared.Version.{Version}
+use Rattle.protocol_version.specs.declared.Version.the-variants.{Draft, Published}
 use Rattle.cojp_list.specs.Laws.{ListLaws}
 use Rattle.cojp_list.specs.Listed.{listing, listedIn}
 use Rattle.node_parameters.specs.Octets.{validOctets, validJrc, identifierIn}

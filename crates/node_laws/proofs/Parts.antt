@@ -9,7 +9,7 @@ use Rattle.refusal.specs.declared.Verdict.the-variants as verdict
 use Rattle.cbor.specs.Answer.{answer}
 use Rattle.cbor.specs.declared.write.WriteResult.{WriteResult}
 use Rattle.cbor.specs.declared.write.WriteResult.the-variants as written
-use Rattle.cojp.specs.declared.version.Version.{Version}
+use Rattle.protocol_version.specs.declared.Version.{Version}
 use Rattle.node_attempt.specs.Attempt.{waitingFrom}
 use Rattle.node_attempt.specs.Poll as attempt
 use Rattle.node_attempt.specs.declared.attempt.Attempt.{Attempt}

@@ -7,7 +7,7 @@ use Rattle.refusal.specs.declared.Verdict.the-variants as verdict
 use Rattle.cojp.specs.ErrorReports.{noErrorReports}
 use Rattle.cojp.specs.Reported.{errorReportsOf}
 use Rattle.cojp.specs.declared.error_report.ErrorReports.{ErrorReports}
-use Rattle.cojp.specs.declared.version.Version.{Version}
+use Rattle.protocol_version.specs.declared.Version.{Version}
 use Rattle.cojp_list.specs.Listed.{listedIn}
 use Rattle.node_attempt.specs.declared.delivery.Delivery.{Delivery}
 use Rattle.node_parameters.specs.declared.octets.HeldOctets.{HeldOctets}

@@ -12,7 +12,7 @@ use Rattle.refusal.specs.declared.Verdict.the-variants as verdict
 use Rattle.cbor.specs.Answer.{Plan, refuse, emit, answer, after}
 use Rattle.cbor.specs.declared.write.WriteResult.the-variants as w
 use Rattle.link_key.specs.Key.{noKey}
-use Rattle.cojp.specs.declared.version.Version.{Version}
+use Rattle.protocol_version.specs.declared.Version.{Version}
 use Rattle.node_key_sets.specs.Frames as sets-spec
 use Rattle.node_key_sets.specs.Frames.{withoutKey, receivingKey, verifiedIn, changeVerdict}
 use Rattle.node_key_sets.specs.declared.frames.Change.the-variants as change

@@ -1,7 +1,7 @@
 -- What it says that a node is valid, part by part, and back.
 use mathlib.Core.Path.{_≡_}
 use mathlib.Core.Bool.{Bool, true, _||_}
-use Rattle.cojp.specs.Version.{allowsAdditionalInfo}
+use Rattle.protocol_version.specs.Version.{allowsAdditionalInfo}
 use Rattle.node_key_sets.specs.Sets as sets
 use Rattle.node_key_sets.specs.Sets.{plainIn}
 use Rattle.node_key_sets.proofs.Valid.{as-valid, as-plain, as-by}

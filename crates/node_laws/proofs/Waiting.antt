@@ -15,7 +15,7 @@ use Rattle.cbor.specs.declared.write.WriteResult.the-variants as written
 use Rattle.refusal.specs.Verdict.{refused-not}
 use Rattle.cojp.specs.declared.configuration.Configuration.{Configuration}
 use Rattle.cojp.specs.declared.configuration.ConfigurationRead.{ConfigurationRead}
-use Rattle.cojp.specs.declared.version.Version.{Version}
+use Rattle.protocol_version.specs.declared.Version.{Version}
 use Rattle.node_attempt.specs.Attempt.{isWaiting}
 use Rattle.node_attempt.specs.Attempt as attempts
 use Rattle.node_attempt.specs.Poll as attempt

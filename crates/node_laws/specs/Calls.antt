@@ -7,7 +7,7 @@ use Rattle.refusal.specs.declared.Verdict.{Verdict}
 use Rattle.refusal.specs.declared.Verdict.the-variants.{Refused}
 use Rattle.link_key.specs.Key.{noKey}
 use Rattle.link_key.specs.declared.Key.{Key}
-use Rattle.cojp.specs.declared.version.Version.{Version}
+use Rattle.protocol_version.specs.declared.Version.{Version}
 use Rattle.node.specs.Node.{emptyNode, made}
 use Rattle.node_key_sets.specs.Frames.{changeVerdict}
 use Rattle.node_key_sets.specs.declared.frames.Change.{Change}

@@ -7,7 +7,7 @@ use Rattle.cojp.specs.KeySet.{noKeysParameter}
 use Rattle.cojp.specs.Writing.{keysInRange}
 use Rattle.cojp.specs.declared.configuration.Configuration.{Configuration}
 use Rattle.cojp.specs.declared.disposition.Disposition.the-variants.{Discarded}
-use Rattle.cojp.specs.declared.version.Version.the-variants.{Draft, Published}
+use Rattle.protocol_version.specs.declared.Version.the-variants.{Draft, Published}
 use Rattle.node.specs.Delivery.{fitted}
 use Rattle.node.specs.declared.node.Node.{Node}
 use Rattle.node_laws.specs.Answers.{clashes}

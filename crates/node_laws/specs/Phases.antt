@@ -5,7 +5,7 @@ use mathlib.Core.Bool.{Bool, true, false}
 use mathlib.Core.List.{List}
 use Rattle.refusal.specs.declared.Refusal.{Refusal}
 use Rattle.refusal.specs.declared.Verdict.the-variants.{Accepted, Refused}
-use Rattle.cojp.specs.declared.version.Version.{Version}
+use Rattle.protocol_version.specs.declared.Version.{Version}
 use Rattle.node_attempt.specs.Attempt.{isWaiting}
 use Rattle.node_attempt.specs.declared.delivery.Delivery.{Delivery}
 use Rattle.node_attempt.specs.declared.delivery.Delivery.the-variants.{JoinAnswer}

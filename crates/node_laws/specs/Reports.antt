@@ -9,8 +9,8 @@ use Rattle.refusal.specs.declared.Verdict.the-variants.{Accepted, Refused}
 use Rattle.cojp.specs.ErrorReports.{errorReportOf, noErrorReports, errorReportList}
 use Rattle.cojp.specs.Reported.{errorReportsOf}
 use Rattle.cojp.specs.declared.error_report.ErrorReports.{ErrorReports}
-use Rattle.cojp.specs.declared.version.Version.{Version}
-use Rattle.cojp.specs.declared.version.Version.the-variants.{Published}
+use Rattle.protocol_version.specs.declared.Version.{Version}
+use Rattle.protocol_version.specs.declared.Version.the-variants.{Published}
 use Rattle.cojp_list.specs.Listed.{listedIn}
 use Rattle.node_attempt.specs.declared.delivery.Delivery.{Delivery}
 use Rattle.node_attempt.specs.declared.delivery.Delivery.the-variants.{JoinAnswer, Update}

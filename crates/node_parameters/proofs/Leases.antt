@@ -7,9 +7,10 @@ use borrow.Author.Tests.{leb-true, le-leb}
 use lib.Dec.{leb}
 use Rattle.lemmas.specs.logic.Tests.{both-left, both-right}
 use Rattle.short_address.specs.Address.{isAddress}
-use Rattle.cojp.specs.declared.version.Version.{Version}
-use Rattle.cojp.specs.declared.version.Version.the-variants.{Draft, Published}
-use Rattle.node_parameters.specs.Lease.{validAddress, leaseUnit}
+use Rattle.protocol_version.specs.declared.Version.{Version}
+use Rattle.protocol_version.specs.declared.Version.the-variants.{Draft, Published}
+use Rattle.node_parameters.specs.Lease.{validAddress}
+use Rattle.protocol_version.specs.Version.{leaseUnit}
 use Rattle.node_parameters.specs.declared.address.HeldAddress.{HeldAddress}
 use Rattle.lemmas.specs.logic.Tests.{both}
 

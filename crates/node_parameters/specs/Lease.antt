@@ -5,9 +5,9 @@ use lib.Dec.{leb, ltb}
 use Rattle.cojp.specs.Address.{noAddress}
 use Rattle.short_address.specs.Address.{isAddress}
 use Rattle.cojp.specs.Reading.{ifTaken}
-use Rattle.cojp.specs.Version.{byVersion}
+use Rattle.protocol_version.specs.Version.{leaseUnit}
 use Rattle.cojp.specs.declared.address.AddressParameter.{AddressParameter}
-use Rattle.cojp.specs.declared.version.Version.{Version}
+use Rattle.protocol_version.specs.declared.Version.{Version}
 use Rattle.node_parameters.specs.declared.address.HeldAddress.{HeldAddress}
 
 abbrev pub absentAddress : HeldAddress
@@ -16,10 +16,6 @@ absentAddress = record { held = false; value = noAddress; received = 0 }
 -- an address, received not after the clock; the lease may be any number
 abbrev pub validAddress : ℕ → HeldAddress → Bool
 validAddress clock a = cond (a .held) (isAddress (a .value .bytes) && leb (a .received) clock) true
-
--- a lease counts seconds, in the published form hours: its unit in milliseconds
-abbrev pub leaseUnit : Version → ℕ
-leaseUnit v = byVersion v 1000 3600000
 
 -- whole units elapsed since the receipt are fewer than the lease; without a lease there is no end
 abbrev pub lasts : Version → HeldAddress → ℕ → Bool

@@ -2,13 +2,13 @@
 use cojp::AddressParameter;
 use cojp::Disposition;
 use cojp::ShortAddress;
-use cojp::Version;
 use cojp::no_address;
 use cojp_write::range::is_taken;
+use protocol_version::Version;
 use short_address::is_address;
 ghost use mathlib.Core.Path.{_≡_};
 ghost use Prim.Native.Nat.{_-_};
-ghost use Rattle.node_parameters.specs.Lease.{absentAddress, validAddress, leaseUnit, holdsAt, addressAfter};
+ghost use Rattle.node_parameters.specs.Lease.{absentAddress, validAddress, holdsAt, addressAfter};
 
 // A short address and when it was received; without one neither counts.
 pub struct HeldAddress {
@@ -39,16 +39,6 @@ fn elapsed(since: u64, time: u64) -> u64
     time - since
 }
 
-// A lease counts seconds, in the published form hours: its unit in milliseconds.
-fn lease_unit(version: Version) -> u64
-    ensures { λ r. ⌜ r ≡ leaseUnit version ⌝ }
-{
-    match version {
-        Version::Draft => 1_000,
-        Version::Published => 3_600_000,
-    }
-}
-
 impl HeldAddress {
     // Whether a node with this clock may hold it.
     pub fn valid(self, clock: u64) -> bool
@@ -69,7 +59,7 @@ impl HeldAddress {
         if self.held {
             let value = self.value;
             if value.leased {
-                let unit = lease_unit(version);
+                let unit = version.lease_unit();
                 return elapsed(self.received, time) / unit < value.lease;
             }
             return true;

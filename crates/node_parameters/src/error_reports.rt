@@ -1,7 +1,7 @@
 // The reports that a node keeps for its next join request.
 use cojp::ErrorReport;
 use cojp::ErrorReports;
-use cojp::Version;
+use protocol_version::Version;
 ghost use mathlib.Core.Path.{_≡_};
 ghost use Rattle.link_key.specs.set.Lists.{allOf};
 ghost use Rattle.cojp.specs.ErrorReports.{errorReportList, isReportable, validErrorReport, validErrorReports, errorReportsValid};

@@ -2,8 +2,8 @@
 use Prim.Native.Nat.{ℕ}
 use mathlib.Core.Bool.{Bool, cond, _&&_}
 use lib.Dec.{leb, eqb}
-use Rattle.cojp.specs.declared.version.Version.{Version}
-use Rattle.cojp.specs.declared.version.Version.the-variants.{Draft, Published}
+use Rattle.protocol_version.specs.declared.Version.{Version}
+use Rattle.protocol_version.specs.declared.Version.the-variants.{Draft, Published}
 
 -- there is no third of either
 abbrev pub isVersion : ℕ → Bool

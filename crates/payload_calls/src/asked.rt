@@ -1,11 +1,9 @@
 // The function behind a call, by the numbers that ask for it.
 use cojp::ConfigurationRead;
 use cojp::RequestRead;
-use cojp::Version;
-use cojp_read::configuration::read_configuration_as;
-use cojp_read::configuration::read_strict_configuration_as;
-use cojp_read::request::read_request_as;
-use cojp_read::request::read_strict_request_as;
+use cojp_read::read_configuration;
+use cojp_read::read_request;
+use protocol_version::Version;
 ghost use mathlib.Core.Path.{_≡_};
 ghost use Rattle.payload_calls.specs.Asked.{isVersion, isReading, versionOf};
 ghost use Rattle.payload_calls.specs.Read.{requestAsked, configurationAsked};
@@ -43,9 +41,9 @@ pub(crate) fn request_asked(form: u8, reading: u8, payload: &[u8]) -> RequestRea
 {
     let version = version_of(form);
     if reading == 0 {
-        return read_request_as(payload, version);
+        return read_request(payload, version, false);
     }
-    read_strict_request_as(payload, version)
+    read_request(payload, version, true)
 }
 
 pub(crate) fn configuration_asked(form: u8, reading: u8, payload: &[u8]) -> ConfigurationRead
@@ -53,7 +51,7 @@ pub(crate) fn configuration_asked(form: u8, reading: u8, payload: &[u8]) -> Conf
 {
     let version = version_of(form);
     if reading == 0 {
-        return read_configuration_as(payload, version);
+        return read_configuration(payload, version, false);
     }
-    read_strict_configuration_as(payload, version)
+    read_configuration(payload, version, true)
 }

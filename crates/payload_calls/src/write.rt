@@ -2,8 +2,8 @@
 use crate::asked::is_version;
 use crate::asked::version_of;
 use crate::store::store_length;
-use cojp_write::configuration::write_configuration_as;
-use cojp_write::request::write_request_as;
+use cojp_write::write_configuration;
+use cojp_write::write_request;
 use image::RANGE;
 use object_image::configuration_in;
 use object_image::is_configuration;
@@ -23,7 +23,7 @@ pub fn request_write(form: u8, object: &[u8], dst: &mut [u8], length: &mut u64) 
         *length = 0;
         return RANGE;
     }
-    let written = write_request_as(dst, request_in(object), version_of(form));
+    let written = write_request(dst, request_in(object), version_of(form));
     store_length(written, length)
 }
 
@@ -39,6 +39,6 @@ pub fn configuration_write(form: u8, object: &[u8], dst: &mut [u8], length: &mut
         *length = 0;
         return RANGE;
     }
-    let written = write_configuration_as(dst, configuration_in(object), version_of(form));
+    let written = write_configuration(dst, configuration_in(object), version_of(form));
     store_length(written, length)
 }

@@ -17,8 +17,8 @@ use Rattle.cojp.specs.Configuration.{readConfigurationBy}
 use Rattle.cojp.specs.Request.{readRequestBy}
 use Rattle.cojp.specs.declared.configuration.ConfigurationRead.{ConfigurationRead}
 use Rattle.cojp.specs.declared.request.RequestRead.{RequestRead}
-use Rattle.cojp.specs.declared.version.Version.{Version}
-use Rattle.cojp.specs.declared.version.Version.the-variants.{Draft, Published}
+use Rattle.protocol_version.specs.declared.Version.{Version}
+use Rattle.protocol_version.specs.declared.Version.the-variants.{Draft, Published}
 use Rattle.cojp_serial.specs.State.{emptyState, valid, decisionOf, partAnswer, partStore, endState, requestEnd, configurationEnd}
 use Rattle.cojp_serial.specs.Calls.{Reader, request, configuration, ending, Held, decisionOn}
 use Rattle.cojp_serial.specs.declared.state.SerialState.{SerialState}

@@ -25,7 +25,7 @@ use Rattle.cojp.specs.declared.octets.OctetsParameter.{OctetsParameter}
 use Rattle.cojp.specs.declared.disposition.Disposition.{Disposition}
 use Rattle.cojp.specs.declared.disposition.Disposition.the-variants.{Absent, Taken, Discarded}
 use Rattle.cojp.specs.declared.request.RequestRead.{RequestRead}
-use Rattle.cojp.specs.declared.version.Version.the-variants.{Draft}
+use Rattle.protocol_version.specs.declared.Version.the-variants.{Draft}
 use Rattle.cojp_merge.specs.Merge.{mergeAnswer}
 use Rattle.cojp_merge.specs.declared.MergeResult.{MergeResult}
 use Rattle.cojp_serial.specs.State.{decisionOf, endRead, endState}

@@ -9,7 +9,7 @@ use lib.Dec.{ltb}
 use lib.ListN.{length}
 use Rattle.image.specs.Part as part
 use Rattle.image.specs.Part.{AllBytes, Fits}
-use Rattle.cojp.specs.declared.version.Version.the-variants.{Draft}
+use Rattle.protocol_version.specs.declared.Version.the-variants.{Draft}
 use Rattle.node.specs.Node.{emptyNode, made}
 use Rattle.node.specs.declared.node.Node.{Node}
 use Rattle.node_call_laws.specs.Fits.{CallsFit}

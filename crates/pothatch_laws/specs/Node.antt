@@ -12,7 +12,7 @@ use Rattle.refusal.specs.declared.Verdict.the-variants.{Refused}
 use Rattle.image.specs.Effects.{onAccept}
 use Rattle.image.specs.Part.{AllBytes, isImage}
 use Rattle.cojp.specs.Octets.{copiedFrom}
-use Rattle.cojp.specs.declared.version.Version.the-variants.{Draft, Published}
+use Rattle.protocol_version.specs.declared.Version.the-variants.{Draft, Published}
 use Rattle.node.specs.Node.{made, unmade}
 use Rattle.node.specs.declared.node.MakeResult.{MakeResult}
 use Rattle.node.specs.declared.node.Node.{Node}

@@ -11,8 +11,8 @@ use Rattle.refusal.specs.declared.Refusal.the-variants.{Range}
 use Rattle.refusal.specs.declared.Verdict.the-variants.{Refused}
 use Rattle.image.specs.Effects.{onAccept}
 use Rattle.image.specs.Part.{AllBytes, isImage}
-use Rattle.cojp.specs.declared.version.Version.{Version}
-use Rattle.cojp.specs.declared.version.Version.the-variants.{Draft, Published}
+use Rattle.protocol_version.specs.declared.Version.{Version}
+use Rattle.protocol_version.specs.declared.Version.the-variants.{Draft, Published}
 use Rattle.cojp_serial.specs.Calls as calls
 use Rattle.cojp_serial.specs.Calls.{Reader, request, configuration, SerialCall, ending, Held, begun, part, joinRequest, update}
 use Rattle.object_image.specs.Configuration.{configurationImage}

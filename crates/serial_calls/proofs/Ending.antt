@@ -11,7 +11,7 @@ use Rattle.refusal.specs.declared.Verdict.{Verdict}
 use Rattle.image.specs.Effects.{onAccept}
 use Rattle.image.specs.Lent.{long, hands-unfit, hands-none, hands-told}
 use Rattle.image.specs.Part.{isImage}
-use Rattle.cojp.specs.declared.version.Version.{Version}
+use Rattle.protocol_version.specs.declared.Version.{Version}
 use Rattle.cojp_serial.specs.State.{requestEnd, configurationEnd}
 use Rattle.cojp_serial.specs.declared.state.SerialState.{SerialState}
 use Rattle.cojp_serial.specs.declared.configuration.ConfigurationEnd.{ConfigurationEnd}

@@ -5,10 +5,8 @@ use crate::serial::serial_in;
 use cojp_serial::ConfigurationEnd;
 use cojp_serial::RequestEnd;
 use cojp_serial::SerialState;
-use cojp_serial::end_configuration_as;
-use cojp_serial::end_request_as;
-use cojp_serial::end_strict_configuration_as;
-use cojp_serial::end_strict_request_as;
+use cojp_serial::end_configuration;
+use cojp_serial::end_request;
 use image::RANGE;
 use image::clear;
 use payload_calls::is_reading;
@@ -61,9 +59,9 @@ fn request_end(arrival: SerialState, store: &[u8], form: u8, reading: u8) -> Req
 {
     let version = version_of(form);
     if reading == 0 {
-        return end_request_as(arrival, store, version);
+        return end_request(arrival, store, version, false);
     }
-    end_strict_request_as(arrival, store, version)
+    end_request(arrival, store, version, true)
 }
 
 // The same of a configuration.
@@ -97,7 +95,7 @@ fn configuration_end(arrival: SerialState, store: &[u8], form: u8, reading: u8) 
 {
     let version = version_of(form);
     if reading == 0 {
-        return end_configuration_as(arrival, store, version);
+        return end_configuration(arrival, store, version, false);
     }
-    end_strict_configuration_as(arrival, store, version)
+    end_configuration(arrival, store, version, true)
 }

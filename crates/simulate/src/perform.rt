@@ -10,13 +10,13 @@ use crate::commands::Verb;
 use crate::commands::command::byte;
 use crate::commands::command::counter;
 use cojp::Octets;
-use cojp::Version;
 use node::DeliveryResult;
 use node::MakeResult;
 use node::Node;
 use node::StartResult;
 use node_parameters::HeldOctets;
 use node_parameters::octets::absent_octets;
+use protocol_version::Version;
 use refusal::Verdict;
 use tool_text::line_error::LineError;
 
@@ -32,7 +32,7 @@ fn with_reply(node: Node, reply: Reply) -> Done {
 
 // What stands for a node that was not made.
 pub fn no_node() -> Node {
-    let made = Node::new(0, absent_octets());
+    let made = Node::new(Version::Draft, 0, absent_octets());
     made.node
 }
 
@@ -99,18 +99,11 @@ fn call(node: Node, command: Command, payload: &[u8]) -> Done {
 // The commands `node I ROLE NETWORK` and `new-node I ROLE NETWORK`; a refused one leaves the node that was there.
 fn make(node: Node, version: Version, command: Command, network: &[u8]) -> Done {
     let network = identifier(network, command.none);
-    let made = fresh(version, byte(command.second), network);
+    let made = Node::new(version, byte(command.second), network);
     let verdict = made.verdict;
     match verdict {
         Verdict::Refused(refusal) => with_reply(node, Reply::Refused(refusal)),
         Verdict::Accepted => with_reply(made.node, Reply::Made),
-    }
-}
-
-fn fresh(version: Version, role: u8, network: HeldOctets) -> MakeResult {
-    match version {
-        Version::Draft => Node::new(role, network),
-        Version::Published => Node::published(role, network),
     }
 }
 

@@ -1,6 +1,6 @@
 // The objects by one name: a payload is read as a join request, or else as a configuration, of one form or the other.
 use cbor::WriteResult;
-use cojp::Version;
+use protocol_version::Version;
 use refusal::Verdict;
 use tool_text::word::Word;
 

@@ -1,5 +1,4 @@
 // The command `show I`: a node on one line.
-use cojp::Version;
 use link_key::Key;
 use link_key_counters::CountedSet;
 use node::Node;
@@ -9,6 +8,7 @@ use node_parameters::HeldAddress;
 use node_parameters::HeldList;
 use node_parameters::HeldOctets;
 use node_parameters::HeldRate;
+use protocol_version::Version;
 use tool_text::output::Buffer;
 use tool_text::output::Output;
 

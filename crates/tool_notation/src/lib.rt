@@ -5,12 +5,12 @@ pub mod key;
 pub mod list;
 
 use cojp::Octets;
-use cojp::Version;
 pub use fault::put_faults;
 pub use key::put_key;
 pub use key::put_key_set;
 pub use list::put_blacklist;
 pub use list::put_unsupported;
+use protocol_version::Version;
 use refusal::Refusal;
 use tool_text::output::Buffer;
 use tool_text::output::Output;

@@ -7,7 +7,7 @@ use Rattle.refusal.specs.declared.Verdict.{Verdict}
 use Rattle.node_attempt.specs.Poll.{dueVerdict}
 use Rattle.node_key_sets.specs.Frames.{changeVerdict, hasSwitched}
 use Rattle.node_attempt.specs.declared.delivery.Delivery.the-variants as call
-use Rattle.cojp.specs.declared.version.Version.the-variants.{Draft}
+use Rattle.protocol_version.specs.declared.Version.the-variants.{Draft}
 use Rattle.node.specs.Node.{made}
 use Rattle.node.specs.Timing as timing
 use Rattle.node.specs.Delivery as delivery

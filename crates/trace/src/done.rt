@@ -4,6 +4,7 @@ use node::Node;
 use node_attempt::Due;
 use node_key_sets::Change;
 use node_parameters::HeldOctets;
+use protocol_version::Version;
 use refusal::Verdict;
 ghost use mathlib.Core.Path.{_≡_};
 ghost use Rattle.node_attempt.specs.Poll.{dueVerdict};
@@ -51,7 +52,7 @@ fn has_switched(change: Change) -> bool
 pub(crate) fn new_node(node: Node, role: u8, network: HeldOctets) -> CallResult
     ensures { λ r. ⌜ r ≡ callOf (newNode role network) node ⌝ }
 {
-    let made = Node::new(role, network);
+    let made = Node::new(Version::Draft, role, network);
     let verdict = made.verdict;
     let fresh = made.node;
     CallResult {

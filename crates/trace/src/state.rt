@@ -5,6 +5,7 @@ use crate::count::with_refusal;
 use crate::done::CallResult;
 use node::Node;
 use node_parameters::octets::absent_octets;
+use protocol_version::Version;
 ghost use mathlib.Core.Path.{_≡_};
 ghost use Prim.Native.Nat.{_<_};
 ghost use Rattle.trace.specs.Step.{afterwards, stepped, nothingYet, isComplete, replayedBy};
@@ -48,7 +49,7 @@ pub struct ReplayResult {
     pub statistics: ReplayStatistics,
 }
 
-pub fn reached(progress: Progress, next: usize, state: State) -> StepResult
+pub(crate) fn reached(progress: Progress, next: usize, state: State) -> StepResult
     ensures { λ r. ⌜ r ≡ stepped progress next state ⌝ }
 {
     StepResult {
@@ -59,10 +60,10 @@ pub fn reached(progress: Progress, next: usize, state: State) -> StepResult
 }
 
 // Before the first record: no node, and beside that the empty one.
-pub fn nothing_yet() -> State
+pub(crate) fn nothing_yet() -> State
     ensures { λ r. ⌜ r ≡ nothingYet ⌝ }
 {
-    let made = Node::new(0, absent_octets());
+    let made = Node::new(Version::Draft, 0, absent_octets());
     let node = made.node;
     let kinds = [0u64; 6];
     let refusals = [0u64; 22];

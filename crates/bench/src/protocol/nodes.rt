@@ -3,12 +3,13 @@ use crate::protocol::fold::keys_number;
 use crate::protocol::fold::wide;
 use node::Node;
 use node_parameters::octets::absent_octets;
+use protocol_version::Version;
 
 // A node that took a join answer and heard a frame under the key `id`, so that the answer's keys are active.
 fn joined(dst: &mut [u8], answer: &[u8], id: u8) -> Node {
     let mut known = absent_octets();
     known.held = true;
-    let made = Node::new(0, known);
+    let made = Node::new(Version::Draft, 0, known);
     let started = made.node.start(dst, 1, 10000);
     let answered = started.node.join_answer(2, answer);
     let heard = answered.node.verified(1, id);

@@ -1,9 +1,10 @@
 // Writing: an object is read from a payload and written again. What the writing takes is what this takes less the reading.
 use cbor::WriteResult;
-use cojp_read::configuration::read_configuration;
-use cojp_read::request::read_request;
-use cojp_write::configuration::write_configuration;
-use cojp_write::request::write_request;
+use cojp_read::read_configuration;
+use cojp_read::read_request;
+use cojp_write::write_configuration;
+use cojp_write::write_request;
+use protocol_version::Version;
 
 // How many bytes were written.
 fn length(written: WriteResult) -> usize {
@@ -15,14 +16,14 @@ fn length(written: WriteResult) -> usize {
 
 #[no_mangle]
 pub extern "C" fn bench_rewrite_configuration(dst: &mut [u8], payload: &[u8]) -> usize {
-    let r = read_configuration(payload);
-    let written = write_configuration(dst, r.configuration);
+    let r = read_configuration(payload, Version::Draft, false);
+    let written = write_configuration(dst, r.configuration, Version::Draft);
     length(written)
 }
 
 #[no_mangle]
 pub extern "C" fn bench_rewrite_request(dst: &mut [u8], payload: &[u8]) -> usize {
-    let r = read_request(payload);
-    let written = write_request(dst, r.request);
+    let r = read_request(payload, Version::Draft, false);
+    let written = write_request(dst, r.request, Version::Draft);
     length(written)
 }

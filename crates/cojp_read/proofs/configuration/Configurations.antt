@@ -17,7 +17,7 @@ use Rattle.cojp.specs.Octets.{noOctetsParameter, octetsRead}
 use Rattle.cojp.specs.Parameter.{parameterOf}
 use Rattle.cojp.specs.Rate.{rateTaken}
 use Rattle.cojp.specs.Reading.{Reading, refused, read, mapReading, resultOf, byVersionOf, Accepting}
-use Rattle.cojp.specs.Version.{allowsAdditionalInfo}
+use Rattle.protocol_version.specs.Version.{allowsAdditionalInfo}
 use Rattle.cojp.specs.Walk.{labelStatusOf}
 use Rattle.cojp.specs.declared.configuration.Configuration.{Configuration}
 use Rattle.cojp.specs.declared.error_report.ErrorReports.{ErrorReports}
@@ -25,7 +25,7 @@ use Rattle.cojp.specs.declared.parameter.Parameter.{Parameter}
 use Rattle.cojp.specs.declared.parameter.Parameter.the-variants as name
 use Rattle.cojp.specs.declared.disposition.Disposition.{Disposition}
 use Rattle.cojp.specs.declared.disposition.Disposition.the-variants.{Discarded}
-use Rattle.cojp.specs.declared.version.Version.{Version}
+use Rattle.protocol_version.specs.declared.Version.{Version}
 use Rattle.cojp_map.specs.Pairs.{PairLabelSpec, seen, once}
 use Rattle.cojp_map.specs.declared.pair.LabelResult.{LabelResult}
 use Rattle.cojp_map.proofs.Maps.{put-said, known-put, standing-seen, Turned, turned-known, turned-passed}

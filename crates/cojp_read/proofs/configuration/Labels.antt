@@ -11,12 +11,12 @@ use types.Run.{OneOf}
 use denote.Enum.Declared.{tagOf}
 use Rattle.cojp.proofs.parameter.Parameter as parameter
 use Rattle.cojp.specs.Parameter.{parameterOf, laterParameter}
-use Rattle.cojp.specs.Version.{allowsAdditionalInfo}
+use Rattle.protocol_version.specs.Version.{allowsAdditionalInfo}
 use Rattle.cojp.specs.declared.error_report.ErrorReports.{ErrorReports}
 use Rattle.cojp.specs.declared.parameter.Parameter.{Parameter}
 use Rattle.cojp.specs.declared.parameter.Parameter.the-variants as name
-use Rattle.cojp.specs.declared.version.Version.{Version}
-use Rattle.cojp.specs.declared.version.Version.the-variants.{Draft, Published}
+use Rattle.protocol_version.specs.declared.Version.{Version}
+use Rattle.protocol_version.specs.declared.Version.the-variants.{Draft, Published}
 use Rattle.cojp_read.specs.configuration.Noted.{isNamed, labelsSeenWith}
 
 -- any parameter but the last, which is none

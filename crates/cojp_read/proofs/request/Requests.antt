@@ -15,7 +15,7 @@ use Rattle.cojp.specs.Lists.{listTaken, unsupportedTaken}
 use Rattle.cojp.specs.Octets.{noOctetsParameter, octetsRead, octetsAnswer}
 use Rattle.cojp.specs.Reading.{Reading, read, bind, mapReading, resultOf, Accepting, byVersionOf}
 use Rattle.cojp.specs.Request.{roleJudged, roleGathered, listGathered, roleLabelStatus, withNetwork, requestState, requestPassing, requestLabelStatus, requestTaking, requestForm, settled, requestAnswer}
-use Rattle.cojp.specs.Version.{byVersion}
+use Rattle.protocol_version.specs.Version.{byVersion}
 use Rattle.cojp.specs.Walk.{labelStatusOf, knownRead}
 use Rattle.cojp.specs.declared.error_report.ErrorReports.{ErrorReports}
 use Rattle.cojp.specs.declared.list.ListRead.{ListRead}
@@ -25,8 +25,8 @@ use Rattle.cojp.specs.declared.disposition.Disposition.the-variants as report
 use Rattle.cojp.specs.declared.request.RequestState.{RequestState}
 use Rattle.cojp.specs.declared.request.JoinRequest.{JoinRequest}
 use Rattle.cojp.specs.declared.request.RequestRead.{RequestRead}
-use Rattle.cojp.specs.declared.version.Version.{Version}
-use Rattle.cojp.specs.declared.version.Version.the-variants.{Draft, Published}
+use Rattle.protocol_version.specs.declared.Version.{Version}
+use Rattle.protocol_version.specs.declared.Version.the-variants.{Draft, Published}
 use Rattle.cojp.specs.declared.walk.LabelStatus.{LabelStatus}
 use Rattle.cojp.specs.declared.walk.LabelStatus.the-variants.{Unknown}
 use Rattle.cojp_map.specs.Pairs.{PairLabelSpec, seen, once}

@@ -19,11 +19,11 @@ use Rattle.cojp.specs.Bytes.{valueView, afterValue, EndsAt}
 use Rattle.cojp.specs.ErrorReports.{added}
 use Rattle.cojp.specs.Reading.{Judgement, broken, unfit, good, refused, read}
 use Rattle.cojp.specs.Request.{roleJudged, roleGathered, withRole, withErrors}
-use Rattle.cojp.specs.Version.{byVersion}
+use Rattle.protocol_version.specs.Version.{byVersion}
 use Rattle.cojp.specs.declared.error_report.ErrorReports.{ErrorReports}
 use Rattle.cojp.specs.declared.request.RequestState.{RequestState}
-use Rattle.cojp.specs.declared.version.Version.{Version}
-use Rattle.cojp.specs.declared.version.Version.the-variants.{Draft, Published}
+use Rattle.protocol_version.specs.declared.Version.{Version}
+use Rattle.protocol_version.specs.declared.Version.the-variants.{Draft, Published}
 use Rattle.cojp_read.specs.request.Requests.{RoleSpec, BadRole}
 use Rattle.cojp_read.specs.declared.request.role.RoleRead.{RoleRead}
 

@@ -7,12 +7,12 @@ use Rattle.refusal.specs.declared.Refusal.{Refusal}
 use Rattle.cojp.specs.ErrorReports.{added}
 use Rattle.cojp.specs.Reading.{Judgement, refused, read, resultOf}
 use Rattle.cojp.specs.Request.{withRole, withUnsupported, withErrors, roleGathered, listGathered}
-use Rattle.cojp.specs.Version.{byVersion}
+use Rattle.protocol_version.specs.Version.{byVersion}
 use Rattle.cojp.specs.declared.error_report.ErrorReports.{ErrorReports}
 use Rattle.cojp.specs.declared.list.ListParameter.{ListParameter}
 use Rattle.cojp.specs.declared.disposition.Disposition.{Disposition}
 use Rattle.cojp.specs.declared.request.RequestState.{RequestState}
-use Rattle.cojp.specs.declared.version.Version.{Version}
+use Rattle.protocol_version.specs.declared.Version.{Version}
 use Rattle.cojp_map.specs.Pairs.{seen, once}
 use Rattle.cojp_read.specs.declared.request.parameter.RequestParameter.{RequestParameter}
 use Rattle.cojp_read.specs.declared.request.parameter.RequestParameter.the-variants as parameter

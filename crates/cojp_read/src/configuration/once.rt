@@ -2,11 +2,11 @@
 use cojp::AddressParameter;
 use cojp::AddressRead;
 use cojp::Disposition;
-use cojp::Version;
 use cojp::no_address;
 use cojp::read_address;
 use cojp_map::is_seen;
 use cojp_map::item_end;
+use protocol_version::Version;
 use refusal::Refusal;
 use refusal::Verdict;
 ghost use mathlib.Core.Path.{_≡_};
@@ -15,19 +15,8 @@ ghost use Rattle.cojp.specs.Address.{noAddressParameter, addressRead};
 ghost use Rattle.cojp.specs.Bytes.{valueView, afterValue, EndsAt};
 ghost use Rattle.cojp.specs.KeySet.{noKeysParameter};
 ghost use Rattle.cojp.specs.Reading.{read, resultOf, malformedAs, byVersionOf, Accepting};
-ghost use Rattle.cojp.specs.Version.{allowsAdditionalInfo};
 ghost use Rattle.cojp_map.specs.Pairs.{seen, once};
 ghost use Rattle.cojp_read.specs.configuration.Follow.{KeysFollow, RestFollows};
-
-// Whether keys may have additional information.
-pub(crate) fn allows_additional_info(version: Version) -> bool
-    ensures { λ r. ⌜ r ≡ allowsAdditionalInfo version ⌝ }
-{
-    match version {
-        Version::Draft => false,
-        Version::Published => true,
-    }
-}
 
 // What is told of a key set beside its keys, which the walk stores as they were read: a set that is handed on is copied at each step, a
 // tenth of a short read. `next` is where the bytes go on.

@@ -1,5 +1,5 @@
 // The parameters of a join request, and the labels that name them.
-use cojp::Version;
+use protocol_version::Version;
 ghost use mathlib.Core.Path.{_≡_};
 ghost use Rattle.cojp_read.specs.request.Requests.{requestParameterOf};
 

@@ -2,9 +2,9 @@
 use cbor::Value;
 use cbor::value_at;
 use cojp::ErrorReports;
-use cojp::Version;
 use cojp::no_error_reports;
 use cojp_map::item_end;
+use protocol_version::Version;
 use refusal::Refusal;
 use refusal::Verdict;
 ghost use mathlib.Core.Path.{_≡_};

@@ -12,7 +12,7 @@ use Rattle.cbor.specs.declared.write.WriteResult.the-variants.{Refused}
 use Rattle.cbor.specs.Writing.{did-refuse}
 use Rattle.cojp.specs.Writing.{fits, configurationPairs, configurationInRange, configurationPlan}
 use Rattle.cojp.specs.declared.configuration.Configuration.{Configuration}
-use Rattle.cojp.specs.declared.version.Version.{Version}
+use Rattle.protocol_version.specs.declared.Version.{Version}
 
 module _ (v : Version) (c : Configuration) where
   pub configuration-range : (d : List ℕ) → configurationInRange v c ≡ false → Did (configurationPlan v c) d (Refused Range) d

@@ -6,15 +6,15 @@ use lib.Dec.{leb}
 use Rattle.lemmas.specs.logic.Tests.{both-left, both-right}
 use Rattle.cojp.specs.Lists.{stringsIn, errorReportsIn, some}
 use Rattle.cojp.specs.Reading.{ifTaken}
-use Rattle.cojp.specs.Version.{byVersion}
+use Rattle.protocol_version.specs.Version.{byVersion}
 use Rattle.cojp.specs.Writing.{missing, octetsInRange, jrcInRange, addressInRange, keysInRange, keysWithoutAdditionalInfo, listInRange, ofVersion, requestInRange, configurationInRange}
 use Rattle.cojp.specs.declared.configuration.Configuration.{Configuration}
 use Rattle.cojp.specs.declared.list.ListParameter.{ListParameter}
 use Rattle.cojp.specs.declared.disposition.Disposition.{Disposition}
 use Rattle.cojp.specs.declared.disposition.Disposition.the-variants.{Absent, Taken, Discarded}
 use Rattle.cojp.specs.declared.request.JoinRequest.{JoinRequest}
-use Rattle.cojp.specs.declared.version.Version.{Version}
-use Rattle.cojp.specs.declared.version.Version.the-variants.{Draft, Published}
+use Rattle.protocol_version.specs.declared.Version.{Version}
+use Rattle.protocol_version.specs.declared.Version.the-variants.{Draft, Published}
 use Rattle.cojp_write.specs.octets.Fits.{RequestFits, ConfigurationFits}
 
 -- a list that is missing is not judged

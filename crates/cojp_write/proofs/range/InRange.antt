@@ -3,7 +3,7 @@ use mathlib.Core.Path.{_≡_}
 use mathlib.Core.Bool.{true, false}
 use Rattle.cojp.specs.Writing.{keysInRange, addressInRange, jrcInRange, octetsInRange, ofVersion, configurationInRange}
 use Rattle.cojp.specs.declared.configuration.Configuration.{Configuration}
-use Rattle.cojp.specs.declared.version.Version.{Version}
+use Rattle.protocol_version.specs.declared.Version.{Version}
 
 module _ (v : Version) (c : Configuration) where
   module _ (b : keysInRange (c .keys) ≡ true) where

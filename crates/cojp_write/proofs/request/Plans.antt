@@ -13,7 +13,7 @@ use Rattle.cbor.specs.Writing.{did-refuse}
 use Rattle.cojp.specs.Request.{owing}
 use Rattle.cojp.specs.Writing.{fits, owingPlan, requestPairs, requestInRange, requestPlan}
 use Rattle.cojp.specs.declared.request.JoinRequest.{JoinRequest}
-use Rattle.cojp.specs.declared.version.Version.{Version}
+use Rattle.protocol_version.specs.declared.Version.{Version}
 
 -- what is in range
 module _ (owed : Bool) {p : Plan} where

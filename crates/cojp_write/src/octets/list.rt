@@ -29,7 +29,7 @@ fn known_len(value: ItemList) -> usize
 }
 
 // How much there is to write of a parameter under a label.
-pub fn list_size(label: u64, p: ListParameter) -> Size
+pub(crate) fn list_size(label: u64, p: ListParameter) -> Size
     ensures { λ r. ⌜ Sizes (listCount p) (listBytes label p) 1 271 r ⌝ }
 {
     cbor::head_laws();
@@ -63,7 +63,7 @@ fn write_array(dst: &mut [u8], label: u64, l: ItemList) -> WriteResult
 }
 
 // Writes a parameter under a label, where it is taken: RANGE, ROOM, or the length written.
-pub fn write_list_parameter(dst: &mut [u8], label: u64, p: ListParameter) -> WriteResult
+pub(crate) fn write_list_parameter(dst: &mut [u8], label: u64, p: ListParameter) -> WriteResult
     ensures { λ r. ⌜ Did (listParameterPlan label p) (now (dst .entry)) r (now (dst .exit)) ⌝ }
 {
     let report = p.disposition;

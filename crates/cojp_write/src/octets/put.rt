@@ -15,7 +15,7 @@ ghost use Rattle.cojp.specs.Writing.{octetsPairs};
 ghost use Rattle.cojp_write.specs.octets.Plan.{stringInRange, listBytes, listFits};
 
 // A head.
-pub fn put_head(dst: &mut [u8], major: u8, argument: u64) -> usize
+pub(crate) fn put_head(dst: &mut [u8], major: u8, argument: u64) -> usize
     requires { ⌜ (major ≤ 7) × (length (shortest major argument) ≤ length (now dst)) ⌝ }
     ensures { λ r. ⌜ Wrote (shortest major argument) (now (dst .entry)) r (now (dst .exit)) ⌝ }
 {
@@ -27,7 +27,7 @@ pub fn put_head(dst: &mut [u8], major: u8, argument: u64) -> usize
 }
 
 // A parameter that is a byte string, in range, where it is taken.
-pub fn put_octets(dst: &mut [u8], label: u64, p: OctetsParameter) -> usize
+pub(crate) fn put_octets(dst: &mut [u8], label: u64, p: OctetsParameter) -> usize
     requires { ⌜ (stringInRange label p ≡ true) × (length (encodePairs (octetsPairs label p)) ≤ length (now dst)) ⌝ }
     ensures { λ r. ⌜ Wrote (encodePairs (octetsPairs label p)) (now (dst .entry)) r (now (dst .exit)) ⌝ }
 {
@@ -39,7 +39,7 @@ pub fn put_octets(dst: &mut [u8], label: u64, p: OctetsParameter) -> usize
 }
 
 // A list that is not over its array, where it is taken.
-pub fn put_list(dst: &mut [u8], label: u64, p: ListParameter) -> usize
+pub(crate) fn put_list(dst: &mut [u8], label: u64, p: ListParameter) -> usize
     requires { ⌜ (listFits p ≡ true) × (length (listBytes label p) ≤ length (now dst)) ⌝ }
     ensures { λ r. ⌜ Wrote (listBytes label p) (now (dst .entry)) r (now (dst .exit)) ⌝ }
 {

@@ -10,7 +10,7 @@ pub struct Size {
 }
 
 // No member.
-pub fn no_size() -> Size
+pub(crate) fn no_size() -> Size
     ensures { λ r. ⌜ Sizes 0 [] 0 0 r ⌝ }
 {
     Size {
@@ -20,7 +20,7 @@ pub fn no_size() -> Size
 }
 
 // The one after the other.
-pub fn plus(a: Size, b: Size) -> Size
+pub(crate) fn plus(a: Size, b: Size) -> Size
     requires { ⌜ (a .members + b .members ≤ 1000) × (a .bytes + b .bytes ≤ 1000) ⌝ }
     ensures { λ r. ⌜ Sum a b r ⌝ }
 {

@@ -10,11 +10,11 @@ use crate::range::report::is_missing;
 use cojp::Configuration;
 use cojp::JoinRequest;
 use cojp::ListParameter;
-use cojp::Version;
+use protocol_version::Version;
 ghost use mathlib.Core.Bool.{_&&_};
 ghost use mathlib.Core.Path.{_≡_};
 ghost use Rattle.cojp.specs.Lists.{stringsIn, errorReportsIn, some};
-ghost use Rattle.cojp.specs.Version.{byVersion};
+ghost use Rattle.protocol_version.specs.Version.{byVersion};
 ghost use Rattle.cojp.specs.Writing.{missing, listInRange, keysWithoutAdditionalInfo, ofVersion, requestInRange, configurationInRange};
 
 // The draft has no reports of what a node could not act on.
@@ -28,7 +28,7 @@ fn reports_in_range(version: Version, p: ListParameter) -> bool
     }
 }
 
-pub fn request_in_range(version: Version, q: JoinRequest) -> bool
+pub(crate) fn request_in_range(version: Version, q: JoinRequest) -> bool
     ensures { λ r. ⌜ r ≡ requestInRange version q ⌝ }
 {
     if 1 < q.role {

@@ -12,7 +12,7 @@ ghost use Rattle.cojp.specs.Lists.{stringsIn, errorReportsIn, some};
 ghost use Rattle.cojp.specs.Writing.{octetsInRange, jrcInRange, addressInRange, keysInRange, keysWithoutAdditionalInfo, listInRange};
 
 // An identifier or a prefix has at most 16 bytes.
-pub fn octets_in_range(p: OctetsParameter) -> bool
+pub(crate) fn octets_in_range(p: OctetsParameter) -> bool
     ensures { λ r. ⌜ r ≡ octetsInRange p ⌝ }
 {
     let report = p.disposition;
@@ -23,7 +23,7 @@ pub fn octets_in_range(p: OctetsParameter) -> bool
 }
 
 // A JRC address has 16 bytes.
-pub fn jrc_in_range(p: OctetsParameter) -> bool
+pub(crate) fn jrc_in_range(p: OctetsParameter) -> bool
     ensures { λ r. ⌜ r ≡ jrcInRange p ⌝ }
 {
     let report = p.disposition;
@@ -33,7 +33,7 @@ pub fn jrc_in_range(p: OctetsParameter) -> bool
     true
 }
 
-pub fn address_in_range(p: AddressParameter) -> bool
+pub(crate) fn address_in_range(p: AddressParameter) -> bool
     ensures { λ r. ⌜ r ≡ addressInRange p ⌝ }
 {
     let report = p.disposition;
@@ -44,7 +44,7 @@ pub fn address_in_range(p: AddressParameter) -> bool
     true
 }
 
-pub fn keys_in_range(p: KeysParameter) -> bool
+pub(crate) fn keys_in_range(p: KeysParameter) -> bool
     ensures { λ r. ⌜ r ≡ keysInRange p ⌝ }
 {
     let report = p.disposition;
@@ -55,7 +55,7 @@ pub fn keys_in_range(p: KeysParameter) -> bool
 }
 
 // The draft's keys have no additional information.
-pub fn keys_plain(p: KeysParameter) -> bool
+pub(crate) fn keys_plain(p: KeysParameter) -> bool
     ensures { λ r. ⌜ r ≡ keysWithoutAdditionalInfo p ⌝ }
 {
     let report = p.disposition;
@@ -66,7 +66,7 @@ pub fn keys_plain(p: KeysParameter) -> bool
 }
 
 // A blacklist is an array of byte strings.
-pub fn blacklist_in_range(p: ListParameter) -> bool
+pub(crate) fn blacklist_in_range(p: ListParameter) -> bool
     ensures { λ r. ⌜ r ≡ listInRange stringsIn p ⌝ }
 {
     let report = p.disposition;
@@ -77,7 +77,7 @@ pub fn blacklist_in_range(p: ListParameter) -> bool
 }
 
 // An unsupported configuration is an array of reports.
-pub fn unsupported_in_range(p: ListParameter) -> bool
+pub(crate) fn unsupported_in_range(p: ListParameter) -> bool
     ensures { λ r. ⌜ r ≡ listInRange (some errorReportsIn) p ⌝ }
 {
     let report = p.disposition;

@@ -17,7 +17,7 @@ pub fn is_taken(report: Disposition) -> bool
 }
 
 // A parameter of the other form is never taken.
-pub fn is_missing(report: Disposition) -> bool
+pub(crate) fn is_missing(report: Disposition) -> bool
     ensures { λ r. ⌜ r ≡ missing report ⌝ }
 {
     match report {

@@ -17,7 +17,7 @@ use Rattle.cojp.specs.Configuration.{configurationTaking}
 use Rattle.cojp.specs.ErrorReports.{errorReportsValid}
 use Rattle.cojp.specs.Reported.{errorReportsOf}
 use Rattle.cojp.specs.Writing.{requestInRange, requestPlan}
-use Rattle.cojp.specs.declared.version.Version.the-variants.{Draft}
+use Rattle.protocol_version.specs.declared.Version.the-variants.{Draft}
 use Rattle.cojp_list.specs.Listed.{listedIn}
 use Rattle.node_key_sets.specs.Sets as sets
 use Rattle.node_key_sets.specs.Sets.{install}

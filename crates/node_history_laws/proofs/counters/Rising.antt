@@ -23,8 +23,8 @@ use Rattle.node_key_sets.specs.Sets as sets
 use Rattle.node_key_sets.specs.Sets.{activeIn, twoSets, unplaced, decideInstall, install}
 use Rattle.node_key_sets.specs.declared.sets.KeySets.{KeySets}
 use Rattle.node_key_sets.proofs.Valid.{active-valid, member-valid, as-valid}
-use Rattle.cojp.specs.Version.{allowsAdditionalInfo}
-use Rattle.cojp.specs.declared.version.Version.{Version}
+use Rattle.protocol_version.specs.Version.{allowsAdditionalInfo}
+use Rattle.protocol_version.specs.declared.Version.{Version}
 use Rattle.node_parameters.specs.declared.octets.HeldOctets.{HeldOctets}
 use Rattle.node_attempt.specs.Attempt as attempt
 use Rattle.node_parameters.specs.Lease.{validAddress}

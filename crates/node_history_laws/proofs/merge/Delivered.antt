@@ -16,7 +16,7 @@ use Rattle.cbor.specs.Encode.{encode}
 use Rattle.cbor.specs.Item.{map}
 use Rattle.cojp.specs.Configuration.{readConfigurationAs, readConfiguration}
 use Rattle.cojp.specs.ErrorReports.{errorReportsValid}
-use Rattle.cojp.specs.Version.{byVersion}
+use Rattle.protocol_version.specs.Version.{byVersion}
 use Rattle.cojp_laws.specs.Largest.{LargestConfiguration, DraftWritten}
 use Rattle.cojp_laws.specs.RoundTrip.{ConfigurationRoundTrip}
 use Rattle.cojp.specs.Same.{SameConfiguration}
@@ -24,8 +24,8 @@ use Rattle.cojp.specs.InRange.{InRange, ReadsInRange}
 use Rattle.cojp.specs.Writing.{missing, keysWithoutAdditionalInfo, ofVersion, configurationInRange, configurationPairs, configurationPlan}
 use Rattle.cojp.specs.declared.configuration.Configuration.{Configuration}
 use Rattle.cojp.specs.declared.configuration.ConfigurationRead.{ConfigurationRead}
-use Rattle.cojp.specs.declared.version.Version.{Version}
-use Rattle.cojp.specs.declared.version.Version.the-variants.{Draft}
+use Rattle.protocol_version.specs.declared.Version.{Version}
+use Rattle.protocol_version.specs.declared.Version.the-variants.{Draft}
 use Rattle.cojp_merge.specs.Laws.{MergeLaws, TakesEqual}
 use Rattle.cojp_merge.specs.Merge.{merged, mergeAnswer}
 use Rattle.lemmas.specs.logic.Tests.{both-left, both-right}

@@ -7,7 +7,7 @@ use lib.ListN.{replicate}
 use Rattle.link_key.specs.Key.{keyOf}
 use Rattle.link_key.specs.declared.Key.{Key}
 use Rattle.cojp.specs.Octets.{octetsOf}
-use Rattle.cojp.specs.declared.version.Version.the-variants.{Draft}
+use Rattle.protocol_version.specs.declared.Version.the-variants.{Draft}
 use Rattle.node_attempt.specs.declared.delivery.Delivery.the-variants.{JoinAnswer, Update}
 use Rattle.node_parameters.specs.declared.octets.HeldOctets.{HeldOctets}
 use Rattle.node.specs.Node.{made}

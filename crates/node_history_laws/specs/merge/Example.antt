@@ -11,7 +11,7 @@ use Rattle.link_key.specs.Key.{keyOf}
 use Rattle.cojp.specs.Configuration.{readConfiguration}
 use Rattle.cojp.specs.ErrorReports.{noErrorReports}
 use Rattle.cojp.specs.KeySet.{keySetOf}
-use Rattle.cojp.specs.declared.version.Version.the-variants.{Draft}
+use Rattle.protocol_version.specs.declared.Version.the-variants.{Draft}
 use Rattle.node_attempt.specs.Attempt.{attempt}
 use Rattle.node_attempt.specs.declared.attempt.Phase.the-variants.{Joined}
 use Rattle.node_attempt.specs.declared.delivery.Delivery.the-variants.{Update}

@@ -15,7 +15,7 @@ use Rattle.cbor.specs.Item.{map}
 use Rattle.cojp.specs.Configuration.{readConfiguration}
 use Rattle.cojp.specs.Writing.{missing, configurationPairs, configurationPlan}
 use Rattle.cojp.specs.declared.configuration.Configuration.{Configuration}
-use Rattle.cojp.specs.declared.version.Version.the-variants.{Draft}
+use Rattle.protocol_version.specs.declared.Version.the-variants.{Draft}
 use Rattle.cojp_merge.specs.Merge.{merged, mergeAnswer}
 use Rattle.link_key_counters.specs.Counters.{withZeroCounters}
 use Rattle.node_attempt.specs.declared.delivery.Delivery.the-variants.{Update}

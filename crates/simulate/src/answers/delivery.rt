@@ -1,8 +1,8 @@
 // What a node made of a configuration.
 use cojp::Disposition;
-use cojp::Version;
 use node::Node;
 use node_parameters::Dispositions;
+use protocol_version::Version;
 use tool_notation::put_passed;
 use tool_text::output::Buffer;
 use tool_text::output::Output;

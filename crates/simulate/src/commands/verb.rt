@@ -1,7 +1,7 @@
 // The commands by their first words, and which words stand after each.
 use crate::commands::edit::Edit;
 use crate::commands::edit::edit_of;
-use cojp::Version;
+use protocol_version::Version;
 use tool_text::line::Line;
 use tool_text::line_error::LineError;
 use tool_text::word::Word;

@@ -41,8 +41,8 @@ configuration-in-requires c κs =
 version-of-requires : tie.Need-version-of-requires
 version-of-requires c κs = search needs
 
-write-configuration-as-requires : tie.Need-write-configuration-as-requires
-write-configuration-as-requires c κs = search needs
+write-configuration-requires : tie.Need-write-configuration-requires
+write-configuration-requires c κs = search needs
 
 store-length-requires : tie.Need-store-length-requires
 store-length-requires c κs = search needs
@@ -63,8 +63,8 @@ returns-3 c =
     let right = both (isVersion (a .form)) (isImage configurationImage (a .object .now)) (granted (at-form .is-version .ensures) (at-if1 .if1 .left))
     (granted (at-is .is-configuration .ensures) (at-if2 .if2 .left)) in
     let e = c .store-length .ensures in
-    wrote-as (isVersion (a .form) && isImage configurationImage (a .object .now)) (λ v q. configurationPlan v q) (a .dst .now) _ (at-write .write-configuration-as .result) right (at-form-of .version-of .ensures) (at-in .configuration-in .ensures)
-    (at-write .write-configuration-as .ensures) (e .0) (e .1)
+    wrote-as (isVersion (a .form) && isImage configurationImage (a .object .now)) (λ v q. configurationPlan v q) (a .dst .now) _ (at-write .write-configuration .result) right (at-form-of .version-of .ensures) (at-in .configuration-in .ensures)
+    (at-write .write-configuration .ensures) (e .0) (e .1)
 
 pub configuration-write-spec : {M : Type 1} → statement M
 configuration-write-spec =
@@ -76,7 +76,7 @@ configuration-write-spec =
     returns-2
     configuration-in-requires
     version-of-requires
-    write-configuration-as-requires
+    write-configuration-requires
     store-length-requires
     same-length
     returns-3)

@@ -41,8 +41,8 @@ request-in-requires c κs =
 version-of-requires : tie.Need-version-of-requires
 version-of-requires c κs = search needs
 
-write-request-as-requires : tie.Need-write-request-as-requires
-write-request-as-requires c κs = search needs
+write-request-requires : tie.Need-write-request-requires
+write-request-requires c κs = search needs
 
 store-length-requires : tie.Need-store-length-requires
 store-length-requires c κs = search needs
@@ -63,8 +63,8 @@ returns-3 c =
     let right = both (isVersion (a .form)) (isImage requestImage (a .object .now)) (granted (at-form .is-version .ensures) (at-if1 .if1 .left))
     (granted (at-is .is-request .ensures) (at-if2 .if2 .left)) in
     let e = c .store-length .ensures in
-    wrote-as (isVersion (a .form) && isImage requestImage (a .object .now)) (λ v q. requestPlan v q) (a .dst .now) _ (at-write .write-request-as .result) right (at-form-of .version-of .ensures) (at-in .request-in .ensures)
-    (at-write .write-request-as .ensures) (e .0) (e .1)
+    wrote-as (isVersion (a .form) && isImage requestImage (a .object .now)) (λ v q. requestPlan v q) (a .dst .now) _ (at-write .write-request .result) right (at-form-of .version-of .ensures) (at-in .request-in .ensures)
+    (at-write .write-request .ensures) (e .0) (e .1)
 
 pub request-write-spec : {M : Type 1} → statement M
 request-write-spec =
@@ -76,7 +76,7 @@ request-write-spec =
     returns-2
     request-in-requires
     version-of-requires
-    write-request-as-requires
+    write-request-requires
     store-length-requires
     same-length
     returns-3)

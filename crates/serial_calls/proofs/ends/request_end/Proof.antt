@@ -9,8 +9,8 @@ use Rattle.serial_calls.proofs.ends.request_end.Tie as tie
 version-of-requires : tie.Need-version-of-requires
 version-of-requires c κs = search needs
 
-end-request-as-requires : tie.Need-end-request-as-requires
-end-request-as-requires c κs = search needs
+end-request-requires : tie.Need-end-request-requires
+end-request-requires c κs = search needs
 
 returns : tie.Need-returns
 returns c =
@@ -19,10 +19,10 @@ returns c =
     let start = at-form-of .before .before in
     let a = start .args in
     end-ordinary (λ r b. requestEnd r b (a .store .now)) readRequestAs readStrictRequestAs (a .form) (a .reading) (a .arrival)
-    (at-form-of .version-of .ensures) (at-if1 .if1 .taken) (c .end-request-as .ensures)
+    (at-form-of .version-of .ensures) (at-if1 .if1 .taken) (c .end-request .ensures)
 
-end-strict-request-as-requires : tie.Need-end-strict-request-as-requires
-end-strict-request-as-requires c κs = search needs
+end-request-requires-2 : tie.Need-end-request-requires-2
+end-request-requires-2 c κs = search needs
 
 returns-2 : tie.Need-returns-2
 returns-2 c =
@@ -31,14 +31,14 @@ returns-2 c =
     let start = at-form-of .before .before in
     let a = start .args in
     end-strict (λ r b. requestEnd r b (a .store .now)) readRequestAs readStrictRequestAs (a .form) (a .reading) (a .arrival)
-    (at-form-of .version-of .ensures) (at-if1 .if1 .left) (c .end-strict-request-as .ensures)
+    (at-form-of .version-of .ensures) (at-if1 .if1 .left) (c .end-request2 .ensures)
 
 pub request-end-spec : {M : Type 1} → statement M
 request-end-spec =
     tie.close
     (tie.spec
     version-of-requires
-    end-request-as-requires
+    end-request-requires
     returns
-    end-strict-request-as-requires
+    end-request-requires-2
     returns-2)

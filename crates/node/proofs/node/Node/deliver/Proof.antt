@@ -44,8 +44,8 @@ returns-2 c =
 enum-told : tie.Need-enum-told
 enum-told c = search needs
 
-read-configuration-as-requires : tie.Need-read-configuration-as-requires
-read-configuration-as-requires c κs = search needs
+read-configuration-requires : tie.Need-read-configuration-requires
+read-configuration-requires c κs = search needs
 
 enum-known-verdict : tie.Need-enum-known-verdict
 enum-known-verdict c = search needs
@@ -62,11 +62,11 @@ returns-3 c =
     let a = judged .before .before .args in
     c .undelivered3 .ensures
     ∙ deliver-unread (a .delivery) (a .self) (a .time) (a .payload .now) (granted (judged .valid .ensures) (come .before .if1 .left)) (come .may-come .ensures)
-    (reading .before .enum-told .given .1) (reading .read-configuration-as .ensures) (seen .verdict .given .1)
+    (reading .before .enum-told .given .1) (reading .read-configuration .ensures) (seen .verdict .given .1)
 
 -- the configuration that was read, and what is made of it
 abbrev configurationIn : tie.After-c → Configuration
-configurationIn x = x .before .before .before .read-configuration-as .result .configuration
+configurationIn x = x .before .before .before .read-configuration .result .configuration
 
 read-so : (x : tie.After-c) →
     let a = x .before .before .before .before .before .before .before .before .before .before .args in
@@ -77,7 +77,7 @@ read-so x =
     let judged = come .before .before in
     let a = judged .before .before .args in
     deliver-read (a .delivery) (a .self) (a .time) (a .payload .now) (granted (judged .valid .ensures) (come .before .if1 .left)) (come .may-come .ensures)
-    (reading .before .enum-told .given .1) (reading .read-configuration-as .ensures) (x .before .enum-told2 .given .1)
+    (reading .before .enum-told .given .1) (reading .read-configuration .ensures) (x .before .enum-told2 .given .1)
 
 enum-told-2 : tie.Need-enum-told-2
 enum-told-2 c = search needs
@@ -225,7 +225,7 @@ deliver-spec =
     undelivered-requires-2
     returns-2
     enum-told
-    read-configuration-as-requires
+    read-configuration-requires
     enum-known-verdict
     undelivered-requires-3
     returns-3

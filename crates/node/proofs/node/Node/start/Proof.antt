@@ -19,8 +19,8 @@ enum-told c = search needs
 request-requires : tie.Need-request-requires
 request-requires c κs = search needs
 
-write-request-as-requires : tie.Need-write-request-as-requires
-write-request-as-requires c κs = search needs
+write-request-requires : tie.Need-write-request-requires
+write-request-requires c κs = search needs
 
 started-requires : tie.Need-started-requires
 started-requires c κs = search needs
@@ -43,7 +43,7 @@ returns-2 c =
     let x = asked .before .before .args in
     rw (c .started .ensures)
     (start-written (x .self) (x .time) (x .timeout) _ _ (asked .may-start .ensures) (told .enum-told .given .1) _ _ _
-    (writing .before .request .ensures) (writing .write-request-as .ensures))
+    (writing .before .request .ensures) (writing .write-request .ensures))
 
 pub start-spec : {M : Type 1} → statement M
 start-spec =
@@ -54,7 +54,7 @@ start-spec =
     unstarted-requires
     enum-told
     request-requires
-    write-request-as-requires
+    write-request-requires
     started-requires
     returns
     same-length

@@ -4,8 +4,8 @@ use borrow.Author.Tests.{not-true, not-false}
 use borrow.Author.Needs.{needs}
 use Rattle.cojp_write.proofs.octets.Limits.{writing-fits}
 use Rattle.cojp_write.proofs.configuration.Plans.{configuration-range, configuration-emit}
-use Rattle.cojp_write.proofs.configuration.write_configuration_as.Statement.{statement}
-use Rattle.cojp_write.proofs.configuration.write_configuration_as.Tie as tie
+use Rattle.cojp_write.proofs.configuration.write_configuration.Statement.{statement}
+use Rattle.cojp_write.proofs.configuration.write_configuration.Tie as tie
 
 configuration-in-range-requires : tie.Need-configuration-in-range-requires
 configuration-in-range-requires c κs = search needs
@@ -34,8 +34,8 @@ returns-2 c =
     let a = range .before .before .args in
     configuration-emit (a .version) (a .c) (sym (range .configuration-in-range .ensures) ∙ not-false _ (test .if1 .left)) (emitted .emit-configuration .ensures)
 
-pub write-configuration-as-spec : {M : Type 1} → statement M
-write-configuration-as-spec =
+pub write-configuration-spec : {M : Type 1} → statement M
+write-configuration-spec =
     tie.close
     (tie.spec
     configuration-in-range-requires

@@ -4,8 +4,8 @@ use borrow.Author.Needs.{needs}
 use Rattle.cojp.specs.Request.{requestForm, emptyRequestState}
 use Rattle.cojp_map.proofs.Maps.{read-refused, read-pairs}
 use Rattle.cojp_read.proofs.request.Requests.{answerTo}
-use Rattle.cojp_read.proofs.request.read_by.Statement.{statement}
-use Rattle.cojp_read.proofs.request.read_by.Tie as tie
+use Rattle.cojp_read.proofs.request.read_request.Statement.{statement}
+use Rattle.cojp_read.proofs.request.read_request.Tie as tie
 
 open-payload-requires : tie.Need-open-payload-requires
 open-payload-requires c κs = search needs
@@ -38,8 +38,8 @@ returns-2 c =
     let read = read-pairs (requestForm (given .version)) (given .strict) emptyRequestState (given .payload .now) (opening .result) (opening .ensures) (told .0 .0) (told .0 .1 .0) (told .1) in
     c .take-pairs .ensures ∙ ap (answerTo (given .version)) (sym read)
 
-pub read-by-spec : {M : Type 1} → statement M
-read-by-spec =
+pub read-request-spec : {M : Type 1} → statement M
+read-request-spec =
     tie.close
     (tie.spec
     open-payload-requires

@@ -3,8 +3,8 @@ use borrow.Author.Needs.{needs}
 use borrow.Author.Tests.{le-leb, lt-leb}
 use Rattle.node.specs.Node.{made}
 use Rattle.lemmas.specs.logic.Tests.{denied, granted}
-use Rattle.node.proofs.node.make.Statement.{statement}
-use Rattle.node.proofs.node.make.Tie as tie
+use Rattle.node.proofs.node.Node.new.Statement.{statement}
+use Rattle.node.proofs.node.Node.new.Tie as tie
 
 not-made-requires : tie.Need-not-made-requires
 not-made-requires c κs = search needs
@@ -38,8 +38,8 @@ returns-3 c =
     let test-if1 = range .before in
     rw (le-leb _ _ (test-if1 .if1 .left), granted (range .valid .ensures) (test .if2 .left), c .fresh-node .ensures, at-known .known .ensures)
 
-pub make-spec : {M : Type 1} → statement M
-make-spec =
+pub new-spec : {M : Type 1} → statement M
+new-spec =
     tie.close
     (tie.spec
     not-made-requires

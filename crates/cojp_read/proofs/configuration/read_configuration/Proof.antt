@@ -14,7 +14,7 @@ use Rattle.cojp.specs.Configuration.{configurationForm, configurationAnswer, em
 use Rattle.cojp.specs.KeySet.{keysParameter}
 use Rattle.cojp.specs.Parameter.{parameterOf}
 use Rattle.cojp.specs.declared.configuration.Configuration.{Configuration}
-use Rattle.cojp.specs.declared.version.Version.{Version}
+use Rattle.protocol_version.specs.declared.Version.{Version}
 use Rattle.cojp.specs.declared.parameter.Parameter.{Parameter}
 use Rattle.cojp.specs.declared.parameter.Parameter.the-variants as name
 use Rattle.cojp_map.specs.Pairs.{walkAt, StartSpec}
@@ -25,10 +25,10 @@ use Rattle.cojp_map.proofs.Maps.{Walking, walk-start, walk-done, turn-stops, tu
 use Rattle.cojp_read.proofs.configuration.Configurations.{Turn, keys-turn, address-turn, jrc-turn, network-turn, prefix-turn, blacklist-turn, rate-turn, passed-turn}
 use Rattle.cojp_read.specs.configuration.Noted.{labelsSeenWith}
 use Rattle.cojp_read.proofs.configuration.Labels.{met-draft}
-use Rattle.cojp_read.proofs.configuration.read_by.Statement.{statement}
-use Rattle.cojp_read.proofs.configuration.read_by.Tie as tie
-use Rattle.cojp_read.proofs.configuration.read_by.Reads as reads
-use Rattle.cojp_read.proofs.configuration.read_by.Lts as lts
+use Rattle.cojp_read.proofs.configuration.read_configuration.Statement.{statement}
+use Rattle.cojp_read.proofs.configuration.read_configuration.Tie as tie
+use Rattle.cojp_read.proofs.configuration.read_configuration.Reads as reads
+use Rattle.cojp_read.proofs.configuration.read_configuration.Lts as lts
 use Rattle.cojp.proofs.empty_configuration.Reads as empty-configuration-reads
 use Rattle.cojp.proofs.parameter_of.Reads as parameter-of-reads
 use Rattle.cojp_read.proofs.configuration.refused_configuration.Reads as refused-configuration-reads
@@ -335,8 +335,8 @@ returns-3 c =
     ap configurationAnswer (walk-done (configurationForm (a .version)) _ _ (walked .inv) (omega (arith, c .loop-test .left)))
     ∙ pairs-read (a .version) (a .strict) (a .payload .now) _ (opened .before .before .open-payload .ensures) _ _ (opened .opened2 .given .1)
 
-pub read-by-spec : {M : Type 1} → statement M
-read-by-spec =
+pub read-configuration-spec : {M : Type 1} → statement M
+read-configuration-spec =
     tie.close
     (tie.spec
     Inv-loop

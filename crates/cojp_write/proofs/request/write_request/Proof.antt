@@ -4,8 +4,8 @@ use borrow.Author.Tests.{not-true, not-false}
 use borrow.Author.Needs.{needs}
 use Rattle.cojp_write.proofs.octets.Limits.{request-fits}
 use Rattle.cojp_write.proofs.request.Plans.{request-range, request-emit}
-use Rattle.cojp_write.proofs.request.write_request_as.Statement.{statement}
-use Rattle.cojp_write.proofs.request.write_request_as.Tie as tie
+use Rattle.cojp_write.proofs.request.write_request.Statement.{statement}
+use Rattle.cojp_write.proofs.request.write_request.Tie as tie
 
 request-in-range-requires : tie.Need-request-in-range-requires
 request-in-range-requires c κs = search needs
@@ -39,8 +39,8 @@ returns-2 c =
     request-emit (a .version) (a .q) (sym (range .request-in-range .ensures) ∙ not-false _ (test .if1 .left)) (owing .is-owing .ensures)
     (request .emit-request .ensures)
 
-pub write-request-as-spec : {M : Type 1} → statement M
-write-request-as-spec =
+pub write-request-spec : {M : Type 1} → statement M
+write-request-spec =
     tie.close
     (tie.spec
     request-in-range-requires

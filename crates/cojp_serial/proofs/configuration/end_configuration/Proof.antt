@@ -6,8 +6,8 @@ use borrow.Author.Needs.{needs}
 use lib.ListN.{length}
 use lib.Seq.{length-take-le}
 use Rattle.cojp_serial.proofs.Courses.{open-fits}
-use Rattle.cojp_serial.proofs.request.end_request_by.Statement.{statement}
-use Rattle.cojp_serial.proofs.request.end_request_by.Tie as tie
+use Rattle.cojp_serial.proofs.configuration.end_configuration.Statement.{statement}
+use Rattle.cojp_serial.proofs.configuration.end_configuration.Tie as tie
 
 decision-requires : tie.Need-decision-requires
 decision-requires c κs = search needs
@@ -15,34 +15,34 @@ decision-requires c κs = search needs
 enum-told : tie.Need-enum-told
 enum-told c = search needs
 
-refused-request-requires : tie.Need-refused-request-requires
-refused-request-requires c κs = search needs
+refused-configuration-requires : tie.Need-refused-configuration-requires
+refused-configuration-requires c κs = search needs
 
 enum-told-2 : tie.Need-enum-told-2
 enum-told-2 c = search needs
 
-refused-request-requires-2 : tie.Need-refused-request-requires-2
-refused-request-requires-2 c κs = search needs
+refused-configuration-requires-2 : tie.Need-refused-configuration-requires-2
+refused-configuration-requires-2 c κs = search needs
 
 enum-told-3 : tie.Need-enum-told-3
 enum-told-3 c = search needs
 
-refused-request-requires-3 : tie.Need-refused-request-requires-3
-refused-request-requires-3 c κs = search needs
+refused-configuration-requires-3 : tie.Need-refused-configuration-requires-3
+refused-configuration-requires-3 c κs = search needs
 
 enum-told-4 : tie.Need-enum-told-4
 enum-told-4 c = search needs
 
-slice-aggregate-request-by : tie.Need-slice-aggregate-request-by
-slice-aggregate-request-by c =
+slice-aggregate-read-configuration : tie.Need-slice-aggregate-read-configuration
+slice-aggregate-read-configuration c =
     let told = c .before in
     let found = told .before .before in
     let a = found .before .before .args in
     let f = open-fits (a .arrival) (length (a .store .now)) 0 (sym (found .decision .ensures) ∙ told .enum-told4 .given .1) in
     sym (length-take-le (a .arrival .arrived) (a .store .now) (omega (arith, f .room, f .store)))
 
-request-by-requires : tie.Need-request-by-requires
-request-by-requires c κs = search needs
+read-configuration-requires : tie.Need-read-configuration-requires
+read-configuration-requires c κs = search needs
 
 end-marked-requires : tie.Need-end-marked-requires
 end-marked-requires c κs = search needs
@@ -51,41 +51,41 @@ returns : tie.Need-returns
 returns c =
     let told = c .before in
     let found = told .before .before in
-    rw (sym (found .decision .ensures) ∙ told .enum-told .given .1) (c .refused-request .ensures)
+    rw (sym (found .decision .ensures) ∙ told .enum-told .given .1) (c .refused-configuration .ensures)
 
 returns-2 : tie.Need-returns-2
 returns-2 c =
     let told = c .before in
     let found = told .before .before in
-    rw (sym (found .decision .ensures) ∙ told .enum-told2 .given .1) (c .refused-request2 .ensures)
+    rw (sym (found .decision .ensures) ∙ told .enum-told2 .given .1) (c .refused-configuration2 .ensures)
 
 returns-3 : tie.Need-returns-3
 returns-3 c =
     let told = c .before in
     let found = told .before .before in
-    rw (sym (found .decision .ensures) ∙ told .enum-told3 .given .1) (c .refused-request3 .ensures)
+    rw (sym (found .decision .ensures) ∙ told .enum-told3 .given .1) (c .refused-configuration3 .ensures)
 
 returns-4 : tie.Need-returns-4
 returns-4 c =
     let read = c .before in
     let told = read .before .before in
     let found = told .before .before in
-    rw (sym (found .decision .ensures) ∙ told .enum-told4 .given .1, read .request-by .ensures, c .end-marked .ensures)
+    rw (sym (found .decision .ensures) ∙ told .enum-told4 .given .1, read .read-configuration .ensures, c .end-marked .ensures)
 
-pub end-request-by-spec : {M : Type 1} → statement M
-end-request-by-spec =
+pub end-configuration-spec : {M : Type 1} → statement M
+end-configuration-spec =
     tie.close
     (tie.spec
     decision-requires
     enum-told
-    refused-request-requires
+    refused-configuration-requires
     enum-told-2
-    refused-request-requires-2
+    refused-configuration-requires-2
     enum-told-3
-    refused-request-requires-3
+    refused-configuration-requires-3
     enum-told-4
-    slice-aggregate-request-by
-    request-by-requires
+    slice-aggregate-read-configuration
+    read-configuration-requires
     end-marked-requires
     returns
     returns-2
