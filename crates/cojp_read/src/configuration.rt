@@ -5,6 +5,7 @@ mod published;
 
 use crate::configuration::once::KeysStep;
 use crate::configuration::once::address_once;
+use crate::configuration::once::allows_additional_info;
 use crate::configuration::once::keys_once;
 use crate::configuration::published::blacklist_once;
 use crate::configuration::published::noted_label;
@@ -57,7 +58,7 @@ pub fn read_configuration(payload: &[u8], version: Version, strict: bool) -> Con
             while 0 < left {
                 let pair = labelled_at(s, at);
                 let mut verdict = pair.verdict;
-                if version.allows_additional_info() {
+                if allows_additional_info(version) {
                     c.labels = noted_label(c.labels, version, pair.label);
                 }
                 let named = parameter_of(version, pair.label);
@@ -65,7 +66,7 @@ pub fn read_configuration(payload: &[u8], version: Version, strict: bool) -> Con
                     Parameter::Keys => {
                         let before = c.keys;
                         let held = before.disposition;
-                        let allowed = version.allows_additional_info();
+                        let allowed = allows_additional_info(version);
                         let r = read_keys(s, pair.value, allowed);
                         let parameter = r.parameter;
                         c.keys = parameter;

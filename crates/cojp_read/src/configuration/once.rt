@@ -15,8 +15,17 @@ ghost use Rattle.cojp.specs.Address.{noAddressParameter, addressRead};
 ghost use Rattle.cojp.specs.Bytes.{valueView, afterValue, EndsAt};
 ghost use Rattle.cojp.specs.KeySet.{noKeysParameter};
 ghost use Rattle.cojp.specs.Reading.{read, resultOf, malformedAs, byVersionOf, Accepting};
+ghost use Rattle.protocol_version.specs.Version.{allowsAdditionalInfo};
 ghost use Rattle.cojp_map.specs.Pairs.{seen, once};
 ghost use Rattle.cojp_read.specs.configuration.Follow.{KeysFollow, RestFollows};
+
+// Whether keys may have additional information. The walk over the pairs calls a function of its own crate here, because its proof names its
+// callees' proofs.
+pub(crate) fn allows_additional_info(version: Version) -> bool
+    ensures { λ r. ⌜ r ≡ allowsAdditionalInfo version ⌝ }
+{
+    version.allows_additional_info()
+}
 
 // What is told of a key set beside its keys, which the walk stores as they were read: a set that is handed on is copied at each step, a
 // tenth of a short read. `next` is where the bytes go on.

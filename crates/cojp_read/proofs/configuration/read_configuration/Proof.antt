@@ -108,7 +108,7 @@ Noting = lts.Joined1 calls reads.Pre reads.Post Inv-loop μ-loop
 
 -- after the match on what a pair's label names
 abbrev Met : Type 0
-Met = lts.At-match2-met calls reads.Pre reads.Post Inv-loop μ-loop
+Met = lts.At-match2-came calls reads.Pre reads.Post Inv-loop μ-loop
 
 -- the labels that came are noted in the published form, where keys may have additional information; in the draft none is
 met-noted : (noting : Noting)

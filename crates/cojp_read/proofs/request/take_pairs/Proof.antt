@@ -33,7 +33,7 @@ abbrev μ-loop : tie.MeasureT-loop
 -- after the match on a pair's label
 abbrev Met : Type 0
 Met =
-    lts.At-match-met (
+    lts.At-match-came (
       empty-request-reads.Asked,
       empty-request-reads.Learnt,
       labelled-at-reads.Asked,

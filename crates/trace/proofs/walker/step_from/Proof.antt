@@ -1,4 +1,4 @@
--- `trace_walker::step_from` meets its contract: a walk of its MIR, by hand. A walker is made of the slice and the place, in a local, and its `step` is called on the state.
+-- `trace::walker::step_from` meets its contract: a walk of its MIR, by hand. A walker is made of the slice and the place, in a local, and its `step` is called on the state.
 -- All that the proof knows of `Walker::step` is that it meets its contract. Nothing of the parameters is had at exit (`stay-dropped`), so nothing is copied:
 -- what the slice and the place own is what the walker owns, and goes to the callee with what the state owns.
 -- Assumes nothing.
@@ -53,9 +53,9 @@ use Rattle.trace.proofs.walker.Walker as T
 use Rattle.trace.proofs.walker.Walker.Laws as T′
 use Rattle.trace.proofs.walker.Walker.step as callee
 use Rattle.trace.proofs.walker.Walker.step.Symbol as callee-def
-use Rattle.trace.proofs.walker.Walker.step.Symbol.{name as #trace-walker·step}
+use Rattle.trace.proofs.walker.Walker.step.Symbol.{name as #trace·walker·step}
 use Rattle.trace.proofs.walker.Walker.step.Met as callee-thm
-use Rattle.trace.proofs.walker.step_from.Key.{name as #trace-walker·step-from}
+use Rattle.trace.proofs.walker.step_from.Key.{name as #trace·walker·step-from}
 use Rattle.trace.proofs.walker.step_from as step
 use Rattle.trace.proofs.walker.step_from.Statement as stated
 use Rattle.trace.proofs.walker.step_from.Code as code
@@ -131,7 +131,7 @@ module _ {M : Type 1} (𝓤 : URA M) (H : Heap 𝓤) (A : Atoms 𝓤) (W : Given
       suffices ! _ (ends-at 𝓤 H A step.ended stayed (step.clauses 𝓤 H A mem run) W (((κ, tt), (q, tt), tt, (s, (n, (st, tt))), (v ∷ [], (vint w64 n ∷ [], (m ∷ [], tt)))), tt) u r (tt, (tt, (tt, tt))) (tt, (tt, (tt, tt)))) $ says ! e $
       move ! (1 ∷ []) $ frame ! $ nothing ! $ nothing ! $ fjoin ! $ nothing ! $ fjoin ! $ nothing ! $ fjoin ! $ frame ! $ done !
 
-  module _ (C : Calls 𝓤 H) (Λ : Loops 𝓤 H) (fm : FmC 𝓤 H (W .laws) C) (known : Triple 𝓤 (C #trace-walker·step) (Callee 𝓤 H A mem run)) where
+  module _ (C : Calls 𝓤 H) (Λ : Loops 𝓤 H) (fm : FmC 𝓤 H (W .laws) C) (known : Triple 𝓤 (C #trace·walker·step) (Callee 𝓤 H A mem run)) where
     walk : (τ ρ : Ty) → Is (ShrSlice (named 0) κ u8) s (v ∷ []) → n < 2 ^ 64 → Holds (hasTy τ m) × WT m → ((r : StepResult) (u : Val) → Is R.the-row r (u ∷ []) → Holds (hasTy ρ u) × WT u)
         → ent 𝓤 (onEntry 𝓤 H A step.signature (κ, tt) (q, tt) (s, (n, (st, tt))) (v ∷ [], (vint w64 n ∷ [], (m ∷ [], tt)))) (WpFn 𝓤 H C Λ (fnAt τ ρ) (v ∷ vint w64 n ∷ m ∷ []) Post)
     walk τ ρ p gn wm typed =
@@ -151,7 +151,7 @@ module _ {M : Type 1} (𝓤 : URA M) (H : Heap 𝓤) (A : Atoms 𝓤) (W : Given
         move ! (10 ∷ 11 ∷ []) $ free1 ! $ move ! (8 ∷ 9 ∷ []) $ free1 ! $ move ! (6 ∷ 7 ∷ []) $ free1 ! $ move ! (4 ∷ 5 ∷ []) $ free1 ! $ move ! (2 ∷ 3 ∷ []) $ free1 ! $ free0 ! $ by ! (exits r u e))))))))))
 
 module _ {M : Type 1} (𝓤 : URA M) (H : Heap 𝓤) (A : Atoms 𝓤) (W : Given 𝓤 H A) (mem : Memory → SProp 𝓤) (run : Routine → Fun 𝓤) where
-  step-walks : (C : Calls 𝓤 H) (Λ : Loops 𝓤 H) → FmC 𝓤 H (W .laws) C → Triple 𝓤 (C #trace-walker·step) (Callee 𝓤 H A mem run)
+  step-walks : (C : Calls 𝓤 H) (Λ : Loops 𝓤 H) → FmC 𝓤 H (W .laws) C → Triple 𝓤 (C #trace·walker·step) (Callee 𝓤 H A mem run)
       → Walks 𝓤 H A step.ended stayed (WpFn 𝓤 H C Λ code.function) (step.clauses 𝓤 H A mem run)
   step-walks C Λ fm known = walked 𝓤 H A step.ended stayed (step.clauses 𝓤 H A mem run) (WpFn 𝓤 H C Λ code.function)
       (λ κs. (slice-vals, (uint-vals w64, (LL.vals S.the-type S′.the-laws, tt))))
@@ -161,7 +161,7 @@ module _ {M : Type 1} (𝓤 : URA M) (H : Heap 𝓤) (A : Atoms 𝓤) (W : Given
       (λ r u is. LL.lawful R.the-type R′.the-laws 𝓤 H A W .typed r _ is .0)))
 
 step-meets : {M : Type 1} (𝓤 : URA M) (H : Heap 𝓤) (A : Atoms 𝓤) (W : Given 𝓤 H A) (mem : Memory → SProp 𝓤) (run : Routine → Fun 𝓤) (𝓣 : Tables 𝓤 H)
-    → Triple 𝓤 (𝓣 .C #trace-walker·step) (Callee 𝓤 H A mem run)
+    → Triple 𝓤 (𝓣 .C #trace·walker·step) (Callee 𝓤 H A mem run)
     → Meets 𝓤 H A step.signature (WpFn 𝓤 H (𝓣 .C) (𝓣 .Λ) code.function) (step.spec 𝓤 H A mem run)
 step-meets 𝓤 H A W mem run 𝓣 known = walk-meets 𝓤 H A step.ended stayed W
     (goes-dropped 𝓤 H A W 1 slice yes (λ κs x f. refl), (goes-dropped 𝓤 H A W 1 (plain (λ _. usize)) yes (λ κs x f. refl), (goes-dropped 𝓤 H A W 1 (plain (λ _. S.the-row)) yes (λ κs x f. refl), tt)))
@@ -172,6 +172,6 @@ pub step-from-spec : {M : Type 1} → stated.statement M
 unfolding code.routine tablesOf
 step-from-spec 𝓤 H 𝓜 𝓖 𝓡 =
     entered 𝓤 H (tripleOf 𝓤 H (𝓖 .A) step.signature (step.spec 𝓤 H (𝓖 .A) (𝓜 .mem) (𝓡 .run)))
-    (tables 𝓤 H 𝓜 𝓡 code.env .C) (tables 𝓤 H 𝓜 𝓡 code.env .Λ) #trace-walker·step-from code.function (code.unfolded 𝓤 H 𝓜 𝓡)
+    (tables 𝓤 H 𝓜 𝓡 code.env .C) (tables 𝓤 H 𝓜 𝓡 code.env .Λ) #trace·walker·step-from code.function (code.unfolded 𝓤 H 𝓜 𝓡)
     (step-meets 𝓤 H (𝓖 .A) (givenOf 𝓤 H 𝓜 𝓖) (𝓜 .mem) (𝓡 .run) (tablesOf 𝓤 H 𝓜 (tables 𝓤 H 𝓜 𝓡 code.env))
-    (cited 𝓤 H (Callee 𝓤 H (𝓖 .A) (𝓜 .mem) (𝓡 .run)) 𝓜 𝓡 code.env #trace-walker·step callee-def.routine code.calls-trace-walker·Walker·step (callee-thm.met 𝓤 H 𝓜 𝓖 𝓡)))
+    (cited 𝓤 H (Callee 𝓤 H (𝓖 .A) (𝓜 .mem) (𝓡 .run)) 𝓜 𝓡 code.env #trace·walker·step callee-def.routine code.calls-trace·walker·Walker·step (callee-thm.met 𝓤 H 𝓜 𝓖 𝓡)))

@@ -1,4 +1,4 @@
--- `trace_walker::Walker::new` meets its contract: a walk of its MIR, by hand. A `Walker` is made of the slice passed and 0, in the result's local.
+-- `trace::walker::Walker::new` meets its contract: a walk of its MIR, by hand. A `Walker` is made of the slice passed and 0, in the result's local.
 -- A `&[u8]` is Copy, so what it owns is had twice: once for trace at exit, and once inside the result, beside the facts of at.
 -- Assumes nothing.
 use mathlib.Core.Path.{refl}
@@ -38,7 +38,7 @@ use denote.Exit.{yes}
 use Rattle.trace.specs.declared.walker.Walker.{Walker}
 use Rattle.trace.proofs.walker.Walker as T
 use Rattle.trace.proofs.walker.Walker.Laws as T′
-use Rattle.trace.proofs.walker.Walker.new.Key.{name as #trace-walker·new}
+use Rattle.trace.proofs.walker.Walker.new.Key.{name as #trace·walker·new}
 use Rattle.trace.proofs.walker.Walker.new as new
 use Rattle.trace.proofs.walker.Walker.new.Statement as stated
 use Rattle.trace.proofs.walker.Walker.new.Code as code
@@ -95,5 +95,5 @@ pub new-spec : {M : Type 1} → stated.statement M
 unfolding code.routine tablesOf
 new-spec 𝓤 H 𝓜 𝓖 𝓡 =
     entered 𝓤 H (tripleOf 𝓤 H (𝓖 .A) new.signature (new.spec 𝓤 H (𝓖 .A) (𝓜 .mem) (𝓡 .run)))
-    (tables 𝓤 H 𝓜 𝓡 code.env .C) (tables 𝓤 H 𝓜 𝓡 code.env .Λ) #trace-walker·new code.function (code.unfolded 𝓤 H 𝓜 𝓡)
+    (tables 𝓤 H 𝓜 𝓡 code.env .C) (tables 𝓤 H 𝓜 𝓡 code.env .Λ) #trace·walker·new code.function (code.unfolded 𝓤 H 𝓜 𝓡)
     (new-meets 𝓤 H (𝓖 .A) (givenOf 𝓤 H 𝓜 𝓖) (𝓜 .mem) (𝓡 .run) (tablesOf 𝓤 H 𝓜 (tables 𝓤 H 𝓜 𝓡 code.env)))

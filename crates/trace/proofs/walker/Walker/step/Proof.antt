@@ -1,4 +1,4 @@
--- `trace_walker::Walker::step` meets its contract: a walk of its MIR, by hand. The walker is taken apart, and `trace::step` is called on the slice, the place and the state.
+-- `trace::walker::Walker::step` meets its contract: a walk of its MIR, by hand. The walker is taken apart, and `trace::step` is called on the slice, the place and the state.
 -- All that the proof knows of `trace::step` is that it meets its contract. Nothing of the parameters is had at exit (`stay-dropped`), so nothing is copied:
 -- what the walker's two fields own, in their order, goes to the callee with what the state owns.
 -- Assumes nothing.
@@ -54,7 +54,7 @@ use Rattle.trace.proofs.walk.step.Met as callee-thm
 use Rattle.trace.specs.declared.walker.Walker.{Walker}
 use Rattle.trace.proofs.walker.Walker as T
 use Rattle.trace.proofs.walker.Walker.Laws as T′
-use Rattle.trace.proofs.walker.Walker.step.Key.{name as #trace-walker·step}
+use Rattle.trace.proofs.walker.Walker.step.Key.{name as #trace·walker·step}
 use Rattle.trace.proofs.walker.Walker.step as step
 use Rattle.trace.proofs.walker.Walker.step.Statement as stated
 use Rattle.trace.proofs.walker.Walker.step.Code as code
@@ -177,6 +177,6 @@ pub step-spec : {M : Type 1} → stated.statement M
 unfolding code.routine tablesOf
 step-spec 𝓤 H 𝓜 𝓖 𝓡 =
     entered 𝓤 H (tripleOf 𝓤 H (𝓖 .A) step.signature (step.spec 𝓤 H (𝓖 .A) (𝓜 .mem) (𝓡 .run)))
-    (tables 𝓤 H 𝓜 𝓡 code.env .C) (tables 𝓤 H 𝓜 𝓡 code.env .Λ) #trace-walker·step code.function (code.unfolded 𝓤 H 𝓜 𝓡)
+    (tables 𝓤 H 𝓜 𝓡 code.env .C) (tables 𝓤 H 𝓜 𝓡 code.env .Λ) #trace·walker·step code.function (code.unfolded 𝓤 H 𝓜 𝓡)
     (step-meets 𝓤 H (𝓖 .A) (givenOf 𝓤 H 𝓜 𝓖) (𝓜 .mem) (𝓡 .run) (tablesOf 𝓤 H 𝓜 (tables 𝓤 H 𝓜 𝓡 code.env))
-    (cited 𝓤 H (Callee 𝓤 H (𝓖 .A) (𝓜 .mem) (𝓡 .run)) 𝓜 𝓡 code.env #trace·step callee-def.routine code.calls-trace·step (callee-thm.met 𝓤 H 𝓜 𝓖 𝓡)))
+    (cited 𝓤 H (Callee 𝓤 H (𝓖 .A) (𝓜 .mem) (𝓡 .run)) 𝓜 𝓡 code.env #trace·step callee-def.routine code.calls-trace·walk·step (callee-thm.met 𝓤 H 𝓜 𝓖 𝓡)))
