@@ -5,10 +5,9 @@ returns, bytes that are no text, payloads around the limit of 256 bytes, a last 
 What they are answered follows from the rules of the desk tools, from document 01's examples, from the draft's and from docs/RFC9031.md, by the code below
 alone.
 """
-import os
 import random
 
-MARK = b"# Lines of tools/decode_edges.py\n"
+from splice import splice
 
 NONE = "keys=absent address=absent lease=absent jrc=absent network=absent prefix=absent"
 
@@ -440,31 +439,5 @@ def published():
     yield b"reset", "reset"
 
 
-def is_silent(line):
-    """Whether the line is not answered: it is empty, or a comment."""
-    text = (line[:-1] if line.endswith(b"\r") else line).strip(b" ")
-    return not text or text.startswith(b"#")
-
-
-def before(path, keep):
-    """What stands before the lines of this script: up to the mark, or the first `keep` answers."""
-    with open(path, "rb") as f:
-        text = f.read()
-    if keep is None:
-        return text.split(MARK)[0]
-    return b"".join(text.splitlines(keepends=True)[:keep])
-
-
-def main():
-    folder = os.path.join(os.path.dirname(os.path.dirname(os.path.abspath(__file__))), "crates", "decode")
-    stdin, stdout = os.path.join(folder, "stdin"), os.path.join(folder, "stdout")
-    vectors = before(stdin, None)
-    answers = before(stdout, sum(not is_silent(line) for line in vectors.split(b"\n")))
-    edges = list(lines(random.Random(9031)))
-    with open(stdin, "wb") as f:
-        f.write(vectors + MARK + b"\n".join(line for line, _ in edges))
-    with open(stdout, "wb") as f:
-        f.write(answers + b"".join(said.encode() + b"\n" for _, said in edges if said is not None))
-
-
-main()
+if __name__ == "__main__":
+    splice("decode", "decode_edges.py", lines(random.Random(9031)), ended=False)

@@ -2,14 +2,15 @@
 """decode_requests.py N RECORDED.in RECORDED.out: puts a recorded stream of commands and its answers into crates/decode/stdin and stdout, as the
 part headed `# Request N`.
 
-The stream was answered by a tool that knew paper 02's requests up to N. A line is left out if it names a command or a reading of a later request, which
-has another answer since. All other lines come with their recorded answers, word for word. decode_edges.py, run afterwards, adds its own lines.
+The stream was answered by a tool that knew paper 02's requests up to N. A line is left out if it names a command or a reading of a later
+request, which has another answer since. All other lines are added with their recorded answers, word for word. decode_rewrites.py, run
+afterwards, adds the round trips of new payloads.
 """
-import os
 import re
 import sys
 
-EDGES = b"# Lines of tools/decode_edges.py"
+from splice import answered, is_answered, parts, put, read
+
 HEAD = re.compile(rb"^# Request (\d+)$")
 COMMANDS = {b"merge": 10, b"store": 12, b"part": 12, b"end": 12, b"reset": 12}
 NEW_FORM = re.compile(rb"^(strict-)?new-(request|configuration)$")
@@ -33,17 +34,11 @@ def kept(level, pairs):
             yield line, said
 
 
-def read(path):
-    lines = open(path, "rb").read().split(b"\n")
-    return lines[:-1] if lines[-1] == b"" else lines
-
-
-def answered(lines, answers):
-    """Each line with its answer; an empty line and a comment have none."""
-    answers = iter(answers)
-    for line in lines:
-        words = words_of(line)
-        yield line, None if not words or words[0].startswith(b"#") else next(answers)
+def recorded(commands, answers):
+    """The lines of a recorded stream with their answers."""
+    answers = iter(open(answers, "rb").read().split(b"\n"))
+    lines = open(commands, "rb").read().split(b"\n")
+    return [(line, next(answers) if is_answered(line) else None) for line in (lines[:-1] if lines[-1] == b"" else lines)]
 
 
 def number_of(head):
@@ -53,22 +48,18 @@ def number_of(head):
 
 def main():
     level = int(sys.argv[1])
-    folder = os.path.join(os.path.dirname(os.path.dirname(os.path.abspath(__file__))), "crates", "decode")
-    stdin, stdout = os.path.join(folder, "stdin"), os.path.join(folder, "stdout")
-    lines = read(stdin)
-    lines = lines[: lines.index(EDGES)]
+    found = parts(answered("decode"))
     head = b"# Request %d" % level
-    parts = {b"": []}
-    part = b""
-    for line, said in answered(lines, read(stdout)):
+    requests = {b"": []}
+    request = b""
+    for line, said in found[b""]:
         if HEAD.match(line):
-            part = line
-            parts[part] = []
-        parts[part].append((line, said))
-    parts[head] = [(head, None)] + list(kept(level, answered(read(sys.argv[2]), read(sys.argv[3]))))
-    both = [pair for part in sorted(parts, key=number_of) for pair in parts[part]] + [(EDGES, None)]
-    open(stdin, "wb").write(b"".join(line + b"\n" for line, _ in both))
-    open(stdout, "wb").write(b"".join(said + b"\n" for _, said in both if said is not None))
+            request = line
+            requests[request] = []
+        requests[request].append((line, said))
+    requests[head] = [(head, None)] + list(kept(level, recorded(sys.argv[2], sys.argv[3])))
+    found[b""] = [pair for request in sorted(requests, key=number_of) for pair in requests[request]]
+    put("decode", found, read("decode", "stdin")[1])
 
 
 main()

@@ -5,10 +5,7 @@ issues ago, the last numbers of a key, new keys, tokens and lengths at their lim
 What they are answered follows from document 02's request 7 and the rules of the desk tools, by the AES-CCM (FIPS 197, RFC 3610) and the proxy below,
 which know nothing of the crates.
 """
-import os
-
-MARK = b"# Lines of tools/proxy_edges.py\n"
-CRATE = os.path.join(os.path.dirname(os.path.dirname(os.path.abspath(__file__))), "crates", "proxy")
+from splice import splice
 
 A, B = bytes(range(16)), bytes(range(16, 32))
 PLEDGE = bytes.fromhex("0211223344556677")
@@ -286,29 +283,5 @@ def lines():
     yield b"proxies 0", COMMAND
 
 
-def read(name):
-    with open(os.path.join(CRATE, name), "rb") as f:
-        return f.read()
-
-
-def write(name, text):
-    with open(os.path.join(CRATE, name), "wb") as f:
-        f.write(text)
-
-
-def is_answered(line):
-    line = line.removesuffix(b"\r").strip(b" ")
-    return line != b"" and not line.startswith(b"#")
-
-
-def main():
-    vectors = read("stdin").split(MARK)[0].removesuffix(b"\n")
-    answered = sum(is_answered(line) for line in vectors.split(b"\n"))
-    answers = read("stdout").splitlines(True)[:answered]
-    made = list(lines())
-    write("stdin", vectors + b"\n" + MARK + b"".join(line + b"\n" for line, _ in made))
-    write("stdout", b"".join(answers) + b"".join(said.encode() + b"\n" for _, said in made))
-
-
 if __name__ == "__main__":
-    main()
+    splice("proxy", "proxy_edges.py", lines())

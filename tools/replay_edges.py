@@ -3,10 +3,7 @@
 
 What they are answered follows from document 02's request 4, document 01 and the rules of the desk tools, by hand: nothing is taken from the program.
 """
-import os
-
-MARK = b"# Lines of tools/replay_edges.py\n"
-CRATE = os.path.join(os.path.dirname(os.path.dirname(os.path.abspath(__file__))), "crates", "replay")
+from splice import splice
 
 COMMAND, HEX = "error command", "error hex"
 
@@ -146,29 +143,5 @@ def lines():
     yield b"replay 06", COMMAND
 
 
-def read(name):
-    with open(os.path.join(CRATE, name), "rb") as f:
-        return f.read()
-
-
-def write(name, text):
-    with open(os.path.join(CRATE, name), "wb") as f:
-        f.write(text)
-
-
-def is_answered(line):
-    line = line.removesuffix(b"\r").strip(b" ")
-    return line != b"" and not line.startswith(b"#")
-
-
-def main():
-    vectors = read("stdin").split(MARK)[0].removesuffix(b"\n")
-    answered = sum(is_answered(line) for line in vectors.split(b"\n"))
-    answers = read("stdout").splitlines(True)[:answered]
-    made = list(lines())
-    write("stdin", vectors + b"\n" + MARK + b"".join(line + b"\n" for line, _ in made))
-    write("stdout", b"".join(answers) + b"".join(said.encode() + b"\n" for _, said in made))
-
-
 if __name__ == "__main__":
-    main()
+    splice("replay", "replay_edges.py", lines())

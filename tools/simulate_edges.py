@@ -8,9 +8,7 @@ What they are answered follows from the rules of the desk tools, document 01 and
 import os
 
 from rekey import networks, payload
-
-ROOT = os.path.dirname(os.path.dirname(os.path.abspath(__file__)))
-MARK = b"# Lines of tools/simulate_edges.py\n"
+from splice import ROOT, splice
 
 COMMAND, NUMBER, HEX, NODE, KEY = "error command", "error number", "error hex", "error node", "error key"
 RANGE, PHASE, LONG, SILENT, CLOCK = "refused 13 RANGE", "refused 16 PHASE", "refused 15 LONG", "refused 14 SILENT", "refused 11 CLOCK"
@@ -288,23 +286,9 @@ def published():
     yield "show 4", fresh(0, "h'cafe'")
 
 
-def is_silent(line):
-    """Whether the line is not answered: it is empty, or a comment."""
-    text = (line[:-1] if line.endswith(b"\r") else line).strip(b" ")
-    return not text or text.startswith(b"#")
+def lines():
+    return [*story("rekey"), *story("sleeper"), *networks(), *bench(), *published(), *edges()]
 
 
-def main():
-    stdin, stdout = (os.path.join(ROOT, "crates", "simulate", name) for name in ("stdin", "stdout"))
-    with open(stdin, "rb") as f:
-        vectors = f.read().split(MARK)[0]
-    with open(stdout, "rb") as f:
-        answers = f.read().splitlines(keepends=True)[: sum(not is_silent(line) for line in vectors.split(b"\n"))]
-    every = [*story("rekey"), *story("sleeper"), *networks(), *bench(), *published(), *edges()]
-    with open(stdin, "wb") as f:
-        f.write(vectors + MARK + b"\n".join(line.encode() for line, _ in every))
-    with open(stdout, "wb") as f:
-        f.write(b"".join(answers) + b"".join(said.encode() + b"\n" for _, said in every if said is not None))
-
-
-main()
+if __name__ == "__main__":
+    splice("simulate", "simulate_edges.py", lines(), ended=False)

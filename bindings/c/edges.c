@@ -231,6 +231,23 @@ static void kept(const char *what, uint32_t number, uint32_t want, const uint8_t
 #define ANSWER "A2 02 82 01 50 000102030405060708090A0B0C0D0E0F 03 82 42 12 34 01"
 #define UPDATE "A1 02 83 02 03 50 101112131415161718191A1B1C1D1E1F"
 
+/* Starts of a new node into 4 bytes, into 7, and again while it waits: a refusal changes no byte, a success those of the request alone. */
+static void starts(uint8_t version) {
+    uint8_t was[NODE], *n = lent(NULL, NODE), *dst = lent(NULL, 7), *network = lent("\xCA\xFE", 2);
+    uint64_t length = 7;
+    check("make", pothatch_node_make(version, 0, 1, network, 2, n, NODE) == 0);
+    memcpy(was, n, NODE);
+    memset(dst, 0xEE, 7);
+    kept("no room", pothatch_node_start(n, NODE, 1000, 10000, dst + 3, 4, &length), POTHATCH_ROOM, n, was);
+    check("destination as it was", length == 0 && all(dst, 7, 0xEE));
+    check("start", pothatch_node_start(n, NODE, 1000, 10000, dst, 7, &length) == 0 && length == 5);
+    check("the request and two bytes as they were", !memcmp(dst, "\xA1\x05\x42\xCA\xFE\xEE\xEE", 7));
+    memcpy(was, n, NODE);
+    memset(dst, 0xEE, 7);
+    kept("start while waiting", pothatch_node_start(n, NODE, 2000, 10000, dst, 7, &length), POTHATCH_PHASE, n, was);
+    check("destination as it was", length == 0 && all(dst, 7, 0xEE));
+}
+
 /* From the making to the join answer. */
 static void joining(uint8_t *n) {
     uint8_t was[NODE], *dst = lent(NULL, 5), *r = lent(NULL, 17), *network = lent("\xCA\xFE", 2), *answer;
@@ -242,9 +259,6 @@ static void joining(uint8_t *n) {
     kept("poll of an idle node", pothatch_node_poll(n, NODE, 5, &told), POTHATCH_PHASE, n, was);
     check("no answer", told == 0);
     kept("a short timeout", pothatch_node_start(n, NODE, 5, 9999, dst, 5, &length), POTHATCH_RANGE, n, was);
-    memset(dst, 0xEE, 5);
-    kept("no room", pothatch_node_start(n, NODE, 5, 10000, dst, 4, &length), POTHATCH_ROOM, n, was);
-    check("destination as it was", length == 0 && all(dst, 5, 0xEE));
     check("start", pothatch_node_start(n, NODE, 5, 10000, dst, 5, &length) == 0 && length == 5);
     check("the request", !memcmp(dst, "\xA1\x05\x42\xCA\xFE", 5));
     memcpy(was, n, NODE);
@@ -360,6 +374,8 @@ int main(void) {
     proxy();
     marked_examples();
     configurations();
+    starts(POTHATCH_DRAFT);
+    starts(POTHATCH_PUBLISHED);
     uint8_t *node = lent(NULL, NODE);
     joining(node);
     frames(node);

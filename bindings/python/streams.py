@@ -478,22 +478,26 @@ def words_of(line):
     return [w for w in (line[:-1] if line.endswith("\r") else line).split(" ") if w]
 
 
+def answered(given, recorded):
+    """The lines of a recorded stream that are answered, each with its answer."""
+    answers = iter(open(recorded, encoding="latin-1", newline="\n").read().split("\n"))
+    for line in open(given, encoding="latin-1", newline="\n").read().split("\n"):
+        words = words_of(line)
+        if words and not words[0].startswith("#"):
+            yield line, next(answers)
+
+
 def stream(library, tool, given=None, recorded=None):
     """How many answers agree, and how many do not. A line that the tool itself refuses (`error`) or that has no answer is passed over."""
     good = bad = over = 0
     given, recorded = given or os.path.join(CRATES, tool, "stdin"), recorded or os.path.join(CRATES, tool, "stdout")
-    answers = open(recorded, encoding="latin-1", newline="\n").read().split("\n")
-    at, player = 0, PLAYERS[tool](library)
-    for line in open(given, encoding="latin-1", newline="\n").read().split("\n"):
-        words = words_of(line)
-        if not words or words[0].startswith("#"):
-            continue
-        want, at = answers[at], at + 1
+    player = PLAYERS[tool](library)
+    for line, want in answered(given, recorded):
         if want.startswith("error "):
             over += 1
             continue
         try:
-            got = player.play(words)
+            got = player.play(words_of(line))
         except Refused as e:
             got = "refused %s" % e
         except Skip:
@@ -517,4 +521,5 @@ def main():
     sys.exit(0 if passed == len(done) else 1)
 
 
-main()
+if __name__ == "__main__":
+    main()
