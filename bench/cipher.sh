@@ -5,6 +5,6 @@ cd "$(dirname "$0")/.."
 work=$(mktemp -d)
 trap 'rm -rf "$work"' EXIT
 
-[ -f target/staticlib/libbench_cipher.a ] || rt staticlib bench_cipher >/dev/null
-cc -O2 -o "$work/cipher" bench/cipher.c target/staticlib/libbench_cipher.a -ltomcrypt
+[ -f target/staticlib/libbench.a ] || rt staticlib bench >/dev/null
+cc -O2 -o "$work/cipher" bench/cipher.c target/staticlib/libbench.a -ltomcrypt
 "$work/cipher"

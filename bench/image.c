@@ -1,5 +1,5 @@
 /* What the image costs: a node's calls through the library's image (pothatch.h) beside the same calls on the value itself (crate
-   c_bench), in nanoseconds a call, the least of many batches, which take turns. The node has 8 active keys. Reading likewise. It judges
+   bench), in nanoseconds a call, the least of many batches, which take turns. The node has 8 active keys. Reading likewise. It judges
    nothing. */
 #include "payloads.h"
 #include "../bindings/pothatch.h"

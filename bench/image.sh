@@ -6,9 +6,9 @@ set -eu
 cd "$(dirname "$0")/.."
 work=$(mktemp -d)
 trap 'rm -rf "$work"' EXIT
-for crate in c_bench pothatch; do ${RT:-rt} staticlib "$crate" >"$work/said" || { cat "$work/said"; exit 1; }; done
+for crate in bench pothatch; do ${RT:-rt} staticlib "$crate" >"$work/said" || { cat "$work/said"; exit 1; }; done
 library=target/staticlib/libpothatch.a
-gcc -O2 -std=gnu11 -Ibench bench/image.c target/staticlib/libc_bench.a "$library" -o "$work/image"
+gcc -O2 -std=gnu11 -Ibench bench/image.c target/staticlib/libbench.a "$library" -o "$work/image"
 "$work/image"
 echo
 gcc -O2 -std=c11 -Ibindings bindings/c/stack.c "$library" -o "$work/stack"
