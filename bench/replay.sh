@@ -1,16 +1,16 @@
 #!/usr/bin/env bash
-# How many records a second the tool replay plays, on recorded nights from disk of a million and of a quarter of a million bytes: a unit that joins, hears
+# How many records a second the tool replay plays, on recorded traces from disk of a million and of a quarter of a million bytes: a unit that joins, hears
 # frames, takes updates and polls, over and over. Beside it stands a peer in the same run, bench/replay_peer.c: it walks the same records and asks their
 # kinds, lengths and unused bytes, and makes no call.
 # The last row has the same million bytes as HEX from standard input. The script prints a table and judges nothing.
-# Each night is named so many times in one run that the program's start does not count; of five runs the quickest counts.
+# Each trace is named so many times in one run that the program's start does not count; of five runs the quickest counts.
 set -eu
 cd "$(dirname "$0")/.."
 work=$(mktemp -d)
 trap 'rm -rf "$work"' EXIT
 
 [ -x target/bin/replay ] || rt check replay >/dev/null
-python3 bench/replay_nights.py "$work"
+python3 bench/gen_traces.py "$work"
 cc -O2 -o "$work/peer" bench/replay_peer.c
 
 # measure NAME RECORDS BYTES COMMAND..: a row of the table, RECORDS and BYTES being those of the whole run. Processor time counts, so that what else
@@ -31,7 +31,7 @@ times() { for _ in $(seq "$1"); do printf '%s ' "$2"; done; }
 
 from_hex() { target/bin/replay <"$work/hex"; }
 
-printf '%-36s %8s %12s %10s %8s\n' night seconds records/s ns/record MB/s
+printf '%-36s %8s %12s %10s %8s\n' trace seconds records/s ns/record MB/s
 read -r many bytes <"$work/million.size"
 read -r few quarter <"$work/quarter.size"
 # shellcheck disable=SC2046

@@ -1,4 +1,4 @@
-/* The peer of bench/replay.sh: walks recorded nights from the files that its arguments name, asks each record's kind, lengths, role, frame type and
+/* The peer of bench/replay.sh: walks recorded traces from the files that its arguments name, asks each record's kind, lengths, role, frame type and
    unused bytes as document 02 lays them out, and counts the kinds. It keeps no node and makes no call. */
 #include <stdio.h>
 

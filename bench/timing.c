@@ -1,7 +1,7 @@
-/* The program of bench/run. `timing compare N` holds our reader against limit.c on N damaged payloads; `timing` alone prints tables of times, the least
+/* The program of bench/run. `timing compare N` holds our reader against reference_reader.c on N damaged payloads; `timing` alone prints tables of times, the least
    of many batches, which take turns, in nanoseconds a call; `timing stack` prints how many bytes of stack calls use, the stack being painted before;
    `timing copies` (linked with memcpy and memset wrapped) prints how many block copies reads and a node's calls make. It judges nothing. */
-#include "limit.h"
+#include "reference_reader.h"
 #include "payloads.h"
 #include <alloca.h>
 #include <stdio.h>
@@ -203,7 +203,7 @@ static void calls(void)
     }
 }
 
-/* ---- our reader beside limit.c on damaged payloads */
+/* ---- our reader beside reference_reader.c on damaged payloads */
 static uint64_t state = 88172645463325252ull;
 static uint32_t random_number(void)
 {
@@ -271,7 +271,7 @@ static int compare(long payloads)
                 break;
             }
     }
-    printf("%ld damaged payloads, %ld accepted: %ld answers differ from limit.c's\n", payloads, accepted, differ);
+    printf("%ld damaged payloads, %ld accepted: %ld answers differ from reference_reader.c's\n", payloads, accepted, differ);
     return differ != 0;
 }
 
@@ -306,8 +306,8 @@ static void stack(void)
     STACK("read a join request, M1", bench_request(m1, sizeof m1));
     STACK("join, verified, update, 232 bytes", bench_update(dst, sizeof dst, big, big_len, other, other_len, FIRST_ID, 1));
     STACK("join, verified, update, nine levels (DEEP)", bench_update(dst, sizeof dst, big, big_len, deep, sizeof deep, FIRST_ID, 1));
-    STACK("limit.c, configuration, 232 bytes", by_gcc(big, big_len));
-    STACK("limit.c, configuration, nine levels (DEEP)", by_gcc(deep, sizeof deep));
+    STACK("reference_reader.c, configuration, 232 bytes", by_gcc(big, big_len));
+    STACK("reference_reader.c, configuration, nine levels (DEEP)", by_gcc(deep, sizeof deep));
 }
 
 /* ---- block copies */

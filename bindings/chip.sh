@@ -2,7 +2,7 @@
 # chip.sh OUT [CALLS]: EXPERIMENTAL. Builds the library for an ARM Cortex-M4 into OUT/libpothatch_chip.a, with its text sizes in OUT/sizes
 # and the stack depth of each call in OUT/stack.txt; with a file of recorded calls (c/played.c) it plays them under qemu-arm. It is the
 # module of the proved build with another target: no proof covers that change, nor the compiler's ARM back end. Lengths are 64 bits on the
-# chip too. RT as for install.sh; MODULE names a module that was kept already (keep.sh).
+# chip too. RT as for install.sh; MODULE names a module that was kept already (rt_keep_bitcode.sh).
 set -eu
 out=${1:?"use: chip.sh OUT [CALLS]"}
 here=$(cd "$(dirname "$0")" && pwd)
@@ -14,7 +14,7 @@ machine=$(uname -m)
 tools=$home/on/$machine/toolchain
 cd "$here/.."
 
-if [ -n "${MODULE:-}" ]; then cp "$MODULE" "$out/module.bc"; else bindings/keep.sh "$out/module.bc" ${RT:-rt} staticlib pothatch; fi
+if [ -n "${MODULE:-}" ]; then cp "$MODULE" "$out/module.bc"; else bindings/rt_keep_bitcode.sh "$out/module.bc" ${RT:-rt} staticlib pothatch; fi
 clang=$tools/bin/clang
 "$clang" -S -emit-llvm -O0 -Xclang -disable-llvm-passes -Wno-override-module "$out/module.bc" -o "$out/module.ll"
 sed -e '/^target datalayout/s/".*"/"e-m:e-p:32:32-Fi8-i64:64-v128:64:128-a:0:32-n32-S64"/' \

@@ -328,7 +328,7 @@ uint32_t pothatch_serial_end_request(uint8_t *serial, uint64_t serial_len, const
 uint32_t pothatch_serial_end_configuration(uint8_t *serial, uint64_t serial_len, const uint8_t *store, uint64_t store_len, uint8_t form,
     uint8_t reading, uint8_t *out, uint64_t out_len);
 
-/* ---- a recorded night (draft form), walked record by record. 0 also where it stopped early: `out` says so. RANGE: a struct's length.
+/* ---- a recorded trace (draft form), walked record by record. 0 also where it stopped early: `out` says so. RANGE: a struct's length.
  * [in] trace [result] node: all 0 where the trace made none; out: a struct pothatch_replayed */
 uint32_t pothatch_replay(const uint8_t *trace, uint64_t trace_len, uint8_t *node, uint64_t node_len, uint8_t *out, uint64_t out_len);
 

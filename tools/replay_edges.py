@@ -1,5 +1,5 @@
 #!/usr/bin/env python3
-"""Adds to crates/replay/stdin and stdout, after the vectors, the worked examples, one night cut at every byte, and lines at the edges of the tool's rules.
+"""Adds to crates/replay/stdin and stdout, after the vectors, the worked examples, one trace cut at every byte, and lines at the edges of the tool's rules.
 
 What they are answered follows from document 02's request 4, document 01 and the rules of the desk tools, by hand: nothing is taken from the program.
 """
@@ -45,8 +45,8 @@ def node(role, attempt, network, active="none", pending="none"):
     )
 
 
-# a night, record by record, with what has been seen of it after each: a unit starts, polls, and hears frames that it has no key for
-NIGHT = [
+# a trace, record by record, with what has been seen of it after each: a unit starts, polls, and hears frames that it has no key for
+TRACE = [
     (new_node(0, b"\xca\xfe"), "records=1/0/0/0/0/0 refusals=[] switches=0 wait=0 " + node(0, ("idle", 0, 0, 0, 0), "h'cafe'")),
     (start(0, 10000), "records=1/1/0/0/0/0 refusals=[] switches=0 wait=0 " + node(0, ("waiting", 0, 0, 10000, 0), "h'cafe'")),
     (poll(10000), "records=1/1/0/0/0/1 refusals=[] switches=0 wait=0 " + node(0, ("waiting", 10000, 10000, 20000, 1), "h'cafe'")),
@@ -60,14 +60,14 @@ KEY = bytes(range(16))
 SET = b"\xa1\x02\x82\x01\x50" + KEY
 KEYS = "[1/0/h'%s'#0]" % KEY.hex()
 
-# whole nights with their answers: readings that tell two programs apart
-NIGHTS = [
+# whole traces with their answers: readings that tell two programs apart
+WHOLE = [
     # nothing; a record before the first node; an unused byte that is not zero (worked examples)
     (b"", "complete " + NOTHING),
     (poll(0), "stopped 0 " + NOTHING),
     (bytes.fromhex("010001ca000000000000000000000000000001"), "stopped 0 " + NOTHING),
-    # a bad frame type after a good night
-    (b"".join(r for r, _ in NIGHT[:6]) + verified(2, 1), "stopped 56 " + NIGHT[5][1]),
+    # a bad frame type after a good trace
+    (b"".join(r for r, _ in TRACE[:6]) + verified(2, 1), "stopped 56 " + TRACE[5][1]),
     # a refused start does not move the wait, and its record counts
     (
         new_node(1, None) + start(5, 9999) + start(5, 12345),
@@ -122,9 +122,9 @@ NIGHTS = [
 
 
 def cuts():
-    """The night cut at every byte: whole at the end of a record, else stopped where the cut one begins."""
+    """The trace cut at every byte: whole at the end of a record, else stopped where the cut one begins."""
     whole, seen = b"", NOTHING
-    for record, then in NIGHT:
+    for record, then in TRACE:
         for n in range(len(record)):
             yield whole + record[:n], ("stopped %d " % len(whole) if n else "complete ") + seen
         whole, seen = whole + record, then
@@ -132,7 +132,7 @@ def cuts():
 
 
 def lines():
-    for trace, said in list(cuts()) + NIGHTS:
+    for trace, said in list(cuts()) + WHOLE:
         yield ("trace " + trace.hex()).encode(), said
     yield b"   trace   06 0000 0000 00000000  ", "stopped 0 " + NOTHING
     yield b"trace -", HEX

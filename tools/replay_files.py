@@ -1,10 +1,10 @@
-"""Recorded nights as files and what replay answers for each, which tests/replay_files.py runs.
+"""Recorded traces as files and what replay answers for each, which tests/replay_files.py runs.
 
-The night is the one of tools/replay_edges.py. The longest trace that is accepted is a node that is made and then polled, which document 01
+The trace is the one of tools/replay_edges.py. The longest trace that is accepted is a node that is made and then polled, which document 01
 refuses with PHASE while the node is idle, and hears one frame. The answers are derived by hand, here and there: nothing is taken from the
 program.
 """
-from replay_edges import NIGHT, NOTHING, new_node, node, poll, verified
+from replay_edges import TRACE, NOTHING, new_node, node, poll, verified
 
 LONGEST = 1048576
 
@@ -20,15 +20,15 @@ def longest():
 
 def cases():
     """Names of files in the order of the arguments, each with its content, or None where there is no such file, and its answer."""
-    night, seen = b"".join(record for record, _ in NIGHT), NIGHT[-1][1]
+    trace, seen = b"".join(record for record, _ in TRACE), TRACE[-1][1]
     whole, seen_whole = longest()
     return [
-        ("night", night, "complete " + seen),
-        ("cut", night[:-1], "stopped %d %s" % (len(night) - len(NIGHT[-1][0]), NIGHT[-2][1])),
+        ("trace", trace, "complete " + seen),
+        ("cut", trace[:-1], "stopped %d %s" % (len(trace) - len(TRACE[-1][0]), TRACE[-2][1])),
         ("empty", b"", "complete " + NOTHING),
         ("missing", None, "error file"),
         (".", None, "error file"),
         ("longest", whole, "complete " + seen_whole),
         ("longer", whole + b"\6", "error long"),
-        ("night", night, "complete " + seen),
+        ("trace", trace, "complete " + seen),
     ]

@@ -350,7 +350,7 @@ static void serial(void) {
     check("no mark", pothatch_serial_part(s, 6, store, 256, part, 5) == POTHATCH_RANGE);
 }
 
-static void night(void) {
+static void replays(void) {
     uint64_t n;
     uint8_t *trace = hex("01 00 02 CAFE 0000000000000000000000000000 02 0000000000000000 00002710 06 0000000000002710 05 01 01 05 01", &n);
     uint8_t *node = lent(NULL, 878), *out = lent(NULL, 251);
@@ -381,6 +381,6 @@ int main(void) {
     frames(node);
     misfits(node);
     serial();
-    night();
+    replays();
     return summary();
 }

@@ -29,7 +29,7 @@ static struct pothatch_configuration c, d, e;
 static struct pothatch_request q;
 static struct pothatch_reports reports;
 static struct pothatch_frame_key key;
-static struct pothatch_replayed night;
+static struct pothatch_replayed replayed;
 static struct pothatch_serial serial;
 static struct pothatch_ledger ledger;
 static struct pothatch_proxy proxy;
@@ -96,7 +96,7 @@ static void nodes(void) {
     memcpy(p, start, sizeof start), p += sizeof start;
     memcpy(p, answer, sizeof answer), p += sizeof answer;
     p[1] = (uint8_t)n, memcpy(p + 2, payload, n), p += 258;
-    DEPTH("replay", pothatch_replay(trace, (uint64_t)(p - trace), POTHATCH_LEND(&node), POTHATCH_LEND(&night)));
+    DEPTH("replay", pothatch_replay(trace, (uint64_t)(p - trace), POTHATCH_LEND(&node), POTHATCH_LEND(&replayed)));
 }
 
 static void others(void) {

@@ -182,7 +182,7 @@ class Library:
     def serial_end_configuration(self, serial, store, form, reading):
         return self.handed(Configuration, "serial_end_configuration", serial, bytes(store), U8(form), U8(reading))
 
-    # ---- a recorded night: the node, or none, and the report
+    # ---- a recorded trace: the node, or none, and the report
     def replay(self, trace):
         node, out = Node(), Replayed()
         self.judged(self.call("replay", bytes(trace), node, out))

@@ -1,10 +1,10 @@
-//! The library against the second implementation (plain/): random payloads, objects, node histories, serial sessions and traces,
+//! The library against the second implementation (reference/): random payloads, objects, node histories, serial sessions and traces,
 //! well-formed and damaged. Prints `N passed, M failed`.
 //!
 //!     compare [CALLS [FILE]]     about so many calls of each group; FILE gets a record of each call for a program that plays them
 mod lend;
 #[allow(dead_code)]
-mod plain;
+mod reference;
 #[allow(dead_code)]
 mod pothatch;
 mod random;
@@ -83,7 +83,7 @@ impl Comparison {
     fn configuration(&mut self) -> Vec<u8> {
         let form = self.random.one_of(12) as u8;
         let mut out = vec![0xEE; 570];
-        while plain::calls::configuration_read(form, 0, &self.random.payload(form == 1, false), &mut out) != 0 {}
+        while reference::calls::configuration_read(form, 0, &self.random.payload(form == 1, false), &mut out) != 0 {}
         if self.random.one_of(4) {
             self.random.damage(&mut out);
         }
@@ -138,7 +138,7 @@ impl Comparison {
 
     /// A time at or about which something is due.
     fn time(&mut self, image: &[u8]) -> u64 {
-        let n = match plain::image::node(image) {
+        let n = match reference::image::node(image) {
             Some(n) => n,
             None => return self.random.number(),
         };
@@ -157,7 +157,7 @@ impl Comparison {
 
     /// An identifier, most often one that a set of the node has.
     fn identifier(&mut self, image: &[u8]) -> u64 {
-        let held: Vec<u8> = plain::image::node(image).map_or(vec![], |n| {
+        let held: Vec<u8> = reference::image::node(image).map_or(vec![], |n| {
             n.active.set.held().iter().chain(n.pending.set.held()).map(|k| k.identifier).collect()
         });
         if held.is_empty() || self.random.one_of(8) { self.random.below(30) } else { self.random.pick(&held) as u64 }
@@ -168,7 +168,7 @@ impl Comparison {
         let time = self.time(node);
         let frame_type = if self.random.one_of(20) { self.random.below(256) } else { self.random.below(2) };
         // half of the calls are such as belong to the phase
-        let which = match (plain::image::node(node).map_or(0, |n| n.attempt.phase), self.random.below(4)) {
+        let which = match (reference::image::node(node).map_or(0, |n| n.attempt.phase), self.random.below(4)) {
             (0 | 3, 0 | 1) => 0,
             (1, 0) => 2,
             (1 | 2, 1) => 5,
@@ -185,7 +185,7 @@ impl Comparison {
             5..=8 => {
                 let payload = self.random.payload(published, false);
                 let out = self.room(17);
-                let waiting = plain::image::node(node).is_some_and(|n| n.attempt.phase == 1);
+                let waiting = reference::image::node(node).is_some_and(|n| n.attempt.phase == 1);
                 let function = if waiting != self.random.one_of(12) { Answer } else { Update };
                 self.after(Call::new(function, &[time], &[&payload], &[node, &out])).0
             }
@@ -230,7 +230,7 @@ impl Comparison {
                 let n = self.random.length(878);
                 other.resize(n, 0);
                 other = self.on_node(&other, form == 1);
-                if self.random.one_of(4) && plain::image::node(&other).is_some_and(|n| n.fits()) {
+                if self.random.one_of(4) && reference::image::node(&other).is_some_and(|n| n.fits()) {
                     node = other;
                 }
             }

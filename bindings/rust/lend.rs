@@ -1,6 +1,6 @@
 //! A call as data: its numbers and slices. It is made of the library and of the second implementation, and what the two leave is compared:
 //! the number, every byte of what is lent, and guard bytes around each slice.
-use crate::plain::calls;
+use crate::reference::calls;
 use crate::pothatch::sys::*;
 
 #[derive(Debug, Clone, Copy, PartialEq)]

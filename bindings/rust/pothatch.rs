@@ -306,7 +306,7 @@ impl Serial {
     }
 }
 
-/// A recorded night: the node that its calls give, if the trace made one, and the report.
+/// A recorded trace: the node that its calls give, if the trace made one, and the report.
 pub fn replay(trace: &[u8]) -> Result<(Option<Node>, Replayed), Refusal> {
     let (mut node, mut out) = (Node::empty(), Replayed::empty());
     let to = out.bytes_mut().as_mut_ptr();

@@ -1,5 +1,5 @@
 //! Random payloads, well-formed and damaged, and random damage to images.
-use crate::plain::item::{put_bytes, put_head};
+use crate::reference::item::{put_bytes, put_head};
 
 pub struct Random(pub u64);
 

@@ -1,6 +1,6 @@
 /* A reader of configurations and of join requests as a careful C engineer would write it, with document 01's rules: what ours is timed beside.
    It is compiled twice, by gcc -O2 and by clang -O3; BY tells the two apart. */
-#include "limit.h"
+#include "reference_reader.h"
 #include <string.h>
 #define NAME2(by, what) by##_##what
 #define NAME1(by, what) NAME2(by, what)

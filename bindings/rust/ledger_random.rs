@@ -1,4 +1,4 @@
-//! Random shifts: the library's ledger against a small one that is written here and shares nothing with it. Prints `N passed, M failed`.
+//! Random runs of calls: the library's ledger against a small one that is written here and shares nothing with it. Prints `N passed, M failed`.
 #[allow(dead_code)]
 mod pothatch;
 use pothatch::{Ledger, Refusal};
@@ -35,8 +35,8 @@ fn next(seed: &mut u64) -> u64 {
     *seed
 }
 
-/// One shift of many calls; whether every answer agrees, a refused call changes nothing, and the bytes around the memory stay.
-fn shift(seed: &mut u64) -> bool {
+/// One run of many calls: whether every answer agrees, a refused call changes nothing, and the bytes around the memory stay.
+fn run(seed: &mut u64) -> bool {
     let size = 1 + (next(seed) % 200) as u16;
     let first = (next(seed) % 60000) as u16;
     let room = 9 * size as usize;
@@ -70,7 +70,7 @@ fn shift(seed: &mut u64) -> bool {
 
 fn main() {
     let mut seed = 0x9E37_79B9_7F4A_7C15u64;
-    let passed = (0..200).filter(|_| shift(&mut seed)).count();
+    let passed = (0..200).filter(|_| run(&mut seed)).count();
     println!("{} passed, {} failed", passed, 200 - passed);
     std::process::exit(if passed == 200 { 0 } else { 1 });
 }

@@ -1,5 +1,5 @@
 #!/bin/sh
-# keep.sh FILE COMMAND..: runs the command, rt or one that calls it, with a view of the kit whose compiler copies the module that it is
+# rt_keep_bitcode.sh FILE COMMAND..: runs the command, rt or one that calls it, with a view of the kit whose compiler copies the module that it is
 # handed to FILE. Nothing else of the kit differs: its own clang compiles. chip.sh needs the module.
 set -eu
 keep=$(cd "$(dirname "$1")" && pwd)/$(basename "$1")

@@ -5,7 +5,7 @@
 pub mod calls;
 pub mod image;
 pub mod item;
-pub mod night;
+pub mod trace;
 pub mod node;
 pub mod object;
 pub mod reading;

@@ -1,4 +1,4 @@
-/* What the readers of bench/limit.c give. They answer document 01's number of a refusal, and 0 for accepted. */
+/* What the readers of bench/reference_reader.c give. They answer document 01's number of a refusal, and 0 for accepted. */
 #ifndef LIMIT_H
 #define LIMIT_H
 #include <stddef.h>

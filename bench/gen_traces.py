@@ -1,4 +1,4 @@
-"""The nights of bench/replay.sh, written to the folder that its argument names: `million` and `quarter`, for each a file NAME.size with its records and its bytes, and `hex`, ten lines of replay's input with the first."""
+"""The traces of bench/replay.sh, written to the folder that its argument names: `million` and `quarter`, for each a file NAME.size with its records and its bytes, and `hex`, ten lines of replay's input with the first."""
 import os
 import sys
 
@@ -27,7 +27,7 @@ def join(time, identifier):
     ]
 
 
-def night(most):
+def records_within(most):
     records, size, time = [b"\1\0\2\xca\xfe" + bytes(14)], 19, 0
     while True:
         more = join(time, 32 + time // 20000 % 200)
@@ -37,7 +37,7 @@ def night(most):
 
 
 for name, most in (("million", 1000000), ("quarter", 250000)):
-    records = night(most)
+    records = records_within(most)
     trace = b"".join(records)
     with open(os.path.join(sys.argv[1], name), "wb") as f:
         f.write(trace)

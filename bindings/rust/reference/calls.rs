@@ -1,6 +1,6 @@
 //! The calls of pothatch.h over bytes: lengths, image, call, store. Beside each refusal a result is all 0.
 use super::image::{self, Image, Serial};
-use super::night::Night;
+use super::trace::TraceRun;
 use super::node::{self, Due, Node};
 use super::object::{Configuration, Request};
 use super::{reading, writing, Refused, LONG, PHASE, RANGE};
@@ -188,13 +188,13 @@ pub fn replay(trace: &[u8], node: &mut [u8], out: &mut [u8]) -> u32 {
         }
         return RANGE;
     }
-    let night = Night::walk(trace);
-    match &night.node {
+    let run = TraceRun::walk(trace);
+    match &run.node {
         Some(n) => node.copy_from_slice(&Image::of_node(n).0),
         None => node.fill(0),
     }
-    let counts = night.kinds.iter().chain(&night.refusals).fold(Image::new(b'T'), |image, n| image.number(*n));
-    let image = counts.number(night.switches).number(night.longest).bytes(&[night.stopped as u8]).number(night.place);
+    let counts = run.kinds.iter().chain(&run.refusals).fold(Image::new(b'T'), |image, n| image.number(*n));
+    let image = counts.number(run.switches).number(run.longest).bytes(&[run.stopped as u8]).number(run.place);
     out.copy_from_slice(&image.0);
     0
 }

@@ -1,9 +1,9 @@
-//! A recorded night, walked record by record (request 4); draft form.
+//! A recorded trace, walked record by record (request 4); draft form.
 use super::node::{make, Node};
 use super::Refused;
 
 #[derive(Default)]
-pub struct Night {
+pub struct TraceRun {
     pub node: Option<Node>,
     pub kinds: [u64; 6],
     pub refusals: [u64; 22],
@@ -18,7 +18,7 @@ fn number(bytes: &[u8]) -> u64 {
     bytes.iter().fold(0, |n, b| n << 8 | *b as u64)
 }
 
-impl Night {
+impl TraceRun {
     fn counted(&mut self, done: Result<(), Refused>) {
         if let Err(why) = done {
             self.refusals[why as usize - 1] += 1;
@@ -80,10 +80,10 @@ impl Night {
         Some(())
     }
 
-    pub fn walk(trace: &[u8]) -> Night {
-        let mut night = Night::default();
+    pub fn walk(trace: &[u8]) -> TraceRun {
+        let mut run = TraceRun::default();
         let mut at = 0;
-        while at < trace.len() && !night.stopped {
+        while at < trace.len() && !run.stopped {
             let size = match trace[at] {
                 1 => 19,
                 2 => 13,
@@ -92,13 +92,13 @@ impl Night {
                 6 => 9,
                 _ => usize::MAX,
             };
-            if size > trace.len() - at || night.record(trace[at], &trace[at + 1..at + size]).is_none() {
-                night.stopped = true;
+            if size > trace.len() - at || run.record(trace[at], &trace[at + 1..at + size]).is_none() {
+                run.stopped = true;
             } else {
                 at += size;
             }
         }
-        night.place = at as u64;
-        night
+        run.place = at as u64;
+        run
     }
 }
