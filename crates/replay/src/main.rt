@@ -28,7 +28,13 @@ const FORM: Form = Form {
     apart: NONE,
 };
 
-fn answer(command: Word, hex: Hex, trace: &[u8], out: Output, buffer: &mut Buffer) -> Output {
+fn answer_command(
+    command: Word,
+    hex: Hex,
+    trace: &[u8],
+    out: Output,
+    buffer: &mut Buffer,
+) -> Output {
     if !command.is(b"trace") {
         return put_line_error(out, LineError::Command, buffer);
     }
@@ -49,7 +55,7 @@ fn answer_line(
     let line = asked.line;
     let mut session = asked.session;
     if !line.is_silent() {
-        let out = answer(line.head.command, line.tail.hex, trace, session.out, buffer);
+        let out = answer_command(line.head.command, line.tail.hex, trace, session.out, buffer);
         session.out = out.byte(b'\n', buffer);
     }
     session
