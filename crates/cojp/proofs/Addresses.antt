@@ -3,18 +3,14 @@ use Prim.Native.Nat.{ℕ, suc, _+_, _-_, _≤_, _<_}
 use mathlib.Core.Path.{_≡_, refl, sym, _∙_}
 use mathlib.Core.Bool.{Bool, true, false}
 use mathlib.Core.List.{List, [], _∷_}
-use mathlib.Core.Logic.{⊎-elim}
 use native.Mathlib.Omega.{arith}
 use native.Mathlib.Numerals.{add-one}
 use lib.ListN.{length, take, drop, getD, length-drop}
 use lib.Seq.{drop-cons, length-take-le}
-use types.Run.{OneOf}
-use denote.Enum.Declared.{tagOf}
 use Rattle.short_address.specs.Address.{isAddress, AddressLaws}
 use Rattle.cbor.specs.View.{Scalar, number, minus, string, other, ValueSpec}
 use Rattle.cbor.specs.declared.value.Value.{Value}
 use Rattle.cbor.specs.declared.value.Value.the-variants as vv
-use Rattle.cbor.proofs.value.Value as value
 use Rattle.cojp.specs.Address.{addressOf, addressParameter, addressBy, addressIn, addressConcluded, addressRead}
 use Rattle.cojp.specs.Bytes.{valueView, membersAt, Neither, MemberAt, MemberSpec}
 use Rattle.cojp.specs.Reading.{Reading, read, broken, unfit}
@@ -22,8 +18,7 @@ use Rattle.cojp.specs.declared.address.AddressParameter.{AddressParamete
 use Rattle.cojp.specs.declared.members.Member.{Member}
 use Rattle.cojp.specs.declared.members.Member.the-variants as mv
 use Rattle.cojp.specs.declared.disposition.Disposition.the-variants.{Taken}
-use Rattle.cojp.proofs.Arrays.{members-none, members-some, array-here, no-array}
-use Rattle.cojp.proofs.members.Member as member
+use Rattle.cojp.proofs.Arrays.{members-none, members-some, array-here, scalar-here}
 
 -- ---- its bytes
 module _ (s : List ℕ) (p a : ℕ) (i : p + a ≤ length s) (b : Bool) (n : ℕ) where
@@ -71,12 +66,12 @@ module _ (s b : List ℕ) (at n : ℕ) (r : Reading AddressParameter) where
       unfolding addressIn
       lease-many h k e = let (q, qs, f) = members-some (n - 1) (drop p s) (omega arith) in e ∙ rw (number-here, f)
 
-    pub lease-other : ¬ (n ≡ 0) → OneOf (1 ∷ 2 ∷ []) (tagOf member.the-type v) → r ≡ addressConcluded broken
+    pub lease-other : ¬ (n ≡ 0) → ((x p : ℕ) → ¬ (v ≡ mv.Number x p)) → r ≡ addressConcluded broken
         → r ≡ addressConcluded (addressIn (string b ∷ membersAt n (drop at s)))
     unfolding addressIn
-    lease-other h o e =
+    lease-other h no-number e =
         let (q, qs, f) = members-some n (drop at s) (omega arith) in
-        e ∙ rw f (last q qs (go v (a .here) o q qs f))
+        e ∙ rw f (last q qs (go v (a .here) no-number q qs f))
       where
         -- a byte string or something else
         Wrong : Scalar → Type 0
@@ -97,11 +92,11 @@ module _ (s b : List ℕ) (at n : ℕ) (r : Reading AddressParameter) where
         strings t (minus x) f = tt
         strings t other f = tt
 
-        go : (v : Member) → MemberAt s at n v → OneOf (1 ∷ 2 ∷ []) (tagOf member.the-type v)
+        go : (v : Member) → MemberAt s at n v → ((x p : ℕ) → ¬ (v ≡ mv.Number x p))
             → (q : Scalar) (qs : List Scalar) → membersAt n (drop at s) ≡ q ∷ qs → Wrong q
-        go (mv.Number x p) w o q qs f = absurd (⊎-elim (λ e. omega arith) (λ e. omega arith) o)
-        go (mv.Bytes p a) (_, _, e) o q qs f = strings (take a (drop p s)) q (let g : string (take a (drop p s)) ≡ q = cc in g)
-        go mv.Neither w o q qs f = wrong q qs (rw f at w)
+        go (mv.Number x p) w no-number q qs f = absurd (no-number x p refl)
+        go (mv.Bytes p a) (_, _, e) no-number q qs f = strings (take a (drop p s)) q (let g : string (take a (drop p s)) ≡ q = cc in g)
+        go mv.Neither w no-number q qs f = wrong q qs (rw f at w)
 
         last : (q : Scalar) (qs : List Scalar) → Wrong q → addressConcluded broken ≡ addressConcluded (addressIn (string b ∷ q ∷ qs))
         last (number x) qs w = absurd w
@@ -116,10 +111,10 @@ module _ (s : List ℕ) (at n : ℕ) (v : Member) (m : MemberSpec s at n v) (r :
       → r ≡ addressConcluded (addressIn (membersAt n (drop at s)))
   address-begun p a g e = let w : MemberAt s at n (mv.Bytes p a) = rw g at (m .here) in e ∙ rw (w .2)
 
-  pub address-headless : OneOf (0 ∷ 2 ∷ []) (tagOf member.the-type v) → r ≡ addressConcluded broken
+  pub address-headless : ((p a : ℕ) → ¬ (v ≡ mv.Bytes p a)) → r ≡ addressConcluded broken
       → r ≡ addressConcluded (addressIn (membersAt n (drop at s)))
   unfolding addressIn
-  address-headless o e = e ∙ go v (m .here) o
+  address-headless no-string e = e ∙ go v (m .here) no-string
     where
       none : (ps : List Scalar) → Neither ps → addressConcluded broken ≡ addressConcluded (addressIn ps)
       none [] w = refl
@@ -128,11 +123,11 @@ module _ (s : List ℕ) (at n : ℕ) (v : Member) (m : MemberSpec s at n v) (r :
       none (minus x ∷ ps) w = refl
       none (other ∷ ps) w = refl
 
-      go : (v : Member) → MemberAt s at n v → OneOf (0 ∷ 2 ∷ []) (tagOf member.the-type v)
+      go : (v : Member) → MemberAt s at n v → ((p a : ℕ) → ¬ (v ≡ mv.Bytes p a))
           → addressConcluded broken ≡ addressConcluded (addressIn (membersAt n (drop at s)))
-      go (mv.Number x p) w o = rw (w .1)
-      go (mv.Bytes p a) w o = absurd (⊎-elim (λ e. omega arith) (λ e. omega arith) o)
-      go mv.Neither w o = none (membersAt n (drop at s)) w
+      go (mv.Number x p) w no-string = rw (w .1)
+      go (mv.Bytes p a) w no-string = absurd (no-string p a refl)
+      go mv.Neither w no-string = none (membersAt n (drop at s)) w
 
 -- ---- the value
 module _ (s : List ℕ) (at : ℕ) (v : Value) (e : ValueSpec s at v) (r : Reading AddressParameter) where
@@ -140,6 +135,6 @@ module _ (s : List ℕ) (at : ℕ) (v : Value) (e : ValueSpec s at v) (r : Readi
       → r ≡ addressRead (valueView (drop at s))
   address-array p n g f = f ∙ rw (array-here s at v e p n g .1)
 
-  pub address-broken : OneOf (0 ∷ 1 ∷ 3 ∷ 4 ∷ []) (tagOf value.the-type v) → r ≡ addressConcluded broken
+  pub address-broken : ((p n : ℕ) → ¬ (v ≡ vv.Array p n)) → r ≡ addressConcluded broken
       → r ≡ addressRead (valueView (drop at s))
-  address-broken o f = f ∙ rw (no-array s at v e o .1)
+  address-broken no-array f = f ∙ rw (scalar-here s at v e no-array .1)

@@ -2,18 +2,14 @@
 use Prim.Native.Nat.{ℕ, _+_, _-_, _≤_, _<_, suc}
 use mathlib.Core.Path.{_≡_, refl, ap, sym, _∙_}
 use mathlib.Core.List.{List, [], _∷_}
-use mathlib.Core.Logic.{⊎-elim}
 use native.Mathlib.Omega.{arith}
 use lib.ListN.{length, take, drop}
 use borrow.Author.Tests.{eq-eqb, ne-eqb}
-use types.Run.{OneOf}
-use denote.Enum.Declared.{tagOf}
 use Rattle.cbor.specs.Decode.{Outcome, refused, got, decode}
 use Rattle.cbor.specs.Item.{Item}
 use Rattle.cbor.specs.View.{Scalar, number, minus, string, other, scalar, list, scalarAt, andOn, restOf, ValueAt, ValueSpec}
 use Rattle.cbor.specs.declared.value.Value.{Value}
 use Rattle.cbor.specs.declared.value.Value.the-variants as vv
-use Rattle.cbor.proofs.value.Value as value
 use Rattle.cojp.specs.Bytes.{valueView, membersAt, afterValue, afterMembers, EndsAt}
 use Rattle.cojp.specs.Bytes.{memberOf, Neither, MemberAt, MemberRest, MemberSpec}
 use Rattle.cojp.specs.declared.members.Member.{Member}
@@ -78,15 +74,15 @@ module _ (s : List ℕ) (at n : ℕ) where
         let l : 0 < n = omega arith in
         rw (← f) (record { is = rw (ne-eqb n 0 h) (ap memberOf (e .is)); here = value-member s at n l v (e .says 5); rest = value-rest s at n l v (e .says 5) })
 
-    pub neither-told : OneOf (2 ∷ 3 ∷ 4 ∷ []) (tagOf value.the-type v) → MemberSpec s at n mv.Neither
-    neither-told o = value-told mv.Neither (go v o)
+    pub neither-told : ((x p : ℕ) → ¬ (v ≡ vv.Number x p)) → ((p a : ℕ) → ¬ (v ≡ vv.Bytes p a)) → MemberSpec s at n mv.Neither
+    neither-told no-number no-string = value-told mv.Neither (go v no-number no-string)
       where
-        go : (v : Value) → OneOf (2 ∷ 3 ∷ 4 ∷ []) (tagOf value.the-type v) → memberOf v ≡ mv.Neither
-        go (vv.Number x p) o = absurd (⊎-elim (λ e. omega arith) (λ o. ⊎-elim (λ e. omega arith) (λ e. omega arith) o) o)
-        go (vv.Bytes p a) o = absurd (⊎-elim (λ e. omega arith) (λ o. ⊎-elim (λ e. omega arith) (λ e. omega arith) o) o)
-        go (vv.Array p a) o = refl
-        go vv.Other o = refl
-        go (vv.Minus x p) o = refl
+        go : (v : Value) → ((x p : ℕ) → ¬ (v ≡ vv.Number x p)) → ((p a : ℕ) → ¬ (v ≡ vv.Bytes p a)) → memberOf v ≡ mv.Neither
+        go (vv.Number x p) no-number no-string = absurd (no-number x p refl)
+        go (vv.Bytes p a) no-number no-string = absurd (no-string p a refl)
+        go (vv.Array p a) no-number no-string = refl
+        go vv.Other no-number no-string = refl
+        go (vv.Minus x p) no-number no-string = refl
 
 -- ---- what an answer of `member_at` says
 module _ (s : List ℕ) (at n : ℕ) (v : Member) (e : MemberSpec s at n v) where
@@ -128,15 +124,12 @@ module _ (s : List ℕ) (at : ℕ) (v : Value) (e : ValueSpec s at v) where
       let w : ValueAt 6 s at (vv.Bytes p a) = rw g at (e .says 6) in
       record { rest = sym (ap restOf (w .rest .1)); inside = omega (arith, w .rest .0) }
 
-  pub no-array : OneOf (0 ∷ 1 ∷ 3 ∷ 4 ∷ []) (tagOf value.the-type v) → (p : Scalar) × (valueView (drop at s) ≡ scalar p)
-  no-array o = go v (e .says 5) o
+  pub scalar-here : ((p n : ℕ) → ¬ (v ≡ vv.Array p n)) → (p : Scalar) × (valueView (drop at s) ≡ scalar p)
+  scalar-here no-array = go v (e .says 5) no-array
     where
-      go : (v : Value) → ValueAt 5 s at v → OneOf (0 ∷ 1 ∷ 3 ∷ 4 ∷ []) (tagOf value.the-type v)
-          → (p : Scalar) × (valueView (drop at s) ≡ scalar p)
-      go (vv.Number x p) w o = (number x, w .view)
-      go (vv.Bytes p a) w o = (string (take a (drop p s)), w .view)
-      go (vv.Array p a) w o =
-          absurd
-          (⊎-elim (λ e. omega arith) (λ o. ⊎-elim (λ e. omega arith) (λ o. ⊎-elim (λ e. omega arith) (λ e. omega arith) o) o) o)
-      go vv.Other w o = (other, w .view)
-      go (vv.Minus x p) w o = (minus x, w .view)
+      go : (v : Value) → ValueAt 5 s at v → ((p n : ℕ) → ¬ (v ≡ vv.Array p n)) → (p : Scalar) × (valueView (drop at s) ≡ scalar p)
+      go (vv.Number x p) w no-array = (number x, w .view)
+      go (vv.Bytes p a) w no-array = (string (take a (drop p s)), w .view)
+      go (vv.Array p n) w no-array = absurd (no-array p n refl)
+      go vv.Other w no-array = (other, w .view)
+      go (vv.Minus x p) w no-array = (minus x, w .view)

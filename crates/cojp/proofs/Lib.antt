@@ -8,6 +8,5 @@ pub mod Walks
 mod Faults
 mod Kept
 mod Rates
-pub mod Reports
 mod Reading
 pub mod Nexts

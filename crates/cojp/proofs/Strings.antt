@@ -2,19 +2,15 @@
 use Prim.Native.Nat.{ℕ, suc, _+_, _-_, _≤_, _<_}
 use mathlib.Core.Path.{_≡_, refl, sym, _∙_}
 use mathlib.Core.List.{List, [], _∷_, _++_}
-use mathlib.Core.Logic.{⊎-elim}
 use native.Mathlib.Omega.{arith}
 use native.Mathlib.Numerals.{add-one}
 use lib.ListN.{length, take, drop, getD, set, replicate, length-drop}
 use lib.Seq.{set-at, take-suc, append-snoc, getD-drop, length-take-le}
 use borrow.Author.Tests.{le-leb, lt-leb}
-use types.Run.{OneOf}
-use denote.Enum.Declared.{tagOf}
 use Rattle.refusal.specs.declared.Refusal.the-variants as refusal
 use Rattle.cbor.specs.View.{ValueAt, ValueSpec}
 use Rattle.cbor.specs.declared.value.Value.{Value}
 use Rattle.cbor.specs.declared.value.Value.the-variants as vv
-use Rattle.cbor.proofs.value.Value as value
 use Rattle.cojp.specs.Bytes.{valueView}
 use Rattle.cojp.specs.Octets.{padded, copiedFrom, octetsParameter, noOctetsParameter, octetsJudged, octetsRead}
 use Rattle.cojp.specs.Reading.{Reading, refused, read}
@@ -84,15 +80,14 @@ module _ (s : List ℕ) (at least : ℕ) (v : Value) (e : ValueSpec s at v) wher
     unfolding octetsJudged
     octets-taken b l h f = rw (string-here .view, whole, le-leb least a l, le-leb a 16 h, f ∙ copied-inside s p a h string-inside)
 
-  pub octets-broken : OneOf (0 ∷ 2 ∷ 3 ∷ 4 ∷ []) (tagOf value.the-type v) → refused refusal.«Type» ≡ octetsRead least (valueView (drop at s))
+  pub octets-broken : ((p a : ℕ) → ¬ (v ≡ vv.Bytes p a)) → refused refusal.«Type» ≡ octetsRead least (valueView (drop at s))
   unfolding octetsJudged
-  octets-broken o = go v (e .says 5) o
+  octets-broken no-string = go v (e .says 5) no-string
     where
-      go : (v : Value) → ValueAt 5 s at v → OneOf (0 ∷ 2 ∷ 3 ∷ 4 ∷ []) (tagOf value.the-type v)
+      go : (v : Value) → ValueAt 5 s at v → ((p a : ℕ) → ¬ (v ≡ vv.Bytes p a))
           → refused refusal.«Type» ≡ octetsRead least (valueView (drop at s))
-      go (vv.Number x p) w o = rw (w .view)
-      go (vv.Bytes p a) w o = absurd
-          (⊎-elim (λ e. omega arith) (λ o. ⊎-elim (λ e. omega arith) (λ o. ⊎-elim (λ e. omega arith) (λ e. omega arith) o) o) o)
-      go (vv.Array p a) w o = rw (w .view)
-      go vv.Other w o = rw (w .view)
-      go (vv.Minus x p) w o = rw (w .view)
+      go (vv.Number x p) w no-string = rw (w .view)
+      go (vv.Bytes p a) w no-string = absurd (no-string p a refl)
+      go (vv.Array p a) w no-string = rw (w .view)
+      go vv.Other w no-string = rw (w .view)
+      go (vv.Minus x p) w no-string = rw (w .view)

@@ -8,13 +8,10 @@ use lib.Dec.{leb, ltb, eqb}
 use lib.ListN.{length, take, drop, set, replicate, length-append, length-drop}
 use lib.Seq.{set-at, append-snoc, take-all, drop-drop, length-take-le}
 use borrow.Author.Tests.{lt-leb, ltb-false, leb-true, leb-false, eqb-true}
-use types.Run.{OneOf}
-use denote.Enum.Declared.{tagOf}
 use Rattle.refusal.specs.declared.Refusal.the-variants as refusal
 use Rattle.cbor.specs.View.{ValueSpec}
 use Rattle.cbor.specs.declared.value.Value.{Value}
 use Rattle.cbor.specs.declared.value.Value.the-variants as vv
-use Rattle.cbor.proofs.value.Value as value
 use Rattle.link_key.specs.AdditionalInfo.{additionalInfoIn}
 use Rattle.link_key.specs.Key.{keyWithAdditionalInfo, noKey, validKey}
 use Rattle.link_key.specs.set.KeySet.{noKeys, allValid, noneTwice, eachOnce, validKeys}
@@ -32,7 +29,7 @@ use Rattle.cojp_key_set.specs.declared.group.Group.the-variants as gv
 use Rattle.cojp_key_set.specs.declared.additional_info.AdditionalInfoRead.{AdditionalInfoRead}
 use Rattle.cojp.specs.declared.key_set.KeysParameter.{KeysParameter}
 use Rattle.lemmas.specs.logic.Tests.{both-left, both-right}
-use Rattle.cojp.proofs.Arrays.{nothing-left, members-none, array-here, no-array}
+use Rattle.cojp.proofs.Arrays.{nothing-left, members-none, array-here, scalar-here}
 use Rattle.cojp.proofs.Strings.{copied-inside}
 
 -- ---- a key is added, or there is no place for it
@@ -264,5 +261,5 @@ module _ (s : List ℕ) (at : ℕ) (v : Value) (e : ValueSpec s at v) (r : Readi
       → r ≡ keysReadAs allowed (valueView (drop at s))
   keys-array p n g f = f ∙ rw (array-here s at v e p n g .1)
 
-  pub keys-broken : OneOf (0 ∷ 1 ∷ 3 ∷ 4 ∷ []) (tagOf value.the-type v) → r ≡ refused refusal.«Type» → r ≡ keysReadAs allowed (valueView (drop at s))
-  keys-broken o f = f ∙ rw (no-array s at v e o .1)
+  pub keys-broken : ((p n : ℕ) → ¬ (v ≡ vv.Array p n)) → r ≡ refused refusal.«Type» → r ≡ keysReadAs allowed (valueView (drop at s))
+  keys-broken no-array f = f ∙ rw (scalar-here s at v e no-array .1)

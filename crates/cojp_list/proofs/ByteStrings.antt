@@ -2,11 +2,7 @@
 use Prim.Native.Nat.{ℕ, _+_, _-_, _≤_, _<_}
 use mathlib.Core.Path.{_≡_, refl}
 use mathlib.Core.List.{List, [], _∷_, append-nil}
-use mathlib.Core.Logic.{⊎-elim}
-use native.Mathlib.Omega.{arith}
 use lib.ListN.{length, take, drop}
-use types.Run.{OneOf}
-use denote.Enum.Declared.{tagOf}
 use Rattle.cbor.specs.Answer.{Did, emit}
 use Rattle.cbor.specs.Encode.{encode}
 use Rattle.cbor.specs.Item.{bytes}
@@ -14,12 +10,10 @@ use Rattle.cbor.specs.View.{Scalar, number, minus, string, other, ValueSpec}
 use Rattle.cbor.specs.declared.write.WriteResult.{WriteResult}
 use Rattle.cbor.specs.declared.value.Value.{Value}
 use Rattle.cbor.specs.declared.value.Value.the-variants as vv
-use Rattle.cbor.proofs.value.Value as value
 use Rattle.cojp.specs.Bytes.{membersAt, valueView, Neither, MemberAt, MemberSpec}
 use Rattle.cojp.specs.declared.members.Member.{Member}
 use Rattle.cojp.specs.declared.members.Member.the-variants as mv
-use Rattle.cojp.proofs.Arrays.{members-some, array-here, no-array}
-use Rattle.cojp.proofs.members.Member as member
+use Rattle.cojp.proofs.Arrays.{members-some, array-here, scalar-here}
 use Rattle.cojp.specs.Lists.{Picked, nothing, picked, before, stringsIn, written, fitting, inArray, listAnswer}
 use Rattle.cojp_list.specs.Gathered.{GatheredAs}
 use Rattle.cojp_list.specs.declared.list.GatherResult.the-variants as gv
@@ -38,9 +32,9 @@ module _ {s : List ℕ} {at left : ℕ} {v : Member} (e : MemberSpec s at left v
     unfolding stringsIn
     string-next = rw (here .2)
 
-  pub string-broken : 0 < left → OneOf (0 ∷ 2 ∷ []) (tagOf member.the-type v) → stringsIn (membersAt left (drop at s)) ≡ nothing
+  pub string-broken : 0 < left → ((p a : ℕ) → ¬ (v ≡ mv.Bytes p a)) → stringsIn (membersAt left (drop at s)) ≡ nothing
   unfolding stringsIn
-  string-broken h o = go v (e .here) o
+  string-broken h no-string = go v (e .here) no-string
     where
       none : (p : Scalar) (ps : List Scalar) → Neither (p ∷ ps) → stringsIn (p ∷ ps) ≡ nothing
       none (number x) ps w = absurd w
@@ -48,10 +42,10 @@ module _ {s : List ℕ} {at left : ℕ} {v : Member} (e : MemberSpec s at left v
       none (string x) ps w = absurd w
       none other ps w = refl
 
-      go : (v : Member) → MemberAt s at left v → OneOf (0 ∷ 2 ∷ []) (tagOf member.the-type v) → stringsIn (membersAt left (drop at s)) ≡ nothing
-      go (mv.Number x p) w o = rw (w .1)
-      go (mv.Bytes p a) w o = absurd (⊎-elim (λ e. omega arith) (λ e. omega arith) o)
-      go mv.Neither w o = let (p, ps, f) = members-some left (drop at s) h in rw f (none p ps (rw f at w))
+      go : (v : Member) → MemberAt s at left v → ((p a : ℕ) → ¬ (v ≡ mv.Bytes p a)) → stringsIn (membersAt left (drop at s)) ≡ nothing
+      go (mv.Number x p) w no-string = rw (w .1)
+      go (mv.Bytes p a) w no-string = absurd (no-string p a refl)
+      go mv.Neither w no-string = let (p, ps, f) = members-some left (drop at s) h in rw f (none p ps (rw f at w))
 
 pub strings-none : stringsIn [] ≡ picked []
 unfolding stringsIn
@@ -64,8 +58,8 @@ string-written b = append-nil (encode (bytes b))
 -- ---- one turn: the byte string at p, of a bytes, was written to the lent part
 module _ {whole : Picked} {s d : List ℕ} {at left len members : ℕ} {d′ : List ℕ}
     (g : Gathering whole d (stringsIn (membersAt left (drop at s))) len members d′) {v : Member} (e : MemberSpec s at left v) where
-  pub strings-broken : 0 < left → OneOf (0 ∷ 2 ∷ []) (tagOf member.the-type v) → GatheredAs whole d gv.Bad d′
-  strings-broken h o = gathering-bad g (string-broken e h o)
+  pub strings-broken : 0 < left → ((p a : ℕ) → ¬ (v ≡ mv.Bytes p a)) → GatheredAs whole d gv.Bad d′
+  strings-broken h no-string = gathering-bad g (string-broken e h no-string)
 
   pub strings-turn : {p a : ℕ} → v ≡ mv.Bytes p a → (n : ℕ) → n ≡ a → {r : WriteResult} {q : List ℕ}
       → Did (emit (encode (bytes (take n (drop p s))))) (take (length d′ - len) (drop len d′)) r q
@@ -83,6 +77,6 @@ module _ {s : List ℕ} {at : ℕ} {v : Value} (e : ValueSpec s at v) (f : List 
       → listAnswer (fitting 253 (f (membersAt n (drop p s)))) ≡ listAnswer (fitting 253 (inArray f (valueView (drop at s))))
   list-array {p} {n} g = rw (array-here s at v e p n g .1)
 
-  pub list-none : OneOf (0 ∷ 1 ∷ 3 ∷ 4 ∷ []) (tagOf value.the-type v)
+  pub list-none : ((p n : ℕ) → ¬ (v ≡ vv.Array p n))
       → listAnswer nothing ≡ listAnswer (fitting 253 (inArray f (valueView (drop at s))))
-  list-none o = rw (no-array s at v e o .1)
+  list-none no-array = rw (scalar-here s at v e no-array .1)

@@ -9,7 +9,7 @@ use Rattle.cbor.specs.Answer.{Did, emit}
 use Rattle.cbor.specs.Encode.{shortest}
 use Rattle.cbor.specs.HeadLaws.{HeadLaws}
 use Rattle.cbor.specs.declared.write.WriteResult.{WriteResult}
-use Rattle.cojp.proofs.Reports.{firsts, next-report, no-report}
+use Rattle.lemmas.specs.lists.Prefix.{take-length-take, prefix-next, prefix-end}
 use Rattle.cojp.specs.ErrorReports.{errorReportOf, errorReportList}
 use Rattle.cojp.specs.Lists.{Picked, picked, before, fitting, written, listOf, listParameter, noListParameter}
 use Rattle.cojp.specs.declared.error_report.ErrorReport.{ErrorReport}
@@ -26,10 +26,10 @@ use Rattle.cojp_list.proofs.Gathering.{Gathering, Turn, list-bad, list-
 module _ (xs : List ErrorReport) (n i : ℕ) where
   one-more : i < n → n ≤ length xs →
       picked (membersOf (drop i (take n xs))) ≡ before (membersOf (getD xs i (errorReportOf 0 0) ∷ [])) (picked (membersOf (drop (i + 1) (take n xs))))
-  one-more h few = rw (next-report xs n i h few)
+  one-more h few = rw (prefix-next xs n i (errorReportOf 0 0) few h)
 
   pub none-more : n ≤ i → picked (membersOf (drop i (take n xs))) ≡ picked []
-  none-more h = rw (no-report xs n i h)
+  none-more h = rw (prefix-end xs n i h)
 
   pub report-turn : {whole : Picked} {d : List ℕ} {len members : ℕ} {d′ : List ℕ} {r : WriteResult} {q : List ℕ} →
       Gathering whole d (picked (membersOf (drop i (take n xs)))) len members d′ → i < n → n ≤ length xs →
@@ -42,7 +42,7 @@ pub within-reports : (f : ErrorReports) (n : ℕ) → n ≡ length (errorReportL
 within-reports f n e = omega (arith, length-take (f .count) (f .reports))
 
 pub all-reports : (f : ErrorReports) (n : ℕ) → n ≡ length (errorReportList f) → take n (f .reports) ≡ errorReportList f
-all-reports f n e = ap (λ (m : ℕ). take m (f .reports)) e ∙ firsts (f .count) (f .reports)
+all-reports f n e = ap (λ (m : ℕ). take m (f .reports)) e ∙ take-length-take (f .count) (f .reports)
 
 -- ---- the list
 few-bytes : HeadLaws → (fs : List ErrorReport) → length (written (membersOf fs)) ≤ 19 * length fs

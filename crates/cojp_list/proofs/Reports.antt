@@ -3,11 +3,8 @@ use Prim.Native.Nat.{ℕ, _+_, _-_, _≤_, _<_}
 use mathlib.Core.Path.{_≡_, refl, ap, sym, _∙_}
 use mathlib.Core.Bool.{Bool, true, false, cond}
 use mathlib.Core.List.{List, [], _∷_, _++_, append-assoc, append-nil}
-use mathlib.Core.Logic.{⊎-elim}
 use native.Mathlib.Omega.{arith}
 use lib.ListN.{length, take, drop, length-append, length-take, length-drop}
-use types.Run.{OneOf}
-use denote.Enum.Declared.{tagOf}
 use Rattle.refusal.specs.declared.Refusal.{Refusal}
 use Rattle.refusal.specs.declared.Refusal.the-variants.{Room}
 use Rattle.cbor.specs.Answer.{Did, Wrote, emit, headPlan}
@@ -21,7 +18,6 @@ use Rattle.cbor.specs.declared.value.Value.{Value}
 use Rattle.cbor.specs.declared.value.Value.the-variants as vv
 use Rattle.cbor.specs.declared.write.WriteResult.{WriteResult}
 use Rattle.cbor.specs.declared.write.WriteResult.the-variants as wv
-use Rattle.cbor.proofs.value.Value as value
 use Rattle.cbor.specs.HeadLaws.{HeadLaws}
 use Rattle.cbor.specs.ReaderSpecs.{SkipSpec}
 use Rattle.cbor.specs.Writing.{seam, wrote-as, wrote-length, did-emit, did-kept, did-room, head-did}
@@ -63,8 +59,8 @@ module _ (s : List ℕ) (at n : ℕ) where
         let w : ValueAt 5 s at (vv.Minus x p) = rw g at (e .says 5) in
         (omega arith, members-step n (drop at s) (omega arith) ∙ rw (w .rest .1, w .member))
 
-    pub integer-none : OneOf (1 ∷ 2 ∷ 3 ∷ []) (tagOf value.the-type v) → NoNumber (membersAt n (drop at s))
-    integer-none o = go v (e .says 5) o
+    pub integer-none : ((x p : ℕ) → ¬ (v ≡ vv.Number x p)) → ((x p : ℕ) → ¬ (v ≡ vv.Minus x p)) → NoNumber (membersAt n (drop at s))
+    integer-none no-number no-minus = go v (e .says 5) no-number no-minus
       where
         none : (p : Scalar) → scalarAt (drop at s) ≡ p → isInteger p ≡ false → NoNumber (membersAt n (drop at s))
         none p m z = rw (members-step n (drop at s) (omega arith)) (by (decode 6 (drop at s)))
@@ -73,12 +69,13 @@ module _ (s : List ℕ) (at n : ℕ) where
             by (refused k) = refl
             by (got i t) = rw m z
 
-        go : (v : Value) → ValueAt 5 s at v → OneOf (1 ∷ 2 ∷ 3 ∷ []) (tagOf value.the-type v) → NoNumber (membersAt n (drop at s))
-        go (vv.Number x p) w o = absurd (⊎-elim (λ e. omega arith) (λ o. ⊎-elim (λ e. omega arith) (λ e. omega arith) o) o)
-        go (vv.Bytes p a) w o = none (string (take a (drop p s))) (w .member) refl
-        go (vv.Array p a) w o = none other (w .member) refl
-        go vv.Other w o = none other (w .member) refl
-        go (vv.Minus x p) w o = absurd (⊎-elim (λ e. omega arith) (λ o. ⊎-elim (λ e. omega arith) (λ e. omega arith) o) o)
+        go : (v : Value) → ValueAt 5 s at v → ((x p : ℕ) → ¬ (v ≡ vv.Number x p)) → ((x p : ℕ) → ¬ (v ≡ vv.Minus x p))
+            → NoNumber (membersAt n (drop at s))
+        go (vv.Number x p) w no-number no-minus = absurd (no-number x p refl)
+        go (vv.Bytes p a) w no-number no-minus = none (string (take a (drop p s))) (w .member) refl
+        go (vv.Array p a) w no-number no-minus = none other (w .member) refl
+        go vv.Other w no-number no-minus = none other (w .member) refl
+        go (vv.Minus x p) w no-number no-minus = absurd (no-minus x p refl)
 
   module _ (h : 0 < n) (k : SkipResult) (e : SkipSpec s (decode 6 (drop at s)) k) where
     pub any-refused : (j : Refusal) → k ≡ sv.Refused j → AnyAt s at n (record { next = at; left = 0 })

@@ -4,3 +4,4 @@ pub mod Table
 pub mod Filling
 pub mod Writing
 pub mod Same
+pub mod Prefix

@@ -1,1 +1,2 @@
-// Lists of bytes at the ground: a list given by its entries, exclusive or, and arrays that a loop fills. Definitions and laws only; they know no layer.
+// Lists at the ground: a list given by its entries, exclusive or, arrays that a loop fills, and the first elements of a list, which a loop
+// visits. Definitions and laws only; they know no layer.

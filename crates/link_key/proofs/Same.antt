@@ -29,7 +29,7 @@ module _ {A : Type 0} (same : A → A → Bool) where
       rw (h x y (both-left (same x y) (sameBy same xs ys) e), same-equal h xs ys (both-right (same x y) (sameBy same xs ys) e))
 
 -- a list from a place on: what stands there, and the rest
-pub next : {A : Type 0} (xs : List A) (i : ℕ) (d : A) → i < length xs → drop i xs ≡ getD xs i d ∷ drop (i + 1) xs
+next : {A : Type 0} (xs : List A) (i : ℕ) (d : A) → i < length xs → drop i xs ≡ getD xs i d ∷ drop (i + 1) xs
 next xs i d h = rw (drop-cons xs i d h, add-one i)
 
 -- two lists that are compared place by place

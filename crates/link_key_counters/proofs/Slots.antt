@@ -1,17 +1,17 @@
 -- A loop over the places of a counted set asks a question of the list of its keys and counters, from a place on; the counters that a new
 -- set keeps are written one after the other.
-use Prim.Native.Nat.{ℕ, zero, suc, _+_, _≤_, _<_, _-_}
+use Prim.Native.Nat.{ℕ, suc, _+_, _≤_, _<_, _-_}
 use native.Mathlib.Omega.{arith}
 use native.Mathlib.Numerals.{add-one}
 use mathlib.Core.Path.{_≡_, refl, sym, ap, _∙_}
 use mathlib.Core.Bool.{true, false, and-false}
 use mathlib.Core.List.{List, [], _∷_, _++_, map}
 use borrow.Author.Tests.{ne-eqb, eq-eqb}
-use lib.ListN.{length, drop, take, getD, set, replicate, length-map, length-take, drop-of-length-le}
-use lib.Seq.{take-suc, set-at, append-snoc, length-take-le, getD-take}
+use lib.ListN.{length, drop, take, getD, set, replicate, length-map, length-take}
+use lib.Seq.{take-suc, set-at, append-snoc, length-take-le}
+use Rattle.lemmas.specs.lists.Prefix.{take-length-take, prefix-next, prefix-end}
 use Rattle.link_key.specs.Key.{keyOf, covers}
 use Rattle.link_key.specs.declared.Key.{Key}
-use Rattle.link_key.proofs.Same.{next}
 use Rattle.link_key.specs.set.KeySet.{keysOf}
 use Rattle.link_key.specs.declared.set.key_set.KeySet.{KeySet}
 use Rattle.link_key_counters.specs.Counters.{Slot, slot, slotsFrom, lastCounter, serves, keptCounter, keptCounters}
@@ -21,14 +21,9 @@ use Rattle.link_key_counters.specs.declared.CountedSet.{CountedSet}
 abbrev pub past : Key
 past = keyOf 0 0 []
 
-all-taken : (n : ℕ) (ks : List Key) → take (length (take n ks)) ks ≡ take n ks
-all-taken zero ks = refl
-all-taken (suc n) [] = refl
-all-taken (suc n) (k ∷ ks) = rw (all-taken n ks)
-
 -- the keys of a set are its first places, as many as there are keys
 pub firsts : (keys : KeySet) (n : ℕ) → n ≡ length (keysOf keys) → take n (keys .keys) ≡ keysOf keys
-firsts keys n e = ap (λ (m : ℕ). take m (keys .keys)) e ∙ all-taken (keys .count) (keys .keys)
+firsts keys n e = ap (λ (m : ℕ). take m (keys .keys)) e ∙ take-length-take (keys .count) (keys .keys)
 
 pub within : (keys : KeySet) (n : ℕ) → n ≡ length (keysOf keys) → n ≤ length (keys .keys)
 within keys n e = omega (arith, length-take (keys .count) (keys .keys))
@@ -39,10 +34,10 @@ rest ks cs n i = slotsFrom i cs (drop i (take n ks))
 
 module _ (ks : List Key) (cs : List ℕ) {B : Type 0} (ask : List Slot → B) (n i : ℕ) where
   pub turn : n ≤ length ks → i < n → ask (rest ks cs n i) ≡ ask (slot i (getD ks i past) (getD cs i 0) ∷ rest ks cs n (i + 1))
-  turn few h = rw (next (take n ks) i past (omega (arith, length-take n ks)), getD-take n ks i past h)
+  turn few h = rw (prefix-next ks n i past few h)
 
   pub stop : n ≤ i → ask (rest ks cs n i) ≡ ask []
-  stop h = ap (λ (xs : List Key). ask (slotsFrom i cs xs)) (drop-of-length-le (take n ks) {i = i} (omega (arith, length-take n ks)))
+  stop h = ap (λ (xs : List Key). ask (slotsFrom i cs xs)) (prefix-end ks n i h)
 
 -- ---- whether a key serves
 pub does-serve : (type i : ℕ) (k : Key) (c : ℕ) → covers k type ≡ true → (c ≡ 4294967295 → ⊥) → serves type (slot i k c) ≡ true

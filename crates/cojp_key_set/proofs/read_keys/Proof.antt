@@ -4,6 +4,8 @@ use Rattle.cojp.proofs.Nexts.{keys-settled, accepting-on, on-with}
 use Rattle.cojp.proofs.Arrays.{array-here, array-after}
 use Rattle.cojp_key_set.proofs.KeySets.{keys-array, keys-broken}
 use borrow.Author.Needs.{needs}
+use mathlib.Core.List.{[], _∷_}
+use types.Run.{miss}
 use Rattle.cojp_key_set.proofs.read_keys.Statement.{statement}
 use Rattle.cojp_key_set.proofs.read_keys.Tie as tie
 
@@ -45,7 +47,8 @@ returns-2 c =
     let a = begun .args in
     let v = value-at .value-at in (
       keys-settled (c .refused-keys .result) _ 0 (c .refused-keys .ensures) _
-          (keys-broken (a .s .now) (a .at) (v .result) (v .ensures) _ (a .allowed) (c .before .match .keys2) refl),
+          (keys-broken (a .s .now) (a .at) (v .result) (v .ensures) _ (a .allowed)
+          (λ p n e. miss (0 ∷ 1 ∷ 3 ∷ 4 ∷ []) 2 tt (rw e at (c .before .match .keys2))) refl),
       rw (c .refused-keys .ensures) tt,
     )
 

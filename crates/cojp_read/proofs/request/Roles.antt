@@ -2,19 +2,14 @@
 use Prim.Native.Nat.{ℕ, _≤_, _<_}
 use mathlib.Core.Path.{_≡_, refl, ap, sym, _∙_}
 use mathlib.Core.Bool.{Bool, false}
-use mathlib.Core.List.{List, [], _∷_}
-use mathlib.Core.Logic.{⊎-elim}
-use native.Mathlib.Omega.{arith}
+use mathlib.Core.List.{List}
 use lib.ListN.{drop}
 use borrow.Author.Tests.{le-leb, lt-leb}
-use types.Run.{OneOf}
-use denote.Enum.Declared.{tagOf}
 use Rattle.refusal.specs.declared.Refusal.the-variants as refusal
 use Rattle.refusal.specs.declared.Verdict.the-variants as verdict
 use Rattle.cbor.specs.View.{ValueAt, ValueSpec, restOf}
 use Rattle.cbor.specs.declared.value.Value.{Value}
 use Rattle.cbor.specs.declared.value.Value.the-variants as vv
-use Rattle.cbor.proofs.value.Value as value
 use Rattle.cojp.specs.Bytes.{valueView, afterValue, EndsAt}
 use Rattle.cojp.specs.ErrorReports.{added}
 use Rattle.cojp.specs.Reading.{Judgement, broken, unfit, good, refused, read}
@@ -46,17 +41,16 @@ module _ (s : List ℕ) (at : ℕ) (v : Value) (e : ValueSpec s at v) where
         let w : ValueAt 6 s at (vv.Number n p) = rw g at (e .says 6) in
         record { rest = sym (ap restOf (w .rest .1)); inside = w .rest .0 }
 
-  pub role-broken : OneOf (1 ∷ 2 ∷ 3 ∷ 4 ∷ []) (tagOf value.the-type v) → roleJudged (valueView (drop at s)) ≡ broken
+  pub role-broken : ((x p : ℕ) → ¬ (v ≡ vv.Number x p)) → roleJudged (valueView (drop at s)) ≡ broken
   unfolding roleJudged
-  role-broken o = go v (e .says 5) o
+  role-broken no-number = go v (e .says 5) no-number
     where
-      go : (v : Value) → ValueAt 5 s at v → OneOf (1 ∷ 2 ∷ 3 ∷ 4 ∷ []) (tagOf value.the-type v) → roleJudged (valueView (drop at s)) ≡ broken
-      go (vv.Number x p) w o = absurd
-          (⊎-elim (λ e. omega arith) (λ o. ⊎-elim (λ e. omega arith) (λ o. ⊎-elim (λ e. omega arith) (λ e. omega arith) o) o) o)
-      go (vv.Bytes p a) w o = rw (w .view)
-      go (vv.Array p a) w o = rw (w .view)
-      go vv.Other w o = rw (w .view)
-      go (vv.Minus x p) w o = rw (w .view)
+      go : (v : Value) → ValueAt 5 s at v → ((x p : ℕ) → ¬ (v ≡ vv.Number x p)) → roleJudged (valueView (drop at s)) ≡ broken
+      go (vv.Number x p) w no-number = absurd (no-number x p refl)
+      go (vv.Bytes p a) w no-number = rw (w .view)
+      go (vv.Array p a) w no-number = rw (w .view)
+      go vv.Other w no-number = rw (w .view)
+      go (vv.Minus x p) w no-number = rw (w .view)
 
 -- ---- what is gathered of it, f being the reports before it
 pub says-first : (v : Version) (named : Bool) (f : ErrorReports) (j k : Judgement ℕ) (r : RoleRead) → named ≡ false → j ≡ k

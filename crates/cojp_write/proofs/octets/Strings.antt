@@ -1,10 +1,11 @@
 -- A taken byte string is one pair: its label, and a byte string of at most 16 bytes.
-use Prim.Native.Nat.{ℕ, zero, suc, _+_, _-_, _≤_, _<_}
-use mathlib.Core.Path.{_≡_, refl, ap, sym, _∙_}
+use Prim.Native.Nat.{ℕ, _+_, _-_, _≤_, _<_}
+use mathlib.Core.Path.{_≡_, refl, sym, _∙_}
 use mathlib.Core.Bool.{Bool, true, false}
-use mathlib.Core.List.{List, [], _∷_, _++_}
+use mathlib.Core.List.{List, _++_}
 use native.Mathlib.Omega.{arith}
 use lib.ListN.{length, take, drop, length-append, length-take, length-drop}
+use Rattle.lemmas.specs.lists.Prefix.{take-length-take}
 use Rattle.refusal.specs.declared.Refusal.the-variants.{Room}
 use Rattle.cbor.specs.Answer.{Did, Wrote, emit, headPlan}
 use Rattle.cbor.specs.Encode.{shortest, encode, encodePairs, extraOf}
@@ -20,12 +21,6 @@ use Rattle.cojp.specs.declared.octets.OctetsParameter.{OctetsParameter}
 use Rattle.cojp_write.specs.octets.Size.{PairsSize}
 use Rattle.cojp_write.proofs.octets.Joined.{labelled-length, labelled-seam}
 use Rattle.cojp_write.proofs.range.Taken.{taken-is}
-
--- as many of the first elements as there are
-take-known : (n : ℕ) (s : List ℕ) → take (length (take n s)) s ≡ take n s
-take-known zero s = refl
-take-known (suc n) [] = refl
-take-known (suc n) (x ∷ s) = ap (λ (r : List ℕ). x ∷ r) (take-known n s)
 
 module _ (heads : HeadLaws) where
   -- a byte string, and a short one
@@ -71,7 +66,7 @@ module _ (p : OctetsParameter) (t : Bool) (e : t ≡ ifTaken (p .disposition) tr
   octets-taken n = taken-is (p .disposition) (labelled n (bytes (bytesIn (p .value)))) empty t e h
 
   pub octets-known : (n : ℕ) {k : ℕ} → k ≡ length (bytesIn (p .value)) → octetsPairs n p ≡ labelled n (bytes (take k (p .value .bytes)))
-  octets-known n f = octets-taken n ∙ rw (f, take-known (p .value .len) (p .value .bytes))
+  octets-known n f = octets-taken n ∙ rw (f, take-length-take (p .value .len) (p .value .bytes))
 
   pub octets-size : HeadLaws → (n : ℕ) {l k : ℕ} → l ≡ extraOf n + 1 → k ≡ length (bytesIn (p .value)) → k ≤ 16
       → PairsSize (octetsPairs n p) 1 26 (record { members = 1; bytes = l + 1 + k })

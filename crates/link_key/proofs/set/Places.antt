@@ -7,31 +7,26 @@ use mathlib.Core.Path.{_≡_, refl, ap, sym, _∙_}
 use mathlib.Core.Bool.{Bool, _&&_}
 use mathlib.Core.List.{List, [], _∷_, _++_, map}
 use lib.Dec.{eqb}
-use lib.ListN.{length, take, drop, getD, set, length-take, drop-of-length-le}
-use lib.Seq.{getD-take, take-all, take-suc, take-suc-set}
+use lib.ListN.{length, take, drop, getD, set, length-take}
+use lib.Seq.{take-all, take-suc, take-suc-set}
+use Rattle.lemmas.specs.lists.Prefix.{take-length-take, prefix-next, prefix-end}
 use Rattle.link_key.specs.Key.{keyOf, sameKey}
 use Rattle.link_key.specs.set.Lists.{anyOf}
 use Rattle.link_key.specs.set.KeySet.{keysOf, identifierOf, has, shares, sameKeys}
 use Rattle.link_key.specs.declared.Key.{Key}
-use Rattle.link_key.proofs.Same.{next}
 use Rattle.link_key.specs.declared.set.key_set.KeySet.{KeySet}
 
 -- the first n of a list, from place i on
 module _ {A B : Type 0} (xs : List A) (ask : List A → B) (n i : ℕ) where
   pub turn : (d : A) → n ≤ length xs → i < n → ask (drop i (take n xs)) ≡ ask (getD xs i d ∷ drop (i + 1) (take n xs))
-  turn d few h = rw (next (take n xs) i d (omega (arith, length-take n xs)), getD-take n xs i d h)
+  turn d few h = ap ask (prefix-next xs n i d few h)
 
   pub stop : n ≤ i → ask (drop i (take n xs)) ≡ ask []
-  stop h = ap ask (drop-of-length-le (take n xs) {i = i} (omega (arith, length-take n xs)))
-
-all-taken : {A : Type 0} (n : ℕ) (xs : List A) → take (length (take n xs)) xs ≡ take n xs
-all-taken zero xs = refl
-all-taken (suc n) [] = refl
-all-taken (suc n) (x ∷ xs) = rw (all-taken n xs)
+  stop h = ap ask (prefix-end xs n i h)
 
 -- the keys of a set are its first places, as many as there are keys
 pub firsts : (set : KeySet) (n : ℕ) → n ≡ length (keysOf set) → take n (set .keys) ≡ keysOf set
-firsts set n e = ap (λ (m : ℕ). take m (set .keys)) e ∙ all-taken (set .count) (set .keys)
+firsts set n e = ap (λ (m : ℕ). take m (set .keys)) e ∙ take-length-take (set .count) (set .keys)
 
 pub within : (set : KeySet) (n : ℕ) → n ≡ length (keysOf set) → n ≤ length (set .keys)
 within set n e = omega (arith, length-take (set .count) (set .keys))

@@ -4,6 +4,8 @@ use Rattle.cojp.proofs.Nexts.{address-settled, accepting-on, on-with}
 use Rattle.cojp.proofs.Addresses.{address-begun, address-headless}
 use Rattle.cojp.proofs.Arrays.{bytes-left, bytes-inside, bytes-after}
 use borrow.Author.Needs.{needs}
+use mathlib.Core.List.{[], _∷_}
+use types.Run.{miss}
 use Rattle.cojp.proofs.address.address_members.Statement.{statement}
 use Rattle.cojp.proofs.address.address_members.Tie as tie
 
@@ -45,7 +47,8 @@ returns-2 : tie.Need-returns-2
 returns-2 c =
     let a = c .before .before .before .before .args in
     let m = c .before .before .member-at in
-    let headless = address-headless (a .s .now) (a .at) (a .count) (m .result) (m .ensures) _ (c .before .match .keys2) refl in
+    let headless = address-headless (a .s .now) (a .at) (a .count) (m .result) (m .ensures) _
+    (λ p n e. miss (0 ∷ 2 ∷ []) 1 tt (rw e at (c .before .match .keys2))) refl in
     (address-settled (c .broken-address .result) _ 0 (c .broken-address .ensures) _ headless, rw (c .broken-address .ensures) tt)
 
 pub address-members-spec : {M : Type 1} → statement M

@@ -7,6 +7,8 @@ use Rattle.cojp.proofs.Arrays.{nothing-left, number-after, number-insid
 use Rattle.cojp.proofs.Nexts.{address-settled, address-told}
 use Rattle.cojp.proofs.Addresses.{lease-none, lease-one, lease-many, lease-other}
 use borrow.Author.Needs.{needs}
+use mathlib.Core.List.{[], _∷_}
+use types.Run.{miss}
 use Rattle.cojp.proofs.address.lease_after.Statement.{statement}
 use Rattle.cojp.proofs.address.lease_after.Tie as tie
 
@@ -76,7 +78,8 @@ returns-4 c =
     let b = take (a .len) (drop (a .start) (a .s .now)) in
     let m = c .before .before .member-at in
     let some = c .before .before .before .if1 .left in
-    let other = lease-other (a .s .now) b (a .start + a .len) (a .left) _ (m .result) (m .ensures) some (c .before .match .keys2) refl in
+    let other = lease-other (a .s .now) b (a .start + a .len) (a .left) _ (m .result) (m .ensures) some
+    (λ x p e. miss (1 ∷ 2 ∷ []) 0 tt (rw e at (c .before .match .keys2))) refl in
     (address-settled (c .broken-address2 .result) _ 0 (c .broken-address2 .ensures) _ other, rw (c .broken-address2 .ensures) tt)
 
 pub lease-after-spec : {M : Type 1} → statement M

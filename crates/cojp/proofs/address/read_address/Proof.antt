@@ -4,6 +4,8 @@ use Rattle.cojp.proofs.Arrays.{array-after}
 use Rattle.cojp.proofs.Nexts.{address-settled, accepting-on, on-with}
 use Rattle.cojp.proofs.Addresses.{address-array, address-broken}
 use borrow.Author.Needs.{needs}
+use mathlib.Core.List.{[], _∷_}
+use types.Run.{miss}
 use Rattle.cojp.proofs.address.read_address.Statement.{statement}
 use Rattle.cojp.proofs.address.read_address.Tie as tie
 
@@ -34,7 +36,8 @@ returns-2 : tie.Need-returns-2
 returns-2 c =
     let a = c .before .before .before .before .args in
     let v = c .before .before .value-at in
-    let broken = address-broken (a .s .now) (a .at) (v .result) (v .ensures) _ (c .before .match .keys2) refl in
+    let broken = address-broken (a .s .now) (a .at) (v .result) (v .ensures) _
+    (λ p n e. miss (0 ∷ 1 ∷ 3 ∷ 4 ∷ []) 2 tt (rw e at (c .before .match .keys2))) refl in
     (address-settled (c .broken-address .result) _ 0 (c .broken-address .ensures) _ broken, rw (c .broken-address .ensures) tt)
 
 pub read-address-spec : {M : Type 1} → statement M

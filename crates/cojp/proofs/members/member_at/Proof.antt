@@ -3,6 +3,8 @@ use mathlib.Core.Path.{ap}
 use Rattle.cojp.specs.Bytes.{memberOf}
 use Rattle.cojp.proofs.Arrays.{none-told, value-told, neither-told}
 use borrow.Author.Needs.{needs}
+use mathlib.Core.List.{[], _∷_}
+use types.Run.{miss}
 use Rattle.cojp.proofs.members.member_at.Statement.{statement}
 use Rattle.cojp.proofs.members.member_at.Tie as tie
 
@@ -36,7 +38,9 @@ returns-4 : tie.Need-returns-4
 returns-4 c =
     let a = c .before .before .before .before .args in
     let v = c .before .value-at in
-    neither-told (a .s .now) (a .at) (a .left) (c .before .before .if1 .left) (v .result) (v .ensures) (c .match .keys3)
+    neither-told (a .s .now) (a .at) (a .left) (c .before .before .if1 .left) (v .result) (v .ensures)
+    (λ x p e. miss (2 ∷ 3 ∷ 4 ∷ []) 0 tt (rw e at (c .match .keys3)))
+    (λ p a e. miss (2 ∷ 3 ∷ 4 ∷ []) 1 tt (rw e at (c .match .keys3)))
 
 pub member-at-spec : {M : Type 1} → statement M
 member-at-spec =

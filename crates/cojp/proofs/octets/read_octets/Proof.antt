@@ -9,6 +9,8 @@ use Rattle.cojp.specs.Reading.{Reading}
 use Rattle.cojp.specs.declared.octets.OctetsParameter.{OctetsParameter}
 use Rattle.cojp.proofs.Strings.{string-inside, octets-few, octets-many, octets-taken, octets-broken}
 use borrow.Author.Needs.{needs}
+use mathlib.Core.List.{[], _∷_}
+use types.Run.{miss}
 use Rattle.cojp.proofs.octets.read_octets.Statement.{statement}
 use Rattle.cojp.proofs.octets.read_octets.Tie as tie
 
@@ -76,7 +78,8 @@ returns-4 : tie.Need-returns-4
 returns-4 c =
     let a = c .before .before .before .before .args in
     let v = c .before .before .value-at in
-    let broken = octets-broken (a .s .now) (a .at) (a .least) (v .result) (v .ensures) (c .before .match .keys2) in
+    let broken = octets-broken (a .s .now) (a .at) (a .least) (v .result) (v .ensures)
+    (λ p n e. miss (0 ∷ 2 ∷ 3 ∷ 4 ∷ []) 1 tt (rw e at (c .before .match .keys2))) in
     (rw (c .no-octets .ensures) (ap (λ (x : Reading OctetsParameter). octetsAnswer x 0) broken), tt)
 
 pub read-octets-spec : {M : Type 1} → statement M

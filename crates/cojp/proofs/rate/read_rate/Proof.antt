@@ -2,6 +2,8 @@
 use mathlib.Core.Path.{_∙_}
 use Rattle.cojp.proofs.Rates.{rate-number, rate-other}
 use borrow.Author.Needs.{needs}
+use mathlib.Core.List.{[], _∷_}
+use types.Run.{miss}
 use Rattle.cojp.proofs.rate.read_rate.Statement.{statement}
 use Rattle.cojp.proofs.rate.read_rate.Tie as tie
 
@@ -25,7 +27,8 @@ returns-2 : tie.Need-returns-2
 returns-2 c =
     let v = c .before .before .value-at in
     let a = c .before .before .before .before .args in
-    c .no-rate .ensures ∙ rate-other (a .s .now) (a .at) (v .result) (v .ensures) (c .before .match .keys2)
+    c .no-rate .ensures ∙ rate-other (a .s .now) (a .at) (v .result) (v .ensures)
+    (λ x p e. miss (1 ∷ 2 ∷ 3 ∷ 4 ∷ []) 0 tt (rw e at (c .before .match .keys2)))
 
 pub read-rate-spec : {M : Type 1} → statement M
 read-rate-spec =

@@ -3,6 +3,8 @@ use Rattle.cojp_list.proofs.ByteStrings.{list-array, list-none}
 use Rattle.cojp.specs.Lists.{errorReportsIn, some}
 use mathlib.Core.Path.{_∙_}
 use borrow.Author.Needs.{needs}
+use mathlib.Core.List.{[], _∷_}
+use types.Run.{miss}
 use Rattle.cojp_list.proofs.error_entries.read_unsupported.Statement.{statement}
 use Rattle.cojp_list.proofs.error_entries.read_unsupported.Tie as tie
 
@@ -27,7 +29,8 @@ returns c =
 returns-2 : tie.Need-returns-2
 returns-2 c =
     let value-at = c .before .before in
-    c .bad-list .ensures ∙ list-none (value-at .value-at .ensures) (some errorReportsIn) (c .before .match .keys2)
+    c .bad-list .ensures ∙ list-none (value-at .value-at .ensures) (some errorReportsIn)
+    (λ p n e. miss (0 ∷ 1 ∷ 3 ∷ 4 ∷ []) 2 tt (rw e at (c .before .match .keys2)))
 
 pub read-unsupported-spec : {M : Type 1} → statement M
 read-unsupported-spec =

@@ -1,6 +1,8 @@
 -- A head of major type 0 or 1 is an integer.
 use Rattle.cojp_list.proofs.Reports.{integer-end, integer-number, integer-minus, integer-none}
 use borrow.Author.Needs.{needs}
+use mathlib.Core.List.{[], _∷_}
+use types.Run.{miss}
 use Rattle.cojp_list.proofs.error_entry.integer_at.Statement.{statement}
 use Rattle.cojp_list.proofs.error_entry.integer_at.Tie as tie
 
@@ -37,7 +39,9 @@ returns-4 c =
     let if-place = c .before .before in
     let begun = if-place .before .before in
     integer-none (begun .args .s .now) (begun .args .at) (begun .args .left) (if-place .if1 .left) (c .before .value-at .result)
-    (c .before .value-at .ensures) (c .match .keys3)
+    (c .before .value-at .ensures)
+    (λ x p e. miss (1 ∷ 2 ∷ 3 ∷ []) 0 tt (rw e at (c .match .keys3)))
+    (λ x p e. miss (1 ∷ 2 ∷ 3 ∷ []) 4 tt (rw e at (c .match .keys3)))
 
 pub integer-at-spec : {M : Type 1} → statement M
 integer-at-spec =

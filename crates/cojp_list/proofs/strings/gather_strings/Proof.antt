@@ -9,6 +9,8 @@ use lib.ListN.{drop}
 use Prim.Native.Nat.{_+_, _-_}
 use native.Mathlib.Omega.{arith}
 use borrow.Author.Needs.{needs}
+use mathlib.Core.List.{[], _∷_}
+use types.Run.{miss}
 use Rattle.cojp_list.proofs.strings.gather_strings.Statement.{statement}
 use Rattle.cojp_list.proofs.strings.gather_strings.Tie as tie
 
@@ -148,7 +150,7 @@ returns-2 c =
     let turn = c .before .before in
     let turn-2 = turn .before in
     strings-broken (turn-2 .loop .inv)
-    (c .before .member-at .ensures) (turn .loop-test .taken) (c .match .keys2)
+    (c .before .member-at .ensures) (turn .loop-test .taken) (λ p a e. miss (0 ∷ 2 ∷ []) 1 tt (rw e at (c .match .keys2)))
 
 same-length-3 : tie.Need-same-length-3 Inv-loop μ-loop
 same-length-3 c =

@@ -1,13 +1,13 @@
 -- From each place on the question has the answer that it has from the first.
-use Prim.Native.Nat.{_-_}
+use Prim.Native.Nat.{_-_, _≤_}
 use mathlib.Core.Path.{_≡_, refl}
 use borrow.Author.Needs.{needs}
 use native.Mathlib.Omega.{arith}
-use lib.ListN.{take, drop, length-take}
+use lib.ListN.{length, take, drop, length-take}
 use Rattle.lemmas.specs.logic.Tests.{denied, granted}
 use Rattle.link_key.specs.set.Lists.{allOf}
-use Rattle.cojp.proofs.Reports.{firsts, next-report, no-report}
-use Rattle.cojp.specs.ErrorReports.{validErrorReport}
+use Rattle.lemmas.specs.lists.Prefix.{take-length-take, prefix-next, prefix-end}
+use Rattle.cojp.specs.ErrorReports.{errorReportOf, validErrorReport}
 use Rattle.node_parameters.proofs.error_reports.each_valid.Statement.{statement}
 use Rattle.node_parameters.proofs.error_reports.each_valid.Tie as tie
 
@@ -40,8 +40,10 @@ returns c =
     let sized = test .before .before .before in
     let f = sized .before .args .reports in
     let n = sized .len in
-    let here = next-report (f .reports) (n .result) (loop .i) (test .loop-test .taken) (omega (arith, n .ensures .0, length-take (f .count) (f .reports))) in
-    rw (← firsts (f .count) (f .reports), ← n .ensures .0, loop .inv, here, denied (asked .valid-error-report .ensures) (c .if1 .taken))
+    let few : n .result ≤ length (f .reports) = omega (arith, n .ensures .0, length-take (f .count) (f .reports)) in
+    let here = prefix-next (f .reports) (n .result) (loop .i) (errorReportOf 0 0) few (test .loop-test .taken) in
+    let bad = denied (asked .valid-error-report .ensures) (c .if1 .taken) in
+    rw (← take-length-take (f .count) (f .reports), ← n .ensures .0, loop .inv, here, bad)
 
 add-i : tie.Need-add-i Inv-loop μ-loop
 add-i c = search needs
@@ -57,7 +59,8 @@ loop-again c =
     let sized = test .before .before .before in
     let f = sized .before .args .reports in
     let n = sized .len in
-    let here = next-report (f .reports) (n .result) (loop .i) (test .loop-test .taken) (omega (arith, n .ensures .0, length-take (f .count) (f .reports))) in
+    let few : n .result ≤ length (f .reports) = omega (arith, n .ensures .0, length-take (f .count) (f .reports)) in
+    let here = prefix-next (f .reports) (n .result) (loop .i) (errorReportOf 0 0) few (test .loop-test .taken) in
     rw (loop .inv, here, granted (asked .valid-error-report .ensures) (c .if1 .left))
 
 returns-2 : tie.Need-returns-2 Inv-loop μ-loop
@@ -66,7 +69,8 @@ returns-2 c =
     let sized = c .before .before .before in
     let f = sized .before .args .reports in
     let n = sized .len in
-    rw (← firsts (f .count) (f .reports), ← n .ensures .0, loop .inv, no-report (f .reports) (n .result) (loop .i) (c .loop-test .left))
+    let end = prefix-end (f .reports) (n .result) (loop .i) (c .loop-test .left) in
+    rw (← take-length-take (f .count) (f .reports), ← n .ensures .0, loop .inv, end)
 
 pub each-valid-spec : {M : Type 1} → statement M
 each-valid-spec =

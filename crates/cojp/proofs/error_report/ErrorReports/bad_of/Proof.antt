@@ -2,7 +2,8 @@
 use Rattle.cojp.specs.Reported.{reportsOn}
 use lib.ListN.{take, drop, length-take}
 use native.Mathlib.Omega.{arith}
-use Rattle.cojp.proofs.Reports.{firsts, next-report, no-report}
+use Rattle.lemmas.specs.lists.Prefix.{take-length-take, prefix-next, prefix-end}
+use Rattle.cojp.specs.ErrorReports.{errorReportOf}
 use borrow.Author.Needs.{needs}
 use mathlib.Core.Path.{_≡_, refl}
 use Prim.Native.Nat.{_-_}
@@ -45,7 +46,8 @@ loop-again c =
     let n = c .before .before .before .before .before .before .len in
     let xs = c .before .before .before .before .before .before .before .args .self .reports in
     let few = length-take (c .before .before .before .before .before .before .before .args .self .count) xs in
-    let here = next-report xs (n .result) (turn .loop .i) (c .before .before .loop-test .taken) (omega (arith, n .ensures .0, few)) in
+    let here = prefix-next xs (n .result) (turn .loop .i) (errorReportOf 0 0) (omega (arith, n .ensures .0, few))
+    (c .before .before .loop-test .taken) in
     rw (turn .loop .inv, here, c .reported .ensures)
 
 returns : tie.Need-returns Inv-loop μ-loop
@@ -53,8 +55,8 @@ returns c =
     let turn = c .before in
     let n = c .before .before .before .before .len in
     let f = c .before .before .before .before .before .args .self in
-    let done = no-report (f .reports) (n .result) (turn .loop .i) (c .loop-test .left) in
-    let whole = firsts (f .count) (f .reports) in
+    let done = prefix-end (f .reports) (n .result) (turn .loop .i) (c .loop-test .left) in
+    let whole = take-length-take (f .count) (f .reports) in
     rw (← whole, ← n .ensures .0, ← c .before .before .no-error-reports .ensures, turn .loop .inv, done)
 
 pub bad-of-spec : {M : Type 1} → statement M

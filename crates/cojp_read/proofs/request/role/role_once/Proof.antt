@@ -1,5 +1,7 @@
 -- TWICE where a role came before; else the number decides.
 use borrow.Author.Needs.{needs}
+use mathlib.Core.List.{[], _∷_}
+use types.Run.{miss}
 use Rattle.cojp_read.proofs.request.Roles.{role-high, role-fits, role-ends, role-broken, says-first, says-unfit, says-broken, says-good}
 use Rattle.cojp_read.proofs.request.role.role_once.Statement.{statement}
 use Rattle.cojp_read.proofs.request.role.role_once.Tie as tie
@@ -51,7 +53,8 @@ returns-4 c =
     let r = c .bad-role2 in
     let v = c .before .before .value-at in
     let a = c .before .before .before .before .before .args in
-    let broken = role-broken (a .s .now) (a .at) (v .result) (v .ensures) (c .before .match .keys2) in
+    let broken = role-broken (a .s .now) (a .at) (v .result) (v .ensures)
+    (λ x p e. miss (1 ∷ 2 ∷ 3 ∷ 4 ∷ []) 0 tt (rw e at (c .before .match .keys2))) in
     (says-first (a .version) (a .named) (a .faults) _ _ (r .result) (c .before .before .before .if1 .left) broken (says-broken (a .version) (a .faults) (r .result) (r .ensures .0)), r .ensures .1)
 
 pub role-once-spec : {M : Type 1} → statement M
