@@ -68,8 +68,8 @@ fn take_pairs(s: &[u8], mut at: usize, mut left: u64, version: Version) -> Reque
                 let r = role_once(s, pair.value, version, named, q.errors);
                 verdict = r.verdict;
                 q.role = r.role;
-                let faults = r.errors;
-                q.errors = faults;
+                let errors = r.errors;
+                q.errors = errors;
                 named = true;
                 at = r.next;
             }
@@ -86,8 +86,8 @@ fn take_pairs(s: &[u8], mut at: usize, mut left: u64, version: Version) -> Reque
                 verdict = r.verdict;
                 let unsupported = r.parameter;
                 q.unsupported = unsupported;
-                let faults = r.errors;
-                q.errors = faults;
+                let errors = r.errors;
+                q.errors = errors;
                 at = r.next;
             }
             RequestParameter::Unknown => {

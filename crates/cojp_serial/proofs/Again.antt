@@ -47,19 +47,19 @@ passing p cs h n r q w m =
 -- ---- once an end is marked
 again : (cs : List SerialCall) (h : Held) (n : ℕ) (r : Reader) → NoReset cs → Counted h n → h .state .ended ≡ true → Answered cs h r
 again [] h n r no-calls w m =
-    let course = sym (ended-before (h .state) (length (h .store)) 0 (w .store) (w .limited) (w .clear) (omega (arith, w .limited)) m) in
-    end-is-phase r h course
+    let decision = sym (ended-before (h .state) (length (h .store)) 0 (w .store) (w .limited) (w .clear) (omega (arith, w .limited)) m) in
+    end-is-phase r h decision
 again (sending p ∷ cs) h n r (part-next q) w m = by-room (ltb 256 (h .state .arrived + length p)) refl (again cs h n r q w m)
   where
     by-room : (y : Bool) → ltb 256 (h .state .arrived + length p) ≡ y → Answered cs h r → Answered (sending p ∷ cs) h r
     by-room true e rest = passing p cs h n r q w (ltb-true 256 (h .state .arrived + length p) e)
     by-room false e rest =
         let room = ltb-false 256 (h .state .arrived + length p) e in
-        let course = sym (ended-before (h .state) (length (h .store)) (length p) (w .store) (w .limited) (w .clear) room m) in
-        rw course rest
+        let decision = sym (ended-before (h .state) (length (h .store)) (length p) (w .store) (w .limited) (w .clear) room m) in
+        rw decision rest
 again (ending e ∷ cs) h n r (end-next q) w m =
-    let course = sym (ended-before (h .state) (length (h .store)) 0 (w .store) (w .limited) (w .clear) (omega (arith, w .limited)) m) in
-    rw course (again cs h n r q w m)
+    let decision = sym (ended-before (h .state) (length (h .store)) 0 (w .store) (w .limited) (w .clear) (omega (arith, w .limited)) m) in
+    rw decision (again cs h n r q w m)
 
 -- ---- before the first end
 abbrev taken : Held → List ℕ → Held
@@ -76,11 +76,11 @@ until-end (sending p ∷ cs) h n r (part-next q) (later-end z) w m =
     by-room true e rest = passing p cs h n r q w (ltb-true 256 (h .state .arrived + length p) e)
     by-room false e rest =
         let room = ltb-false 256 (h .state .arrived + length p) e in
-        let course = sym (open-to (h .state) (length (h .store)) (length p) (w .store) (w .limited) (w .clear) room m) in
-        rw course (rest room)
+        let decision = sym (open-to (h .state) (length (h .store)) (length p) (w .store) (w .limited) (w .clear) room m) in
+        rw decision (rest room)
 until-end (ending e ∷ cs) h n r (end-next q) z w m =
-    let course = sym (open-to (h .state) (length (h .store)) 0 (w .store) (w .limited) (w .clear) (omega (arith, w .limited)) m) in
-    rw course (again cs (record { state = endMarked (h .state); store = h .store }) (n + 0) r q (end-counted h n Open w) refl)
+    let decision = sym (open-to (h .state) (length (h .store)) 0 (w .store) (w .limited) (w .clear) (omega (arith, w .limited)) m) in
+    rw decision (again cs (record { state = endMarked (h .state); store = h .store }) (n + 0) r q (end-counted h n Open w) refl)
 
 pub end-after-end : EndAfterEnd
 end-after-end h cs r s q z = until-end cs (left resetting h) 0 r q z (begun h s) refl

@@ -108,14 +108,14 @@ all-taken [] h n w e fits = none-told
 all-taken (p ∷ ps) h n w e fits =
     let whole : n + (length p + length (joined ps)) ≤ 256 = rw (length-append p (joined ps)) at fits in
     let room : h .state .arrived + length p ≤ 256 = omega (arith, whole, w .arrived) in
-    let course = open-to (h .state) (length (h .store)) (length p) (w .store) (w .limited) (w .clear) room e in
-    next-told {t = told (sending p) h} (ap (λ (x : PartDecision). partAnswer x (h .state) (length p) .verdict) (sym course))
+    let decision = open-to (h .state) (length (h .store)) (length p) (w .store) (w .limited) (w .clear) room e in
+    next-told {t = told (sending p) h} (ap (λ (x : PartDecision). partAnswer x (h .state) (length p) .verdict) (sym decision))
     (subst
     (λ (x : PartDecision).
     Each IsAccepted
     (answers (sendings ps)
     (record { state = partAnswer x (h .state) (length p) .state; store = partStore x (h .state .arrived) p (h .store) })))
-    course
+    decision
     (all-taken ps (record { state = grown (h .state) (length p); store = placed (h .state .arrived) p (h .store) }) (n + length p)
     (taken-counted h n p w room) e (omega (arith, whole))))
 
@@ -125,7 +125,7 @@ fitting-parts-taken h ps s fits = all-taken ps (left resetting h) 0 (begun h s) 
 -- ---- the store
 pub writes-its-own : WritesItsOwn
 writes-its-own h p e =
-    let course = open-course (decisionOn h (length p)) h (length p) e in
-    let f = open-fits (h .state) (length (h .store)) (length p) course in
-    subst (λ (x : PartDecision). OwnBytes (h .state .arrived) p (h .store) (partStore x (h .state .arrived) p (h .store))) (sym course)
+    let decision = open-course (decisionOn h (length p)) h (length p) e in
+    let f = open-fits (h .state) (length (h .store)) (length p) decision in
+    subst (λ (x : PartDecision). OwnBytes (h .state .arrived) p (h .store) (partStore x (h .state .arrived) p (h .store))) (sym decision)
     (placed-own (h .state .arrived) p (h .store) (omega (arith, f .room, f .store)))

@@ -42,8 +42,8 @@ pub fn end_configuration(
 ) -> ConfigurationEnd
     ensures { λ r. ⌜ r ≡ configurationEnd (readConfigurationBy version (headBy strict)) arrival (now (store .entry)) ⌝ }
 {
-    let course = arrival.decision(store.len(), 0);
-    match course {
+    let decision = arrival.decision(store.len(), 0);
+    match decision {
         PartDecision::Outside => refused_configuration(Refusal::Range, arrival),
         PartDecision::Overrun => refused_configuration(Refusal::Long, arrival),
         PartDecision::Ended => refused_configuration(Refusal::Phase, arrival),

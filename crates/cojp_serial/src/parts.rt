@@ -25,8 +25,8 @@ fn refused_part(why: Refusal, arrival: SerialState) -> PartResult
 pub fn part(arrival: SerialState, store: &mut [u8], sent: &[u8]) -> PartResult
     ensures { λ r. ⌜ Parted arrival (now (store .entry)) (now (sent .entry)) r (now (store .exit)) ⌝ }
 {
-    let course = arrival.decision(store.len(), sent.len());
-    match course {
+    let decision = arrival.decision(store.len(), sent.len());
+    match decision {
         PartDecision::Outside => refused_part(Refusal::Range, arrival),
         PartDecision::Overrun => refused_part(Refusal::Long, arrival.overran()),
         PartDecision::Ended => refused_part(Refusal::Phase, arrival),

@@ -37,8 +37,8 @@ fn refused_request(why: Refusal, arrival: SerialState) -> RequestEnd
 pub fn end_request(arrival: SerialState, store: &[u8], version: Version, strict: bool) -> RequestEnd
     ensures { λ r. ⌜ r ≡ requestEnd (readRequestBy version (headBy strict)) arrival (now (store .entry)) ⌝ }
 {
-    let course = arrival.decision(store.len(), 0);
-    match course {
+    let decision = arrival.decision(store.len(), 0);
+    match decision {
         PartDecision::Outside => refused_request(Refusal::Range, arrival),
         PartDecision::Overrun => refused_request(Refusal::Long, arrival),
         PartDecision::Ended => refused_request(Refusal::Phase, arrival),

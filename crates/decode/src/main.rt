@@ -57,47 +57,47 @@ struct ToolState {
 fn answer(
     line: Line,
     payloads: &[u8],
-    cable: SerialInput,
+    input: SerialInput,
     store: &mut [u8],
     out: Output,
     buffer: &mut Buffer,
 ) -> Answered {
     match command_of(line) {
-        Command::Wrong => unchanged(cable, put_line_error(out, LineError::Command, buffer)),
-        Command::NoNumber => unchanged(cable, put_line_error(out, LineError::Number, buffer)),
-        Command::Merge => unchanged(cable, merge::answer(line.tail, payloads, out, buffer)),
-        Command::Store(lent) => serial::lend(cable, lent, out, buffer),
-        Command::End(reading) => serial::end(cable, reading, store, out, buffer),
-        Command::Reset => serial::reset(cable, out, buffer),
+        Command::Wrong => unchanged(input, put_line_error(out, LineError::Command, buffer)),
+        Command::NoNumber => unchanged(input, put_line_error(out, LineError::Number, buffer)),
+        Command::Merge => unchanged(input, merge::answer(line.tail, payloads, out, buffer)),
+        Command::Store(lent) => serial::lend(input, lent, out, buffer),
+        Command::End(reading) => serial::end(input, reading, store, out, buffer),
+        Command::Reset => serial::reset(input, out, buffer),
         Command::OfHex(asking) => {
             let Payload::Bytes(len) = line.tail.hex.payload() else {
-                return unchanged(cable, put_line_error(out, LineError::Hex, buffer));
+                return unchanged(input, put_line_error(out, LineError::Hex, buffer));
             };
             let payload = tool_text::first(payloads, len);
-            answer_hex(asking, payload, cable, store, out, buffer)
+            answer_hex(asking, payload, input, store, out, buffer)
         }
     }
 }
 
-fn unchanged(cable: SerialInput, out: Output) -> Answered {
-    Answered { serial: cable, out }
+fn unchanged(input: SerialInput, out: Output) -> Answered {
+    Answered { serial: input, out }
 }
 
 fn answer_hex(
     asking: Asking,
     payload: &[u8],
-    cable: SerialInput,
+    input: SerialInput,
     store: &mut [u8],
     out: Output,
     buffer: &mut Buffer,
 ) -> Answered {
     match asking {
-        Asking::Head => unchanged(cable, head::answer(payload, out, buffer)),
-        Asking::Read(reading) => unchanged(cable, answer_object(reading, payload, out, buffer)),
+        Asking::Head => unchanged(input, head::answer(payload, out, buffer)),
+        Asking::Read(reading) => unchanged(input, answer_object(reading, payload, out, buffer)),
         Asking::Rewrite(reading) => {
-            unchanged(cable, rewrite::answer(reading, payload, out, buffer))
+            unchanged(input, rewrite::answer(reading, payload, out, buffer))
         }
-        Asking::Part => serial::part(cable, payload, store, out, buffer),
+        Asking::Part => serial::part(input, payload, store, out, buffer),
     }
 }
 
@@ -123,19 +123,19 @@ fn answer_line(
     let asked = turn.session.next(FORM, bytes, payloads, buffer);
     let line = asked.line;
     let mut session = asked.session;
-    let cable = turn.serial;
+    let input = turn.serial;
     if line.is_silent() {
         return ToolState {
             session,
-            serial: cable,
+            serial: input,
         };
     }
-    let answered = answer(line, payloads, cable, store, session.out, buffer);
+    let answered = answer(line, payloads, input, store, session.out, buffer);
     session.out = answered.out.byte(b'\n', buffer);
-    let cable = answered.serial;
+    let input = answered.serial;
     ToolState {
         session,
-        serial: cable,
+        serial: input,
     }
 }
 
@@ -168,11 +168,11 @@ part HEX, end READING, reset: a payload that comes in parts; store N: how many b
 READING is request or configuration, new-request or new-configuration (RFC 9031), with strict- before it if heads must be the shortest.\n",
         &mut buffer,
     );
-    let cable = SerialInput::new();
+    let input = SerialInput::new();
     run(
         ToolState {
             session,
-            serial: cable,
+            serial: input,
         },
         &mut bytes,
         &mut payloads,

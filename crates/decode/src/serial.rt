@@ -38,8 +38,8 @@ impl SerialInput {
     }
 }
 
-pub fn lend(cable: SerialInput, lent: usize, out: Output, buffer: &mut Buffer) -> Answered {
-    let arrival = cable.state;
+pub fn lend(input: SerialInput, lent: usize, out: Output, buffer: &mut Buffer) -> Answered {
+    let arrival = input.state;
     let out = out.text(b"lent ", buffer);
     Answered {
         serial: SerialInput {
@@ -50,34 +50,34 @@ pub fn lend(cable: SerialInput, lent: usize, out: Output, buffer: &mut Buffer) -
     }
 }
 
-pub fn reset(cable: SerialInput, out: Output, buffer: &mut Buffer) -> Answered {
+pub fn reset(input: SerialInput, out: Output, buffer: &mut Buffer) -> Answered {
     Answered {
-        serial: cable.with(cojp_serial::reset()),
+        serial: input.with(cojp_serial::reset()),
         out: out.text(b"reset", buffer),
     }
 }
 
 pub fn part(
-    cable: SerialInput,
+    input: SerialInput,
     sent: &[u8],
     store: &mut [u8],
     out: Output,
     buffer: &mut Buffer,
 ) -> Answered {
-    let answer = take_part(cable, sent, store);
+    let answer = take_part(input, sent, store);
     let arrival = answer.state;
     Answered {
-        serial: cable.with(arrival),
+        serial: input.with(arrival),
         out: put_part(out, answer, buffer),
     }
 }
 
-fn take_part(cable: SerialInput, sent: &[u8], store: &mut [u8]) -> PartResult {
-    let lent = cable.lent;
+fn take_part(input: SerialInput, sent: &[u8], store: &mut [u8]) -> PartResult {
+    let lent = input.lent;
     if store.len() < lent {
-        return cojp_serial::part(cable.state, store, sent);
+        return cojp_serial::part(input.state, store, sent);
     }
-    cojp_serial::part(cable.state, &mut store[..lent], sent)
+    cojp_serial::part(input.state, &mut store[..lent], sent)
 }
 
 fn put_part(out: Output, answer: PartResult, buffer: &mut Buffer) -> Output {
@@ -90,26 +90,26 @@ fn put_part(out: Output, answer: PartResult, buffer: &mut Buffer) -> Output {
 }
 
 pub fn end(
-    cable: SerialInput,
+    input: SerialInput,
     reading: Reading,
     store: &[u8],
     out: Output,
     buffer: &mut Buffer,
 ) -> Answered {
     let version = reading.version;
-    let lent = tool_text::first(store, cable.lent);
+    let lent = tool_text::first(store, input.lent);
     if reading.is_request {
-        let end = cojp_serial::end_request(cable.state, lent, version, reading.strict);
+        let end = cojp_serial::end_request(input.state, lent, version, reading.strict);
         let arrival = end.state;
         return Answered {
-            serial: cable.with(arrival),
+            serial: input.with(arrival),
             out: request::put_read(out, version, end.read, buffer),
         };
     }
-    let end = cojp_serial::end_configuration(cable.state, lent, version, reading.strict);
+    let end = cojp_serial::end_configuration(input.state, lent, version, reading.strict);
     let arrival = end.state;
     Answered {
-        serial: cable.with(arrival),
+        serial: input.with(arrival),
         out: configuration::put_read(out, version, end.read, buffer),
     }
 }

@@ -93,15 +93,15 @@ module _ (follow : CallsFit) where
   no-request = follow .reads-fit [] (λ i. omega arith) .request Draft false
 
   -- at the end of the parts, where that comes to its reading
-  request-by : (course : PartDecision) (form reading : ℕ) (p : List ℕ) → AllBytes p
-      → requestImage .Fit (endRead refuseRequest (requestAsked form reading) course p .request)
+  request-by : (decision : PartDecision) (form reading : ℕ) (p : List ℕ) → AllBytes p
+      → requestImage .Fit (endRead refuseRequest (requestAsked form reading) decision p .request)
   request-by Outside form reading p b = no-request
   request-by Overrun form reading p b = no-request
   request-by Ended form reading p b = no-request
   request-by Open form reading p b = requests form reading p b
 
-  configuration-by : (course : PartDecision) (form reading : ℕ) (p : List ℕ) → AllBytes p
-      → configurationImage .Fit (endRead refuseConfiguration (configurationAsked form reading) course p .configuration)
+  configuration-by : (decision : PartDecision) (form reading : ℕ) (p : List ℕ) → AllBytes p
+      → configurationImage .Fit (endRead refuseConfiguration (configurationAsked form reading) decision p .configuration)
   configuration-by Outside form reading p b = empty-fits
   configuration-by Overrun form reading p b = empty-fits
   configuration-by Ended form reading p b = empty-fits

@@ -40,17 +40,17 @@ fn bad_role(
     at: usize,
     version: Version,
     why: Refusal,
-    faults: ErrorReports,
+    errors: ErrorReports,
     code: u8,
 ) -> RoleRead
-    ensures { λ r. ⌜ BadRole version why faults code r ⌝ }
+    ensures { λ r. ⌜ BadRole version why errors code r ⌝ }
     ensures rest { λ r. ⌜ Accepting (r .verdict) (EndsAt (now (s .entry)) (r .next) (afterValue (drop at (now (s .entry))))) ⌝ }
 {
     match version {
         Version::Draft => refused_role(why),
         Version::Published => {
             let next = item_end(s, at);
-            let reported = faults.add(code, 1);
+            let reported = errors.add(code, 1);
             RoleRead {
                 verdict: Verdict::Accepted,
                 role: 0,
@@ -67,9 +67,9 @@ pub(crate) fn role_once(
     at: usize,
     version: Version,
     named: bool,
-    faults: ErrorReports,
+    errors: ErrorReports,
 ) -> RoleRead
-    ensures { λ r. ⌜ RoleSpec version named faults (roleJudged (valueView (drop at (now (s .entry))))) r ⌝ }
+    ensures { λ r. ⌜ RoleSpec version named errors (roleJudged (valueView (drop at (now (s .entry))))) r ⌝ }
     ensures rest { λ r. ⌜ Accepting (r .verdict) (EndsAt (now (s .entry)) (r .next) (afterValue (drop at (now (s .entry))))) ⌝ }
 {
     if named {
@@ -79,15 +79,15 @@ pub(crate) fn role_once(
     match v {
         Value::Number { number, next } => {
             if 1 < number {
-                return bad_role(s, at, version, Refusal::Role, faults, 0);
+                return bad_role(s, at, version, Refusal::Role, errors, 0);
             }
             RoleRead {
                 verdict: Verdict::Accepted,
                 role: number as u8,
-                errors: faults,
+                errors: errors,
                 next: next,
             }
         }
-        _ => bad_role(s, at, version, Refusal::Type, faults, 1),
+        _ => bad_role(s, at, version, Refusal::Type, errors, 1),
     }
 }

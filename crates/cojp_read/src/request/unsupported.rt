@@ -29,9 +29,9 @@ pub(crate) fn unsupported_once(
     s: &[u8],
     at: usize,
     held: ListParameter,
-    faults: ErrorReports,
+    errors: ErrorReports,
 ) -> UnsupportedRead
-    ensures { λ r. ⌜ UnsupportedSpec (held .disposition) faults (unsupportedTaken (valueView (drop at (now (s .entry))))) r ⌝ }
+    ensures { λ r. ⌜ UnsupportedSpec (held .disposition) errors (unsupportedTaken (valueView (drop at (now (s .entry))))) r ⌝ }
     ensures rest { λ r. ⌜ Accepting (r .verdict) (EndsAt (now (s .entry)) (r .next) (afterValue (drop at (now (s .entry))))) ⌝ }
 {
     let report = held.disposition;
@@ -40,7 +40,7 @@ pub(crate) fn unsupported_once(
         return UnsupportedRead {
             verdict: Verdict::Refused(Refusal::Twice),
             parameter: none,
-            errors: faults,
+            errors: errors,
             next: 0,
         };
     }
@@ -51,11 +51,11 @@ pub(crate) fn unsupported_once(
         return UnsupportedRead {
             verdict: Verdict::Accepted,
             parameter: parameter,
-            errors: faults,
+            errors: errors,
             next: next,
         };
     }
-    let reported = faults.add(1, 8);
+    let reported = errors.add(1, 8);
     UnsupportedRead {
         verdict: Verdict::Accepted,
         parameter: parameter,

@@ -9,7 +9,7 @@ slice-aggregate-part : tie.Need-slice-aggregate-part
 slice-aggregate-part c =
     let test = c .before in
     let a = test .before .before .before .args in
-    sym (length-take-le (a .cable .lent) (a .store .now) (test .if1 .left))
+    sym (length-take-le (a .input .lent) (a .store .now) (test .if1 .left))
 
 pub take-part-spec : {M : Type 1} → statement M
 take-part-spec =

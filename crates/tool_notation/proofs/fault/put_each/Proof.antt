@@ -7,10 +7,10 @@ use Rattle.tool_notation.proofs.fault.put_each.Statement.{statement}
 use Rattle.tool_notation.proofs.fault.put_each.Tie as tie
 
 abbrev Inv-loop : tie.InvT-loop
-Inv-loop count buffer₀ faults out₀ i₀ buffer out i = (i ≤ count) × (length faults ≡ 5)
+Inv-loop count buffer₀ reports out₀ i₀ buffer out i = (i ≤ count) × (length reports ≡ 5)
 
 abbrev μ-loop : tie.MeasureT-loop
-μ-loop count buffer₀ faults out₀ i₀ buffer out i = count - i
+μ-loop count buffer₀ reports out₀ i₀ buffer out i = count - i
 
 pub put-each-spec : {M : Type 1} → statement M
 put-each-spec =
