@@ -12,7 +12,8 @@ use lib.ListN.{length, take, drop, getD, length-drop, drop-of-length-le}
 use lib.Seq.{drop-cons, drop-drop}
 use Rattle.refusal.specs.declared.Refusal.{Refusal}
 use Rattle.refusal.specs.declared.Refusal.the-variants.{Cut, Form}
-use Rattle.cbor.specs.Decode.{refused, got, andThen, next, bigEndian, argument, heading}
+use Rattle.byte_io.specs.BigEndian.{bigEndian}
+use Rattle.cbor.specs.Decode.{refused, got, andThen, next, argument, heading}
 use Rattle.cbor.specs.Answer.{headAnswer, announced}
 use Rattle.cbor.specs.Encode.{infoOf}
 use Rattle.cbor.specs.Strict.{isShort}

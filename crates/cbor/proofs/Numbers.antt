@@ -7,7 +7,7 @@ use native.Mathlib.Numerals.{add-one}
 use native.Mathlib.Nat.{pow-suc, pow-le-pow-right}
 use lib.ListN.{length, take, drop, getD}
 use lib.Seq.{drop-cons}
-use Rattle.cbor.specs.Decode.{digits}
+use Rattle.byte_io.specs.BigEndian.{digits}
 
 -- one byte further
 take-drop-cons : (s : List ℕ) (p k : ℕ) → p < length s → take (suc k) (drop p s) ≡ getD s p 0 ∷ take k (drop (suc p) s)

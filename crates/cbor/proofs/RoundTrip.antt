@@ -10,11 +10,12 @@ use native.Mathlib.Decide.{decLt}
 use borrow.Author.Tests.{le-ltb, lt-ltb, eq-eqb}
 use lib.ListN.{length, length-append}
 use lib.Seq.{take-append-seam, drop-append-seam, take-at, drop-at}
+use Rattle.byte_io.specs.BigEndian.{digits, bytesOf}
 use Rattle.cbor.specs.Item.{Size, half, single, double, Item, Items, Pairs, unsigned, negative, bytes, text, array, map, tag, simple}
 use Rattle.cbor.specs.Item.{float, none, more, empty, pair, count, countPairs, depth, depths, depthPairs, width, Fit, Fits, FitPairs}
-use Rattle.cbor.specs.Decode.{Outcome, got, andThen, next, digits, argument, heading, Heading, members, pairs, majorOf, content, decodeBy, payloadBy}
+use Rattle.cbor.specs.Decode.{Outcome, got, andThen, next, argument, heading, Heading, members, pairs, majorOf, content, decodeBy, payloadBy}
 use Rattle.cbor.specs.Strict.{isShort, strictHeading, headBy}
-use Rattle.cbor.specs.Encode.{bytesOf, headWith, infoOf, extraOf, shortest, sizeInfo, encode, encodes, encodePairs}
+use Rattle.cbor.specs.Encode.{headWith, infoOf, extraOf, shortest, sizeInfo, encode, encodes, encodePairs}
 use Rattle.cbor.proofs.Heads.{next-got, argument-direct, argument-wide}
 
 digits-append : (v : ℕ) (a b : List ℕ) → digits v (a ++ b) ≡ digits (digits v a) b

@@ -11,7 +11,8 @@ use native.Mathlib.Decide.{decLt, decLe}
 use native.Mathlib.Nat.{zero-add}
 use borrow.Author.Tests.{le-ltb, lt-ltb, eq-eqb, ne-eqb, eqb-true, eqb-false}
 use lib.ListN.{length, take, drop, length-drop, length-take, take-append-drop}
-use Rattle.cbor.specs.Decode.{got, digits, bigEndian, argument, heading, Heading}
+use Rattle.byte_io.specs.BigEndian.{digits, bigEndian}
+use Rattle.cbor.specs.Decode.{got, argument, heading, Heading}
 use Rattle.cbor.specs.Encode.{infoOf, extraOf, shortest}
 use Rattle.cbor.specs.Strict.{isShort, short}
 use Rattle.cbor.specs.Laws.{Suffix, Bytes}

@@ -2,23 +2,20 @@
 -- n is the length of the slice: a place is where the bytes that are left begin, so it is n less their length.
 use Prim.Native.Nat.{ℕ, _-_, _^_}
 use mathlib.Core.Bool.{cond}
-use mathlib.Core.List.{List, _++_}
-use mathlib.Core.Path.{_≡_}
-use lib.ListN.{length, drop}
-use lib.Dec.{ltb, leb, eqb}
+use mathlib.Core.List.{List}
+use lib.ListN.{length}
+use lib.Dec.{ltb, eqb}
 use Rattle.refusal.specs.Refusal.{numberOf}
-use Rattle.refusal.specs.declared.Refusal.{Refusal}
-use Rattle.refusal.specs.declared.Refusal.the-variants.{Room, Range}
+use Rattle.refusal.specs.declared.Refusal.the-variants.{Range}
 use Rattle.refusal.specs.declared.Verdict.{Verdict}
 use Rattle.refusal.specs.declared.Verdict.the-variants as vv
+use Rattle.byte_io.specs.Write.{Plan, refuse, emit}
 use Rattle.cbor.specs.Decode.{Outcome, refused, got, Heading}
 use Rattle.cbor.specs.Encode.{shortest}
 use Rattle.cbor.specs.Item.{Item}
 use Rattle.cbor.specs.Strict.{short}
 use Rattle.cbor.specs.declared.head.HeadResult.{HeadResult}
 use Rattle.cbor.specs.declared.head.HeadResult.the-variants as hv
-use Rattle.cbor.specs.declared.write.WriteResult.{WriteResult}
-use Rattle.cbor.specs.declared.write.WriteResult.the-variants as wv
 use Rattle.cbor.specs.declared.item.SkipResult.{SkipResult}
 use Rattle.cbor.specs.declared.item.SkipResult.the-variants as sv
 use Rattle.cbor.specs.declared.item.OpenResult.{OpenResult}
@@ -73,31 +70,6 @@ openedNumber ov.NoMap = 0
 openedNumber (ov.Map n p) = 0
 
 -- ---- writing
--- what is asked of a writer: a refusal whatever the room, or these bytes if they have room
-pub data Plan : Type 0 where
-  refuse : Refusal → Plan
-  emit : List ℕ → Plan
-
--- the answer, d being what the destination holds: ROOM where it is too short, else the length
-abbrev pub answer : Plan → List ℕ → WriteResult
-answer (refuse k) d = wv.Refused k
-answer (emit p) d = cond (leb (length p) (length d)) (wv.Length (length p)) (wv.Refused Room)
-
--- the destination's contents afterwards: a refusal changes no byte, a success only the first bytes
-abbrev pub after : Plan → List ℕ → List ℕ
-after (refuse k) d = d
-after (emit p) d = cond (leb (length p) (length d)) (p ++ drop (length p) d) d
-
--- a public writer: its answer r, and the destination d before and d′ afterwards
-pub record Did (plan : Plan) (d : List ℕ) (r : WriteResult) (d′ : List ℕ) : Type 0 where
-  pub says : r ≡ answer plan d
-  pub holds : d′ ≡ after plan d
-
--- a writer that has room: the bytes p, n of them, in front of what d held after them
-pub record Wrote (p d : List ℕ) (n : ℕ) (d′ : List ℕ) : Type 0 where
-  pub many : n ≡ length p
-  pub holds : d′ ≡ p ++ drop (length p) d
-
 -- a head: RANGE where there is no such major type, then ROOM
 abbrev pub headPlan : ℕ → ℕ → Plan
 headPlan major n = cond (ltb 7 major) (refuse Range) (emit (shortest major n))

@@ -7,6 +7,7 @@ use lib.ListN.{length, take, drop}
 use lib.Dec.{ltb, leb, eqb}
 use Rattle.refusal.specs.declared.Refusal.{Refusal}
 use Rattle.refusal.specs.declared.Refusal.the-variants.{Cut, Form, Deep, Extra}
+use Rattle.byte_io.specs.BigEndian.{bigEndian}
 use Rattle.cbor.specs.Item.{half, single, double, Item, Items, Pairs, unsigned, negative, bytes, text, array, map, tag, simple, float, none, more, empty, pair}
 
 -- reading from the front of some bytes: a refusal, or a value and the bytes after it
@@ -21,14 +22,6 @@ andThen (got a s) f = f a s
 -- the next n bytes
 unfoldable pub next : ℕ → List ℕ → Outcome (List ℕ)
 next n s = cond (leb n (length s)) (got (take n s) (drop n s)) (refused Cut)
-
--- the number that bytes hold after v was read: each byte further counts 256 times what stands before it
-unfoldable pub digits : ℕ → List ℕ → ℕ
-digits v [] = v
-digits v (b ∷ s) = digits (v * 256 + b) s
-
-abbrev pub bigEndian : List ℕ → ℕ
-bigEndian s = digits 0 s
 
 -- ---- heads
 -- the argument that the length information announces: 0 to 23 direct, 24 to 27 in 1, 2, 4 or 8 bytes, 28 to 31 refused

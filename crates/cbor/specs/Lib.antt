@@ -2,7 +2,6 @@ pub mod Item
 pub mod Decode
 pub mod Encode
 pub mod Strict
-pub mod Written
 pub mod Answer
 pub mod Writing
 pub mod HeadLaws

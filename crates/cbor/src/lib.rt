@@ -15,7 +15,6 @@ pub use item::SkipResult;
 pub use value::Label;
 pub use value::Value;
 pub use value::value_at;
-pub use write::WriteResult;
 pub use write::head_laws;
 ghost use Rattle.cbor.specs.Laws.{ItemLaws};
 

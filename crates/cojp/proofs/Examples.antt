@@ -1,6 +1,7 @@
 -- The marked examples are computed.
 use mathlib.Core.Path.{refl}
-use Rattle.cbor.specs.Decode.{payloadBy, decodeBy, heading, argument, next, digits, members, pairs, majorOf}
+use Rattle.byte_io.specs.BigEndian.{digits, bytesOf}
+use Rattle.cbor.specs.Decode.{payloadBy, decodeBy, heading, argument, next, members, pairs, majorOf}
 use Rattle.cbor.specs.Encode.{infoOf}
 use Rattle.cbor.specs.Strict.{strictHeading, isShort}
 use Rattle.link_key.specs.Key.{validKey}
@@ -18,7 +19,7 @@ use Rattle.cojp.specs.ErrorReports.{added}
 use Rattle.cojp.specs.Lists.{stringsIn, errorReportsIn}
 use Rattle.cojp.specs.PublishedExamples.{PublishedExamples}
 use Rattle.cojp.specs.Rate.{rateTaken}
-use Rattle.cbor.specs.Encode.{shortest, extraOf, bytesOf}
+use Rattle.cbor.specs.Encode.{shortest, extraOf}
 
 pub marked : MarkedExamples
 unfolding payloadBy strictHeading isShort infoOf decodeBy heading argument next digits members pairs majorOf validKeys padded octetsJudged

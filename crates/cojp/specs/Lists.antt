@@ -6,7 +6,7 @@ use mathlib.Core.List.{List, [], _∷_, _++_}
 use lib.Dec.{leb, eqb}
 use lib.ListN.{length, take, replicate}
 use Rattle.refusal.specs.declared.Refusal.the-variants.{Range}
-use Rattle.cbor.specs.Answer.{Plan, emit, refuse}
+use Rattle.byte_io.specs.Write.{Plan, emit, refuse}
 use Rattle.cbor.specs.Item.{Item, Items, unsigned, negative, bytes, simple, none, more}
 use Rattle.cbor.specs.Encode.{encodes, shortest}
 use Rattle.cbor.specs.View.{Scalar, number, minus, string, other, View, scalar, list}

@@ -7,7 +7,7 @@ use mathlib.Core.List.{List, [], _∷_}
 use lib.Dec.{leb, eqb}
 use lib.ListN.{length}
 use Rattle.refusal.specs.declared.Refusal.the-variants.{Range, Owed}
-use Rattle.cbor.specs.Answer.{Plan, refuse, emit}
+use Rattle.byte_io.specs.Write.{Plan, refuse, emit}
 use Rattle.cbor.specs.Encode.{encode}
 use Rattle.cbor.specs.Item.{Item, Items, Pairs, unsigned, bytes, array, map, none, more, empty, pair}
 use Rattle.cbor.specs.View.{Scalar}

@@ -1,9 +1,10 @@
 -- The witness of 232 bytes, the longest payload read and the written examples are computed.
 use mathlib.Core.Path.{refl}
 use Rattle.lemmas.specs.lists.Same.{same}
-use Rattle.cbor.specs.Decode.{payloadBy, decodeBy, heading, argument, next, digits, members, pairs, majorOf}
+use Rattle.byte_io.specs.BigEndian.{digits, bytesOf}
+use Rattle.cbor.specs.Decode.{payloadBy, decodeBy, heading, argument, next, members, pairs, majorOf}
 use Rattle.cbor.specs.View.{scalarAt}
-use Rattle.cbor.specs.Encode.{bytesOf, infoOf, extraOf, shortest}
+use Rattle.cbor.specs.Encode.{infoOf, extraOf, shortest}
 use Rattle.link_key.specs.Key.{validKey, hasNoAdditionalInfo}
 use Rattle.link_key.specs.set.KeySet.{validKeys, validSet}
 use Rattle.short_address.specs.Address.{isAddress}

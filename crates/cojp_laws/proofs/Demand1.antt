@@ -10,11 +10,10 @@ use lib.ListN.{length, drop}
 use Rattle.refusal.specs.Order.{refusedIf, inOrder}
 use Rattle.refusal.specs.declared.Refusal.{Refusal}
 use Rattle.refusal.specs.declared.Refusal.the-variants.{Room, Range}
-use Rattle.cbor.specs.Answer.{Plan, refuse, emit, answer}
+use Rattle.byte_io.specs.Write.{Plan, refuse, emit, answer, writtenSays}
 use Rattle.cbor.specs.Encode.{shortest, encode, encodePairs}
 use Rattle.cbor.specs.Item.{map}
-use Rattle.cbor.specs.Written.{writtenSays}
-use Rattle.cbor.specs.declared.write.WriteResult.the-variants.{Refused, Length}
+use Rattle.byte_io.specs.declared.WriteResult.the-variants.{Refused, Length}
 use Rattle.cojp.specs.Reading.{ifTaken}
 use Rattle.cojp.specs.Request.{owing}
 use Rattle.cojp.specs.Writing.{octetsPairs, owingPlan, fits, requestPairs, requestInRange, requestPlan, configurationPairs, configurationInRange, configurationPlan}

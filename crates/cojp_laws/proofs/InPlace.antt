@@ -8,8 +8,8 @@ use lib.Dec.{leb}
 use lib.ListN.{length, take, drop}
 use lib.Seq.{take-at}
 use Rattle.refusal.specs.declared.Refusal.the-variants.{Room}
-use Rattle.cbor.specs.Answer.{Plan, refuse, emit, answer, after}
-use Rattle.cbor.specs.declared.write.WriteResult.the-variants.{Refused, Length}
+use Rattle.byte_io.specs.Write.{Plan, refuse, emit, answer, after}
+use Rattle.byte_io.specs.declared.WriteResult.the-variants.{Refused, Length}
 use Rattle.cojp.specs.Writing.{requestPlan, configurationPlan}
 use Rattle.cojp.specs.declared.configuration.Configuration.{Configuration}
 use Rattle.cojp.specs.declared.request.JoinRequest.{JoinRequest}

@@ -9,7 +9,7 @@ use Rattle.refusal.specs.declared.Refusal.the-variants.{Range, Loose}
 use Rattle.refusal.specs.declared.Verdict.{Verdict}
 use Rattle.refusal.specs.declared.Verdict.the-variants.{Accepted, Refused}
 use Rattle.short_address.specs.Address.{isAddress, AddressLaws}
-use Rattle.cbor.specs.Answer.{refuse, emit}
+use Rattle.byte_io.specs.Write.{refuse, emit}
 use Rattle.cbor.specs.Decode.{heading}
 use Rattle.cbor.specs.Strict.{headBy}
 use Rattle.cojp.specs.Configuration.{emptyConfiguration, refuseConfiguration, readConfigurationBy, readConfigurationAs}

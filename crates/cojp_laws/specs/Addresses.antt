@@ -5,7 +5,7 @@ use mathlib.Core.List.{List}
 use Prim.Native.Nat.{ℕ}
 use Rattle.refusal.specs.declared.Refusal.the-variants.{Range}
 use Rattle.short_address.specs.Address.{Reserved}
-use Rattle.cbor.specs.Answer.{refuse, emit}
+use Rattle.byte_io.specs.Write.{refuse, emit}
 use Rattle.cbor.specs.Strict.{headBy}
 use Rattle.cojp.specs.Configuration.{readConfigurationBy}
 use Rattle.cojp.specs.Writing.{configurationPlan}

@@ -8,11 +8,11 @@ use lib.ListN.{length}
 use Rattle.refusal.specs.Order.{refusedIf, inOrder}
 use Rattle.refusal.specs.Refusal.{numberOf}
 use Rattle.refusal.specs.declared.Refusal.{Refusal}
-use Rattle.cbor.specs.Answer.{Plan, answer, after, headPlan}
+use Rattle.byte_io.specs.Write.{Plan, answer, after, writtenSays}
+use Rattle.cbor.specs.Answer.{headPlan}
 use Rattle.cbor.specs.Encode.{shortest, encode, encodePairs}
 use Rattle.cbor.specs.Item.{map}
-use Rattle.cbor.specs.Written.{writtenSays}
-use Rattle.cbor.specs.declared.write.WriteResult.the-variants.{Refused}
+use Rattle.byte_io.specs.declared.WriteResult.the-variants.{Refused}
 use Rattle.cojp.specs.Request.{owing}
 use Rattle.cojp.specs.Writing.{octetsPairs, requestPairs, requestInRange, requestPlan, configurationPairs, configurationInRange, configurationPlan}
 use Rattle.cojp.specs.declared.configuration.Configuration.{Configuration}

@@ -8,10 +8,9 @@ use mathlib.Core.List.{List, [], _∷_}
 use lib.ListN.{length, replicate}
 use Rattle.refusal.specs.declared.Refusal.the-variants.{Long}
 use Rattle.refusal.specs.declared.Verdict.the-variants.{Accepted}
-use Rattle.cbor.specs.Answer.{emit, answer}
+use Rattle.byte_io.specs.Write.{emit, answer, writtenSays}
 use Rattle.cbor.specs.Encode.{encode}
 use Rattle.cbor.specs.Item.{map}
-use Rattle.cbor.specs.Written.{writtenSays}
 use Rattle.link_key.specs.Key.{keyOf}
 use Rattle.link_key.specs.declared.Key.{Key}
 use Rattle.cojp.specs.Address.{addressOf, addressParameter}

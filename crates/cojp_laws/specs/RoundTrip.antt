@@ -6,9 +6,9 @@ use mathlib.Core.List.{List}
 use mathlib.Core.Bool.{Bool}
 use lib.ListN.{take}
 use Rattle.refusal.specs.declared.Verdict.the-variants.{Accepted}
+use Rattle.byte_io.specs.Write.{emit, answer, after}
 use Rattle.cbor.specs.Strict.{headBy}
-use Rattle.cbor.specs.Answer.{emit, answer, after}
-use Rattle.cbor.specs.declared.write.WriteResult.the-variants.{Length}
+use Rattle.byte_io.specs.declared.WriteResult.the-variants.{Length}
 use Rattle.cojp.specs.ErrorReports.{noErrorReports}
 use Rattle.cojp.specs.Request.{readRequestBy}
 use Rattle.cojp.specs.Configuration.{readConfigurationBy}

@@ -5,8 +5,7 @@ use mathlib.Core.Path.{_≡_}
 use mathlib.Core.Bool.{true}
 use mathlib.Core.List.{List, [], _∷_, _++_}
 use lib.ListN.{length, drop, replicate}
-use Rattle.cbor.specs.Answer.{Plan, answer, after}
-use Rattle.cbor.specs.Written.{writtenSays}
+use Rattle.byte_io.specs.Write.{Plan, answer, after, writtenSays}
 use Rattle.link_key.specs.Key.{keyWithAdditionalInfo}
 use Rattle.link_key.specs.declared.Key.{Key}
 use Rattle.link_key.specs.declared.additional_info.AdditionalInfo.the-variants as info

@@ -1,13 +1,11 @@
 -- A list is kept if reading it again gives it.
-use Prim.Native.Nat.{ℕ, suc, _+_, _≤_, _<_}
-use mathlib.Core.Path.{_≡_, refl, ap}
-use mathlib.Core.Bool.{Bool, true, false, cond, _&&_}
-use mathlib.Core.List.{List, [], _∷_}
-use native.Mathlib.Numerals.{add-one}
+use Prim.Native.Nat.{_≤_, _<_}
+use mathlib.Core.Path.{_≡_, refl}
+use mathlib.Core.Bool.{Bool, true, false, cond}
+use mathlib.Core.List.{List}
 use native.Mathlib.Omega.{arith}
-use lib.Dec.{leb, eqb}
-use lib.ListN.{length, getD, drop, drop-of-length-le}
-use lib.Seq.{drop-cons}
+use lib.Dec.{leb}
+use lib.ListN.{length, drop}
 use borrow.Author.Tests.{le-leb, lt-leb, eq-eqb, ne-eqb, leb-true}
 use Rattle.cbor.specs.View.{Scalar}
 use Rattle.lemmas.specs.lists.Same.{same}
@@ -15,27 +13,6 @@ use Rattle.cojp.specs.Bytes.{membersAt}
 use Rattle.cojp.specs.Lists.{Picked, nothing, picked, fitting, written, listAnswer, bytesIn, sameAs, kept}
 use Rattle.cojp.specs.declared.list.ItemList.{ItemList}
 use Rattle.cojp.specs.declared.list.ListRead.{ListRead}
-
--- ---- two lists of bytes, compared from the front
-pub same-lengths : (a b : List ℕ) → ¬ (length a ≡ length b) → same a b ≡ false
-unfolding same
-same-lengths [] [] h = absurd (h refl)
-same-lengths [] (y ∷ b) h = refl
-same-lengths (x ∷ a) [] h = refl
-same-lengths (x ∷ a) (y ∷ b) h = rw (same-lengths a b (λ e. h (ap suc e))) (go (eqb x y))
-  where
-    go : (t : Bool) → (t && false) ≡ false
-    go true = refl
-    go false = refl
-
-pub same-turn : (a b : List ℕ) (i : ℕ) → i < length a → i < length b
-    → same (drop i a) (drop i b) ≡ (eqb (getD a i 0) (getD b i 0) && same (drop (i + 1) a) (drop (i + 1) b))
-unfolding same
-same-turn a b i h k = rw (add-one i, drop-cons a i 0 h, drop-cons b i 0 k)
-
-pub same-stop : (a b : List ℕ) (i : ℕ) → length a ≤ i → length b ≤ i → same (drop i a) (drop i b) ≡ true
-unfolding same
-same-stop a b i h k = rw (drop-of-length-le a h, drop-of-length-le b k)
 
 -- ---- the returns of `same_as`
 module _ (r : ListRead) (l : ItemList) where

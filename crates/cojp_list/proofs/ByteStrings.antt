@@ -3,11 +3,11 @@ use Prim.Native.Nat.{ℕ, _+_, _-_, _≤_, _<_}
 use mathlib.Core.Path.{_≡_, refl}
 use mathlib.Core.List.{List, [], _∷_, append-nil}
 use lib.ListN.{length, take, drop}
-use Rattle.cbor.specs.Answer.{Did, emit}
+use Rattle.byte_io.specs.Write.{Did, emit}
 use Rattle.cbor.specs.Encode.{encode}
 use Rattle.cbor.specs.Item.{bytes}
 use Rattle.cbor.specs.View.{Scalar, number, minus, string, other, ValueSpec}
-use Rattle.cbor.specs.declared.write.WriteResult.{WriteResult}
+use Rattle.byte_io.specs.declared.WriteResult.{WriteResult}
 use Rattle.cbor.specs.declared.value.Value.{Value}
 use Rattle.cbor.specs.declared.value.Value.the-variants as vv
 use Rattle.cojp.specs.Bytes.{membersAt, valueView, Neither, MemberAt, MemberSpec}

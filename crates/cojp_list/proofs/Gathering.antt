@@ -8,13 +8,13 @@ use lib.ListN.{length, take, drop, replicate, length-append, length-take, length
 use borrow.Author.Tests.{le-leb, lt-leb}
 use native.Mathlib.Decide.{decLe}
 use Rattle.refusal.specs.declared.Refusal.{Refusal}
-use Rattle.cbor.specs.Answer.{Did, Wrote, emit}
-use Rattle.cbor.specs.declared.write.WriteResult.{WriteResult}
-use Rattle.cbor.specs.declared.write.WriteResult.the-variants as wv
+use Rattle.byte_io.specs.Write.{Did, Wrote, emit}
+use Rattle.byte_io.specs.declared.WriteResult.{WriteResult}
+use Rattle.byte_io.specs.declared.WriteResult.the-variants as wv
+use Rattle.byte_io.specs.WriteLemmas.{seam, wrote-none, wrote-length, did-done, did-kept, did-never}
 use Rattle.cbor.specs.Encode.{encode, shortest}
 use Rattle.cbor.specs.View.{Scalar, number, minus, string, other}
 use Rattle.cbor.specs.HeadLaws.{HeadLaws}
-use Rattle.cbor.specs.Writing.{seam, wrote-none, wrote-length, did-done, did-kept, did-never}
 use Rattle.cojp.specs.Bytes.{membersAt}
 use Rattle.cojp.proofs.Arrays.{members-none}
 use Rattle.cojp.specs.Lists.{Picked, nothing, picked, before, fitting, scalarItem, written, listAnswer}

@@ -8,8 +8,9 @@ use lib.Dec.{leb, eqb}
 use lib.ListN.{length, take, length-take}
 use lib.Seq.{take-append-seam}
 use borrow.Author.Tests.{le-leb, leb-true, eqb-true, eq-eqb}
-use Rattle.cbor.specs.Decode.{decodeBy, heading, argument, next, digits, majorOf}
-use Rattle.cbor.specs.Encode.{shortest, infoOf, extraOf, bytesOf}
+use Rattle.byte_io.specs.BigEndian.{digits, bytesOf}
+use Rattle.cbor.specs.Decode.{decodeBy, heading, argument, next, majorOf}
+use Rattle.cbor.specs.Encode.{shortest, infoOf, extraOf}
 use Rattle.cbor.specs.View.{Scalar, scalarAt}
 use Rattle.lemmas.specs.lists.Same.{same-refl}
 use Rattle.link_key.specs.set.Lists.{allOf}

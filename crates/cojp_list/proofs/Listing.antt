@@ -5,10 +5,10 @@ use mathlib.Core.List.{List, [], _∷_, _++_}
 use native.Mathlib.Omega.{arith}
 use lib.ListN.{length, take, drop, replicate, length-append, length-take, getD}
 use borrow.Author.Tests.{le-leb}
-use Rattle.cbor.specs.Answer.{Did, emit}
+use Rattle.byte_io.specs.Write.{Did, emit}
 use Rattle.cbor.specs.Encode.{shortest}
 use Rattle.cbor.specs.HeadLaws.{HeadLaws}
-use Rattle.cbor.specs.declared.write.WriteResult.{WriteResult}
+use Rattle.byte_io.specs.declared.WriteResult.{WriteResult}
 use Rattle.lemmas.specs.lists.Prefix.{take-length-take, prefix-next, prefix-end}
 use Rattle.cojp.specs.ErrorReports.{errorReportOf, errorReportList}
 use Rattle.cojp.specs.Lists.{Picked, picked, before, fitting, written, listOf, listParameter, noListParameter}

@@ -7,7 +7,8 @@ use native.Mathlib.Omega.{arith}
 use lib.ListN.{length, take, drop, length-append, length-take, length-drop}
 use Rattle.refusal.specs.declared.Refusal.{Refusal}
 use Rattle.refusal.specs.declared.Refusal.the-variants.{Room}
-use Rattle.cbor.specs.Answer.{Did, Wrote, emit, headPlan}
+use Rattle.byte_io.specs.Write.{Did, Wrote, emit}
+use Rattle.cbor.specs.Answer.{headPlan}
 use Rattle.cbor.specs.Decode.{Outcome, refused, got, decode}
 use Rattle.cbor.specs.Encode.{encode, shortest, extraOf}
 use Rattle.cbor.specs.Item.{Item}
@@ -16,11 +17,12 @@ use Rattle.cbor.specs.declared.item.SkipResult.{SkipResult}
 use Rattle.cbor.specs.declared.item.SkipResult.the-variants as sv
 use Rattle.cbor.specs.declared.value.Value.{Value}
 use Rattle.cbor.specs.declared.value.Value.the-variants as vv
-use Rattle.cbor.specs.declared.write.WriteResult.{WriteResult}
-use Rattle.cbor.specs.declared.write.WriteResult.the-variants as wv
+use Rattle.byte_io.specs.declared.WriteResult.{WriteResult}
+use Rattle.byte_io.specs.declared.WriteResult.the-variants as wv
+use Rattle.byte_io.specs.WriteLemmas.{seam, wrote-as, wrote-length, did-emit, did-kept, did-room}
 use Rattle.cbor.specs.HeadLaws.{HeadLaws}
 use Rattle.cbor.specs.ReaderSpecs.{SkipSpec}
-use Rattle.cbor.specs.Writing.{seam, wrote-as, wrote-length, did-emit, did-kept, did-room, head-did}
+use Rattle.cbor.specs.Writing.{head-did}
 use Rattle.cojp.specs.Bytes.{membersAt}
 use Rattle.cojp.proofs.Arrays.{members-none, members-step, members-some}
 use Rattle.cojp.specs.Lists.{Picked, nothing, picked, scalarItem, written, isInteger, integer, errorReportsIn, some}

@@ -7,12 +7,14 @@ use lib.ListN.{length, take, drop, length-append, length-take, length-drop}
 use lib.Seq.{take-all, length-take-le}
 use borrow.Author.Tests.{le-leb, lt-leb}
 use Rattle.refusal.specs.declared.Refusal.the-variants.{Room, Range}
-use Rattle.cbor.specs.Answer.{Did, Wrote, emit, headPlan}
+use Rattle.byte_io.specs.Write.{Did, Wrote, emit}
+use Rattle.cbor.specs.Answer.{headPlan}
 use Rattle.cbor.specs.Encode.{shortest, extraOf}
-use Rattle.cbor.specs.declared.write.WriteResult.{WriteResult}
-use Rattle.cbor.specs.declared.write.WriteResult.the-variants as wv
+use Rattle.byte_io.specs.declared.WriteResult.{WriteResult}
+use Rattle.byte_io.specs.declared.WriteResult.the-variants as wv
+use Rattle.byte_io.specs.WriteLemmas.{seam, wrote-as, wrote-length, did-emit, did-kept, did-room, did-refuse}
 use Rattle.cbor.specs.HeadLaws.{HeadLaws}
-use Rattle.cbor.specs.Writing.{seam, wrote-as, wrote-length, did-emit, did-kept, did-room, did-refuse, head-did}
+use Rattle.cbor.specs.Writing.{head-did}
 use Rattle.cojp.specs.Lists.{bytesIn, listPlan}
 use Rattle.cojp.specs.declared.list.ItemList.{ItemList}
 

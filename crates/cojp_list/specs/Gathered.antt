@@ -4,7 +4,7 @@ use mathlib.Core.Bool.{false}
 use mathlib.Core.Path.{_≡_}
 use mathlib.Core.List.{List, [], _∷_}
 use lib.ListN.{length, drop}
-use Rattle.cbor.specs.Answer.{Wrote}
+use Rattle.byte_io.specs.Write.{Wrote}
 use Rattle.cbor.specs.View.{Scalar, other}
 use Rattle.cojp.specs.Lists.{Picked, nothing, picked, before, fitting, written, isInteger, integer, errorReportsIn}
 use Rattle.cojp.specs.Bytes.{membersAt}

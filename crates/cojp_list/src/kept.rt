@@ -1,30 +1,12 @@
 // A list that is handed in is within its limits if reading it again gives it.
 use crate::error_entries::read_entries;
 use crate::strings::read_strings;
+use byte_io::same_bytes;
 use cojp::ItemList;
 use cojp::ListRead;
 ghost use mathlib.Core.Path.{_≡_};
 ghost use Prim.Native.Nat.{_≤_};
-ghost use Rattle.lemmas.specs.lists.Same.{same};
 ghost use Rattle.cojp.specs.Lists.{stringsIn, errorReportsIn, some, sameAs, kept};
-
-// Whether two parts agree byte by byte.
-fn same_bytes(a: &[u8], b: &[u8]) -> bool
-    ensures { λ r. ⌜ r ≡ same (now (a .entry)) (now (b .entry)) ⌝ }
-{
-    let n = a.len();
-    if b.len() != n {
-        return false;
-    }
-    let mut i: usize = 0;
-    while i < n {
-        if a[i] != b[i] {
-            return false;
-        }
-        i += 1;
-    }
-    true
-}
 
 // Whether what was read again is the list.
 fn same_as(again: ListRead, l: ItemList) -> bool

@@ -1,7 +1,7 @@
 // The reports that a node keeps, as the unsupported configuration of its join request (RFC 9031).
 use crate::error_entries::write_entry;
 use crate::list::GatherResult;
-use cbor::WriteResult;
+use byte_io::WriteResult;
 use cojp::Disposition;
 use cojp::ErrorReport;
 use cojp::ErrorReports;
@@ -10,7 +10,7 @@ use cojp::ListParameter;
 use cojp::no_list;
 ghost use mathlib.Core.List.{[], _∷_};
 ghost use mathlib.Core.Path.{_≡_};
-ghost use Rattle.cbor.specs.Answer.{Did, emit};
+ghost use Rattle.byte_io.specs.Write.{Did, emit};
 ghost use Rattle.cojp.specs.ErrorReports.{errorReportList};
 ghost use Rattle.cojp.specs.Lists.{picked, written};
 ghost use Rattle.cojp_list.specs.Gathered.{GatheredAs};

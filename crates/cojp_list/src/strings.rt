@@ -1,8 +1,8 @@
 // A blacklist (RFC 9031): an array of byte strings.
 use crate::list::GatherResult;
 use crate::list::bad_list;
+use byte_io::WriteResult;
 use cbor::Value;
-use cbor::WriteResult;
 use cbor::value_at;
 use cbor::write::write_bytes;
 use cojp::ItemList;

@@ -1,10 +1,10 @@
 // The array that a list is, written.
-use cbor::WriteResult;
+use byte_io::WriteResult;
 use cbor::write::head_len;
 use cbor::write::write_head;
 use cojp::ItemList;
 use refusal::Refusal;
-ghost use Rattle.cbor.specs.Answer.{Did};
+ghost use Rattle.byte_io.specs.Write.{Did};
 ghost use Rattle.cojp.specs.Lists.{listPlan};
 
 // Writes the array that a list is, the head of its count and its bytes: RANGE where it has more than 253, ROOM, or the length written.

@@ -1,7 +1,8 @@
 -- The tables are computed.
 use mathlib.Core.Path.{refl}
-use Rattle.cbor.specs.Decode.{payloadBy, decodeBy, heading, argument, next, digits, members, pairs, majorOf}
-use Rattle.cbor.specs.Encode.{infoOf, shortest, extraOf, bytesOf}
+use Rattle.byte_io.specs.BigEndian.{digits, bytesOf}
+use Rattle.cbor.specs.Decode.{payloadBy, decodeBy, heading, argument, next, members, pairs, majorOf}
+use Rattle.cbor.specs.Encode.{infoOf, shortest, extraOf}
 use Rattle.link_key.specs.Key.{validKey}
 use Rattle.link_key.specs.set.KeySet.{validKeys}
 use Rattle.short_address.specs.Address.{isAddress}

@@ -7,7 +7,8 @@ use mathlib.Core.List.{List, [], _∷_, _++_}
 use mathlib.Core.Logic.{_⊎_, inl, inr}
 use lib.ListN.{length}
 use borrow.Author.Tests.{le-leb}
-use Rattle.cbor.specs.Encode.{encode, shortest, infoOf, extraOf, bytesOf}
+use Rattle.byte_io.specs.BigEndian.{bytesOf}
+use Rattle.cbor.specs.Encode.{encode, shortest, infoOf, extraOf}
 use Rattle.cbor.specs.HeadLaws.{HeadLaws}
 use Rattle.cbor.specs.View.{Scalar, number, minus, string, other, View, scalar, list}
 use Rattle.cojp.specs.Lists.{Picked, nothing, picked, before, scalarItem, isInteger, stringsIn, errorReportsIn, some, listAnswer, listTaken, written, blacklistTaken, unsupportedTaken}

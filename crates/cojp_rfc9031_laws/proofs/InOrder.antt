@@ -13,7 +13,8 @@ use Rattle.refusal.specs.Verdict.{refused-not}
 use Rattle.refusal.specs.declared.Refusal.the-variants as refusal
 use Rattle.refusal.specs.declared.Verdict.{Verdict}
 use Rattle.refusal.specs.declared.Verdict.the-variants.{Accepted}
-use Rattle.cbor.specs.Decode.{payloadBy, decodeBy, heading, argument, next, digits, members, pairs, majorOf}
+use Rattle.byte_io.specs.BigEndian.{digits}
+use Rattle.cbor.specs.Decode.{payloadBy, decodeBy, heading, argument, next, members, pairs, majorOf}
 use Rattle.cbor.specs.Encode.{infoOf}
 use Rattle.cbor.specs.Strict.{headBy}
 use Rattle.cojp.specs.Configuration.{configurationAnswer, configurationForm, emptyConfiguration, configurationTaking}

@@ -8,8 +8,9 @@ use lib.Dec.{leb, eqb}
 use lib.ListN.{length, replicate, length-take}
 use lib.Seq.{take-append-seam}
 use borrow.Author.Tests.{leb-true, eqb-true, lt-ltb}
-use Rattle.cbor.specs.Decode.{decodeBy, heading, argument, next, digits, majorOf}
-use Rattle.cbor.specs.Encode.{encode, encodePairs, shortest, infoOf, extraOf, bytesOf}
+use Rattle.byte_io.specs.BigEndian.{digits, bytesOf}
+use Rattle.cbor.specs.Decode.{decodeBy, heading, argument, next, majorOf}
+use Rattle.cbor.specs.Encode.{encode, encodePairs, shortest, infoOf, extraOf}
 use Rattle.cbor.specs.Item.{array}
 use Rattle.cbor.specs.View.{scalarAt}
 use Rattle.cojp.specs.ErrorReports.{errorReportList, isReportable, validErrorReport, validErrorReports}

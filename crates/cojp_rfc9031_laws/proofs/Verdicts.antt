@@ -8,7 +8,8 @@ use lib.ListN.{length}
 use Rattle.refusal.specs.declared.Refusal.the-variants as refusal
 use Rattle.refusal.specs.declared.Verdict.{Verdict}
 use Rattle.refusal.specs.declared.Verdict.the-variants as verdict
-use Rattle.cbor.specs.Decode.{Outcome, payloadBy, decodeBy, heading, argument, next, digits, members, pairs, majorOf}
+use Rattle.byte_io.specs.BigEndian.{digits}
+use Rattle.cbor.specs.Decode.{Outcome, payloadBy, decodeBy, heading, argument, next, members, pairs, majorOf}
 use Rattle.cbor.specs.Encode.{infoOf}
 use Rattle.cbor.specs.Decode as decode
 use Rattle.cbor.specs.Item.{Item, unsigned, negative, bytes, text, array, map, tag, simple, float}

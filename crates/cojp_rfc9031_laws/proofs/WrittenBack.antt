@@ -10,8 +10,9 @@ use borrow.Author.Tests.{le-leb}
 use Rattle.refusal.specs.Verdict.{refused-not}
 use Rattle.refusal.specs.declared.Refusal.the-variants as refusal
 use Rattle.refusal.specs.declared.Verdict.the-variants.{Accepted}
-use Rattle.cbor.specs.Decode.{payloadBy, decodeBy, heading, argument, next, digits, members, pairs, majorOf}
-use Rattle.cbor.specs.Encode.{encode, encodePairs, shortest, infoOf, extraOf, bytesOf}
+use Rattle.byte_io.specs.BigEndian.{digits, bytesOf}
+use Rattle.cbor.specs.Decode.{payloadBy, decodeBy, heading, argument, next, members, pairs, majorOf}
+use Rattle.cbor.specs.Encode.{encode, encodePairs, shortest, infoOf, extraOf}
 use Rattle.cbor.specs.HeadLaws.{HeadLaws}
 use Rattle.cbor.specs.Item.{Item, Pairs, unsigned, array, bytes, map, more, empty, pair, countPairs}
 use Rattle.cbor.specs.Laws.{Bytes, ItemLaws}

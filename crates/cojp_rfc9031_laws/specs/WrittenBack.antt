@@ -5,7 +5,7 @@ use mathlib.Core.Bool.{Bool, false}
 use mathlib.Core.List.{List, [], _∷_}
 use lib.ListN.{length}
 use Rattle.refusal.specs.declared.Verdict.the-variants.{Accepted}
-use Rattle.cbor.specs.Answer.{Plan, emit}
+use Rattle.byte_io.specs.Write.{Plan, emit}
 use Rattle.cbor.specs.Laws.{Bytes}
 use Rattle.cbor.specs.Strict.{headBy}
 use Rattle.cojp.specs.Configuration.{readConfigurationBy}

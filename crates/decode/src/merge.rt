@@ -1,5 +1,5 @@
 // The command `merge HEX + HEX`: two configurations joined and written.
-use cbor::WriteResult;
+use byte_io::WriteResult;
 use cojp::Configuration;
 use protocol_version::Version;
 use refusal::Verdict;

@@ -1,6 +1,6 @@
 // The command `rewrite READING HEX`: the object that was read, written again.
 use crate::command::Reading;
-use cbor::WriteResult;
+use byte_io::WriteResult;
 use protocol_version::Version;
 use refusal::Verdict;
 use tool_text::output::Buffer;

@@ -10,9 +10,8 @@ use borrow.Author.Tests.{eq-eqb, ne-eqb}
 use lib.Dec.{eqb}
 use lib.ListN.{length, take, drop, set, length-set, getD, replicate, length-replicate, drop-of-length-le, length-drop}
 use lib.Seq.{drop-set-lt, drop-cons, getD-set-same, set-at, take-length, length-take-le}
-use Rattle.cbor.specs.Answer.{Wrote}
-use Rattle.cbor.specs.Encode.{bytesOf}
-use Rattle.cbor.specs.Decode.{digits}
+use Rattle.byte_io.specs.Write.{Wrote}
+use Rattle.byte_io.specs.BigEndian.{bytesOf, digits}
 use Rattle.image.specs.Part.{layout, isHeaded}
 
 -- ---- a byte, two bytes

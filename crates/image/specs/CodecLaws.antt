@@ -10,8 +10,7 @@ use lib.Dec.{leb, eqb}
 use lib.ListN.{length, take, drop, getD, length-append, length-drop}
 use lib.Seq.{take-at, drop-at, take-add, getD-drop, length-take-le}
 use Rattle.lemmas.specs.logic.Tests.{both-left, both-right, both as both-true}
-use Rattle.cbor.specs.Decode.{bigEndian}
-use Rattle.cbor.specs.Encode.{bytesOf}
+use Rattle.byte_io.specs.BigEndian.{bigEndian, bytesOf}
 use Rattle.image.specs.Numbers.{many-bytes, read-back, below, put-back}
 use Rattle.image.specs.Part.{Part, AllBytes, RoundTrips, byte, number, octets, upTo, both, viewedIf, viewed, code, puts, gets, goods, Fits, none, more, total, times, headed, isHeaded, layout}
 

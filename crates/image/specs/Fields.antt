@@ -6,8 +6,8 @@ use mathlib.Core.Bool.{Bool, true, false, _&&_}
 use mathlib.Core.List.{List, _++_, append-nil, append-assoc}
 use native.Mathlib.Omega.{arith}
 use lib.ListN.{length, take, drop, drop-of-length-le}
-use Rattle.cbor.specs.Answer.{Wrote}
-use Rattle.cbor.specs.Writing.{seam}
+use Rattle.byte_io.specs.Write.{Wrote}
+use Rattle.byte_io.specs.WriteLemmas.{seam}
 
 -- p in k bytes, and then q in m
 pub next-field : {p q d d′ e : List ℕ} {k m : ℕ} → k + m ≤ length d → Wrote p d k d′ → Wrote q (take (length d′ - k) (drop k d′)) m e

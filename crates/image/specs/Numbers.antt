@@ -7,8 +7,7 @@ use native.Mathlib.Omega.{arith}
 use native.Mathlib.Nat.{pow-suc, div-lt-iff-lt-mul, mul-assoc}
 use lib.ListN.{length, take, getD, length-append}
 use lib.Seq.{take-suc}
-use Rattle.cbor.specs.Encode.{bytesOf}
-use Rattle.cbor.specs.Decode.{digits, bigEndian}
+use Rattle.byte_io.specs.BigEndian.{bytesOf, digits, bigEndian}
 
 pub many-bytes : (k n : ℕ) → length (bytesOf k n) ≡ k
 unfolding bytesOf

@@ -6,8 +6,7 @@ use mathlib.Core.Bool.{Bool, true, _&&_}
 use mathlib.Core.List.{List, [], _∷_, _++_}
 use lib.Dec.{leb, eqb}
 use lib.ListN.{length, take, drop, getD}
-use Rattle.cbor.specs.Encode.{bytesOf}
-use Rattle.cbor.specs.Decode.{bigEndian}
+use Rattle.byte_io.specs.BigEndian.{bytesOf, bigEndian}
 
 pub record Part (A : Type 0) : Type 1 where
   pub size : ℕ

@@ -2,9 +2,8 @@
 ghost use mathlib.Core.Path.{_≡_};
 ghost use Prim.Native.Nat.{_+_, _≤_};
 ghost use lib.ListN.{length, take, drop};
-ghost use Rattle.cbor.specs.Answer.{Wrote};
-ghost use Rattle.cbor.specs.Decode.{bigEndian};
-ghost use Rattle.cbor.specs.Encode.{bytesOf};
+ghost use Rattle.byte_io.specs.Write.{Wrote};
+ghost use Rattle.byte_io.specs.BigEndian.{bigEndian, bytesOf};
 
 // Writes a number in so many bytes; what does not fit in them is left out.
 pub fn put_number(dst: &mut [u8], width: usize, n: u64)

@@ -9,8 +9,8 @@ use lib.Dec.{eqb}
 use lib.ListN.{length, take, drop, getD, replicate, length-take, length-drop, take-append-drop, drop-of-length-le}
 use lib.Seq.{length-take-le, take-all, drop-cons, getD-take, getD-drop, drop-drop, drop-at, take-add}
 use Rattle.lemmas.specs.logic.Tests.{both-left, both-right, both as both-true}
-use Rattle.cbor.specs.Answer.{Wrote}
-use Rattle.cbor.specs.Decode.{digits, bigEndian}
+use Rattle.byte_io.specs.Write.{Wrote}
+use Rattle.byte_io.specs.BigEndian.{digits, bigEndian}
 use Rattle.image.specs.Fields.{and-good}
 use Rattle.image.specs.CodecLaws.{byte-lawful, number-lawful, octets-lawful, both-lawful, times-lawful, viewed-lawful}
 use Rattle.image.specs.Part.{Part, RoundTrips, byte, number, octets, both, puts, gets, goods}

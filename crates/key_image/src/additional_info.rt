@@ -7,7 +7,7 @@ use link_key::additional_info_bytes;
 ghost use mathlib.Core.Path.{_≡_};
 ghost use Prim.Native.Nat.{_+_, _≤_};
 ghost use lib.ListN.{length, drop};
-ghost use Rattle.cbor.specs.Answer.{Wrote};
+ghost use Rattle.byte_io.specs.Write.{Wrote};
 ghost use Rattle.key_image.specs.AdditionalInfo.{additionalInfoPart};
 
 // The information from a place on.

@@ -10,8 +10,8 @@ ghost use mathlib.Core.List.{[], _∷_};
 ghost use mathlib.Core.Path.{_≡_};
 ghost use Prim.Native.Nat.{_+_, _≤_};
 ghost use lib.ListN.{length, take, drop};
-ghost use Rattle.cbor.specs.Answer.{Wrote};
-ghost use Rattle.cbor.specs.Decode.{bigEndian};
+ghost use Rattle.byte_io.specs.Write.{Wrote};
+ghost use Rattle.byte_io.specs.BigEndian.{bigEndian};
 ghost use Rattle.image.specs.Part.{number, puts};
 ghost use Rattle.key_image.specs.Key.{countedSetPart};
 

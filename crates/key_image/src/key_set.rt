@@ -10,7 +10,7 @@ ghost use mathlib.Core.List.{[], _∷_};
 ghost use mathlib.Core.Path.{_≡_};
 ghost use Prim.Native.Nat.{_+_, _≤_, _<_};
 ghost use lib.ListN.{length, take, drop, getD};
-ghost use Rattle.cbor.specs.Answer.{Wrote};
+ghost use Rattle.byte_io.specs.Write.{Wrote};
 ghost use Rattle.image.specs.Part.{puts, goods};
 ghost use Rattle.link_key.specs.Key.{noKey};
 ghost use Rattle.key_image.specs.Key.{keyPart, keySetPart};

@@ -10,7 +10,6 @@ use lib.Dec.{leb, eqb}
 use lib.ListN.{length}
 use Rattle.refusal.specs.declared.Refusal.the-variants.{Range}
 use Rattle.link_key.specs.usage.Usage.{usageOf, familyOf, familyCovers, listed, knownType, entryAt, entrySays}
-use Rattle.link_key.specs.Same.{sameBytes}
 use Rattle.link_key.specs.AdditionalInfo.{additionalInfoBytes}
 use Rattle.link_key.specs.Key.{keyWithAdditionalInfo, validKey, sameKey, sameSecret, covers, coverageOf, coverageSays, foundKey}
 use Rattle.link_key.specs.declared.Key.{Key}
@@ -20,17 +19,14 @@ use Rattle.link_key.specs.declared.usage.Entry.the-variants as entry
 use Rattle.link_key.specs.declared.usage.Usage.{Usage}
 use Rattle.link_key.specs.declared.usage.Family.{Family}
 use Rattle.link_key.specs.declared.usage.Family.the-variants.{K1K2Encrypted, K1K2, K1, K2, K2Encrypted}
+use Rattle.lemmas.specs.lists.Same.{same, same-refl, same-equal}
 use Rattle.lemmas.specs.logic.Tests.{both-left, both-right, first}
-use Rattle.link_key.proofs.Same.{same-self, same-equal}
 use Rattle.link_key.proofs.Infos.{info-equal}
-
-bytes-self : (s : List ℕ) → sameBytes s s ≡ true
-bytes-self s = same-self eqb (λ n. eq-eqb n n refl) s
 
 pub same-key-self : (k : Key) → sameKey k k ≡ true
 unfolding sameKey
 same-key-self k =
-    rw (eq-eqb (k .identifier) (k .identifier) refl, eq-eqb (k .usage) (k .usage) refl, bytes-self (k .value), bytes-self (additionalInfoBytes (k .info)))
+    rw (eq-eqb (k .identifier) (k .identifier) refl, eq-eqb (k .usage) (k .usage) refl, same-refl (k .value), same-refl (additionalInfoBytes (k .info)))
 
 alike :
     {i j t u : ℕ} {v w : List ℕ} {m n : AdditionalInfo} → i ≡ j → t ≡ u → v ≡ w → m ≡ n → keyWithAdditionalInfo i t v m ≡ keyWithAdditionalInfo j u w n
@@ -41,27 +37,27 @@ unfolding sameKey
 same-key-equal k l e =
     let names = eqb (k .identifier) (l .identifier) in
     let usages = eqb (k .usage) (l .usage) in
-    let values = sameBytes (k .value) (l .value) in
-    let infos = sameBytes (additionalInfoBytes (k .info)) (additionalInfoBytes (l .info)) in
+    let values = same (k .value) (l .value) in
+    let infos = same (additionalInfoBytes (k .info)) (additionalInfoBytes (l .info)) in
     let three : (names && usages && values) ≡ true = both-left (names && usages && values) infos e in
     let front : (names && usages) ≡ true = both-left (names && usages) values three in
     let i : k .identifier ≡ l .identifier = eqb-true _ _ (both-left names usages front) in
     let u : k .usage ≡ l .usage = eqb-true _ _ (both-right names usages front) in
-    let v : k .value ≡ l .value = same-equal eqb eqb-true (k .value) (l .value) (both-right (names && usages) values three) in
-    let bytes = same-equal eqb eqb-true (additionalInfoBytes (k .info)) (additionalInfoBytes (l .info)) (both-right (names && usages && values) infos e) in
+    let v : k .value ≡ l .value = same-equal (k .value) (l .value) (both-right (names && usages) values three) in
+    let bytes = same-equal (additionalInfoBytes (k .info)) (additionalInfoBytes (l .info)) (both-right (names && usages && values) infos e) in
     alike i u v (info-equal (k .info) (l .info) bytes)
 
 pub same-secret-says : (k l : Key) → sameSecret k l ≡ true → (k .identifier ≡ l .identifier) × (k .value ≡ l .value)
 unfolding sameSecret
 same-secret-says k l e =
     let names = eqb (k .identifier) (l .identifier) in
-    let values = sameBytes (k .value) (l .value) in
-    (eqb-true _ _ (both-left names values e), same-equal eqb eqb-true (k .value) (l .value) (both-right names values e))
+    let values = same (k .value) (l .value) in
+    (eqb-true _ _ (both-left names values e), same-equal (k .value) (l .value) (both-right names values e))
 
 pub same-secret-made : (k l : Key) → k .identifier ≡ l .identifier → k .value ≡ l .value → sameSecret k l ≡ true
 unfolding sameSecret
 same-secret-made k l p q =
-    rw (eq-eqb (k .identifier) (l .identifier) p, q, bytes-self (l .value))
+    rw (eq-eqb (k .identifier) (l .identifier) p, q, same-refl (l .value))
 
 pub valid-identifier : (k : Key) → validKey k ≡ true → 1 ≤ k .identifier
 unfolding validKey

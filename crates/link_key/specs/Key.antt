@@ -7,7 +7,7 @@ use lib.Dec.{leb, eqb}
 use lib.ListN.{length, replicate}
 use Rattle.refusal.specs.Refusal.{numberOf}
 use Rattle.refusal.specs.declared.Refusal.the-variants.{Range}
-use Rattle.link_key.specs.Same.{sameBytes}
+use Rattle.lemmas.specs.lists.Same.{same}
 use Rattle.link_key.specs.AdditionalInfo.{additionalInfoBytes, noAdditionalInfo}
 use Rattle.link_key.specs.usage.Usage.{familyOf, familyCovers, listed, knownType}
 use Rattle.link_key.specs.declared.Key.{Key}
@@ -47,12 +47,12 @@ unfoldable pub sameKey : Key → Key → Bool
 sameKey k l =
     (eqb (k .identifier) (l .identifier)
     && eqb (k .usage) (l .usage)
-    && sameBytes (k .value) (l .value)
-    && sameBytes (additionalInfoBytes (k .info)) (additionalInfoBytes (l .info)))
+    && same (k .value) (l .value)
+    && same (additionalInfoBytes (k .info)) (additionalInfoBytes (l .info)))
 
 -- the same identifier and value, whatever the usage and the additional information
 unfoldable pub sameSecret : Key → Key → Bool
-sameSecret k l = (eqb (k .identifier) (l .identifier) && sameBytes (k .value) (l .value))
+sameSecret k l = (eqb (k .identifier) (l .identifier) && same (k .value) (l .value))
 
 -- the key covers the frame type; one whose usage is not listed covers none
 unfoldable pub covers : Key → ℕ → Bool

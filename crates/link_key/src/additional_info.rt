@@ -1,7 +1,7 @@
 // Additional information of a key (RFC 9031): the key source that a frame names beside the key index.
-use crate::compare::same_bytes;
+use byte_io::same_bytes;
 ghost use mathlib.Core.Path.{_≡_};
-ghost use Rattle.link_key.specs.Same.{sameBytes};
+ghost use Rattle.lemmas.specs.lists.Same.{same};
 ghost use Rattle.link_key.specs.AdditionalInfo.{additionalInfoBytes, paddedBytes};
 
 // None, 4 bytes (key identification mode 2) or 8 bytes (mode 3). There is no other value, so nothing to refuse.
@@ -39,7 +39,7 @@ pub fn additional_info_bytes(info: AdditionalInfo) -> PaddedBytes
 
 // Whether two keys' additional information agrees: both have none, or both have the same bytes.
 pub(crate) fn same_additional_info(a: AdditionalInfo, b: AdditionalInfo) -> bool
-    ensures { λ r. ⌜ r ≡ sameBytes (additionalInfoBytes a) (additionalInfoBytes b) ⌝ }
+    ensures { λ r. ⌜ r ≡ same (additionalInfoBytes a) (additionalInfoBytes b) ⌝ }
 {
     let x = additional_info_bytes(a);
     let y = additional_info_bytes(b);

@@ -1,6 +1,5 @@
 // A link-layer key: its limits, when two are equal, and which frames it covers.
 pub mod additional_info;
-pub mod compare;
 pub mod set;
 pub mod usage;
 
@@ -11,7 +10,7 @@ pub use additional_info::AdditionalInfo;
 pub use additional_info::PaddedBytes;
 pub use additional_info::additional_info_bytes;
 pub(crate) use additional_info::same_additional_info;
-pub use compare::same_bytes;
+use byte_io::same_bytes;
 use refusal::Refusal;
 ghost use mathlib.Core.Path.{_≡_};
 ghost use Rattle.link_key.specs.Key.{keyWithAdditionalInfo, keyOf, noKey, validKey, hasNoAdditionalInfo, sameKey, sameSecret, covers, coverageOf};

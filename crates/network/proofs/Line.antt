@@ -10,14 +10,16 @@ use mathlib.Core.Logic.{inl, inr, ⊎-elim}
 use lib.Dec.{lit<, ltb, eqb}
 use lib.ListN.{length}
 use Rattle.refusal.specs.declared.Refusal.the-variants as refusal
+use Rattle.lemmas.specs.lists.Same.{same}
 use Rattle.link_key.specs.Key.{validKey, hasNoAdditionalInfo, sameKey, sameSecret, covers}
 use Rattle.lemmas.specs.logic.Tests.{never, both-left, both-right, neither-left, neither-right}
 use Rattle.link_key.specs.set.Lists.{anyOf, allOf}
 use Rattle.link_key.specs.set.KeySet.{validKeys, validSet, Apart}
 use Rattle.link_key_counters.specs.Counters.{Slot, lastCounter, isUsedUp, takeCounter, inheritCounters}
 use Rattle.link_key.specs.declared.Key.{Key}
-use Rattle.cbor.specs.Decode.{payloadBy, decodeBy, heading, argument, next, digits, members, pairs, majorOf}
-use Rattle.cbor.specs.Encode.{bytesOf, infoOf, extraOf, shortest}
+use Rattle.byte_io.specs.BigEndian.{digits, bytesOf}
+use Rattle.cbor.specs.Decode.{payloadBy, decodeBy, heading, argument, next, members, pairs, majorOf}
+use Rattle.cbor.specs.Encode.{infoOf, extraOf, shortest}
 use Rattle.cojp.specs.Octets.{padded, octetsJudged}
 use Rattle.cojp.specs.Address.{addressIn}
 use Rattle.cojp.specs.KeySet.{groups, identified, used, valued}
@@ -60,7 +62,7 @@ use Rattle.network.proofs.Places.{size-step}
 -- what computing unfolds: items, keys, objects, the node's calls, and the network's events
 unfoldable pub computing : Unit {0}
 unfolding payloadBy decodeBy heading argument next digits members pairs majorOf bytesOf infoOf extraOf shortest
-    validKey hasNoAdditionalInfo sameKey covers validKeys validSet
+    validKey hasNoAdditionalInfo sameKey same covers validKeys validSet
     padded octetsJudged addressIn groups identified used valued owing payloadReadBy
     laterParameter parameterOf configurationTaking validErrorReports errorReportsValid added errorReportsOf listedIn requestInRange requestPlan
     takeCounter sameSecret inheritCounters sets.valid sets.validAs install frames.sending receivingKey verifiedIn attempt.valid mayStart stepped polling.poll

@@ -5,7 +5,7 @@ use mathlib.Core.Bool.{true}
 use mathlib.Core.List.{[], _++_, append-nil}
 use lib.ListN.{take}
 use lib.Seq.{take-append-seam}
-use Rattle.cbor.specs.Encode.{bytesOf}
+use Rattle.byte_io.specs.BigEndian.{bytesOf}
 use Rattle.image.specs.Part.{RoundTrips}
 use Rattle.key_image.specs.Key.{keyPart}
 use Rattle.key_image.specs.Laws.{KeyImages}

@@ -4,8 +4,7 @@ use mathlib.Core.Path.{_≡_, refl, ap, sym, _∙_, subst}
 use mathlib.Core.List.{List, [], _∷_, _++_}
 use native.Mathlib.Omega.{arith}
 use lib.ListN.{length}
-use Rattle.cbor.specs.Decode.{digits}
-use Rattle.cbor.specs.Encode.{bytesOf}
+use Rattle.byte_io.specs.BigEndian.{digits, bytesOf}
 use Rattle.cojp.specs.Octets.{padded}
 use Rattle.image.specs.Part.{AllBytes}
 use Rattle.node.specs.Node.{activeOf, pendingOf}

@@ -5,8 +5,8 @@ use mathlib.Core.List.{List}
 use Rattle.refusal.specs.declared.Refusal.{Refusal}
 use Rattle.refusal.specs.declared.Verdict.{Verdict}
 use Rattle.refusal.specs.declared.Verdict.the-variants as verdict
-use Rattle.cbor.specs.Answer.{Did}
-use Rattle.cbor.specs.declared.write.WriteResult.{WriteResult}
+use Rattle.byte_io.specs.Write.{Did}
+use Rattle.byte_io.specs.declared.WriteResult.{WriteResult}
 use Rattle.cojp.specs.Writing.{requestPlan}
 use Rattle.cojp.specs.declared.request.JoinRequest.{JoinRequest}
 use Rattle.node.specs.Timing.{requestOf, startVerdict, startPlan, startedFrom, startedBy, unstarted, start, startAfter, StartDid}

@@ -7,9 +7,9 @@ use Rattle.refusal.specs.declared.Refusal.{Refusal}
 use Rattle.refusal.specs.declared.Refusal.the-variants as refusal
 use Rattle.refusal.specs.declared.Verdict.{Verdict}
 use Rattle.refusal.specs.declared.Verdict.the-variants as verdict
-use Rattle.cbor.specs.Answer.{Plan, refuse, answer, after}
-use Rattle.cbor.specs.declared.write.WriteResult.{WriteResult}
-use Rattle.cbor.specs.declared.write.WriteResult.the-variants as written
+use Rattle.byte_io.specs.Write.{Plan, refuse, answer, after}
+use Rattle.byte_io.specs.declared.WriteResult.{WriteResult}
+use Rattle.byte_io.specs.declared.WriteResult.the-variants as written
 use Rattle.cojp.specs.ErrorReports.{noErrorReports}
 use Rattle.cojp.specs.Writing.{requestPlan}
 use Rattle.cojp.specs.declared.request.JoinRequest.{JoinRequest}

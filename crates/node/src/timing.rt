@@ -1,6 +1,6 @@
 // The join attempt: a start writes the join request, polls say when to send it again and when to give up.
 use crate::node::Node;
-use cbor::WriteResult;
+use byte_io::WriteResult;
 use cojp::JoinRequest;
 use cojp::no_error_reports;
 use cojp_list::unsupported_of;

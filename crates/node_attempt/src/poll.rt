@@ -3,9 +3,10 @@ use crate::attempt::Attempt;
 use crate::attempt::Phase;
 use crate::attempt::is_waiting;
 use refusal::Refusal;
+use refusal::Verdict;
 ghost use mathlib.Core.Path.{_≡_};
 ghost use Prim.Native.Nat.{_≤_};
-ghost use Rattle.node_attempt.specs.Poll.{stepped, poll};
+ghost use Rattle.node_attempt.specs.Poll.{stepped, poll, dueVerdict};
 
 // What a poll tells the caller to do.
 pub enum Due {
@@ -13,6 +14,20 @@ pub enum Due {
     NotYet,
     SendAgain,
     GaveUp,
+}
+
+impl Due {
+    // The poll's refusal; anything that is due is accepted.
+    pub fn verdict(self) -> Verdict
+        ensures { λ r. ⌜ r ≡ dueVerdict self ⌝ }
+    {
+        match self {
+            Due::Refused(why) => Verdict::Refused(why),
+            Due::NotYet => Verdict::Accepted,
+            Due::SendAgain => Verdict::Accepted,
+            Due::GaveUp => Verdict::Accepted,
+        }
+    }
 }
 
 // What was due, and the attempt afterwards; beside a refusal the attempt as it was.

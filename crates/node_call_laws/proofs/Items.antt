@@ -10,7 +10,8 @@ use lib.Dec.{leb, ltb, eqb}
 use lib.ListN.{length, take, drop}
 use Rattle.image.specs.Numbers.{below}
 use Rattle.image.specs.Part.{AllBytes}
-use Rattle.cbor.specs.Decode.{Outcome, refused, got, andThen, next, bigEndian, argument, Heading, heading, Major, unsigneds, negatives, byteStrings, textStrings, arrays, maps, tags, others, majorOf, members, pairs, content, decodeBy, ended, payloadBy}
+use Rattle.byte_io.specs.BigEndian.{bigEndian}
+use Rattle.cbor.specs.Decode.{Outcome, refused, got, andThen, next, argument, Heading, heading, Major, unsigneds, negatives, byteStrings, textStrings, arrays, maps, tags, others, majorOf, members, pairs, content, decodeBy, ended, payloadBy}
 use Rattle.cbor.specs.Strict.{short, strictHeading, headBy}
 use Rattle.cbor.specs.Item.{Item, Items, Pairs, unsigned, negative, bytes, text, array, map, tag, simple, float, empty, pair}
 use Rattle.cbor.specs.View.{Scalar, number, minus, string, other, View, scalar, list, scalarOf, scalarsOf, viewOf}

@@ -21,7 +21,8 @@ use Rattle.link_key.specs.declared.additional_info.AdditionalInfo.{AdditionalIn
 use Rattle.link_key.specs.declared.additional_info.AdditionalInfo.the-variants as info
 use Rattle.link_key.specs.set.KeyLaws.{KeyLaws}
 use Rattle.link_key.specs.set.KeySet.{allValid, noneTwice, validKeys}
-use Rattle.cbor.specs.Encode.{bytesOf, infoOf, extraOf, shortest, encode}
+use Rattle.byte_io.specs.BigEndian.{bytesOf}
+use Rattle.cbor.specs.Encode.{infoOf, extraOf, shortest, encode}
 use Rattle.cbor.specs.View.{Scalar, number, minus, string, other, View, scalar, list}
 use Rattle.cojp.specs.Address.{addressBy, addressIn, addressJudged, addressParameter, noAddressParameter, addressRead}
 use Rattle.cojp.specs.KeySet.{keySetOf, Groups, notGroups, groupsOf, group, further, groups, identified, used, valued, keysIn, keysJudgedAs, keysParameter, keysReadAs}

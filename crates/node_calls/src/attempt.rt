@@ -4,9 +4,7 @@ use image::RANGE;
 use node_attempt::Due;
 use node_image::is_node;
 use node_image::node_in;
-use refusal::Verdict;
 ghost use mathlib.Core.Path.{_≡_};
-ghost use Rattle.node_attempt.specs.Poll.{dueVerdict};
 ghost use Rattle.node_laws.specs.Calls.{polling};
 ghost use Rattle.node_calls.specs.Calls.{Does, Starts};
 ghost use Rattle.node_calls.specs.Results.{dueCode};
@@ -26,17 +24,6 @@ pub fn node_start(node: &mut [u8], time: u64, timeout: u64, dst: &mut [u8], leng
     let after = started.node;
     *length = started.length as u64;
     store_attempt(verdict, after, node)
-}
-
-fn due_verdict(due: Due) -> Verdict
-    ensures { λ r. ⌜ r ≡ dueVerdict due ⌝ }
-{
-    match due {
-        Due::Refused(why) => Verdict::Refused(why),
-        Due::NotYet => Verdict::Accepted,
-        Due::SendAgain => Verdict::Accepted,
-        Due::GaveUp => Verdict::Accepted,
-    }
 }
 
 fn due_code(due: Due) -> u32
@@ -64,5 +51,5 @@ pub fn node_poll(node: &mut [u8], time: u64, due: &mut u32) -> u32
     let step = polled.due;
     let after = polled.node;
     *due = due_code(step);
-    store_attempt(due_verdict(step), after, node)
+    store_attempt(step.verdict(), after, node)
 }

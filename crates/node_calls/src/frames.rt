@@ -7,9 +7,7 @@ use image::clear;
 use node_image::is_node;
 use node_image::node_in;
 use node_key_sets::Change;
-use refusal::Verdict;
 ghost use mathlib.Core.Path.{_≡_};
-ghost use Rattle.node_key_sets.specs.Frames.{changeVerdict};
 ghost use Rattle.node_laws.specs.Calls.{sending, receiving, reporting};
 ghost use Rattle.node_calls.specs.Calls.{Does, Gives, Changes};
 ghost use Rattle.node_calls.specs.Results.{changeCode};
@@ -50,16 +48,6 @@ pub fn node_receive(node: &[u8], frame_type: u8, identifier: u8, key: &mut [u8])
     store_key(verdict, answer.key, 0, key)
 }
 
-fn change_verdict(change: Change) -> Verdict
-    ensures { λ r. ⌜ r ≡ changeVerdict change ⌝ }
-{
-    match change {
-        Change::Refused(why) => Verdict::Refused(why),
-        Change::Switched => Verdict::Accepted,
-        Change::Kept => Verdict::Accepted,
-    }
-}
-
 fn change_code(change: Change) -> u32
     ensures { λ r. ⌜ r ≡ changeCode change ⌝ }
 {
@@ -83,5 +71,5 @@ pub fn node_verified(node: &mut [u8], frame_type: u8, identifier: u8, change: &m
     let what = reported.change;
     let after = reported.node;
     *change = change_code(what);
-    store_node(change_verdict(what), after, node)
+    store_node(what.verdict(), after, node)
 }

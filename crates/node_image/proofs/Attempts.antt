@@ -8,9 +8,8 @@ use borrow.Author.Tests.{leb-true}
 use lib.Dec.{leb}
 use lib.ListN.{take, drop, getD}
 use lib.Seq.{drop-drop, getD-drop}
-use Rattle.cbor.specs.Answer.{Wrote}
-use Rattle.cbor.specs.Decode.{bigEndian}
-use Rattle.cbor.specs.Encode.{bytesOf}
+use Rattle.byte_io.specs.Write.{Wrote}
+use Rattle.byte_io.specs.BigEndian.{bigEndian, bytesOf}
 use Rattle.image.specs.Fields.{and-good, four-fields}
 use Rattle.image.specs.CodecLaws.{byte-lawful, number-lawful, both-lawful, viewed-lawful, code-lawful}
 use Rattle.image.specs.Part.{RoundTrips}

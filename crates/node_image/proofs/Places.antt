@@ -6,7 +6,7 @@ use mathlib.Core.Path.{_≡_, refl, ap, ap₂, sym, _∙_, subst}
 use native.Mathlib.Omega.{arith}
 use lib.ListN.{drop, getD}
 use lib.Seq.{drop-drop, getD-drop}
-use Rattle.cbor.specs.Answer.{Wrote}
+use Rattle.byte_io.specs.Write.{Wrote}
 use Rattle.image.specs.Fields.{and-good}
 use Rattle.image.specs.Part.{Part, both}
 

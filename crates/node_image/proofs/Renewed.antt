@@ -8,10 +8,10 @@ use native.Mathlib.Omega.{arith}
 use lib.Dec.{eqb}
 use lib.ListN.{length, take, drop, length-append, length-drop, drop-of-length-le}
 use lib.Seq.{take-all, take-at, drop-at}
-use Rattle.cbor.specs.Answer.{Wrote, answer}
-use Rattle.cbor.specs.Encode.{bytesOf}
-use Rattle.cbor.specs.declared.write.WriteResult.{WriteResult}
-use Rattle.cbor.specs.declared.write.WriteResult.the-variants as written
+use Rattle.byte_io.specs.Write.{Wrote, answer}
+use Rattle.byte_io.specs.BigEndian.{bytesOf}
+use Rattle.byte_io.specs.declared.WriteResult.{WriteResult}
+use Rattle.byte_io.specs.declared.WriteResult.the-variants as written
 use Rattle.image.specs.CodecLaws.{number-lawful, times-lawful}
 use Rattle.image.specs.Lent.{long}
 use Rattle.image.specs.Numbers.{many-bytes}

@@ -10,8 +10,8 @@ ghost use mathlib.Core.List.{_++_};
 ghost use mathlib.Core.Path.{_≡_};
 ghost use Prim.Native.Nat.{_≤_};
 ghost use lib.ListN.{length};
-ghost use Rattle.cbor.specs.Answer.{Wrote};
-ghost use Rattle.cbor.specs.Encode.{bytesOf};
+ghost use Rattle.byte_io.specs.Write.{Wrote};
+ghost use Rattle.byte_io.specs.BigEndian.{bytesOf};
 ghost use Rattle.object_image.specs.Codes.{dispositionPart};
 ghost use Rattle.node_image.specs.Answers.{dispositionsImage, frameKeyImage};
 

@@ -7,7 +7,7 @@ use node_attempt::Phase;
 ghost use mathlib.Core.Path.{_≡_};
 ghost use Prim.Native.Nat.{_+_, _≤_};
 ghost use lib.ListN.{length, drop};
-ghost use Rattle.cbor.specs.Answer.{Wrote};
+ghost use Rattle.byte_io.specs.Write.{Wrote};
 ghost use Rattle.node_image.specs.Attempt.{phaseNumber, phaseOf, attemptPart};
 
 const MOST_PHASE: u8 = 3;

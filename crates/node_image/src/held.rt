@@ -18,7 +18,7 @@ use object_image::short_address_at;
 ghost use mathlib.Core.Path.{_≡_};
 ghost use Prim.Native.Nat.{_+_, _≤_};
 ghost use lib.ListN.{length, drop};
-ghost use Rattle.cbor.specs.Answer.{Wrote};
+ghost use Rattle.byte_io.specs.Write.{Wrote};
 ghost use Rattle.node_image.specs.Held.{heldOctetsPart, heldAddressPart, heldListPart, heldRatePart};
 
 // The byte string at a place.

@@ -32,7 +32,7 @@ use protocol_version::Version;
 ghost use mathlib.Core.Path.{_≡_};
 ghost use Prim.Native.Nat.{_≤_};
 ghost use lib.ListN.{length, drop};
-ghost use Rattle.cbor.specs.Answer.{Wrote};
+ghost use Rattle.byte_io.specs.Write.{Wrote};
 ghost use Rattle.image.specs.Part.{both, isImage};
 ghost use Rattle.node_image.specs.Attempt.{attemptPart};
 ghost use Rattle.node_image.specs.Node.{setsPart, formFields, heldFields, heldOf, nodeImage};

@@ -4,7 +4,7 @@ use protocol_version::Version;
 ghost use mathlib.Core.Path.{_≡_};
 ghost use Prim.Native.Nat.{_+_, _≤_};
 ghost use lib.ListN.{length, drop};
-ghost use Rattle.cbor.specs.Answer.{Wrote};
+ghost use Rattle.byte_io.specs.Write.{Wrote};
 ghost use Rattle.node_image.specs.Version.{versionNumber, versionOf, versionPart};
 
 fn version_number(version: Version) -> u8

@@ -13,7 +13,7 @@ ghost use Rattle.refusal.specs.declared.Refusal.the-variants as refusal;
 ghost use Rattle.link_key.specs.Key.{foundKey, covers};
 ghost use Rattle.link_key.specs.usage.Usage.{knownType};
 ghost use Rattle.node_key_sets.specs.Frames.{withKey, withoutKey, unsent, sending, heldKey, receivingKey};
-ghost use Rattle.node_key_sets.specs.Frames.{switched, effect, verifiedIn, hasSwitched};
+ghost use Rattle.node_key_sets.specs.Frames.{switched, effect, verifiedIn, changeVerdict, hasSwitched};
 
 // Beside a refusal stands the key that is all zero.
 pub struct KeyAnswer {
@@ -33,6 +33,30 @@ pub enum Change {
     Refused(Refusal),
     Switched,
     Kept,
+}
+
+impl Change {
+    // The report's refusal; both changes are accepted.
+    pub fn verdict(self) -> Verdict
+        ensures { λ r. ⌜ r ≡ changeVerdict self ⌝ }
+    {
+        match self {
+            Change::Refused(why) => Verdict::Refused(why),
+            Change::Switched => Verdict::Accepted,
+            Change::Kept => Verdict::Accepted,
+        }
+    }
+
+    // Whether the pending set became active.
+    pub fn has_switched(self) -> bool
+        ensures { λ r. ⌜ r ≡ hasSwitched self ⌝ }
+    {
+        match self {
+            Change::Refused(_) => false,
+            Change::Switched => true,
+            Change::Kept => false,
+        }
+    }
 }
 
 pub fn without_key(why: Refusal) -> KeyAnswer

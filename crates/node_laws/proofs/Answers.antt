@@ -19,9 +19,9 @@ use Rattle.link_key.specs.usage.Usage.{knownType}
 use Rattle.link_key.specs.Key.{covers}
 use Rattle.link_key.specs.declared.Key.{Key}
 use Rattle.link_key.specs.set.KeySet.{has}
-use Rattle.cbor.specs.Answer.{Plan, answer}
-use Rattle.cbor.specs.declared.write.WriteResult.{WriteResult}
-use Rattle.cbor.specs.declared.write.WriteResult.the-variants as written
+use Rattle.byte_io.specs.Write.{Plan, answer}
+use Rattle.byte_io.specs.declared.WriteResult.{WriteResult}
+use Rattle.byte_io.specs.declared.WriteResult.the-variants as written
 use Rattle.cojp.specs.InRange.{ReadsInRange}
 use Rattle.protocol_version.specs.Version.{byVersion}
 use Rattle.cojp.specs.Writing.{keysInRange, requestPlan}

@@ -11,10 +11,10 @@ use Rattle.refusal.specs.Order.{refusedIf, inOrder}
 use Rattle.lemmas.specs.logic.Tests.{both-left, both, first, third, fourth}
 use Rattle.link_key.specs.set.Lists.{allOf}
 use Rattle.refusal.specs.declared.Refusal.the-variants.{Owed, Room}
-use Rattle.cbor.specs.Answer.{refuse, emit, answer}
+use Rattle.byte_io.specs.Write.{refuse, emit, answer}
 use Rattle.cbor.specs.Encode.{encode, encodePairs, shortest}
 use Rattle.cbor.specs.HeadLaws.{HeadLaws}
-use Rattle.cbor.specs.declared.write.WriteResult.the-variants as written
+use Rattle.byte_io.specs.declared.WriteResult.the-variants as written
 use Rattle.cbor.specs.Item.{Item, Pairs, unsigned, bytes, array, map, empty, pair, countPairs}
 use Rattle.cojp.specs.ErrorReports.{errorReportList, errorReportsValid, validErrorReport, validErrorReports}
 use Rattle.cojp.specs.Lists.{errorReportsIn, some, bytesIn, itemsIn, kept, noListParameter}

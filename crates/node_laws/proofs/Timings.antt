@@ -8,9 +8,9 @@ use Rattle.refusal.specs.Verdict.{refused-not}
 use Rattle.refusal.specs.declared.Refusal.the-variants as refusal
 use Rattle.refusal.specs.declared.Verdict.{Verdict}
 use Rattle.refusal.specs.declared.Verdict.the-variants as verdict
-use Rattle.cbor.specs.Answer.{Plan, answer}
-use Rattle.cbor.specs.declared.write.WriteResult.{WriteResult}
-use Rattle.cbor.specs.declared.write.WriteResult.the-variants as written
+use Rattle.byte_io.specs.Write.{Plan, answer}
+use Rattle.byte_io.specs.declared.WriteResult.{WriteResult}
+use Rattle.byte_io.specs.declared.WriteResult.the-variants as written
 use Rattle.cojp.specs.Writing.{requestPlan}
 use Rattle.node_attempt.specs.Attempt.{mayStart, waitingFrom}
 use Rattle.node_attempt.specs.Poll as attempt

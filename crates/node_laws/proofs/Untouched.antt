@@ -9,8 +9,8 @@ use Rattle.refusal.specs.Verdict.{accepted-not}
 use Rattle.refusal.specs.declared.Refusal.{Refusal}
 use Rattle.refusal.specs.declared.Refusal.the-variants as refusal
 use Rattle.refusal.specs.declared.Verdict.the-variants as verdict
-use Rattle.cbor.specs.Answer.{Plan, refuse, emit, answer, after}
-use Rattle.cbor.specs.declared.write.WriteResult.the-variants as w
+use Rattle.byte_io.specs.Write.{Plan, refuse, emit, answer, after}
+use Rattle.byte_io.specs.declared.WriteResult.the-variants as w
 use Rattle.link_key.specs.Key.{noKey}
 use Rattle.protocol_version.specs.declared.Version.{Version}
 use Rattle.node_key_sets.specs.Frames as sets-spec

@@ -16,11 +16,11 @@ use Rattle.link_key.specs.Key.{covers}
 use Rattle.link_key.specs.declared.Key.{Key}
 use Rattle.link_key.specs.set.KeySet.{keysOf, sameKeys, shares, has}
 use Rattle.link_key_counters.specs.Counters.{Slot, firstServing}
-use Rattle.cbor.specs.Answer.{answer}
+use Rattle.byte_io.specs.Write.{answer}
 use Rattle.cbor.specs.Encode.{encode}
 use Rattle.cbor.specs.Item.{map}
-use Rattle.cbor.specs.declared.write.WriteResult.{WriteResult}
-use Rattle.cbor.specs.declared.write.WriteResult.the-variants as written
+use Rattle.byte_io.specs.declared.WriteResult.{WriteResult}
+use Rattle.byte_io.specs.declared.WriteResult.the-variants as written
 use Rattle.cojp.specs.Reading.{ifTaken}
 use Rattle.protocol_version.specs.Version.{byVersion}
 use Rattle.cojp.specs.Request.{owing}

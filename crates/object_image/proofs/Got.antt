@@ -8,7 +8,7 @@ use borrow.Author.Tests.{ne-eqb}
 use lib.Dec.{eqb}
 use lib.ListN.{take, drop, getD}
 use lib.Seq.{drop-drop, getD-drop}
-use Rattle.cbor.specs.Decode.{bigEndian}
+use Rattle.byte_io.specs.BigEndian.{bigEndian}
 use Rattle.image.specs.Fields.{and-good}
 use Rattle.image.specs.Part.{Part}
 use Rattle.cojp.specs.declared.error_report.ErrorReport.{ErrorReport}

@@ -7,9 +7,8 @@ use borrow.Author.Tests.{eqb-true}
 use lib.Dec.{eqb}
 use lib.ListN.{length, take, drop, getD}
 use lib.Seq.{drop-drop}
-use Rattle.cbor.specs.Answer.{Wrote}
-use Rattle.cbor.specs.Decode.{bigEndian}
-use Rattle.cbor.specs.Encode.{bytesOf}
+use Rattle.byte_io.specs.Write.{Wrote}
+use Rattle.byte_io.specs.BigEndian.{bigEndian, bytesOf}
 use Rattle.lemmas.specs.logic.Tests.{both-left, both-right}
 use Rattle.image.specs.Fields.{and-good, two-fields, four-fields, whole-struct}
 use Rattle.image.specs.Part.{Part, headed, isHeaded, isImage}

@@ -5,8 +5,8 @@ use mathlib.Core.List.{List, [], _∷_, _++_}
 use native.Mathlib.Omega.{arith}
 use lib.ListN.{length, getD, drop-of-length-le}
 use lib.Seq.{drop-cons}
-use Rattle.cbor.specs.Answer.{Wrote}
-use Rattle.cbor.specs.Encode.{bytesOf}
+use Rattle.byte_io.specs.Write.{Wrote}
+use Rattle.byte_io.specs.BigEndian.{bytesOf}
 use Rattle.image.specs.Fields.{two-fields}
 use Rattle.image.specs.Part.{puts}
 use Rattle.cojp.specs.ErrorReports.{errorReportOf}

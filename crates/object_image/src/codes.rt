@@ -4,7 +4,7 @@ use image::put_byte;
 ghost use mathlib.Core.Path.{_≡_};
 ghost use Prim.Native.Nat.{_+_, _≤_};
 ghost use lib.ListN.{length, drop};
-ghost use Rattle.cbor.specs.Answer.{Wrote};
+ghost use Rattle.byte_io.specs.Write.{Wrote};
 ghost use Rattle.object_image.specs.Codes.{dispositionNumber, dispositionOf, dispositionPart, boolNumber, boolPart};
 
 fn disposition_of(n: u8) -> Disposition

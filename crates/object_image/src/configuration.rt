@@ -28,7 +28,7 @@ use key_image::put_key_set;
 ghost use mathlib.Core.Path.{_≡_};
 ghost use Prim.Native.Nat.{_+_, _≤_};
 ghost use lib.ListN.{length, drop};
-ghost use Rattle.cbor.specs.Answer.{Wrote};
+ghost use Rattle.byte_io.specs.Write.{Wrote};
 ghost use Rattle.image.specs.Part.{isImage};
 ghost use Rattle.object_image.specs.Configuration.{keysParameterPart, earlierFields, earlierFrom, laterFields, laterFrom, configurationImage};
 

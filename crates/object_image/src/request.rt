@@ -16,7 +16,7 @@ use image::put_number;
 ghost use mathlib.Core.Path.{_≡_};
 ghost use Prim.Native.Nat.{_≤_};
 ghost use lib.ListN.{length};
-ghost use Rattle.cbor.specs.Answer.{Wrote};
+ghost use Rattle.byte_io.specs.Write.{Wrote};
 ghost use Rattle.image.specs.Part.{isImage};
 ghost use Rattle.object_image.specs.Request.{laterFields, laterFrom, requestImage};
 

@@ -8,10 +8,9 @@ use Rattle.refusal.specs.Refusal.{numberOf}
 use Rattle.refusal.specs.Verdict.{verdictNumber}
 use Rattle.refusal.specs.declared.Refusal.{Refusal}
 use Rattle.refusal.specs.declared.Verdict.{Verdict}
-use Rattle.cbor.specs.Answer.{Plan, Did}
-use Rattle.cbor.specs.Written.{writtenSays}
-use Rattle.cbor.specs.declared.write.WriteResult.{WriteResult}
-use Rattle.cbor.specs.declared.write.WriteResult.the-variants as written
+use Rattle.byte_io.specs.Write.{Plan, Did, writtenSays}
+use Rattle.byte_io.specs.declared.WriteResult.{WriteResult}
+use Rattle.byte_io.specs.declared.WriteResult.the-variants as written
 use Rattle.image.specs.Effects.{onAccept, ResultSpec}
 use Rattle.image.specs.Lent.{hands-told}
 use Rattle.payload_calls.specs.Write.{Writes, rangeFirst}

@@ -6,9 +6,8 @@ use mathlib.Core.List.{List, _++_}
 use lib.Dec.{leb}
 use lib.ListN.{length, drop}
 use Rattle.refusal.specs.declared.Refusal.the-variants.{Room}
-use Rattle.cbor.specs.Answer.{Plan, refuse, emit}
-use Rattle.cbor.specs.Written.{writtenSays}
-use Rattle.cbor.specs.declared.write.WriteResult.the-variants as written
+use Rattle.byte_io.specs.Write.{Plan, refuse, emit, writtenSays}
+use Rattle.byte_io.specs.declared.WriteResult.the-variants as written
 use Rattle.image.specs.Lent.{hands-emptied}
 use Rattle.image.specs.Part.{isImage}
 use Rattle.object_image.specs.Configuration.{configurationImage}

@@ -2,7 +2,7 @@
 use Prim.Native.Nat.{ℕ}
 use mathlib.Core.List.{List}
 use mathlib.Core.Path.{_≡_}
-use Rattle.cbor.specs.Answer.{Plan}
+use Rattle.byte_io.specs.Write.{Plan}
 use Rattle.image.specs.Effects.{zeroed}
 use Rattle.payload_calls.specs.Merge.{Merges}
 use Rattle.payload_calls.specs.Read.{ReadsRequest, ReadsConfiguration}

@@ -4,8 +4,7 @@ use mathlib.Core.Bool.{Bool, cond, _&&_}
 use mathlib.Core.List.{List}
 use mathlib.Core.Path.{_≡_}
 use Rattle.refusal.specs.declared.Refusal.the-variants.{Range}
-use Rattle.cbor.specs.Answer.{Plan, refuse, answer, after}
-use Rattle.cbor.specs.Written.{writtenSays}
+use Rattle.byte_io.specs.Write.{Plan, refuse, answer, after, writtenSays}
 use Rattle.cojp.specs.Writing.{requestPlan, configurationPlan}
 use Rattle.image.specs.Part.{isImage}
 use Rattle.object_image.specs.Configuration.{configurationImage}

@@ -1,5 +1,5 @@
 // What a call answers, and what it stores, by its verdict.
-use cbor::WriteResult;
+use byte_io::WriteResult;
 use cojp::Configuration;
 use cojp::JoinRequest;
 use image::clear;
@@ -9,7 +9,7 @@ use refusal::Verdict;
 ghost use mathlib.Core.Path.{_≡_};
 ghost use lib.ListN.{length as size, replicate};
 ghost use Rattle.refusal.specs.Verdict.{verdictNumber};
-ghost use Rattle.cbor.specs.Written.{writtenSays};
+ghost use Rattle.byte_io.specs.Write.{writtenSays};
 ghost use Rattle.image.specs.Effects.{onAccept};
 ghost use Rattle.object_image.specs.Configuration.{configurationImage};
 ghost use Rattle.object_image.specs.Request.{requestImage};

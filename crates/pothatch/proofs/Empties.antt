@@ -1,6 +1,6 @@
 -- A part got from zeros has zeros in every field, and zero stands for absent and for none.
 use mathlib.Core.Path.{refl}
-use Rattle.cbor.specs.Decode.{digits}
+use Rattle.byte_io.specs.BigEndian.{digits}
 use Rattle.pothatch.specs.Laws.{EmptiedIsEmpty}
 
 pub emptied-is-empty : EmptiedIsEmpty

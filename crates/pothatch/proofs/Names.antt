@@ -7,7 +7,7 @@ use native.Mathlib.Omega.{arith}
 use borrow.Author.Tests.{eqb-true, eqb-false}
 use lib.Dec.{eqb}
 use lib.ListN.{length, replicate}
-use Rattle.cbor.specs.Answer.{Wrote}
+use Rattle.byte_io.specs.Write.{Wrote}
 use Rattle.image.specs.Fields.{whole-struct}
 use Rattle.image.specs.Effects.{zeroed}
 use Rattle.refusal.specs.Refusal.{numberOf, nameOf, Numbered}

@@ -4,12 +4,14 @@ use mathlib.Core.List.{List, [], _∷_}
 use mathlib.Core.Path.{_≡_, refl, ap, _∙_, subst}
 use native.Mathlib.Omega.{arith}
 use lib.ListN.{take, drop, replicate}
+use Rattle.lemmas.specs.lists.Same.{same}
 use Rattle.link_key.specs.Key.{validKey, hasNoAdditionalInfo, sameKey, sameSecret, covers}
 use Rattle.link_key.specs.set.KeySet.{validKeys, validSet}
 use Rattle.link_key_counters.specs.Counters.{takeCounter, inheritCounters}
 use Rattle.short_address.specs.Address.{isAddress}
-use Rattle.cbor.specs.Decode.{payloadBy, decodeBy, heading, argument, next, digits, members, pairs, majorOf}
-use Rattle.cbor.specs.Encode.{bytesOf, infoOf, extraOf, shortest}
+use Rattle.byte_io.specs.BigEndian.{digits, bytesOf}
+use Rattle.cbor.specs.Decode.{payloadBy, decodeBy, heading, argument, next, members, pairs, majorOf}
+use Rattle.cbor.specs.Encode.{infoOf, extraOf, shortest}
 use Rattle.cojp.specs.Octets.{padded, octetsJudged}
 use Rattle.cojp.specs.Address.{addressIn}
 use Rattle.cojp.specs.KeySet.{groups, identified, used, valued}
@@ -58,7 +60,7 @@ can =
 -- what computing unfolds: items, keys, objects and the node's calls
 computing : Unit {0}
 unfolding payloadBy decodeBy heading argument next digits members pairs majorOf bytesOf infoOf extraOf shortest
-    validKey hasNoAdditionalInfo sameKey sameSecret covers validKeys validSet takeCounter inheritCounters isAddress
+    validKey hasNoAdditionalInfo sameKey same sameSecret covers validKeys validSet takeCounter inheritCounters isAddress
     padded octetsJudged addressIn groups identified used valued owing payloadReadBy
     laterParameter parameterOf configurationTaking errorReportsValid errorReportsOf listedIn requestInRange requestPlan
     sets.valid sets.validAs install frames.sending frames.receivingKey frames.verifiedIn attempt.valid mayStart poll.stepped poll.poll

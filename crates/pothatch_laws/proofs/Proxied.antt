@@ -4,7 +4,7 @@ use mathlib.Core.List.{List}
 use mathlib.Core.Path.{_≡_, refl, ap, _∙_, subst}
 use lib.ListN.{replicate}
 use Rattle.lemmas.specs.lists.Same.{same}
-use Rattle.cbor.specs.Encode.{bytesOf}
+use Rattle.byte_io.specs.BigEndian.{bytesOf}
 use Rattle.join_proxy.specs.Body.{bodyOf}
 use Rattle.join_proxy.specs.Example.{key}
 use Rattle.join_proxy.specs.Issuing.{issuePlan}

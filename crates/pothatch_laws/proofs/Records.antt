@@ -11,7 +11,7 @@ use lib.ListN.{length, take, drop, getD, length-drop, length-take}
 use lib.Seq.{getD-drop, take-length}
 use Rattle.image.specs.Numbers.{below}
 use Rattle.image.specs.Part.{AllBytes}
-use Rattle.cbor.specs.Decode.{digits}
+use Rattle.byte_io.specs.BigEndian.{digits}
 use Rattle.cojp.specs.Octets.{octetsOf}
 use Rattle.node_calls.specs.Calls.{networkOf}
 use Rattle.node_parameters.specs.Octets.{absentOctets}

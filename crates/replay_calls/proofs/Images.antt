@@ -7,8 +7,8 @@ use native.Mathlib.Omega.{arith}
 use native.Mathlib.Numerals.{add-one}
 use lib.ListN.{length, take, drop, getD}
 use lib.Seq.{take-suc, take-all}
-use Rattle.cbor.specs.Answer.{Wrote}
-use Rattle.cbor.specs.Encode.{bytesOf}
+use Rattle.byte_io.specs.Write.{Wrote}
+use Rattle.byte_io.specs.BigEndian.{bytesOf}
 use Rattle.image.specs.Fields.{next-field, whole-struct, two-fields}
 use Rattle.image.specs.CodecLaws.{number-lawful, both-lawful, times-lawful, viewed-lawful, headed-lawful}
 use Rattle.image.specs.Part.{Part, RoundTrips, number, puts, viewed}

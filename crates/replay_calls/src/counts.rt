@@ -2,7 +2,7 @@
 use image::put_number;
 ghost use Prim.Native.Nat.{_*_, _≤_};
 ghost use lib.ListN.{length};
-ghost use Rattle.cbor.specs.Answer.{Wrote};
+ghost use Rattle.byte_io.specs.Write.{Wrote};
 ghost use Rattle.image.specs.Part.{number, puts};
 
 // Writes them in eight bytes each.

@@ -7,7 +7,7 @@ use trace::ReplayStatistics;
 ghost use mathlib.Core.Path.{_≡_};
 ghost use Prim.Native.Nat.{_≤_};
 ghost use lib.ListN.{length};
-ghost use Rattle.cbor.specs.Answer.{Wrote};
+ghost use Rattle.byte_io.specs.Write.{Wrote};
 ghost use Rattle.replay_calls.specs.Replayed.{statisticsPart, walk, replayedImage};
 
 const KIND: u8 = b'T';

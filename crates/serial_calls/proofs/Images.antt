@@ -8,9 +8,8 @@ use borrow.Author.Tests.{eqb-true}
 use lib.Dec.{eqb}
 use lib.ListN.{length, take, drop}
 use lib.Seq.{drop-drop, take-all}
-use Rattle.cbor.specs.Answer.{Wrote}
-use Rattle.cbor.specs.Decode.{bigEndian}
-use Rattle.cbor.specs.Encode.{bytesOf}
+use Rattle.byte_io.specs.Write.{Wrote}
+use Rattle.byte_io.specs.BigEndian.{bigEndian, bytesOf}
 use Rattle.lemmas.specs.logic.Tests.{both-left, both-right}
 use Rattle.image.specs.Fields.{whole-struct, two-fields}
 use Rattle.image.specs.CodecLaws.{number-lawful, both-lawful, viewed-lawful, headed-lawful}

@@ -8,9 +8,8 @@ use borrow.Author.Tests.{lt-ltb, le-ltb, le-leb, ltb-true, ltb-false, leb-true, 
 use lib.Dec.{eqb, leb, ltb}
 use lib.ListN.{length, take, drop}
 use lib.Seq.{drop-drop}
-use Rattle.cbor.specs.Answer.{Wrote}
-use Rattle.cbor.specs.Decode.{bigEndian}
-use Rattle.cbor.specs.Encode.{bytesOf}
+use Rattle.byte_io.specs.Write.{Wrote}
+use Rattle.byte_io.specs.BigEndian.{bigEndian, bytesOf}
 use Rattle.lemmas.specs.logic.Tests.{both-left, both-right}
 use Rattle.image.specs.Fields.{and-good, whole-struct, two-fields, four-fields}
 use Rattle.image.specs.CodecLaws.{byte-lawful, number-lawful, octets-lawful, upTo-lawful, both-lawful, viewed-lawful, viewedIf-lawful, headed-lawful}

@@ -1,14 +1,10 @@
 // What each record's call did.
 use node::DeliveryResult;
 use node::Node;
-use node_attempt::Due;
-use node_key_sets::Change;
 use node_parameters::HeldOctets;
 use protocol_version::Version;
 use refusal::Verdict;
 ghost use mathlib.Core.Path.{_≡_};
-ghost use Rattle.node_attempt.specs.Poll.{dueVerdict};
-ghost use Rattle.node_key_sets.specs.Frames.{changeVerdict, hasSwitched};
 ghost use Rattle.trace.specs.Trace.{newNode, start, joinAnswer, update, verified, poll};
 ghost use Rattle.trace.specs.Calls.{doneDelivered, callOf};
 
@@ -16,37 +12,6 @@ pub struct CallResult {
     pub verdict: Verdict,
     pub switched: bool,
     pub node: Node,
-}
-
-fn due_verdict(due: Due) -> Verdict
-    ensures { λ r. ⌜ r ≡ dueVerdict due ⌝ }
-{
-    match due {
-        Due::Refused(why) => Verdict::Refused(why),
-        Due::NotYet => Verdict::Accepted,
-        Due::SendAgain => Verdict::Accepted,
-        Due::GaveUp => Verdict::Accepted,
-    }
-}
-
-fn change_verdict(change: Change) -> Verdict
-    ensures { λ r. ⌜ r ≡ changeVerdict change ⌝ }
-{
-    match change {
-        Change::Refused(why) => Verdict::Refused(why),
-        Change::Switched => Verdict::Accepted,
-        Change::Kept => Verdict::Accepted,
-    }
-}
-
-fn has_switched(change: Change) -> bool
-    ensures { λ r. ⌜ r ≡ hasSwitched change ⌝ }
-{
-    match change {
-        Change::Refused(_) => false,
-        Change::Switched => true,
-        Change::Kept => false,
-    }
 }
 
 pub(crate) fn new_node(node: Node, role: u8, network: HeldOctets) -> CallResult
@@ -108,8 +73,8 @@ pub(crate) fn verified(node: Node, frame_type: u8, identifier: u8) -> CallResult
     let change = heard.change;
     let reported = heard.node;
     CallResult {
-        verdict: change_verdict(change),
-        switched: has_switched(change),
+        verdict: change.verdict(),
+        switched: change.has_switched(),
         node: reported,
     }
 }
@@ -121,7 +86,7 @@ pub(crate) fn poll(node: Node, time: u64) -> CallResult
     let due = polled.due;
     let after = polled.node;
     CallResult {
-        verdict: due_verdict(due),
+        verdict: due.verdict(),
         switched: false,
         node: after,
     }

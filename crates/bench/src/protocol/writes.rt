@@ -1,5 +1,5 @@
 // Writing: an object is read from a payload and written again. What the writing takes is what this takes less the reading.
-use cbor::WriteResult;
+use byte_io::WriteResult;
 use cojp_read::read_configuration;
 use cojp_read::read_request;
 use cojp_write::write_configuration;

@@ -10,10 +10,12 @@ use lib.Dec.{ltb, eqb}
 use lib.ListN.{length, drop, set, length-set}
 use lib.Seq.{drop-set-lt, drop-cons, getD-set-same}
 use Rattle.refusal.specs.declared.Refusal.the-variants.{Room, Range}
-use Rattle.cbor.specs.Answer.{Did, Wrote, headPlan}
-use Rattle.cbor.specs.Encode.{bytesOf, infoOf, extraOf, shortest}
-use Rattle.cbor.specs.declared.write.WriteResult.the-variants as wv
-use Rattle.cbor.specs.Writing.{did-refuse, did-emit, did-room}
+use Rattle.byte_io.specs.Write.{Did, Wrote}
+use Rattle.byte_io.specs.BigEndian.{bytesOf}
+use Rattle.cbor.specs.Answer.{headPlan}
+use Rattle.cbor.specs.Encode.{infoOf, extraOf, shortest}
+use Rattle.byte_io.specs.declared.WriteResult.the-variants as wv
+use Rattle.byte_io.specs.WriteLemmas.{did-refuse, did-emit, did-room}
 use Rattle.cbor.proofs.HeadLengths.{length-head}
 
 -- ---- the length information, by the head's length

@@ -6,11 +6,11 @@ use native.Mathlib.Omega.{arith}
 use lib.ListN.{length, take, drop, length-drop, length-take}
 use lib.Seq.{take-length}
 use Rattle.refusal.specs.declared.Refusal.the-variants.{Room}
-use Rattle.cbor.specs.Answer.{Did, Wrote, emit}
+use Rattle.byte_io.specs.Write.{Did, Wrote, emit}
 use Rattle.cbor.specs.Encode.{encode, extraOf, shortest}
 use Rattle.cbor.specs.Item.{bytes}
-use Rattle.cbor.specs.declared.write.WriteResult.the-variants as wv
-use Rattle.cbor.specs.Writing.{did-emit, did-room, seam, wrote-length}
+use Rattle.byte_io.specs.declared.WriteResult.the-variants as wv
+use Rattle.byte_io.specs.WriteLemmas.{did-emit, did-room, seam, wrote-length}
 use Rattle.cbor.proofs.HeadLengths.{extra-most, length-string}
 
 module _ (s d : List ℕ) (h : ℕ) (e : h ≡ extraOf (length s) + 1) where

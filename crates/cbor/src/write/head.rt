@@ -1,10 +1,11 @@
 // The shortest head of a major type and an argument.
-use crate::write::WriteResult;
+use byte_io::WriteResult;
 use refusal::Refusal;
 ghost use mathlib.Core.Path.{_≡_};
 ghost use Prim.Native.Nat.{_+_, _≤_};
 ghost use lib.ListN.{length};
-ghost use Rattle.cbor.specs.Answer.{Did, Wrote, headPlan};
+ghost use Rattle.byte_io.specs.Write.{Did, Wrote};
+ghost use Rattle.cbor.specs.Answer.{headPlan};
 ghost use Rattle.cbor.specs.Encode.{extraOf, infoOf, shortest};
 
 // How many bytes the shortest head of an argument takes: the first, and those that follow it.

@@ -1,9 +1,9 @@
 // Byte strings.
-use crate::write::WriteResult;
 use crate::write::head::head_len;
 use crate::write::head::put_head;
+use byte_io::WriteResult;
 use refusal::Refusal;
-ghost use Rattle.cbor.specs.Answer.{Did, emit};
+ghost use Rattle.byte_io.specs.Write.{Did, emit};
 ghost use Rattle.cbor.specs.Encode.{encode};
 ghost use Rattle.cbor.specs.Item.{bytes};
 

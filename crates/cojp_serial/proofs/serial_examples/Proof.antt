@@ -1,6 +1,7 @@
 -- Computed.
 use mathlib.Core.Path.{refl}
-use Rattle.cbor.specs.Decode.{payloadBy, decodeBy, heading, argument, next, digits, members, pairs, majorOf}
+use Rattle.byte_io.specs.BigEndian.{digits}
+use Rattle.cbor.specs.Decode.{payloadBy, decodeBy, heading, argument, next, members, pairs, majorOf}
 use Rattle.cbor.specs.Strict.{strictHeading}
 use Rattle.cojp.specs.Octets.{padded, octetsJudged}
 use Rattle.cojp.specs.Request.{roleJudged, requestLabelStatus, requestTaking, owing}

@@ -8,11 +8,11 @@ use native.Mathlib.Numerals.{add-one}
 use lib.Dec.{eqb}
 use lib.ListN.{length, take, drop, getD, length-append, length-take, take-append-drop}
 use lib.Seq.{take-suc, take-all, getD-take}
-use Rattle.cbor.specs.Answer.{Wrote}
+use Rattle.byte_io.specs.Write.{Wrote}
+use Rattle.byte_io.specs.WriteLemmas.{seam}
 use Rattle.cbor.specs.Encode.{shortest, encode, encodes, encodePairs, extraOf}
 use Rattle.cbor.specs.HeadLaws.{HeadLaws}
 use Rattle.cbor.specs.Item.{Items, unsigned, bytes, array, none, more, empty, count}
-use Rattle.cbor.specs.Writing.{seam}
 use Rattle.link_key.specs.set.KeySet.{keysOf}
 use Rattle.link_key.specs.declared.Key.{Key}
 use Rattle.link_key.specs.declared.additional_info.AdditionalInfo.the-variants.{Absent}

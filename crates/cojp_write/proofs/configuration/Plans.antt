@@ -4,12 +4,12 @@ use mathlib.Core.Bool.{true, false}
 use mathlib.Core.List.{List}
 use Prim.Native.Nat.{ℕ}
 use Rattle.refusal.specs.declared.Refusal.the-variants.{Range}
-use Rattle.cbor.specs.Answer.{Did}
+use Rattle.byte_io.specs.Write.{Did}
 use Rattle.cbor.specs.Encode.{encode}
 use Rattle.cbor.specs.Item.{map}
-use Rattle.cbor.specs.declared.write.WriteResult.{WriteResult}
-use Rattle.cbor.specs.declared.write.WriteResult.the-variants.{Refused}
-use Rattle.cbor.specs.Writing.{did-refuse}
+use Rattle.byte_io.specs.declared.WriteResult.{WriteResult}
+use Rattle.byte_io.specs.declared.WriteResult.the-variants.{Refused}
+use Rattle.byte_io.specs.WriteLemmas.{did-refuse}
 use Rattle.cojp.specs.Writing.{fits, configurationPairs, configurationInRange, configurationPlan}
 use Rattle.cojp.specs.declared.configuration.Configuration.{Configuration}
 use Rattle.protocol_version.specs.declared.Version.{Version}

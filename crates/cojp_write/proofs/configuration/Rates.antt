@@ -5,7 +5,7 @@ use mathlib.Core.Bool.{Bool, true, false}
 use mathlib.Core.List.{List, _++_}
 use native.Mathlib.Omega.{arith}
 use lib.ListN.{length}
-use Rattle.cbor.specs.Answer.{Wrote}
+use Rattle.byte_io.specs.Write.{Wrote}
 use Rattle.cbor.specs.Encode.{shortest, encodePairs, extraOf}
 use Rattle.cbor.specs.HeadLaws.{HeadLaws}
 use Rattle.cbor.specs.Item.{unsigned, empty}

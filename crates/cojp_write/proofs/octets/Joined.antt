@@ -5,11 +5,11 @@ use mathlib.Core.List.{List, _++_, append-assoc, append-nil}
 use native.Mathlib.Omega.{arith}
 use native.Mathlib.Nat.{suc-add, zero-add}
 use lib.ListN.{length, take, drop, length-append}
-use Rattle.cbor.specs.Answer.{Did, Wrote, emit}
-use Rattle.cbor.specs.declared.write.WriteResult.{WriteResult}
+use Rattle.byte_io.specs.Write.{Did, Wrote, emit}
+use Rattle.byte_io.specs.declared.WriteResult.{WriteResult}
+use Rattle.byte_io.specs.WriteLemmas.{seam}
 use Rattle.cbor.specs.Encode.{shortest, encode, encodes, encodePairs}
 use Rattle.cbor.specs.Item.{Item, Items, Pairs, none, more, empty, pair, array, count, countPairs}
-use Rattle.cbor.specs.Writing.{seam}
 use Rattle.cojp.specs.Writing.{join, chain, labelled}
 
 -- ---- pairs

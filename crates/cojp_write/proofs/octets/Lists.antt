@@ -10,14 +10,16 @@ use lib.ListN.{length, take, drop, length-append, length-take, length-drop}
 use lib.Seq.{length-take-le}
 use Rattle.lemmas.specs.logic.Tests.{both-left}
 use Rattle.refusal.specs.declared.Refusal.the-variants.{Room, Range}
-use Rattle.cbor.specs.Answer.{Did, Wrote, emit, headPlan}
+use Rattle.byte_io.specs.Write.{Did, Wrote, emit}
+use Rattle.byte_io.specs.WriteLemmas.{did-emit, did-kept, did-room, did-refuse, seam, wrote-as, wrote-length}
+use Rattle.cbor.specs.Answer.{headPlan}
 use Rattle.cbor.specs.Encode.{shortest, encodePairs, extraOf}
 use Rattle.cbor.specs.HeadLaws.{HeadLaws}
 use Rattle.cbor.specs.Item.{array, empty, countPairs}
 use Rattle.cbor.specs.View.{Scalar}
-use Rattle.cbor.specs.Writing.{did-emit, did-kept, did-room, did-refuse, head-did, seam, wrote-as, wrote-length}
-use Rattle.cbor.specs.declared.write.WriteResult.{WriteResult}
-use Rattle.cbor.specs.declared.write.WriteResult.the-variants as wv
+use Rattle.cbor.specs.Writing.{head-did}
+use Rattle.byte_io.specs.declared.WriteResult.{WriteResult}
+use Rattle.byte_io.specs.declared.WriteResult.the-variants as wv
 use Rattle.cojp.specs.Lists.{Picked, bytesIn, itemsIn, kept, sameAs, listAnswer, fitting, listPlan}
 use Rattle.cojp.specs.Bytes.{membersAt}
 use Rattle.cojp.specs.Reading.{ifTaken}

@@ -6,13 +6,15 @@ use native.Mathlib.Omega.{arith}
 use lib.ListN.{length, length-append}
 use borrow.Author.Tests.{le-leb, lt-leb}
 use Rattle.refusal.specs.declared.Refusal.the-variants.{Room, Range}
-use Rattle.cbor.specs.Answer.{Did, Wrote, emit, refuse, headPlan}
+use Rattle.byte_io.specs.Write.{Did, Wrote, emit, refuse}
+use Rattle.cbor.specs.Answer.{headPlan}
 use Rattle.cbor.specs.Encode.{shortest, encode, encodePairs}
 use Rattle.cbor.specs.HeadLaws.{HeadLaws}
 use Rattle.cbor.specs.Item.{Pairs, map, countPairs}
-use Rattle.cbor.specs.declared.write.WriteResult.{WriteResult}
-use Rattle.cbor.specs.declared.write.WriteResult.the-variants as written
-use Rattle.cbor.specs.Writing.{did-room, did-emit, did-kept, head-did, wrote-as}
+use Rattle.byte_io.specs.declared.WriteResult.{WriteResult}
+use Rattle.byte_io.specs.declared.WriteResult.the-variants as written
+use Rattle.byte_io.specs.WriteLemmas.{did-room, did-emit, did-kept, wrote-as}
+use Rattle.cbor.specs.Writing.{head-did}
 use Rattle.cojp.specs.Writing.{fits}
 use Rattle.cojp_write.specs.octets.Size.{PairsSize}
 use Rattle.cojp_write.specs.declared.octets.size.Size.{Size}

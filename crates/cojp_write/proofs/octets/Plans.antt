@@ -4,11 +4,11 @@ use mathlib.Core.Bool.{true, false}
 use mathlib.Core.List.{List}
 use Prim.Native.Nat.{ℕ}
 use Rattle.refusal.specs.declared.Refusal.the-variants.{Range}
-use Rattle.cbor.specs.Answer.{Plan, Did, emit}
+use Rattle.byte_io.specs.Write.{Plan, Did, emit}
 use Rattle.cbor.specs.Encode.{encodePairs}
-use Rattle.cbor.specs.declared.write.WriteResult.{WriteResult}
-use Rattle.cbor.specs.declared.write.WriteResult.the-variants.{Refused}
-use Rattle.cbor.specs.Writing.{did-refuse}
+use Rattle.byte_io.specs.declared.WriteResult.{WriteResult}
+use Rattle.byte_io.specs.declared.WriteResult.the-variants.{Refused}
+use Rattle.byte_io.specs.WriteLemmas.{did-refuse}
 use Rattle.cojp.specs.Writing.{octetsPairs}
 use Rattle.cojp.specs.declared.octets.OctetsParameter.{OctetsParameter}
 use Rattle.cojp_write.specs.octets.Plan.{stringInRange, octetsPlan}

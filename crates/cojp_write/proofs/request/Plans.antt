@@ -4,12 +4,12 @@ use mathlib.Core.Bool.{Bool, true, false}
 use mathlib.Core.List.{List}
 use Prim.Native.Nat.{ℕ}
 use Rattle.refusal.specs.declared.Refusal.the-variants.{Range, Owed}
-use Rattle.cbor.specs.Answer.{Plan, Did, refuse, emit}
+use Rattle.byte_io.specs.Write.{Plan, Did, refuse, emit}
 use Rattle.cbor.specs.Encode.{encode}
 use Rattle.cbor.specs.Item.{map}
-use Rattle.cbor.specs.declared.write.WriteResult.{WriteResult}
-use Rattle.cbor.specs.declared.write.WriteResult.the-variants.{Refused}
-use Rattle.cbor.specs.Writing.{did-refuse}
+use Rattle.byte_io.specs.declared.WriteResult.{WriteResult}
+use Rattle.byte_io.specs.declared.WriteResult.the-variants.{Refused}
+use Rattle.byte_io.specs.WriteLemmas.{did-refuse}
 use Rattle.cojp.specs.Request.{owing}
 use Rattle.cojp.specs.Writing.{fits, owingPlan, requestPairs, requestInRange, requestPlan}
 use Rattle.cojp.specs.declared.request.JoinRequest.{JoinRequest}

@@ -5,12 +5,13 @@ use native.Mathlib.Omega.{arith}
 use borrow.Author.Tests.{eq-eqb, ne-eqb}
 use mathlib.Core.List.{List, _++_}
 use lib.ListN.{length, take, drop, length-take, length-drop}
-use Rattle.cbor.specs.Answer.{Did, Wrote, headPlan}
+use Rattle.byte_io.specs.Write.{Did, Wrote}
+use Rattle.cbor.specs.Answer.{headPlan}
 use Rattle.cbor.specs.Encode.{encodePairs}
 use Rattle.cbor.specs.HeadLaws.{HeadLaws}
 use Rattle.cbor.specs.Item.{unsigned, empty}
-use Rattle.cbor.specs.declared.write.WriteResult.{WriteResult}
-use Rattle.cbor.specs.Writing.{wrote-length}
+use Rattle.byte_io.specs.declared.WriteResult.{WriteResult}
+use Rattle.byte_io.specs.WriteLemmas.{wrote-length}
 use Rattle.cojp.specs.Writing.{labelled, rolePairs}
 use Rattle.cojp_write.specs.octets.Size.{PairsSize}
 use Rattle.cojp_write.proofs.octets.Joined.{labelled-length, labelled-seam}

@@ -4,7 +4,7 @@ use mathlib.Core.Bool.{Bool, true, cond}
 use mathlib.Core.List.{List, [], _++_}
 use lib.Dec.{eqb, leb}
 use Rattle.refusal.specs.declared.Refusal.the-variants.{Range}
-use Rattle.cbor.specs.Answer.{Plan, refuse, emit}
+use Rattle.byte_io.specs.Write.{Plan, refuse, emit}
 use Rattle.cbor.specs.Encode.{shortest, encodePairs}
 use Rattle.cojp.specs.Lists.{bytesIn}
 use Rattle.cojp.specs.Reading.{ifTaken}

@@ -11,7 +11,7 @@ use cojp::ShortAddress;
 ghost use mathlib.Core.Path.{_≡_};
 ghost use Prim.Native.Nat.{_+_, _≤_};
 ghost use lib.ListN.{length};
-ghost use Rattle.cbor.specs.Answer.{Wrote};
+ghost use Rattle.byte_io.specs.Write.{Wrote};
 ghost use Rattle.cbor.specs.Encode.{encodePairs};
 ghost use Rattle.cbor.specs.Item.{array, count};
 ghost use Rattle.cojp.specs.Writing.{labelled, addressPairs};

@@ -6,7 +6,7 @@ use link_key::AdditionalInfo;
 use link_key::additional_info_bytes;
 ghost use Prim.Native.Nat.{_≤_};
 ghost use lib.ListN.{length};
-ghost use Rattle.cbor.specs.Answer.{Wrote};
+ghost use Rattle.byte_io.specs.Write.{Wrote};
 ghost use Rattle.cbor.specs.Encode.{encodes};
 ghost use Rattle.cojp.specs.Writing.{additionalInfoItems};
 ghost use Rattle.cojp_write.specs.octets.Size.{ItemsSize};

@@ -1,11 +1,11 @@
 // Byte strings, numbers and labels, where there is room for them.
 use crate::octets::put_head;
-use cbor::WriteResult;
+use byte_io::WriteResult;
 use cbor::write::write_bytes;
 ghost use mathlib.Core.List.{_++_};
 ghost use Prim.Native.Nat.{_+_, _≤_};
 ghost use lib.ListN.{length};
-ghost use Rattle.cbor.specs.Answer.{Wrote};
+ghost use Rattle.byte_io.specs.Write.{Wrote};
 ghost use Rattle.cbor.specs.Encode.{shortest, encode, encodes};
 ghost use Rattle.cbor.specs.Item.{bytes};
 ghost use Rattle.cojp.specs.Writing.{leaseItems};

@@ -17,7 +17,7 @@ use link_key::set::KeySet;
 ghost use mathlib.Core.Path.{_≡_};
 ghost use Prim.Native.Nat.{_+_, _≤_};
 ghost use lib.ListN.{length};
-ghost use Rattle.cbor.specs.Answer.{Wrote};
+ghost use Rattle.byte_io.specs.Write.{Wrote};
 ghost use Rattle.cbor.specs.Encode.{encodes, encodePairs};
 ghost use Rattle.cbor.specs.Item.{array, count};
 ghost use Rattle.cojp.specs.Writing.{labelled, keysPairs, groupItems, groupsItems};

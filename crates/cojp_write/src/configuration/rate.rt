@@ -7,7 +7,7 @@ use cbor::write::head_len;
 use cojp::RateParameter;
 ghost use Prim.Native.Nat.{_≤_};
 ghost use lib.ListN.{length};
-ghost use Rattle.cbor.specs.Answer.{Wrote};
+ghost use Rattle.byte_io.specs.Write.{Wrote};
 ghost use Rattle.cbor.specs.Encode.{encodePairs};
 ghost use Rattle.cojp.specs.Writing.{ratePairs};
 ghost use Rattle.cojp_write.specs.octets.Size.{PairsSize};

@@ -2,7 +2,7 @@
 use crate::octets::size::Size;
 use crate::octets::size::no_size;
 use crate::range::report::is_taken;
-use cbor::WriteResult;
+use byte_io::WriteResult;
 use cbor::write::head_len;
 use cbor::write::write_head;
 use cojp::ItemList;
@@ -12,7 +12,7 @@ use refusal::Refusal;
 ghost use mathlib.Core.Path.{_≡_};
 ghost use Prim.Native.Nat.{_≤_};
 ghost use lib.ListN.{length};
-ghost use Rattle.cbor.specs.Answer.{Did};
+ghost use Rattle.byte_io.specs.Write.{Did};
 ghost use Rattle.cojp.specs.Lists.{bytesIn};
 ghost use Rattle.cojp_write.specs.octets.Plan.{listBytes, listCount, arrayPlan, listParameterPlan};
 ghost use Rattle.cojp_write.specs.octets.Size.{Sizes};

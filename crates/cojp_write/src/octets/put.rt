@@ -1,7 +1,7 @@
 // Writers for which there is room: they answer the length written.
 use crate::octets::list::write_list_parameter;
 use crate::octets::write_octets;
-use cbor::WriteResult;
+use byte_io::WriteResult;
 use cbor::write::write_head;
 use cojp::ListParameter;
 use cojp::OctetsParameter;
@@ -9,7 +9,7 @@ ghost use mathlib.Core.Bool.{true};
 ghost use mathlib.Core.Path.{_≡_};
 ghost use Prim.Native.Nat.{_≤_};
 ghost use lib.ListN.{length};
-ghost use Rattle.cbor.specs.Answer.{Wrote};
+ghost use Rattle.byte_io.specs.Write.{Wrote};
 ghost use Rattle.cbor.specs.Encode.{shortest, encodePairs};
 ghost use Rattle.cojp.specs.Writing.{octetsPairs};
 ghost use Rattle.cojp_write.specs.octets.Plan.{stringInRange, listBytes, listFits};

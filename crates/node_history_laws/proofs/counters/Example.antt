@@ -2,11 +2,13 @@
 use mathlib.Core.Path.{_≡_, refl}
 use mathlib.Core.Bool.{true}
 use mathlib.Core.List.{List·Memᴰ·head as at, List·Memᴰ·tail as past}
+use Rattle.lemmas.specs.lists.Same.{same as same-bytes}
 use Rattle.link_key.specs.Key.{validKey, hasNoAdditionalInfo, sameKey, sameSecret, covers}
 use Rattle.link_key.specs.set.KeySet.{validKeys, validSet}
 use Rattle.link_key_counters.specs.Counters.{takeCounter, inheritCounters}
-use Rattle.cbor.specs.Decode.{payloadBy, decodeBy, heading, argument, next, digits, members, pairs, majorOf}
-use Rattle.cbor.specs.Encode.{bytesOf, infoOf, extraOf, shortest}
+use Rattle.byte_io.specs.BigEndian.{digits, bytesOf}
+use Rattle.cbor.specs.Decode.{payloadBy, decodeBy, heading, argument, next, members, pairs, majorOf}
+use Rattle.cbor.specs.Encode.{infoOf, extraOf, shortest}
 use Rattle.cojp.specs.Octets.{padded, octetsJudged}
 use Rattle.cojp.specs.Address.{addressIn}
 use Rattle.cojp.specs.KeySet.{groups, identified, used, valued}
@@ -39,7 +41,7 @@ use Rattle.node_history_laws.specs.counters.Example.{cafe, key, joining,
 -- what computing unfolds: items, keys, objects and the node's calls
 computing : Unit {0}
 unfolding payloadBy decodeBy heading argument next digits members pairs majorOf bytesOf infoOf extraOf shortest
-    validKey hasNoAdditionalInfo sameKey sameSecret covers validKeys validSet takeCounter inheritCounters
+    validKey hasNoAdditionalInfo sameKey same-bytes sameSecret covers validKeys validSet takeCounter inheritCounters
     padded octetsJudged addressIn groups identified used valued owing payloadReadBy
     laterParameter parameterOf configurationTaking errorReportsValid errorReportsOf listedIn requestInRange requestPlan
     sets.valid sets.validAs install frames.sending attempt.valid mayStart

@@ -11,7 +11,7 @@ use lib.ListN.{length}
 use Rattle.refusal.specs.declared.Refusal.the-variants as refusal
 use Rattle.refusal.specs.declared.Verdict.{Verdict}
 use Rattle.refusal.specs.declared.Verdict.the-variants.{Accepted, Refused}
-use Rattle.cbor.specs.Answer.{emit}
+use Rattle.byte_io.specs.Write.{emit}
 use Rattle.cbor.specs.Encode.{encode}
 use Rattle.cbor.specs.Item.{map}
 use Rattle.cojp.specs.Configuration.{readConfigurationAs, readConfiguration}

@@ -1,8 +1,10 @@
 -- The examples are computed.
 use mathlib.Core.Path.{refl}
-use Rattle.cbor.specs.Decode.{payloadBy, decodeBy, heading, argument, next, digits, members, pairs, majorOf}
-use Rattle.cbor.specs.Encode.{bytesOf, infoOf, extraOf, shortest}
+use Rattle.byte_io.specs.BigEndian.{digits, bytesOf}
+use Rattle.cbor.specs.Decode.{payloadBy, decodeBy, heading, argument, next, members, pairs, majorOf}
+use Rattle.cbor.specs.Encode.{infoOf, extraOf, shortest}
 use Rattle.short_address.specs.Address.{isAddress}
+use Rattle.lemmas.specs.lists.Same.{same}
 use Rattle.link_key.specs.Key.{validKey, hasNoAdditionalInfo, sameKey}
 use Rattle.link_key.specs.set.KeySet.{validKeys, validSet}
 use Rattle.cojp.specs.Address.{addressIn}
@@ -24,14 +26,14 @@ use Rattle.node_history_laws.specs.merge.Example.{AcceptedPair, RefusedP
 
 pub accepted-pair : AcceptedPair
 unfolding payloadBy decodeBy heading argument next digits members pairs majorOf bytesOf infoOf extraOf shortest
-    validKey hasNoAdditionalInfo sameKey validKeys validSet padded octetsJudged isAddress addressIn groups identified used valued payloadReadBy
+    validKey hasNoAdditionalInfo sameKey same validKeys validSet padded octetsJudged isAddress addressIn groups identified used valued payloadReadBy
     laterParameter parameterOf configurationTaking errorReportsValid errorReportsOf
     sets.valid sets.validAs install attempt.valid versionValid valid dispositionsOf fitted configured apply mayCome deliverVerdict deliver
 accepted-pair = record { first = refl; second = refl; written = refl }
 
 pub refused-pair : RefusedPair
 unfolding payloadBy decodeBy heading argument next digits members pairs majorOf bytesOf infoOf extraOf shortest
-    validKey hasNoAdditionalInfo sameKey validKeys validSet padded octetsJudged isAddress addressIn groups identified used valued payloadReadBy
+    validKey hasNoAdditionalInfo sameKey same validKeys validSet padded octetsJudged isAddress addressIn groups identified used valued payloadReadBy
     laterParameter parameterOf configurationTaking errorReportsValid errorReportsOf
     sets.valid sets.validAs install attempt.valid versionValid valid dispositionsOf fitted configured apply mayCome deliverVerdict deliver
 refused-pair = record { first = refl; merged-all-the-same = refl }

@@ -3,7 +3,7 @@ use Prim.Native.Nat.{_≤_, _<_, _-_, _+_, _^_}
 use mathlib.Core.Path.{_≡_, refl, sym, _∙_}
 use native.Mathlib.Omega.{arith}
 use lib.ListN.{take, drop, getD}
-use Rattle.cbor.specs.Decode.{digits, bigEndian}
+use Rattle.byte_io.specs.BigEndian.{digits, bigEndian}
 use Rattle.cbor.proofs.Heads.{argument-whole}
 use Rattle.cbor.proofs.Numbers.{digits-step, digits-none, grows, grown-fits}
 use Rattle.cbor.proofs.head.argument_at.Statement.{statement}

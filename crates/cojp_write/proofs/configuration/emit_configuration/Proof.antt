@@ -1,7 +1,7 @@
 -- The size, the tests in their order, and the map.
 use native.Mathlib.Omega.{arith}
 use borrow.Author.Needs.{needs}
-use Rattle.cbor.specs.Writing.{did-refuse}
+use Rattle.byte_io.specs.WriteLemmas.{did-refuse}
 use Rattle.refusal.specs.declared.Refusal.the-variants.{Range}
 use Rattle.cojp.specs.Writing.{configurationPairs}
 use Rattle.cojp_write.proofs.octets.Maps.{map-over, map-within, map-room, map-emit}

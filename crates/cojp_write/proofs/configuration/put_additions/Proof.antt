@@ -1,7 +1,7 @@
 -- The join rate in the part after the blacklist.
 use native.Mathlib.Omega.{arith}
 use borrow.Author.Needs.{needs}
-use Rattle.cbor.specs.Writing.{seam}
+use Rattle.byte_io.specs.WriteLemmas.{seam}
 use Rattle.cojp_write.proofs.configuration.put_additions.Statement.{statement}
 use Rattle.cojp_write.proofs.configuration.put_additions.Tie as tie
 

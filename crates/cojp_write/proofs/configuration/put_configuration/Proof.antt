@@ -1,8 +1,8 @@
 -- The additions in the part after what both forms have.
 use native.Mathlib.Omega.{arith}
 use lib.ListN.{length-append}
+use Rattle.byte_io.specs.WriteLemmas.{seam, wrote-length}
 use Rattle.cbor.specs.Encode.{shortest, encodePairs}
-use Rattle.cbor.specs.Writing.{seam, wrote-length}
 use Rattle.cojp.specs.Lists.{stringsIn}
 use Rattle.cojp.specs.Writing.{ratePairs}
 use Rattle.cojp_write.specs.octets.Plan.{listBytes}

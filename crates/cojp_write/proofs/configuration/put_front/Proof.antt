@@ -4,8 +4,8 @@ use native.Mathlib.Omega.{arith}
 use mathlib.Core.List.{_++_}
 use borrow.Author.Needs.{needs}
 use lib.ListN.{length, length-append}
+use Rattle.byte_io.specs.WriteLemmas.{seam, wrote-length}
 use Rattle.cbor.specs.Encode.{shortest, encodePairs}
-use Rattle.cbor.specs.Writing.{seam, wrote-length}
 use Rattle.cojp.specs.Writing.{keysPairs, addressPairs}
 use Rattle.cojp_write.specs.configuration.Room.{frontPairs, stringsBytes}
 use Rattle.cojp_write.proofs.configuration.Configurations.{strings-length, front-length, front-wrote}

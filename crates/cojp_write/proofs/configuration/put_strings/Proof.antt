@@ -1,8 +1,8 @@
 -- Each byte string in the part after what is written.
 use native.Mathlib.Omega.{arith}
 use lib.ListN.{length-append}
+use Rattle.byte_io.specs.WriteLemmas.{seam, wrote-length}
 use Rattle.cbor.specs.Encode.{encodePairs}
-use Rattle.cbor.specs.Writing.{seam, wrote-length}
 use Rattle.cojp.specs.Writing.{octetsPairs}
 use Rattle.cojp_write.proofs.configuration.Configurations.{strings-length}
 use Rattle.cojp_write.proofs.configuration.put_strings.Statement.{statement}

@@ -4,8 +4,8 @@ use native.Mathlib.Omega.{arith}
 use borrow.Author.Needs.{needs}
 use lib.ListN.{length}
 use lib.Seq.{length-take-le}
+use Rattle.byte_io.specs.WriteLemmas.{did-emit, wrote-none}
 use Rattle.cbor.specs.Item.{bytes, empty}
-use Rattle.cbor.specs.Writing.{did-emit, wrote-none}
 use Rattle.cojp.specs.Octets.{bytesIn}
 use Rattle.cojp.specs.Writing.{labelled}
 use Rattle.cojp_write.proofs.octets.Joined.{did-same}

@@ -3,8 +3,8 @@ use Prim.Native.Nat.{_+_, _≤_}
 use native.Mathlib.Omega.{arith}
 use mathlib.Core.List.{_++_}
 use lib.ListN.{length, length-append}
+use Rattle.byte_io.specs.WriteLemmas.{seam, wrote-length}
 use Rattle.cbor.specs.Encode.{shortest, encodePairs}
-use Rattle.cbor.specs.Writing.{seam, wrote-length}
 use Rattle.cojp.specs.Lists.{errorReportsIn, some}
 use Rattle.cojp.specs.Writing.{rolePairs, octetsPairs}
 use Rattle.cojp_write.specs.octets.Plan.{listBytes}

@@ -1,6 +1,6 @@
 -- The label and the role, or nothing.
 use borrow.Author.Needs.{needs}
-use Rattle.cbor.specs.Writing.{wrote-none}
+use Rattle.byte_io.specs.WriteLemmas.{wrote-none}
 use Rattle.cojp_write.proofs.octets.Joined.{wrote-same}
 use Rattle.cojp_write.proofs.request.Roles.{role-none, role-part, role-wrote}
 use Rattle.cojp_write.proofs.request.put_role.Statement.{statement}

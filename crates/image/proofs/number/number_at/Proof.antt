@@ -3,7 +3,7 @@ use Prim.Native.Nat.{_≤_, _<_, _-_, _+_, _^_}
 use mathlib.Core.Path.{_≡_, sym, _∙_}
 use native.Mathlib.Omega.{arith}
 use lib.ListN.{take, drop, getD}
-use Rattle.cbor.specs.Decode.{digits, bigEndian}
+use Rattle.byte_io.specs.BigEndian.{digits, bigEndian}
 use Rattle.image.proofs.Leaves.{digits-step, digits-none, grows, grown-fits}
 use Rattle.image.proofs.number.number_at.Statement.{statement}
 use Rattle.image.proofs.number.number_at.Tie as tie

@@ -5,7 +5,7 @@ use native.Mathlib.Omega.{arith}
 use Rattle.image.specs.Fields.{next-field}
 use mathlib.Core.Path.{_≡_, refl}
 use lib.ListN.{length, getD}
-use Rattle.cbor.specs.Encode.{bytesOf}
+use Rattle.byte_io.specs.BigEndian.{bytesOf}
 use Rattle.image.specs.Part.{number}
 use Rattle.key_image.proofs.Images.{four-wrote, half-wrote}
 use borrow.Author.Needs.{needs}

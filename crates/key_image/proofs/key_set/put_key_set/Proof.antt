@@ -3,7 +3,7 @@ use native.Mathlib.Omega.{arith}
 use Rattle.image.specs.Fields.{next-field}
 use mathlib.Core.Path.{_≡_, sym, _∙_}
 use lib.ListN.{length, length-map}
-use Rattle.cbor.specs.Encode.{bytesOf}
+use Rattle.byte_io.specs.BigEndian.{bytesOf}
 use Rattle.key_image.specs.Key.{keyPart}
 use Rattle.key_image.proofs.Images.{both-wrote}
 use borrow.Author.Needs.{needs}

@@ -44,8 +44,8 @@ poll-requires c κs = search needs
 due-code-requires : tie.Need-due-code-requires
 due-code-requires c κs = search needs
 
-due-verdict-requires : tie.Need-due-verdict-requires
-due-verdict-requires c κs = search needs
+verdict-requires : tie.Need-verdict-requires
+verdict-requires c κs = search needs
 
 store-attempt-requires : tie.Need-store-attempt-requires
 store-attempt-requires c κs =
@@ -68,8 +68,8 @@ same-length-2 c = search needs
 returns-2 : tie.Need-returns-2
 returns-2 c =
     let at-keep-attempt = c .before .before in
-    let at-due-verdict = at-keep-attempt .before .before in
-    let at-due-code = at-due-verdict .before in
+    let at-verdict = at-keep-attempt .before .before in
+    let at-due-code = at-verdict .before in
     let at-poll = at-due-code .before .before in
     let at-node-in = at-poll .before in
     let at-if1 = at-node-in .before .before in
@@ -80,7 +80,7 @@ returns-2 c =
     let says = (at-poll .poll .ensures) ∙ ap (λ n. poll n (start .args .time)) (at-node-in .node-in .ensures) in
     let kept = at-keep-attempt .store-attempt .ensures in
     polled (start .args .node .now) image (at-demand1 .demand1 .ensures) (start .args .time) (at-poll .poll .result) says
-    (at-due-verdict .due-verdict .ensures) (at-due-code .due-code .ensures) (kept .0) (kept .1)
+    (at-verdict .verdict .ensures) (at-due-code .due-code .ensures) (kept .0) (kept .1)
 
 pub node-poll-spec : {M : Type 1} → statement M
 node-poll-spec =
@@ -94,7 +94,7 @@ node-poll-spec =
     node-in-requires
     poll-requires
     due-code-requires
-    due-verdict-requires
+    verdict-requires
     store-attempt-requires
     same-length-2
     returns-2)

@@ -40,8 +40,8 @@ verified-requires c κs = search needs
 change-code-requires : tie.Need-change-code-requires
 change-code-requires c κs = search needs
 
-change-verdict-requires : tie.Need-change-verdict-requires
-change-verdict-requires c κs = search needs
+verdict-requires : tie.Need-verdict-requires
+verdict-requires c κs = search needs
 
 store-node-requires : tie.Need-store-node-requires
 store-node-requires c κs =
@@ -56,8 +56,8 @@ same-length-2 c = search needs
 returns-2 : tie.Need-returns-2
 returns-2 c =
     let at-keep-node = c .before .before in
-    let at-change-verdict = at-keep-node .before .before in
-    let at-change-code = at-change-verdict .before in
+    let at-verdict = at-keep-node .before .before in
+    let at-change-code = at-verdict .before in
     let at-verified = at-change-code .before .before in
     let at-node-in = at-verified .before in
     let at-if1 = at-node-in .before .before in
@@ -69,7 +69,7 @@ returns-2 c =
     let says = (at-verified .verified .ensures) ∙ ap (λ n. verified n type (start .args .identifier)) (at-node-in .node-in .ensures) in
     let kept = at-keep-node .store-node .ensures in
     reported (start .args .node .now) image (at-demand1 .demand1 .ensures) type (start .args .identifier)
-    (at-verified .verified .result) says (at-change-verdict .change-verdict .ensures) (at-change-code .change-code .ensures) (kept .0)
+    (at-verified .verified .result) says (at-verdict .verdict .ensures) (at-change-code .change-code .ensures) (kept .0)
     (kept .1)
 
 pub node-verified-spec : {M : Type 1} → statement M
@@ -83,7 +83,7 @@ node-verified-spec =
     node-in-requires
     verified-requires
     change-code-requires
-    change-verdict-requires
+    verdict-requires
     store-node-requires
     same-length-2
     returns-2)

@@ -3,7 +3,7 @@ use Prim.Native.Nat.{ℕ}
 use mathlib.Core.List.{List, [], _∷_}
 use mathlib.Core.Path.{_∙_}
 use native.Mathlib.Omega.{arith}
-use Rattle.cbor.specs.Encode.{bytesOf}
+use Rattle.byte_io.specs.BigEndian.{bytesOf}
 use Rattle.cojp.specs.declared.disposition.Disposition.{Disposition}
 use Rattle.image.specs.Fields.{next-field, whole-struct}
 use Rattle.object_image.specs.Codes.{dispositionPart}

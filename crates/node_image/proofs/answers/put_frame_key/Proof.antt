@@ -2,7 +2,7 @@
 use mathlib.Core.List.{[], _∷_}
 use mathlib.Core.Path.{_∙_}
 use native.Mathlib.Omega.{arith}
-use Rattle.cbor.specs.Encode.{bytesOf}
+use Rattle.byte_io.specs.BigEndian.{bytesOf}
 use Rattle.image.specs.Fields.{next-field, whole-struct, two-fields}
 use Rattle.key_image.specs.Key.{keyPart}
 use borrow.Author.Needs.{needs}

@@ -1,6 +1,6 @@
 -- Each field is written to the part after those before it.
 use native.Mathlib.Omega.{arith}
-use Rattle.cbor.specs.Encode.{bytesOf}
+use Rattle.byte_io.specs.BigEndian.{bytesOf}
 use Rattle.image.specs.Fields.{next-field, two-fields}
 use Rattle.object_image.specs.Address.{shortAddressPart}
 use Rattle.object_image.specs.Codes.{boolPart}

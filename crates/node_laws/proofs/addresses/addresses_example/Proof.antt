@@ -2,8 +2,9 @@
 use mathlib.Core.Path.{refl}
 use Rattle.link_key.specs.set.KeySet.{validKeys, validSet}
 use Rattle.short_address.specs.Address.{isAddress}
-use Rattle.cbor.specs.Decode.{payloadBy, decodeBy, heading, argument, next, digits, members, pairs, majorOf}
-use Rattle.cbor.specs.Encode.{bytesOf, infoOf, extraOf, shortest}
+use Rattle.byte_io.specs.BigEndian.{digits, bytesOf}
+use Rattle.cbor.specs.Decode.{payloadBy, decodeBy, heading, argument, next, members, pairs, majorOf}
+use Rattle.cbor.specs.Encode.{infoOf, extraOf, shortest}
 use Rattle.cojp.specs.Octets.{padded, octetsJudged}
 use Rattle.cojp.specs.Address.{addressIn}
 use Rattle.cojp.specs.Request.{owing}

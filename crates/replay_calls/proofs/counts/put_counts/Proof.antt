@@ -3,8 +3,8 @@ use native.Mathlib.Omega.{arith}
 use mathlib.Core.Path.{_≡_, refl}
 use lib.ListN.{length, take}
 use Prim.Native.Nat.{_-_, _*_, _≤_}
-use Rattle.cbor.specs.Answer.{Wrote}
-use Rattle.cbor.specs.Writing.{wrote-none, wrote-length}
+use Rattle.byte_io.specs.Write.{Wrote}
+use Rattle.byte_io.specs.WriteLemmas.{wrote-none, wrote-length}
 use Rattle.image.specs.Part.{number, puts}
 use Rattle.replay_calls.proofs.Images.{next-count, all-counts}
 use borrow.Author.Needs.{needs}

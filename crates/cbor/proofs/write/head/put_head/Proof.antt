@@ -4,7 +4,7 @@ use mathlib.Core.Path.{_≡_, refl, ap, sym, _∙_}
 use mathlib.Core.List.{_++_}
 use native.Mathlib.Omega.{arith}
 use lib.ListN.{length, drop, length-set}
-use Rattle.cbor.specs.Encode.{bytesOf}
+use Rattle.byte_io.specs.BigEndian.{bytesOf}
 use Rattle.cbor.proofs.write.Heads.{argument-step, head-wrote}
 use Rattle.cbor.proofs.write.head.put_head.Statement.{statement}
 use Rattle.cbor.proofs.write.head.put_head.Tie as tie

@@ -1,6 +1,6 @@
 -- RANGE, then ROOM, then the head.
 use native.Mathlib.Omega.{arith}
-use Rattle.cbor.specs.Writing.{wrote-length}
+use Rattle.byte_io.specs.WriteLemmas.{wrote-length}
 use Rattle.cbor.proofs.HeadLengths.{length-head}
 use Rattle.cbor.proofs.write.Heads.{head-range, head-room, head-done}
 use Rattle.cbor.proofs.write.head.write_head.Statement.{statement}

@@ -4,8 +4,8 @@ use mathlib.Core.Path.{_≡_}
 use native.Mathlib.Omega.{arith}
 use borrow.Author.Needs.{needs}
 use lib.ListN.{length}
+use Rattle.byte_io.specs.WriteLemmas.{wrote-none}
 use Rattle.cbor.specs.Item.{array, empty, count}
-use Rattle.cbor.specs.Writing.{wrote-none}
 use Rattle.cojp.specs.Writing.{labelled}
 use Rattle.cojp_write.specs.configuration.Room.{addressItems}
 use Rattle.cojp_write.proofs.configuration.Addresses.{address-taken, place-length}

@@ -2,8 +2,8 @@
 use native.Mathlib.Omega.{arith}
 use borrow.Author.Needs.{needs}
 use lib.ListN.{length-append}
+use Rattle.byte_io.specs.WriteLemmas.{seam, wrote-length}
 use Rattle.cbor.specs.Encode.{shortest}
-use Rattle.cbor.specs.Writing.{seam, wrote-length}
 use Rattle.cojp_write.proofs.configuration.Addresses.{place-length, place-seam}
 use Rattle.cojp_write.proofs.configuration.address.put_place.Statement.{statement}
 use Rattle.cojp_write.proofs.configuration.address.put_place.Tie as tie

@@ -4,7 +4,7 @@ use native.Mathlib.Omega.{arith}
 use borrow.Author.Needs.{needs}
 use lib.ListN.{length}
 use lib.Seq.{length-take-le}
-use Rattle.cbor.specs.Writing.{wrote-none}
+use Rattle.byte_io.specs.WriteLemmas.{wrote-none}
 use Rattle.cojp_write.proofs.configuration.Infos.{info-few, info-nothing, info-room, info-wrote}
 use Rattle.cojp_write.proofs.configuration.info.put_info.Statement.{statement}
 use Rattle.cojp_write.proofs.configuration.info.put_info.Tie as tie

@@ -1,6 +1,6 @@
 -- A byte string that has room is written.
 use borrow.Author.Needs.{needs}
-use Rattle.cbor.specs.Writing.{did-done, did-never}
+use Rattle.byte_io.specs.WriteLemmas.{did-done, did-never}
 use Rattle.cojp_write.proofs.configuration.item.put_bytes.Statement.{statement}
 use Rattle.cojp_write.proofs.configuration.item.put_bytes.Tie as tie
 

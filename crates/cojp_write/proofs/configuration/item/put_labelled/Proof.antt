@@ -1,7 +1,7 @@
 -- The label's head, and then the value's in the part after it.
 use native.Mathlib.Omega.{arith}
 use borrow.Author.Needs.{needs}
-use Rattle.cbor.specs.Writing.{seam}
+use Rattle.byte_io.specs.WriteLemmas.{seam}
 use Rattle.cojp_write.proofs.configuration.item.put_labelled.Statement.{statement}
 use Rattle.cojp_write.proofs.configuration.item.put_labelled.Tie as tie
 

@@ -4,9 +4,9 @@ use mathlib.Core.Path.{_≡_, refl}
 use native.Mathlib.Omega.{arith}
 use borrow.Author.Needs.{needs}
 use lib.ListN.{length, take, getD}
-use Rattle.cbor.specs.Answer.{Wrote}
+use Rattle.byte_io.specs.Write.{Wrote}
+use Rattle.byte_io.specs.WriteLemmas.{wrote-none, wrote-length}
 use Rattle.cbor.specs.Encode.{encodes}
-use Rattle.cbor.specs.Writing.{wrote-none, wrote-length}
 use Rattle.link_key.specs.set.KeySet.{keysOf}
 use Rattle.cojp.specs.Writing.{groupsItems}
 use Rattle.cojp_write.specs.configuration.Room.{keyLength}

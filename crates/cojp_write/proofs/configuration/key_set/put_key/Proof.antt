@@ -2,8 +2,8 @@
 use native.Mathlib.Omega.{arith}
 use borrow.Author.Needs.{needs}
 use lib.ListN.{length-append}
+use Rattle.byte_io.specs.WriteLemmas.{seam, wrote-length}
 use Rattle.cbor.specs.Encode.{shortest, encodes}
-use Rattle.cbor.specs.Writing.{seam, wrote-length}
 use Rattle.cojp_write.specs.configuration.Room.{usedItems}
 use Rattle.cojp_write.proofs.configuration.KeySets.{group-length, group-seam}
 use Rattle.cojp_write.proofs.configuration.key_set.put_key.Statement.{statement}

@@ -2,8 +2,8 @@
 use native.Mathlib.Omega.{arith}
 use borrow.Author.Needs.{needs}
 use lib.ListN.{length}
+use Rattle.byte_io.specs.WriteLemmas.{wrote-none}
 use Rattle.cbor.specs.Item.{array, empty}
-use Rattle.cbor.specs.Writing.{wrote-none}
 use Rattle.link_key.specs.set.KeySet.{keysOf}
 use Rattle.cojp.specs.Writing.{labelled, groupsItems}
 use Rattle.cojp_write.proofs.octets.Joined.{wrote-same, same-room}

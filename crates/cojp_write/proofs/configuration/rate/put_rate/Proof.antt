@@ -2,8 +2,8 @@
 use native.Mathlib.Omega.{arith}
 use borrow.Author.Needs.{needs}
 use lib.ListN.{length}
+use Rattle.byte_io.specs.WriteLemmas.{wrote-none}
 use Rattle.cbor.specs.Item.{unsigned, empty}
-use Rattle.cbor.specs.Writing.{wrote-none}
 use Rattle.cojp.specs.Writing.{labelled}
 use Rattle.cojp_write.proofs.octets.Joined.{wrote-same}
 use Rattle.cojp_write.proofs.range.Taken.{taken-not}

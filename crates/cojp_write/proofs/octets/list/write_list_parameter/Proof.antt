@@ -2,8 +2,8 @@
 use mathlib.Core.List.{[]}
 use native.Mathlib.Omega.{arith}
 use borrow.Author.Needs.{needs}
-use Rattle.cbor.specs.Answer.{emit}
-use Rattle.cbor.specs.Writing.{did-emit, wrote-none}
+use Rattle.byte_io.specs.Write.{emit}
+use Rattle.byte_io.specs.WriteLemmas.{did-emit, wrote-none}
 use Rattle.cojp_write.specs.octets.Plan.{arrayPlan}
 use Rattle.cojp_write.proofs.octets.Plans.{planned-as}
 use Rattle.cojp_write.proofs.range.Taken.{taken-is, taken-not}

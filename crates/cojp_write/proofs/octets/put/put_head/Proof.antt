@@ -1,6 +1,7 @@
 -- A head that has room is written.
 use borrow.Author.Needs.{needs}
-use Rattle.cbor.specs.Writing.{head-did, did-done, did-never}
+use Rattle.byte_io.specs.WriteLemmas.{did-done, did-never}
+use Rattle.cbor.specs.Writing.{head-did}
 use Rattle.cojp_write.proofs.octets.put.put_head.Statement.{statement}
 use Rattle.cojp_write.proofs.octets.put.put_head.Tie as tie
 

@@ -1,10 +1,10 @@
-// Bytes compared one after the other, for key values and additional information.
+// Slices compared from the front.
 ghost use mathlib.Core.Path.{_≡_};
-ghost use Rattle.link_key.specs.Same.{sameBytes};
+ghost use Rattle.lemmas.specs.lists.Same.{same};
 
-// Whether two parts agree byte by byte.
+// Whether two slices are the same, byte by byte.
 pub fn same_bytes(a: &[u8], b: &[u8]) -> bool
-    ensures { λ r. ⌜ r ≡ sameBytes (now (a .entry)) (now (b .entry)) ⌝ }
+    ensures { λ r. ⌜ r ≡ same (now (a .entry)) (now (b .entry)) ⌝ }
 {
     let n = a.len();
     if b.len() != n {

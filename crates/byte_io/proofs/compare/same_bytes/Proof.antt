@@ -5,20 +5,19 @@ use lib.ListN.{length, drop}
 use native.Mathlib.Omega.{arith}
 use borrow.Author.Needs.{needs}
 use borrow.Author.Tests.{eq-eqb, ne-eqb}
-use lib.Dec.{eqb}
-use Rattle.link_key.specs.Same.{sameBytes}
-use Rattle.link_key.proofs.Same.{differ, same-turn, same-stop}
-use Rattle.link_key.proofs.compare.same_bytes.Statement.{statement}
-use Rattle.link_key.proofs.compare.same_bytes.Tie as tie
+use Rattle.lemmas.specs.lists.Same.{same}
+use Rattle.byte_io.proofs.Comparison.{same-lengths, same-turn, same-stop}
+use Rattle.byte_io.proofs.compare.same_bytes.Statement.{statement}
+use Rattle.byte_io.proofs.compare.same_bytes.Tie as tie
 
 abbrev Inv-loop : tie.InvT-loop
-Inv-loop a b n i₀ i = sameBytes a b ≡ sameBytes (drop i a) (drop i b)
+Inv-loop a b n i₀ i = same a b ≡ same (drop i a) (drop i b)
 
 abbrev μ-loop : tie.MeasureT-loop
 μ-loop a b n i₀ i = length a - i
 
 returns : tie.Need-returns Inv-loop μ-loop
-returns c = let a = c .before .args in sym (differ eqb (a .a .now) (a .b .now) (λ e. c .if1 .taken (sym e)))
+returns c = let a = c .before .args in sym (same-lengths (a .a .now) (a .b .now) (λ e. c .if1 .taken (sym e)))
 
 loop-holds : tie.Need-loop-holds Inv-loop μ-loop
 loop-holds c = refl
@@ -33,7 +32,7 @@ returns-2 : tie.Need-returns-2 Inv-loop μ-loop
 returns-2 c =
     let turn = c .before .before .before .before in
     let a = turn .before .before .args in
-    rw (turn .loop .inv, same-turn eqb (a .a .now) (a .b .now) (turn .loop .i) 0 (omega arith) (omega arith), ne-eqb _ _ (c .if2 .taken))
+    rw (turn .loop .inv, same-turn (a .a .now) (a .b .now) (turn .loop .i) (omega arith) (omega arith), ne-eqb _ _ (c .if2 .taken))
 
 add-i : tie.Need-add-i Inv-loop μ-loop
 add-i c = search needs
@@ -45,13 +44,13 @@ loop-again : tie.Need-loop-again Inv-loop μ-loop
 loop-again c =
     let turn = c .before .before .before .before in
     let a = turn .before .before .args in
-    rw (turn .loop .inv, same-turn eqb (a .a .now) (a .b .now) (turn .loop .i) 0 (omega arith) (omega arith), eq-eqb _ _ (c .if2 .left))
+    rw (turn .loop .inv, same-turn (a .a .now) (a .b .now) (turn .loop .i) (omega arith) (omega arith), eq-eqb _ _ (c .if2 .left))
 
 returns-3 : tie.Need-returns-3 Inv-loop μ-loop
 returns-3 c =
     let end = c .before in
     let a = end .before .before .args in
-    rw (end .loop .inv, same-stop eqb (a .a .now) (a .b .now) (end .loop .i) (omega arith) (omega arith))
+    rw (end .loop .inv, same-stop (a .a .now) (a .b .now) (end .loop .i) (omega arith) (omega arith))
 
 pub same-bytes-spec : {M : Type 1} → statement M
 same-bytes-spec =

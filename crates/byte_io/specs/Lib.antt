@@ -1,0 +1,3 @@
+pub mod BigEndian
+pub mod Write
+pub mod WriteLemmas
