@@ -1,5 +1,6 @@
 #!/usr/bin/env python3
-"""Checks that the documents agree with the tree: must-fail edits, layers, paths and line lengths.
+"""Checks that the documents agree with the tree: must-fail edits and their number, layers and imports,
+paths, quoted files and line lengths.
 
 Usage: tools/check_documents.py        (from any folder; prints each fault as FILE:LINE: what is wrong)
 """
@@ -215,6 +216,40 @@ def check_width(path):
             check(len(line) <= WIDTH, path, number, f'{len(line)} characters, more than {WIDTH}')
 
 
+# (f) README.md has the number of edits
+def check_number(path, edits):
+    text = ' '.join(read(path).split())
+    numbers = re.findall(r'must-fail edits, ([0-9]+) in all', text)
+    check(len(numbers) == 1, path, 1, f'"must-fail edits, N in all" is there {len(numbers)} times, not once')
+    for number in numbers:
+        line = next((at for at, words in enumerate(lines_of(path), 1) if f'{number} in all' in words), 1)
+        check(int(number) == len(edits), path, line, f'{number} must-fail edits in all: there are {len(edits)}')
+
+
+# (g) a quoted file, fenced code that begins with a language and a path, is the file
+def check_quotes(path):
+    for match in re.finditer(r'^```[a-z]+ (\S+/\S+)\n(.*?)^```$', read(path), re.M | re.S):
+        number = read(path).count('\n', 0, match.start()) + 1
+        there = os.path.isfile(os.path.join(ROOT, match.group(1)))
+        check(there, path, number, f'quotes a missing file: {match.group(1)}')
+        if there:
+            check(read(match.group(1)).rstrip('\n') == match.group(2).rstrip('\n'), path, number, f'differs from {match.group(1)}')
+
+
+# (h) no crate imports proofs of another layer
+def check_imports(crates):
+    layer_of = dict(crates)
+    for name, layer in crates:
+        for folder in ('src', 'specs', 'proofs'):
+            for file in sorted(glob.glob(os.path.join(ROOT, 'crates', name, folder, '**', '*.*'), recursive=True)):
+                path = os.path.relpath(file, ROOT)
+                if not path.endswith(('.rt', '.antt')):
+                    continue
+                for number, line in enumerate(lines_of(path), 1):
+                    for used in re.findall(r'\bRattle·([a-z0-9_]+)(?:·proofs)?\.proofs\b', line):
+                        check(layer_of.get(used) == layer, path, number, f'imports proofs of {used}, a crate of another layer')
+
+
 def main():
     crates, uses_of = layers()
     edits = {(name, edit[:-5]) for name, _ in crates if exists(f'crates/{name}/must-fail')
@@ -228,10 +263,13 @@ def main():
             named_edits(path, 'Edits', edits)
             check_layers(path, crates, uses_of)
             check_width(path)
+    check_number('README.md', edits)
+    check_imports(crates)
     documents = ['README.md'] + sorted(f'docs/{name}' for name in os.listdir(os.path.join(ROOT, 'docs')) if name.endswith('.md'))
     for path in documents:
         if path != HISTORY:
             check_paths(path)
+            check_quotes(path)
     for fault in faults:
         print(fault)
     print(f'documents: {passed} checks passed, {len(faults)} failed')
