@@ -7,6 +7,7 @@ use native.Mathlib.Omega.{arith}
 use borrow.Author.Tests.{lt-ltb}
 use lib.ListN.{length, set, length-set}
 use lib.Seq.{length-paste}
+use Rattle.address_slots.specs.SlotLemmas.{length-slots}
 use Rattle.refusal.specs.declared.Refusal.{Refusal}
 use Rattle.refusal.specs.declared.Refusal.the-variants.{Range, Full, Unknown}
 use Rattle.refusal.specs.declared.Verdict.the-variants as verdict
@@ -15,7 +16,6 @@ use Rattle.address_slots.specs.Marks.{summaryOf, refreshed, slotFoundBy}
 use Rattle.address_slots.specs.declared.groups.Summary.{Summary}
 use Rattle.address_slots.specs.declared.slot.SlotFound.{SlotFound}
 use Rattle.address_slots.specs.declared.slot.SlotFound.the-variants.{Held, Free, Nothing}
-use Rattle.address_slots.proofs.Scan.{length-places}
 use Rattle.address_slots.proofs.Found.{held-is}
 use Rattle.address_slots.proofs.Fit.{fit-all, hold-all}
 use Rattle.address_ledger.specs.range.Range.{inLimits, judged, counted, Usable}
@@ -58,11 +58,11 @@ module _ (n : ℕ) (l : Ledger) (m b : List ℕ) (r : CallResult) (k : ℕ) (e :
   pub back-held : k < n → (l′ : Ledger) → l′ ≡ more n k (set m (9 * k) 0) l → r ≡ answered (Address (l′ .first + k)) l′
       → outcome (r .answer) (r .ledger) (set m (9 * k) 0) ≡ givingBack n l m (slotFound b (slots n m))
   unfolding givingBack freed slotFound has
-  back-held h l′ q a = rw (← e, length-places n m, lt-ltb k n h, a, q)
+  back-held h l′ q a = rw (← e, length-slots n m, lt-ltb k n h, a, q)
 
   unknown-by : (s : SlotFound) → s ≡ slotFound b (slots n m) → n ≤ k → outcome (Refused Unknown) l m ≡ givingBack n l m s
   unfolding givingBack
-  unknown-by (Held j) s h = let i = held-is b (slots n m) j s in absurd (omega (arith, i .0, i .1, length-places n m))
+  unknown-by (Held j) s h = let i = held-is b (slots n m) j s in absurd (omega (arith, i .0, i .1, length-slots n m))
   unknown-by (Free j) s h = refl
   unknown-by Nothing s h = refl
 

@@ -7,15 +7,15 @@ use native.Mathlib.Omega.{arith}
 use borrow.Author.Tests.{ltb-true, ltb-false}
 use lib.Dec.{ltb}
 use lib.ListN.{length, drop, set}
+use Rattle.address_slots.specs.SlotLemmas.{length-slots}
 use Rattle.refusal.specs.declared.Refusal.{Refusal}
-use Rattle.address_slots.specs.Slot.{slots, lowest, heldBy, isFree, slotFound, freed}
+use Rattle.address_slots.specs.Slot.{slots, lowest, heldBy, isFree, slotFound}
 use Rattle.address_ledger.specs.range.Range.{counted}
 use Rattle.address_ledger.specs.Ledger.{granting, granted, givingBack, givenBack}
 use Rattle.address_ledger.specs.declared.answer.AddressAnswer.the-variants.{Address, Refused}
 use Rattle.address_slots.specs.declared.slot.SlotFound.{SlotFound}
 use Rattle.address_slots.specs.declared.slot.SlotFound.the-variants.{Held, Free, Nothing}
 use Rattle.address_ledger.proofs.range.Judged.{usable}
-use Rattle.address_slots.proofs.Scan.{length-places}
 use Rattle.address_slots.proofs.Found.{held-is, free-is, nothing-is}
 use Rattle.address_ledger.proofs.Calls.{back-accepted}
 use Rattle.address_ledger_laws.specs.History.{gives, listed, taken, Moment, step, after}
@@ -38,11 +38,11 @@ module _ (first size : ℕ) (s : Moment) (a : Agrees first size s) (c : List ℕ
   unfolding granting
   new-by (Held k) x =
       let i = held-is c (slots (counted first size) (s .memory)) k x in
-      absurd (omega (arith, none-held, i .0, i .1, length-places (counted first size) (s .memory)))
+      absurd (omega (arith, none-held, i .0, i .1, length-slots (counted first size) (s .memory)))
   new-by (Free k) x = ap (λ (j : ℕ). Address (first + j)) (free-is c (slots (counted first size) (s .memory)) k x .0)
   new-by Nothing x =
       let i = nothing-is c (slots (counted first size) (s .memory)) x in
-      absurd (omega (arith, w, i .1, length-places (counted first size) (s .memory)))
+      absurd (omega (arith, w, i .1, length-slots (counted first size) (s .memory)))
 
   new : granted (s .ledger) (s .memory) c .answer ≡ Address (first + lowest isFree (slots (counted first size) (s .memory)))
   new =
@@ -64,7 +64,7 @@ module _ (first size : ℕ) (s : Moment) (g : Agrees first size s) (b : List ℕ
       let ps = slots n (s .memory) in
       let i = held-is b (slots (counted first size) (s .memory)) k x in
       let z : first + k ≡ a = cc in
-      let w : k < counted first size = omega (arith, i .1, length-places n (s .memory)) in
+      let w : k < counted first size = omega (arith, i .1, length-slots n (s .memory)) in
       let room = usable first size (length (s .memory)) (g .accepted) (counted first size) refl .room in
       let l : lowest isFree (set (slots (counted first size) (s .memory)) k (cleared (drop (9 * k) (s .memory)))) ≤ k =
       lowest-set isFree (cleared (drop (9 * k) (s .memory))) ps k (cleared-is (drop (9 * k) (s .memory))) (i .1) in
@@ -96,7 +96,7 @@ module _ (first size : ℕ) (s : Moment) (g : Agrees first size s) (c : List ℕ
       let l : lowest isFree (slots (counted first size) (s .memory)) < a - first = ltb-true _ _ e in
       let t : taken (first + lowest isFree (slots (counted first size) (s .memory))) (s .holding) ≡ true = h (first + k) (omega arith) (omega (arith, d .above)) in
       let f : taken (first + lowest isFree (slots (counted first size) (s .memory))) (s .holding) ≡ false =
-      rw (g .tells) (free-nobody first (slots n (s .memory)) (omega (arith, below-all, length-places n (s .memory)))) in
+      rw (g .tells) (free-nobody first (slots n (s .memory)) (omega (arith, below-all, length-slots n (s .memory)))) in
       let z : true ≡ false = sym t ∙ f in
       cc
   same-by h false e = omega (arith, d .above, d .lower, ltb-false (lowest isFree (slots (counted first size) (s .memory))) (a - first) e)

@@ -1,13 +1,15 @@
 -- The bytes of any memory, read as places: what stands at place k in bytes is what the list of places has there.
 use Prim.Native.Nat.{ℕ, zero, suc, _+_, _*_, _≤_, _<_}
 use mathlib.Core.Path.{_≡_, refl, sym, ap, _∙_}
-use mathlib.Core.Bool.{Bool, true, false, _&&_}
+use mathlib.Core.Bool.{Bool, true, false}
 use mathlib.Core.List.{List, [], _∷_}
 use native.Mathlib.Omega.{arith}
 use borrow.Author.Tests.{eq-eqb, ne-eqb, eqb-true, eqb-false, lt-ltb, le-ltb}
 use lib.Dec.{eqb}
 use lib.ListN.{length, getD, take, drop, length-drop}
 use lib.Seq.{drop-drop}
+use Rattle.address_slots.specs.SlotLemmas.{length-slots}
+use Rattle.lemmas.specs.logic.Tests.{both-true}
 use Rattle.refusal.specs.declared.Refusal.the-variants.{Unknown}
 use Rattle.refusal.specs.declared.Verdict.the-variants.{Accepted}
 use Rattle.address_slots.specs.Slot.{Slot, slotAt, slots, same, lowest, has, heldBy, isFree, slotFound}
@@ -18,7 +20,7 @@ use Rattle.address_ledger.specs.declared.ledger.Ledger.{Ledger}
 use Rattle.address_slots.specs.declared.slot.SlotFound.{SlotFound}
 use Rattle.address_slots.specs.declared.slot.SlotFound.the-variants.{Held, Free, Nothing}
 use Rattle.address_ledger.proofs.range.Judged.{usable}
-use Rattle.address_slots.proofs.Scan.{length-places, mark-here, held-not, held-same}
+use Rattle.address_slots.proofs.Scan.{mark-here, held-not, held-same}
 use Rattle.address_slots.proofs.Found.{held-is}
 use Rattle.address_slots.proofs.Passing.{sought-held}
 use Rattle.address_ledger.proofs.Calls.{grant-accepted, back-accepted}
@@ -37,10 +39,6 @@ same-self zero s = refl
 same-self (suc n) [] = self-none n
 same-self (suc n) (x ∷ s) = rw (eq-eqb x x refl) (same-self n s)
 
-both : (p q : Bool) → (p && q) ≡ true → (p ≡ true) × (q ≡ true)
-both true q h = (refl, h)
-both false q h = (cc, cc)
-
 same-equal : (n : ℕ) (s t : List ℕ) → n ≤ length s → length t ≡ n → same n s t ≡ true → take n s ≡ t
 unfolding same
 same-equal zero s [] h l e = refl
@@ -48,7 +46,7 @@ same-equal zero s (y ∷ t) h l e = absurd (omega arith)
 same-equal (suc n) [] t h l e = absurd (omega arith)
 same-equal (suc n) (x ∷ s) [] h l e = absurd (omega arith)
 same-equal (suc n) (x ∷ s) (y ∷ t) h l e =
-    let u = both (eqb x y) (same n s t) e in
+    let u = both-true (eqb x y) (same n s t) e in
     rw (eqb-true x y (u .0), same-equal n s t (omega arith) (omega arith) (u .1))
 
 -- ---- the lowest place, by the bytes
@@ -122,15 +120,15 @@ module _ (m b : List ℕ) (n : ℕ) (l : length b ≡ 8) (r : 9 * n ≤ length m
 
   found-held : (k : ℕ) → LowestAt (HeldAt m b) n k → Held k ≡ slotFound b (slots n m)
   unfolding slotFound has
-  found-held k h = rw (lowest-held k h, length-places n m, lt-ltb k n (h .within))
+  found-held k h = rw (lowest-held k h, length-slots n m, lt-ltb k n (h .within))
 
   found-free : NoneAt (HeldAt m b) n → (k : ℕ) → LowestAt (FreeAt m) n k → Free k ≡ slotFound b (slots n m)
   unfolding slotFound has
-  found-free o k h = rw (none-held o, lowest-free k h, length-places n m, le-ltb n n (omega arith), lt-ltb k n (h .within))
+  found-free o k h = rw (none-held o, lowest-free k h, length-slots n m, le-ltb n n (omega arith), lt-ltb k n (h .within))
 
   found-nothing : NoneAt (HeldAt m b) n → NoneAt (FreeAt m) n → Nothing ≡ slotFound b (slots n m)
   unfolding slotFound has
-  found-nothing o h = rw (none-held o, none-free h, length-places n m, le-ltb n n (omega arith))
+  found-nothing o h = rw (none-held o, none-free h, length-slots n m, le-ltb n n (omega arith))
 
 unknown-by : (l : Ledger) (m b : List ℕ) → Accepted ≡ judged (l .first) (l .size) (length m) → (n : ℕ) → n ≡ counted (l .first) (l .size)
     → length b ≡ 8 → 9 * n ≤ length m → NoneAt (HeldAt m b) n → (s : SlotFound) → s ≡ slotFound b (slots n m)
@@ -138,7 +136,7 @@ unknown-by : (l : Ledger) (m b : List ℕ) → Accepted ≡ judged (l .first) (l
 unfolding givingBack
 unknown-by l m b f n q e r o (Held k) s =
     let i = held-is b (slots n m) k s in
-    absurd (omega (arith, i .0, i .1, none-held m b n e r o, length-places n m))
+    absurd (omega (arith, i .0, i .1, none-held m b n e r o, length-slots n m))
 unknown-by l m b f n q e r o (Free k) s = sym (back-accepted l m b f n q _ (ap (λ (s : SlotFound). givingBack n l m s) s))
 unknown-by l m b f n q e r o Nothing s = sym (back-accepted l m b f n q _ (ap (λ (s : SlotFound). givingBack n l m s) s))
 

@@ -7,8 +7,8 @@ use native.Mathlib.Omega.{arith}
 use borrow.Author.Tests.{le-leb}
 use lib.Dec.{eqb}
 use lib.ListN.{length, set, length-set}
+use Rattle.address_slots.specs.SlotLemmas.{count-most}
 use Rattle.address_slots.specs.Slot.{Slot, same, isFree, heldBy, lowest, countFree}
-use Rattle.address_slots.proofs.Runs.{count-most}
 use Rattle.address_slots.proofs.Offers.{freeAt}
 use Rattle.address_ledger.specs.Ledger.{cut}
 

@@ -1,13 +1,15 @@
 -- The laws over histories: at every moment the holdings by the history are those that the places show.
 use Prim.Native.Nat.{ℕ, zero, suc, _+_, _*_, _≤_, _<_}
 use mathlib.Core.Path.{_≡_, refl, sym, _∙_}
-use mathlib.Core.Bool.{Bool, true, false, _&&_}
+use mathlib.Core.Bool.{true, false}
 use mathlib.Core.List.{List, [], _∷_}
 use native.Mathlib.Omega.{arith}
 use borrow.Author.Tests.{ltb-true, ltb-false, lt-ltb, le-ltb, eqb-true, ne-eqb}
 use lib.Dec.{eqb, ltb}
 use lib.ListN.{length, getD, drop, set}
 use lib.Seq.{getD-drop}
+use Rattle.address_slots.specs.SlotLemmas.{length-slots}
+use Rattle.lemmas.specs.logic.Tests.{both-true}
 use Rattle.refusal.specs.declared.Refusal.the-variants.{Full, Unknown}
 use Rattle.refusal.specs.declared.Verdict.the-variants.{Accepted}
 use Rattle.address_slots.specs.Slot.{slotAt, slots, lowest, heldBy, countFree, slotFound, hold, freed}
@@ -20,7 +22,6 @@ use Rattle.address_ledger.specs.declared.answer.FreeAnswer.the-variants as free
 use Rattle.address_slots.specs.declared.slot.SlotFound.{SlotFound}
 use Rattle.address_slots.specs.declared.slot.SlotFound.the-variants.{Held, Free, Nothing}
 use Rattle.address_ledger.proofs.range.Judged.{usable, within-limits}
-use Rattle.address_slots.proofs.Scan.{length-places}
 use Rattle.address_slots.specs.Marks.{summaryOf}
 use Rattle.address_slots.proofs.Found.{held-is, free-is, nothing-is}
 use Rattle.address_slots.proofs.Offers.{freeAt, lowest-free}
@@ -43,7 +44,7 @@ opened-is first size m f = rw (← open-accepted first size m f (counted first s
 
 -- the history lists a board exactly where a place is held by it
 pub lists : (first n : ℕ) (b m : List ℕ) (hs : List Holding) → hs ≡ heldFrom first (slots n m) → listed b hs ≡ ltb (lowest (heldBy b) (slots n m)) n
-lists first n b m hs t = rw t (listed-held first b (slots n m) ∙ rw (length-places n m))
+lists first n b m hs t = rw t (listed-held first b (slots n m) ∙ rw (length-slots n m))
 
 -- what a call leaves: memory as long as before, the ledger that opening would give, and the holdings that the places show
 record Told (first size : ℕ) (m : List ℕ) (next : AddressAnswer → List Holding) (o : Outcome) : Type 0 where
@@ -67,7 +68,7 @@ module _ (first size : ℕ) (b m : List ℕ) (hs : List Holding) (f : Accepted �
   unfolding afterAsk
   ask-held k s =
       let i = held-is b (slots (counted first size) m) k s in
-      let w : lowest (heldBy b) (slots (counted first size) m) < counted first size = omega (arith, i .0, i .1, length-places (counted first size) m) in
+      let w : lowest (heldBy b) (slots (counted first size) m) < counted first size = omega (arith, i .0, i .1, length-slots (counted first size) m) in
       record { long = refl; right = still m refl; tells = rw (lists first (counted first size) b m hs t, lt-ltb _ _ w) t }
 
   ask-free : length b ≡ 8 → (k : ℕ) → Free k ≡ slotFound b (slots (counted first size) m)
@@ -76,7 +77,7 @@ module _ (first size : ℕ) (b m : List ℕ) (hs : List Holding) (f : Accepted �
   ask-free e k s =
       let n = counted first size in
       let i = free-is b (slots (counted first size) m) k s in
-      let p : length (slots (counted first size) m) ≡ counted first size = length-places (counted first size) m in
+      let p : length (slots (counted first size) m) ≡ counted first size = length-slots (counted first size) m in
       let w : k < counted first size = omega (arith, i .1 .0) in
       let o : counted first size ≤ lowest (heldBy b) (slots (counted first size) m) = omega (arith, i .1 .1) in
       let g = length-hold m b k (omega (arith, room)) e in
@@ -116,7 +117,7 @@ module _ (first size : ℕ) (b m : List ℕ) (hs : List Holding) (f : Accepted �
   give-held k s =
       let n = counted first size in
       let i = held-is b (slots (counted first size) m) k s in
-      let p : length (slots (counted first size) m) ≡ counted first size = length-places (counted first size) m in
+      let p : length (slots (counted first size) m) ≡ counted first size = length-slots (counted first size) m in
       let w : k < counted first size = omega (arith, i .1) in
       let g = length-freed m k in
       let more-right : cut (counted first size) (countFree (slots (counted first size) m) + 1) ≡ countFree (set (slots (counted first size) m) k (cleared (drop (9 * k) m))) =
@@ -166,20 +167,16 @@ gives-agrees first size s b a =
     let p = gave first size b (s .memory) (s .holding) (a .accepted) (a .tells) in
     rw (plain first size s a) (record { accepted = rw (p .long) (a .accepted); right = p .right; tells = p .tells })
 
-both : (p q : Bool) → (p && q) ≡ true → (p ≡ true) × (q ≡ true)
-both true q h = (refl, h)
-both false q h = (cc, cc)
-
 run-agrees : (first size : ℕ) (s : Moment) (cs : List Call) → wholeBoards cs ≡ true → Agrees first size s → Agrees first size (run first size s cs)
 unfolding run step wholeBoards
 run-agrees first size s [] w a = a
 run-agrees first size s (opens ∷ cs) w a =
     run-agrees first size (step first size s opens) cs w (record { accepted = a .accepted; right = refl; tells = a .tells })
 run-agrees first size s (asks b ∷ cs) w a =
-    let u = both (eqb (length b) 8) (wholeBoards cs) w in
+    let u = both-true (eqb (length b) 8) (wholeBoards cs) w in
     run-agrees first size (step first size s (asks b)) cs (u .1) (asks-agrees first size s b (eqb-true (length b) 8 (u .0)) a)
 run-agrees first size s (gives b ∷ cs) w a =
-    let u = both (eqb (length b) 8) (wholeBoards cs) w in
+    let u = both-true (eqb (length b) 8) (wholeBoards cs) w in
     run-agrees first size (step first size s (gives b)) cs (u .1) (gives-agrees first size s b a)
 run-agrees first size s (counts ∷ cs) w a = run-agrees first size s cs w a
 
@@ -202,7 +199,7 @@ module _ (first size : ℕ) (s : Moment) (a : Agrees first size s) where
   all : length (s .holding) + countFree (slots (counted first size) (s .memory)) ≡ counted first size
   all =
       rw (a .tells)
-      (held-and-free first (slots (counted first size) (s .memory)) ∙ length-places (counted first size) (s .memory))
+      (held-and-free first (slots (counted first size) (s .memory)) ∙ length-slots (counted first size) (s .memory))
 
   answered : freeCount (s .ledger) ≡ free.Count (countFree (slots (counted first size) (s .memory)))
   answered =
@@ -245,7 +242,7 @@ module _ (first size : ℕ) (s : Moment) (a : Agrees first size s) (b : List ℕ
       (omega (
         arith,
         i .1 .1,
-        length-places n (s .memory),
+        length-slots n (s .memory),
         ltb-true (lowest (heldBy b) (slots (counted first size) (s .memory))) (counted first size) (sym l ∙ y),
       ))
   same-by y Nothing x =
@@ -254,7 +251,7 @@ module _ (first size : ℕ) (s : Moment) (a : Agrees first size s) (b : List ℕ
       let l = lists first n b (s .memory) (s .holding) (a .tells) in
       absurd
       (omega
-      (arith, i .0, length-places n (s .memory), ltb-true (lowest (heldBy b) (slots (counted first size) (s .memory))) (counted first size) (sym l ∙ y)))
+      (arith, i .0, length-slots n (s .memory), ltb-true (lowest (heldBy b) (slots (counted first size) (s .memory))) (counted first size) (sym l ∙ y)))
 
   same : listed b (s .holding) ≡ true
       → granted (s .ledger) (s .memory) b ≡ outcome (Address (addressOf b (s .holding))) (s .ledger) (s .memory)
@@ -282,11 +279,11 @@ module _ (first size : ℕ) (s : Moment) (a : Agrees first size s) (b : List ℕ
   own-by y (Free k) x =
       let i = free-is b (slots (counted first size) (s .memory)) k x in
       let l = ltb-true (lowest (heldBy b) (slots (counted first size) (s .memory))) (counted first size) (sym told ∙ y) in
-      absurd (omega (arith, i .1 .1, l, length-places (counted first size) (s .memory)))
+      absurd (omega (arith, i .1 .1, l, length-slots (counted first size) (s .memory)))
   own-by y Nothing x =
       let i = nothing-is b (slots (counted first size) (s .memory)) x in
       let l = ltb-true (lowest (heldBy b) (slots (counted first size) (s .memory))) (counted first size) (sym told ∙ y) in
-      absurd (omega (arith, i .0, l, length-places (counted first size) (s .memory)))
+      absurd (omega (arith, i .0, l, length-slots (counted first size) (s .memory)))
 
   none-by : listed b (s .holding) ≡ false → (x : SlotFound) → x ≡ slotFound b (slots (counted first size) (s .memory))
       → givingBack (counted first size) (rightLedger first size (s .memory)) (s .memory) x
@@ -295,7 +292,7 @@ module _ (first size : ℕ) (s : Moment) (a : Agrees first size s) (b : List ℕ
   none-by y (Held k) x =
       let i = held-is b (slots (counted first size) (s .memory)) k x in
       let l = ltb-false (lowest (heldBy b) (slots (counted first size) (s .memory))) (counted first size) (sym told ∙ y) in
-      absurd (omega (arith, i .0, i .1, l, length-places (counted first size) (s .memory)))
+      absurd (omega (arith, i .0, i .1, l, length-slots (counted first size) (s .memory)))
   none-by y (Free k) x = refl
   none-by y Nothing x = refl
 

@@ -6,6 +6,7 @@ use mathlib.Core.List.{List}
 use native.Mathlib.Omega.{arith}
 use borrow.Author.Tests.{ltb-false}
 use lib.ListN.{length, drop}
+use Rattle.address_slots.specs.SlotLemmas.{length-slots}
 use Rattle.refusal.specs.declared.Verdict.{Verdict}
 use Rattle.refusal.specs.declared.Verdict.the-variants as verdict
 use Rattle.address_slots.specs.Slot.{slots, heldBy, lowest, has, countFree, slotFound}
@@ -16,7 +17,6 @@ use Rattle.address_ledger.specs.declared.ledger.Ledger.{Ledger}
 use Rattle.address_slots.specs.declared.slot.SlotFound.{SlotFound}
 use Rattle.address_slots.specs.declared.slot.SlotFound.the-variants.{Held, Free, Nothing}
 use Rattle.address_ledger.proofs.range.Judged.{usable}
-use Rattle.address_slots.proofs.Scan.{length-places}
 use Rattle.address_slots.specs.Marks.{slotFoundBy}
 use Rattle.address_slots.proofs.Found.{held-is}
 use Rattle.address_slots.proofs.Offers.{free-inside, held-told, free-told}
@@ -36,7 +36,7 @@ module _ (l : Ledger) (m b : List ℕ) (f : verdict.Accepted ≡ judgedOf l m) (
   grant-right e (Free k) s =
       let n = countedOf l in
       let i = free-told (l .summary) b (placesOf l m) k s in
-      let p : length (placesOf l m) ≡ countedOf l = length-places n m in
+      let p : length (placesOf l m) ≡ countedOf l = length-slots n m in
       let w : k < countedOf l = omega (arith, free-inside (placesOf l m) k (i .0)) in
       rw (places-hold n k m b w room e, c) (count-less n b (placesOf l m) k p (i .0))
   grant-right e Nothing s = c
@@ -47,7 +47,7 @@ module _ (l : Ledger) (m b : List ℕ) (f : verdict.Accepted ≡ judgedOf l m) (
   back-right (Held k) s =
       let n = countedOf l in
       let i = held-is b (placesOf l m) k s in
-      let p : length (placesOf l m) ≡ countedOf l = length-places n m in
+      let p : length (placesOf l m) ≡ countedOf l = length-slots n m in
       let w : k < countedOf l = omega (arith, i .1) in
       rw (places-freed n k m w room, c, i .0)
       (count-more n b (cleared (drop (9 * lowest (heldBy b) (placesOf l m)) m)) (placesOf l m) p (cleared-is (drop (9 * lowest (heldBy b) (placesOf l m)) m))

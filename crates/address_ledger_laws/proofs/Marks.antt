@@ -7,13 +7,13 @@ use native.Mathlib.Omega.{arith}
 use native.Mathlib.Nat.{zero-add}
 use borrow.Author.Tests.{lt-ltb, ltb-false}
 use lib.ListN.{length, drop}
+use Rattle.address_slots.specs.SlotLemmas.{length-slots}
 use Rattle.refusal.specs.declared.Verdict.{Verdict}
 use Rattle.refusal.specs.declared.Verdict.the-variants as verdict
 use Rattle.address_slots.specs.Slot.{slots, heldBy, isFree, lowest, has, slotFound, hold, freed}
 use Rattle.address_slots.specs.Marks.{marked, groupAt, marksOf, refreshed, slotFoundBy}
 use Rattle.address_slots.specs.declared.slot.SlotFound.{SlotFound}
 use Rattle.address_slots.specs.declared.slot.SlotFound.the-variants.{Held, Free, Nothing}
-use Rattle.address_slots.proofs.Scan.{length-places}
 use Rattle.address_slots.proofs.Found.{held-within}
 use Rattle.address_slots.proofs.Offers.{freeAt, held-told, free-inside-of}
 use Rattle.address_ledger.specs.range.Range.{judged, counted, Usable}
@@ -33,7 +33,7 @@ module _ (l : Ledger) (m : List ℕ) (f : verdict.Accepted ≡ judgedOf l m) whe
 
   -- ---- right marks find what a walk finds
   found-alike : (b : List ℕ) → RightMarks l m → slotFoundBy (l .summary) b (placesOf l m) ≡ slotFound b (placesOf l m)
-  found-alike b w = rw w (as-walked b (placesOf l m) (omega (arith, length-places (countedOf l) m, in-use .size)))
+  found-alike b w = rw w (as-walked b (placesOf l m) (omega (arith, length-slots (countedOf l) m, in-use .size)))
 
   pub walk-accepted : (b : List ℕ) → RightMarks l m → granting (countedOf l) l m b (slotFound b (placesOf l m)) ≡ granted l m b
   walk-accepted b w =
@@ -141,7 +141,7 @@ module _ (l : Ledger) (m b : List ℕ) (k : ℕ) (f : verdict.Accepted ≡ judge
       let q = same-place l k j e in
       let free : freeAt (placesOf l (freed m j)) j ≡ true =
       rw (places-freed (countedOf l) j m i (in-use l m f .room))
-      (free-set (placesOf l m) j (cleared (drop (9 * j) m)) (omega (arith, i, length-places (countedOf l) m)) (cleared-is (drop (9 * j) m))) in
+      (free-set (placesOf l m) j (cleared (drop (9 * j) m)) (omega (arith, i, length-slots (countedOf l) m)) (cleared-is (drop (9 * j) m))) in
       rw (← q) (w .own ∙ group-has (placesOf l (freed m j)) j free)
   back-marked (Free j) s e = let z : _≡_ {A = ℕ} 0 1 = cc in absurd (omega arith)
   back-marked Nothing s e = let z : _≡_ {A = ℕ} 0 1 = cc in absurd (omega arith)

@@ -6,9 +6,9 @@ use mathlib.Core.List.{List}
 use native.Mathlib.Omega.{arith}
 use borrow.Author.Tests.{ltb-true, ltb-false}
 use lib.ListN.{length}
+use Rattle.address_slots.specs.SlotLemmas.{length-slots}
 use Rattle.address_slots.specs.Slot.{Slot, slots, heldBy, isFree, lowest, has, slotFound}
 use Rattle.address_slots.specs.declared.slot.SlotFound.the-variants.{Held, Free, Nothing}
-use Rattle.address_slots.proofs.Scan.{length-places}
 
 module _ (b : List ℕ) (ps : List Slot) where
   held-by : (k : ℕ) (x y : Bool) → has (heldBy b) ps ≡ x → has isFree ps ≡ y → Held k ≡ slotFound b ps
@@ -56,4 +56,4 @@ module _ (b : List ℕ) (ps : List Slot) where
 
 module _ (b : List ℕ) (n : ℕ) (m : List ℕ) (k : ℕ) where
   pub held-within : Held k ≡ slotFound b (slots n m) → k < n
-  held-within e = rw (length-places n m) at (held-is b (slots n m) k e .1)
+  held-within e = rw (length-slots n m) at (held-is b (slots n m) k e .1)

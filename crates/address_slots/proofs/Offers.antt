@@ -7,10 +7,11 @@ use native.Mathlib.Omega.{arith}
 use native.Mathlib.Nat.{zero-add}
 use borrow.Author.Tests.{ltb-true}
 use lib.ListN.{length, take, drop}
+use Rattle.address_slots.specs.SlotLemmas.{length-slots}
+use Rattle.lemmas.specs.logic.Tests.{both-right}
 use Rattle.address_slots.specs.Slot.{Slot, slots, heldBy, isFree, lowest, has}
 use Rattle.address_slots.specs.Marks.{marked, freeBy, slotFoundBy}
 use Rattle.address_slots.specs.declared.slot.SlotFound.the-variants.{Held, Free}
-use Rattle.address_slots.proofs.Scan.{length-places}
 
 -- whether there is a place k and it is free
 unfoldable pub freeAt : List Slot → ℕ → Bool
@@ -53,10 +54,6 @@ free-drop (suc j) (p ∷ ps) k h = let e : suc j + k ≡ suc (j + k) = omega ari
 abbrev Offered : ℕ → List Slot → ℕ → Type 0
 Offered j ps k = (j ≤ k) × (freeAt ps (k - j) ≡ true)
 
-right : (p q : Bool) → (p && q) ≡ true → q ≡ true
-right true q h = h
-right false q h = cc
-
 offered-cons : (n x j : ℕ) (ps : List Slot) (k : ℕ) (t : Bool) → (marked zero x && has isFree (take 64 ps)) ≡ t
     → (Free k ≡ freeBy n (x / 2) (j + 64) (drop 64 ps) → Offered (j + 64) (drop 64 ps) k) → Free k ≡ freeBy (suc n) x j ps → Offered j ps k
 unfolding freeBy has
@@ -64,7 +61,7 @@ offered-cons n x j ps k true t ih e =
     let f : Free k ≡ Free (j + lowest isFree (take 64 ps)) = rw t at e in
     let g : k ≡ j + lowest isFree (take 64 ps) = cc in
     let z : k - j ≡ lowest isFree (take 64 ps) = omega arith in
-    let u = ltb-true (lowest isFree (take 64 ps)) (length (take 64 ps)) (right (marked zero x) (has isFree (take 64 ps)) t) in
+    let u = ltb-true (lowest isFree (take 64 ps)) (length (take 64 ps)) (both-right (marked zero x) (has isFree (take 64 ps)) t) in
     (omega arith, rw z (free-take 64 ps (lowest isFree (take 64 ps)) (lowest-free (take 64 ps) u)))
 offered-cons n x j ps k false t ih e =
     let o = ih (rw t at e) in
@@ -117,7 +114,7 @@ module _ (x : ℕ) (b : List ℕ) (ps : List Slot) (k : ℕ) where
 
 module _ (x : ℕ) (b : List ℕ) (n : ℕ) (m : List ℕ) (k : ℕ) where
   pub held-inside : Held k ≡ slotFoundBy x b (slots n m) → k < n
-  held-inside e = rw (length-places n m) at (held-told x b (slots n m) k e .1)
+  held-inside e = rw (length-slots n m) at (held-told x b (slots n m) k e .1)
 
   pub free-inside-of : Free k ≡ slotFoundBy x b (slots n m) → k < n
-  free-inside-of e = rw (length-places n m) at (free-inside (slots n m) k (free-told x b (slots n m) k e .0))
+  free-inside-of e = rw (length-slots n m) at (free-inside (slots n m) k (free-told x b (slots n m) k e .0))

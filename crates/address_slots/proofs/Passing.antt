@@ -8,15 +8,12 @@ use borrow.Author.Tests.{lt-ltb, le-ltb, ltb-true}
 use lib.Dec.{eqb}
 use lib.ListN.{length, drop, length-take, length-drop}
 use lib.Seq.{drop-drop}
+use Rattle.address_slots.specs.SlotLemmas.{length-slots}
+use Rattle.lemmas.specs.logic.Tests.{both-right}
 use Rattle.address_slots.specs.Slot.{slots, isFree, heldBy, lowest, has}
 use Rattle.address_slots.specs.Marks.{groupAt, marked, freeBy, slotFoundBy}
 use Rattle.address_slots.specs.declared.slot.SlotFound.{SlotFound}
 use Rattle.address_slots.specs.declared.slot.SlotFound.the-variants.{Held, Free, Nothing}
-use Rattle.address_slots.proofs.Scan.{length-places}
-
-both : (p q : Bool) → (p && q) ≡ true → q ≡ true
-both true q h = h
-both false q h = cc
 
 pub record Passed (n : ℕ) (m : List ℕ) (x left g : ℕ) : Type 0 where
   pub within : g ≤ 64
@@ -33,7 +30,7 @@ module _ (n : ℕ) (m : List ℕ) (x : ℕ) where
     unfolding has
     inside t =
         let l = ltb-true (lowest isFree (groupAt g (slots n m))) (length (groupAt g (slots n m))) t in
-        omega (arith, l, length-take 64 (drop (64 * g) (slots n m)), length-drop (64 * g) (slots n m), length-places n m)
+        omega (arith, l, length-take 64 (drop (64 * g) (slots n m)), length-drop (64 * g) (slots n m), length-slots n m)
 
     more-by : (t : Bool) → (eqb (left % 2) 1 && has isFree (groupAt g (slots n m))) ≡ t → n ≤ place
         → freeBy (suc (64 - (g + 1))) left (64 * g) (drop (64 * g) (slots n m))
@@ -41,7 +38,7 @@ module _ (n : ℕ) (m : List ℕ) (x : ℕ) where
     unfolding freeBy marked
     more-by true t l =
         let f : place ≡ 64 * g + lowest isFree (groupAt g (slots n m)) = rw t at e in
-        absurd (omega (arith, inside (both (eqb (left % 2) 1) (has isFree (groupAt g (slots n m))) t)))
+        absurd (omega (arith, inside (both-right (eqb (left % 2) 1) (has isFree (groupAt g (slots n m))) t)))
     more-by false t l =
         let j : 64 * g + 64 ≡ 64 * (g + 1) = omega arith in
         rw (t, drop-drop 64 (64 * g) (slots n m), j)
@@ -73,8 +70,8 @@ module _ (n : ℕ) (m : List ℕ) (x : ℕ) where
 module _ (x : ℕ) (b : List ℕ) (n : ℕ) (m : List ℕ) (held : ℕ) (e : held ≡ lowest (heldBy b) (slots n m)) where
   pub sought-held : held < n → Held held ≡ slotFoundBy x b (slots n m)
   unfolding slotFoundBy has
-  sought-held l = rw (← e, length-places n m, lt-ltb held n l)
+  sought-held l = rw (← e, length-slots n m, lt-ltb held n l)
 
   pub sought-free : n ≤ held → (s : SlotFound) → s ≡ freeBy 64 x 0 (slots n m) → s ≡ slotFoundBy x b (slots n m)
   unfolding slotFoundBy has
-  sought-free l s d = rw (← e, length-places n m, le-ltb held n l) d
+  sought-free l s d = rw (← e, length-slots n m, le-ltb held n l) d

@@ -9,9 +9,9 @@ use borrow.Author.Tests.{lt-ltb, le-ltb, ltb-true, ltb-false, eq-eqb, ne-eqb}
 use lib.Dec.{eqb, ltb}
 use lib.ListN.{length, take, drop}
 use lib.Seq.{drop-drop}
+use Rattle.address_slots.specs.SlotLemmas.{length-slots}
 use Rattle.address_slots.specs.Slot.{Slot, slots, isFree, lowest, has, countFree}
 use Rattle.address_slots.specs.Marks.{groupAt, withMark, refreshed}
-use Rattle.address_slots.proofs.Scan.{length-places}
 
 pub places-take : (j n : ℕ) (m : List ℕ) → take j (slots n m) ≡ slots (min j n) m
 unfolding slots
@@ -55,7 +55,7 @@ module _ (g n end place : ℕ) (m : List ℕ) (e : end ≡ min (64 * g + 64) n)
   found-at = rw (group-places g n end m e) f
 
   group-length : length (groupAt g (slots n m)) ≡ end - 64 * g
-  group-length = ap (λ (ps : List Slot). length ps) (group-places g n end m e) ∙ length-places (end - 64 * g) (drop (9 * (64 * g)) m)
+  group-length = ap (λ (ps : List Slot). length ps) (group-places g n end m e) ∙ length-slots (end - 64 * g) (drop (9 * (64 * g)) m)
 
   pub any-by : (x : Bool) → ltb place end ≡ x → ltb place end ≡ has isFree (groupAt g (slots n m))
   unfolding has
@@ -93,16 +93,6 @@ pub count-append : (ps qs : List Slot) → countFree (ps ++ qs) ≡ countFree ps
 unfolding countFree
 count-append [] qs = sym (zero-add (countFree qs))
 count-append (p ∷ ps) qs = append-cons p ps qs _ refl (count-append ps qs)
-
-most-cons : (p : Slot) (ps : List Slot) (x : Bool) → isFree p ≡ x → countFree ps ≤ length ps → countFree (p ∷ ps) ≤ suc (length ps)
-unfolding countFree
-most-cons p ps true e h = rw e (omega arith)
-most-cons p ps false e h = rw e (omega arith)
-
-pub count-most : (ps : List Slot) → countFree ps ≤ length ps
-unfolding countFree
-count-most [] = omega arith
-count-most (p ∷ ps) = most-cons p ps _ refl (count-most ps)
 
 ltb-suc : (a b : ℕ) (x : Bool) → ltb a b ≡ x → ltb (suc a) (suc b) ≡ ltb a b
 ltb-suc a b true e = lt-ltb (suc a) (suc b) (omega (arith, ltb-true a b e)) ∙ sym e

@@ -7,7 +7,7 @@ use native.Mathlib.Omega.{arith}
 use native.Mathlib.Nat.{add-zero, zero-add}
 use borrow.Author.Tests.{eq-eqb, ne-eqb}
 use lib.Dec.{eqb}
-use lib.ListN.{length, getD, take, drop}
+use lib.ListN.{getD, take, drop}
 use lib.Seq.{getD-drop, drop-drop}
 use Rattle.address_slots.specs.Slot.{Slot, slotAt, slots, same, lowest, isFree, heldBy, countFree}
 
@@ -65,11 +65,6 @@ module _ (at : ℕ) (m : List ℕ) where
   free-not h = rw (mark-here at m [], eq-eqb _ _ h)
 
 -- ---- the places
-pub length-places : (n : ℕ) (m : List ℕ) → length (slots n m) ≡ n
-unfolding slots
-length-places zero m = refl
-length-places (suc n) m = ap suc (length-places n (drop 9 m))
-
 pub places-step : (n i : ℕ) (m : List ℕ) → i < n
     → slots (n - i) (drop (9 * i) m) ≡ slotAt (drop (9 * i) m) ∷ slots (n - (i + 1)) (drop (9 * (i + 1)) m)
 unfolding slots

@@ -1,27 +1,17 @@
 -- The walk of opening: after the groups above are surveyed, what was counted and marked is theirs.
-use Prim.Native.Nat.{ℕ, zero, suc, _+_, _-_, _*_, _^_, _≤_, _<_, min}
+use Prim.Native.Nat.{ℕ, suc, _+_, _-_, _*_, _^_, _≤_, _<_, min}
 use mathlib.Core.Path.{_≡_, refl, sym, ap, _∙_}
-use mathlib.Core.Bool.{Bool, true, false, not}
+use mathlib.Core.Bool.{not}
 use mathlib.Core.List.{List, []}
 use native.Mathlib.Omega.{arith}
 use lib.Dec.{eqb}
-use lib.ListN.{take, drop, take-append-drop, length-drop, drop-of-length-le}
+use lib.ListN.{drop, take-append-drop, length-drop, drop-of-length-le}
 use lib.Pow.{pow-mono}
 use lib.Seq.{drop-drop}
+use Rattle.address_slots.specs.SlotLemmas.{length-slots, count-most, marks-bound}
 use Rattle.address_slots.specs.Slot.{Slot, slots, isFree, has, countFree}
 use Rattle.address_slots.specs.Marks.{bit, groupAt, marksOf, summaryOf}
-use Rattle.address_slots.specs.declared.groups.Summary.{Summary}
-use Rattle.address_slots.proofs.Scan.{length-places}
-use Rattle.address_slots.proofs.Runs.{group-places, count-append, count-most, has-count}
-
-pub bit-most : (b : Bool) → bit b ≤ 1
-bit-most true = omega arith
-bit-most false = omega arith
-
-pub marks-bound : (n : ℕ) (ps : List Slot) → marksOf n ps < 2 ^ n
-unfolding marksOf
-marks-bound zero ps = omega arith
-marks-bound (suc n) ps = omega (arith, marks-bound n (drop 64 ps), bit-most (has isFree (take 64 ps)))
+use Rattle.address_slots.proofs.Runs.{group-places, count-append, has-count}
 
 pub record Surveyed (n : ℕ) (m : List ℕ) (free marks above : ℕ) : Type 0 where
   pub within : above ≤ 64
@@ -31,7 +21,7 @@ pub record Surveyed (n : ℕ) (m : List ℕ) (free marks above : ℕ) : Type 0 w
 pub survey-none : (n : ℕ) (m : List ℕ) → n ≤ 4096 → Surveyed n m 0 0 64
 unfolding countFree marksOf
 survey-none n m h =
-    let e : drop (64 * 64) (slots n m) ≡ [] = drop-of-length-le (slots n m) {i = 64 * 64} (omega (arith, length-places n m)) in
+    let e : drop (64 * 64) (slots n m) ≡ [] = drop-of-length-le (slots n m) {i = 64 * 64} (omega (arith, length-slots n m)) in
     record { within = omega arith; counted = rw e; marked = refl }
 
 module _ (n : ℕ) (m : List ℕ) (free marks above : ℕ) (w : Surveyed n m free marks above) (h : n ≤ 4096) (p : 0 < above) where
@@ -58,7 +48,7 @@ module _ (n : ℕ) (m : List ℕ) (free marks above : ℕ) (w : Surveyed n m fre
         ∙ rw (next, ← w .counted, found-is)
 
     pub sum-most : free + found ≤ 4096
-    sum-most = omega (arith, whole, count-most (drop (64 * (above - 1)) (slots n m)), length-drop (64 * (above - 1)) (slots n m), length-places n m)
+    sum-most = omega (arith, whole, count-most (drop (64 * (above - 1)) (slots n m)), length-drop (64 * (above - 1)) (slots n m), length-slots n m)
 
     pub survey-more : (mark : ℕ) → mark ≡ bit (not (eqb found 0)) → Surveyed n m (free + found) (mark + 2 * marks) (above - 1)
     unfolding marksOf

@@ -9,7 +9,8 @@ use Rattle.lemmas.specs.lists.Xor.{_⊕_}
 use Rattle.lemmas.specs.lists.Table.{table}
 use Rattle.aes.specs.Field.{xtime, affineBit, affineFrom, affine, subByte}
 use Rattle.aes.specs.Cipher.{cell, subBytes, shiftRows, addRoundKey, word, addWord, rotWord, subWord, rcon, nextKey, roundKeys, rounds, cipher}
-use Rattle.aes.specs.Bounds.{Bytes, xor-byte, none, one, joined, tabled}
+use Rattle.aes.specs.Bounds.{Bytes}
+use Rattle.aes.specs.BoundsLemmas.{xor-byte, none, one, joined, tabled}
 
 -- ---- bytes
 affine-bit : (b i : ℕ) → affineBit b i < 2

@@ -1,16 +1,17 @@
 -- The two tables of the source follow their rules: each is tested at every entry, by computation.
 -- Assumes nothing.
 use mathlib.Core.Path.{_≡_, refl, sym}
-use mathlib.Core.Bool.{Bool}
+use mathlib.Core.Bool.{Bool, _&&_}
 use mathlib.Core.List.{List, [], _∷_}
 use Prim.Native.Nat.{ℕ, _/_, _%_, _<_}
 use lib.Dec.{T, eqb, eqb→eq}
 use lib.ListN.{getD}
+use Rattle.lemmas.specs.lists.Every.{every-at, T-left, T-right}
 use Rattle.lemmas.specs.lists.Xor.{_⊕_}
-use Rattle.lemmas.specs.lists.Table.{table, table-self}
+use Rattle.lemmas.specs.lists.Table.{table}
+use Rattle.lemmas.specs.lists.TableLemmas.{table-self}
 use Rattle.aes.specs.Field.{subByte, affine, affineFrom, affineBit, inverse, powers, _•_, times, xtime}
 use Rattle.aes.specs.Words.{bytesOf, part, RoundTable}
-use Rattle.aes.proofs.Test.{at, both, both-left, both-right}
 
 unfoldable pub list : List ℕ
 list =
@@ -60,7 +61,7 @@ right b s = eqb s (subByte b)
 
 list-rule : (b : ℕ) → b < 256 → getD list b 0 ≡ subByte b
 unfolding list right subByte affine affineFrom affineBit inverse powers _•_ times _⊕_ xtime
-list-rule b h = eqb→eq (getD list b 0) (subByte b) (at right list tt b h)
+list-rule b h = eqb→eq (getD list b 0) (subByte b) (every-at right list tt b h)
 
 pub substitutes : list ≡ table 256 subByte
 unfolding list
@@ -69,18 +70,18 @@ substitutes = sym (table-self list 0 256 subByte refl (λ b h. sym (list-rule b 
 -- the bytes of x are what s adds in row 0
 fits : ℕ → ℕ → Bool
 fits s x =
-    both (eqb (x % 256) (2 • s)) (both (eqb (x / 256 % 256) s) (both (eqb (x / 65536 % 256) s) (eqb (x / 16777216 % 256) (3 • s))))
+    eqb (x % 256) (2 • s) && (eqb (x / 256 % 256) s && (eqb (x / 65536 % 256) s && eqb (x / 16777216 % 256) (3 • s)))
 
 fitting : (s x : ℕ) → T (fits s x) → bytesOf x ≡ part s
 unfolding fits
 fitting s x t =
-    let t1 = both-right (eqb (x % 256) (2 • s)) (both (eqb (x / 256 % 256) s) (both (eqb (x / 65536 % 256) s) (eqb (x / 16777216 % 256) (3 • s)))) t in
-    let t2 = both-right (eqb (x / 256 % 256) s) (both (eqb (x / 65536 % 256) s) (eqb (x / 16777216 % 256) (3 • s))) t1 in
-    let e0 : x % 256 ≡ 2 • s = eqb→eq (x % 256) (2 • s) (both-left (eqb (x % 256) (2 • s)) _ t) in
-    let e1 : x / 256 % 256 ≡ s = eqb→eq (x / 256 % 256) s (both-left (eqb (x / 256 % 256) s) _ t1) in
-    let e2 : x / 65536 % 256 ≡ s = eqb→eq (x / 65536 % 256) s (both-left (eqb (x / 65536 % 256) s) (eqb (x / 16777216 % 256) (3 • s)) t2) in
+    let t1 = T-right (eqb (x % 256) (2 • s)) (eqb (x / 256 % 256) s && (eqb (x / 65536 % 256) s && eqb (x / 16777216 % 256) (3 • s))) t in
+    let t2 = T-right (eqb (x / 256 % 256) s) (eqb (x / 65536 % 256) s && eqb (x / 16777216 % 256) (3 • s)) t1 in
+    let e0 : x % 256 ≡ 2 • s = eqb→eq (x % 256) (2 • s) (T-left (eqb (x % 256) (2 • s)) _ t) in
+    let e1 : x / 256 % 256 ≡ s = eqb→eq (x / 256 % 256) s (T-left (eqb (x / 256 % 256) s) _ t1) in
+    let e2 : x / 65536 % 256 ≡ s = eqb→eq (x / 65536 % 256) s (T-left (eqb (x / 65536 % 256) s) (eqb (x / 16777216 % 256) (3 • s)) t2) in
     let e3 : x / 16777216 % 256 ≡ 3 • s
-    = eqb→eq (x / 16777216 % 256) (3 • s) (both-right (eqb (x / 65536 % 256) s) (eqb (x / 16777216 % 256) (3 • s)) t2) in
+    = eqb→eq (x / 16777216 % 256) (3 • s) (T-right (eqb (x / 65536 % 256) s) (eqb (x / 16777216 % 256) (3 • s)) t2) in
     cc
 
 -- against the list as it is written: computing each inverse again would take long
@@ -89,7 +90,7 @@ fits-list b x = fits (getD list b 0) x
 
 words-test : (b : ℕ) → b < 256 → T (fits-list b (getD words b 0))
 unfolding list words fits-list fits _•_ times _⊕_ xtime
-words-test b h = at fits-list words tt b h
+words-test b h = every-at fits-list words tt b h
 
 words-rule : (b : ℕ) → b < 256 → bytesOf (getD words b 0) ≡ part (subByte b)
 unfolding fits-list

@@ -6,12 +6,12 @@ use Prim.Native.Nat.{ℕ, _<_, min}
 use native.Mathlib.Nat.{min-eq-left}
 use lib.ListN.{length}
 use Rattle.lemmas.specs.lists.Xor.{_⊕_}
-use Rattle.lemmas.specs.lists.Table.{length-table}
+use Rattle.lemmas.specs.lists.Every.{same-below}
+use Rattle.lemmas.specs.lists.TableLemmas.{length-table}
 use Rattle.aes.specs.Field.{_•_, xtime, times, powers, inverse}
 use Rattle.aes.specs.Cipher.{cipher, addRoundKey}
 use Rattle.aes.specs.Laws.{AesLaws}
 use Rattle.aes.proofs.Bounds.{block-bytes}
-use Rattle.aes.proofs.Test.{same-below}
 
 inverse-is : (b : ℕ) → b < 256 → 0 < b → b • inverse b ≡ 1
 unfolding _⊕_ _•_ xtime times powers inverse

@@ -1,4 +1,3 @@
-pub mod Test
 pub mod Entries
 pub mod Words
 pub mod RoundKeys

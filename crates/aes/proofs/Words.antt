@@ -9,7 +9,8 @@ use native.Mathlib.Omega.{arith}
 use lib.Bits.{bitXor, xor-shr, xor-mod}
 use lib.ListN.{getD}
 use Rattle.lemmas.specs.lists.Digits as number
-use Rattle.lemmas.specs.lists.Xor.{_⊕_, turn}
+use Rattle.lemmas.specs.lists.Xor.{_⊕_}
+use Rattle.lemmas.specs.lists.XorLemmas.{turn}
 use Rattle.lemmas.specs.lists.Table.{table}
 use Rattle.aes.specs.Field.{_•_, subByte}
 use Rattle.aes.specs.Cipher.{subBytes, shiftRows, mixColumns, addRoundKey}

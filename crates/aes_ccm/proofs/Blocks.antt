@@ -9,7 +9,7 @@ use lib.ListN.{length, getD, drop, length-drop, drop-of-length-le}
 use lib.Seq.{drop-drop}
 use Rattle.lemmas.specs.lists.Table.{table}
 use Rattle.aes.specs.Cipher.{cipher, addRoundKey}
-use Rattle.lemmas.specs.lists.Table.{table-self}
+use Rattle.lemmas.specs.lists.TableLemmas.{table-self}
 use Rattle.aes_ccm.specs.Ccm.{block, blocksOf, blocks, chain, headed, two, framing, lastOf, firstBlock, flags}
 
 count : (n : ℕ) → 0 < n → (n + 15) / 16 ≡ suc ((n - 16 + 15) / 16)

@@ -10,7 +10,7 @@ use borrow.Rule.Slice.PartMut.{putMid}
 use lib.ListN.{length, take, drop, length-append, length-drop, drop-of-length-le}
 use lib.Seq.{take-at, drop-at, take-all, drop-drop, length-take-le}
 use Rattle.lemmas.specs.lists.Same.{same}
-use Rattle.lemmas.specs.lists.Table.{length-table}
+use Rattle.lemmas.specs.lists.TableLemmas.{length-table}
 use Rattle.refusal.specs.declared.Refusal.{Refusal}
 use Rattle.refusal.specs.declared.Refusal.the-variants.{Room, Range, Seal}
 use Rattle.aes.specs.Cipher.{roundKeys}

@@ -12,8 +12,9 @@ use lib.Seq.{take-at, drop-at}
 use Rattle.refusal.specs.declared.Refusal.{Refusal}
 use Rattle.refusal.specs.declared.Refusal.the-variants.{Seal}
 use Rattle.refusal.specs.Refusal.{numberOf}
-use Rattle.lemmas.specs.lists.Same.{same-equal, same-refl}
-use Rattle.aes.specs.Bounds.{Bytes, cut as cut-bytes}
+use Rattle.lemmas.specs.lists.SameLemmas.{same-equal, same-refl}
+use Rattle.aes.specs.Bounds.{Bytes}
+use Rattle.aes.specs.BoundsLemmas.{cut as cut-bytes}
 use Rattle.aes.specs.Cipher.{roundKeys}
 use Rattle.aes.specs.Laws.{AesLaws}
 use Rattle.aes_ccm.specs.declared.WriteResult.{WriteResult}

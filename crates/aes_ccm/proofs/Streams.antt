@@ -8,9 +8,12 @@ use native.Mathlib.Decide.{decLt}
 use native.Mathlib.Omega.{arith}
 use lib.ListN.{length, getD, length-append, List·getD-append}
 use lib.Seq.{getD-append-add, getD-take}
-use Rattle.lemmas.specs.lists.Xor.{_⊕_, cancel}
-use Rattle.lemmas.specs.lists.Table.{table, table-ext, table-self, getD-table, length-table}
-use Rattle.aes.specs.Bounds.{Bytes, xor-byte, tabled}
+use Rattle.lemmas.specs.lists.Xor.{_⊕_}
+use Rattle.lemmas.specs.lists.XorLemmas.{cancel}
+use Rattle.lemmas.specs.lists.Table.{table}
+use Rattle.lemmas.specs.lists.TableLemmas.{table-ext, table-self, getD-table, length-table}
+use Rattle.aes.specs.Bounds.{Bytes}
+use Rattle.aes.specs.BoundsLemmas.{xor-byte, tabled}
 use Rattle.aes.specs.Cipher.{roundKeys}
 use Rattle.aes.specs.Laws.{AesLaws}
 use Rattle.aes_ccm.specs.Ccm.{counter, stream, streams, crypt, lastOf, mac, tag}

@@ -1,3 +1,4 @@
 pub mod BigEndian
+pub mod BigEndianLemmas
 pub mod Write
 pub mod WriteLemmas

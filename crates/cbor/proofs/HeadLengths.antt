@@ -10,7 +10,7 @@ use lib.Dec.{ltb}
 use lib.ListN.{length, length-append}
 use Rattle.cbor.specs.Encode.{extraOf, shortest}
 use Rattle.cbor.specs.HeadLaws.{HeadLaws}
-use Rattle.cbor.proofs.RoundTrip.{length-bytesOf}
+use Rattle.byte_io.specs.BigEndianLemmas.{length-bytesOf}
 
 pub length-head : (m n : ℕ) → length (shortest m n) ≡ extraOf n + 1
 unfolding shortest

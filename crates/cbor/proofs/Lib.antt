@@ -1,4 +1,3 @@
-mod Numbers
 pub mod Places
 pub mod Heads
 pub mod Outcomes

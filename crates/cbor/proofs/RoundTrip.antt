@@ -1,11 +1,10 @@
 -- What was encoded is read back: a head by its length information, an item by its parts. Shown for every reader of heads that reads the written ones.
-use Prim.Native.Nat.{ℕ, zero, suc, _+_, _*_, _-_, _/_, _%_, _^_, _≤_, _<_}
+use Prim.Native.Nat.{ℕ, suc, _+_, _*_, _-_, _/_, _%_, _^_, _≤_, _<_}
 use mathlib.Core.Path.{_≡_, refl, ap, _∙_}
 use mathlib.Core.Bool.{Bool, true, false, cond}
 use lib.Dec.{eqb}
 use mathlib.Core.List.{List, [], _∷_, _++_, append-assoc, append-nil}
 use native.Mathlib.Omega.{arith}
-use native.Mathlib.Nat.{pow-suc, div-lt-iff-lt-mul, mul-assoc}
 use native.Mathlib.Decide.{decLt}
 use borrow.Author.Tests.{le-ltb, lt-ltb, eq-eqb}
 use lib.ListN.{length, length-append}
@@ -16,26 +15,8 @@ use Rattle.cbor.specs.Item.{float, none, more, empty, pair, count, count
 use Rattle.cbor.specs.Decode.{Outcome, got, andThen, next, argument, heading, Heading, members, pairs, majorOf, content, decodeBy, payloadBy}
 use Rattle.cbor.specs.Strict.{isShort, strictHeading, headBy}
 use Rattle.cbor.specs.Encode.{headWith, infoOf, extraOf, shortest, sizeInfo, encode, encodes, encodePairs}
+use Rattle.byte_io.specs.BigEndianLemmas.{length-bytesOf, digits-bytesOf}
 use Rattle.cbor.proofs.Heads.{next-got, argument-direct, argument-wide}
-
-digits-append : (v : ℕ) (a b : List ℕ) → digits v (a ++ b) ≡ digits (digits v a) b
-unfolding digits
-digits-append v [] b = refl
-digits-append v (x ∷ a) b = digits-append (v * 256 + x) a b
-
-pub length-bytesOf : (k n : ℕ) → length (bytesOf k n) ≡ k
-unfolding bytesOf
-length-bytesOf zero n = refl
-length-bytesOf (suc k) n = omega (arith, length-append (bytesOf k (n / 256)) (n % 256 ∷ []), length-bytesOf k (n / 256))
-
-digits-bytesOf : (k v n : ℕ) → n < 256 ^ k → digits v (bytesOf k n) ≡ v * 256 ^ k + n
-unfolding bytesOf digits
-digits-bytesOf zero v n h = omega arith
-digits-bytesOf (suc k) v n h =
-    let l : n / 256 < 256 ^ k = div-lt-iff-lt-mul {k = 256} {x = n} {y = 256 ^ k} (omega arith) .1 (rw (pow-suc 256 k) at h) in
-    digits-append v (bytesOf k (n / 256)) (n % 256 ∷ [])
-    ∙ ap (λ (x : ℕ). x * 256 + n % 256) (digits-bytesOf k v (n / 256) l)
-    ∙ rw (pow-suc 256 k, ← mul-assoc v (256 ^ k) 256) (omega arith)
 
 next-all : (s r : List ℕ) → next (length s) (s ++ r) ≡ got s r
 next-all s r = next-got (length s) (s ++ r) (omega (arith, length-append s r)) ∙ rw (take-append-seam s r, drop-append-seam s r)

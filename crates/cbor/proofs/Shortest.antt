@@ -12,12 +12,12 @@ use native.Mathlib.Nat.{zero-add}
 use borrow.Author.Tests.{le-ltb, lt-ltb, eq-eqb, ne-eqb, eqb-true, eqb-false}
 use lib.ListN.{length, take, drop, length-drop, length-take, take-append-drop}
 use Rattle.byte_io.specs.BigEndian.{digits, bigEndian}
+use Rattle.lemmas.specs.lists.BigEndian.{grows}
 use Rattle.cbor.specs.Decode.{got, argument, heading, Heading}
 use Rattle.cbor.specs.Encode.{infoOf, extraOf, shortest}
 use Rattle.cbor.specs.Strict.{isShort, short}
 use Rattle.cbor.specs.Laws.{Suffix, Bytes}
 use Rattle.cbor.proofs.Heads.{next-got, next-cut, argument-direct, argument-form, argument-wide}
-use Rattle.cbor.proofs.Numbers.{grows}
 use Rattle.cbor.proofs.Outcomes.{never, then-got, same-value, same-rest}
 use Rattle.cbor.proofs.HeadLengths.{length-head}
 

@@ -1,23 +1,22 @@
 -- A list that was read is kept: what is written of its members reads back as them, one after the other.
 use Prim.Native.Nat.{ℕ, _-_, _≤_}
 use native.Mathlib.Omega.{arith}
-use mathlib.Core.Path.{_≡_, refl, ap, sym, _∙_}
-use mathlib.Core.Bool.{Bool, true, false, cond, _&&_}
+use mathlib.Core.Path.{_≡_, refl, _∙_}
+use mathlib.Core.Bool.{Bool, true, false, cond}
 use mathlib.Core.List.{List, [], _∷_, _++_}
-use lib.Dec.{leb, eqb}
-use lib.ListN.{length, take, replicate, length-append}
+use lib.Dec.{leb}
+use lib.ListN.{length, replicate, length-append}
 use lib.Seq.{take-append-seam}
 use borrow.Author.Tests.{leb-true, le-leb, eq-eqb}
-use Rattle.lemmas.specs.lists.Same.{same, same-refl}
-use Rattle.lemmas.specs.logic.Tests.{both}
-use Rattle.cbor.specs.Decode.{decode, got}
+use Rattle.lemmas.specs.lists.SameLemmas.{same-refl}
 use Rattle.cbor.specs.Encode.{encode, encodes, shortest}
-use Rattle.cbor.specs.Item.{Fit, depth}
+use Rattle.cbor.specs.Item.{Fit}
 use Rattle.cbor.specs.Laws.{ItemLaws}
-use Rattle.cbor.specs.View.{Scalar, number, minus, string, other, View, scalar, list, scalarOf, scalarAt, andOn}
+use Rattle.cbor.specs.View.{Scalar, number, minus, string, other, View, scalar, list}
 use Rattle.cojp.specs.Bytes.{membersAt}
-use Rattle.cojp.specs.Lists.{Picked, nothing, picked, before, scalarItem, itemsOf, written, stringsIn, fitting, inArray, listOf, listAnswer}
-use Rattle.cojp.specs.Lists.{bytesIn, sameAs, kept, listTaken, blacklistTaken}
+use Rattle.cojp.specs.Lists.{Picked, nothing, picked, before, scalarItem, itemsOf, written, stringsIn, fitting, listOf, listAnswer}
+use Rattle.cojp.specs.Lists.{sameAs, kept, listTaken, blacklistTaken}
+use Rattle.cojp.specs.ListLemmas.{scalar-back, scalar-depth}
 use Rattle.cojp.specs.Octets.{padded}
 use Rattle.cojp.specs.Writing.{listInRange}
 
@@ -26,26 +25,14 @@ abbrev pub Small : List Scalar → Type 0
 Small [] = Unit {0}
 Small (p ∷ ps) = Fit (scalarItem p) × Small ps
 
-plain-back : (p : Scalar) → scalarOf (scalarItem p) ≡ p
-plain-back (number n) = refl
-plain-back (minus n) = refl
-plain-back (string s) = refl
-plain-back other = refl
-
-shallow : (p : Scalar) → depth (scalarItem p) ≤ 6
-shallow (number n) = omega arith
-shallow (minus n) = omega arith
-shallow (string s) = omega arith
-shallow other = omega arith
-
 module _ (laws : ItemLaws) where
   -- what is written of them reads back
   pub members-back : (ps : List Scalar) → Small ps → membersAt (length ps) (written ps) ≡ ps
   members-back [] h = refl
   members-back (p ∷ ps) h =
       let l = encode (scalarItem p) ++ encodes (itemsOf ps) in
-      let got-it = laws .round-trip (scalarItem p) 6 (encodes (itemsOf ps)) (shallow p) (h .0) in
-      let here = laws .item-plain 5 l (scalarItem p) (encodes (itemsOf ps)) got-it ∙ plain-back p in
+      let got-it = laws .round-trip (scalarItem p) 6 (encodes (itemsOf ps)) (scalar-depth p) (h .0) in
+      let here = laws .item-plain 5 l (scalarItem p) (encodes (itemsOf ps)) got-it ∙ scalar-back p in
       rw (got-it, here, members-back ps (h .1))
 
   -- so a list of them is kept, if they are what would be picked of them and have room

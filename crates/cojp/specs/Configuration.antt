@@ -228,6 +228,3 @@ readStrictConfigurationAs v p = readConfigurationBy v strictHeading p
 -- in document 01's form
 abbrev pub readConfiguration : List ℕ → ConfigurationRead
 readConfiguration p = readConfigurationAs Draft p
-
-abbrev pub readStrictConfiguration : List ℕ → ConfigurationRead
-readStrictConfiguration p = readStrictConfigurationAs Draft p

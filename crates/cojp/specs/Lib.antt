@@ -12,6 +12,9 @@ pub mod Request
 pub mod Configuration
 pub mod Reported
 pub mod Writing
+pub mod DispositionLemmas
+pub mod WritingLemmas
+pub mod ListLemmas
 pub mod Same
 pub mod Laws
 pub mod InRange

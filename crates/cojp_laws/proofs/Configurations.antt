@@ -5,6 +5,7 @@ use mathlib.Core.Bool.{Bool, not}
 use mathlib.Core.List.{List}
 use native.Mathlib.Omega.{arith}
 use lib.ListN.{length}
+use borrow.Author.Tests.{not-false}
 use Rattle.refusal.specs.declared.Refusal.the-variants.{Range}
 use Rattle.cbor.specs.Encode.{encode}
 use Rattle.cbor.specs.HeadLaws.{HeadLaws}
@@ -48,7 +49,7 @@ use Rattle.cojp_laws.proofs.Forms.{OfForm, of-form, keys-fitting, list-
 use Rattle.cojp_laws.proofs.ReadBack.{then, parameter-read, payload-read, following-good, kept-if}
 use Rattle.cojp_laws.proofs.ReadBack.{octetsGood, octetsBack, octets-back, jrc-back, octets-same, addressItems, addressGood, addressBack, address-back, address-same}
 use Rattle.cojp_laws.proofs.ReadBack.{keysGood, keysBack, keys-back, keys-same, listGood, listBack, list-back, list-same, rateGood, rateBack, rate-same}
-use Rattle.cojp_laws.proofs.Sizes.{emits, in-range, fitted, fine-configuration}
+use Rattle.cojp_laws.proofs.Sizes.{emits, fitted, fine-configuration}
 use Rattle.cojp_laws.proofs.Typed.{TypedConfiguration}
 use Rattle.cojp_laws.proofs.Unreported.{unreported}
 
@@ -241,7 +242,7 @@ module _ (heads : HeadLaws) (items : ItemLaws) (lists : ListLaws) (keys : KeyLaw
       let s = encode (map (configurationPairs c)) in
       let (a, x) = emits (not (configurationInRange v c)) Range (fits s) p e in
       let (n, y) = fitted s p x in
-      let within = configuration-fits v c (in-range (configurationInRange v c) a) in
+      let within = configuration-fits v c (not-false (configurationInRange v c) a) in
       let o = of-form v c (within .form) in
       let (met, all) = configuration-read keys lists v c within o (typed .sixteen) in
       let back = same-back lists v c o met (readConfigurationBy v (headBy b) s) (whole-read v b within n met all) in

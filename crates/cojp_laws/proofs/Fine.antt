@@ -31,7 +31,8 @@ use Rattle.cojp.specs.declared.disposition.Disposition.{Disposition}
 use Rattle.cojp.specs.declared.disposition.Disposition.the-variants.{Absent, Taken, Discarded}
 use Rattle.protocol_version.specs.declared.Version.{Version}
 use Rattle.protocol_version.specs.declared.Version.the-variants.{Draft, Published}
-use Rattle.cojp_write.proofs.octets.Joined.{join-count, join-length, chain-count, chain-length, labelled-length, array-length}
+use Rattle.cojp.specs.WritingLemmas.{join-count, join-length, chain-count, chain-length}
+use Rattle.cojp_write.proofs.octets.Joined.{labelled-length, array-length}
 use Rattle.cojp_write.proofs.octets.Strings.{string-length}
 use Rattle.cojp_laws.proofs.Forms.{not-taken, Fitting}
 

@@ -2,7 +2,7 @@
 use Prim.Native.Nat.{ℕ, zero, suc, _≤_}
 use mathlib.Core.Path.{_≡_, refl, ap, sym, _∙_}
 use mathlib.Core.Bool.{Bool, true, false, cond, _&&_}
-use mathlib.Core.List.{List, [], _∷_, _++_, List·Memᴰ, List·Memᴰ·head, List·Memᴰ·tail}
+use mathlib.Core.List.{List, [], _∷_, List·Memᴰ, List·Memᴰ·head, List·Memᴰ·tail, Memᴰ·append-right}
 use native.Mathlib.Omega.{arith}
 use borrow.Author.Tests.{leb-true}
 use lib.Dec.{leb}
@@ -13,10 +13,11 @@ use Rattle.cbor.specs.Encode.{shortest, encode, encodes}
 use Rattle.cbor.specs.HeadLaws.{HeadLaws}
 use Rattle.cbor.specs.Item.{Item, array, count, depths, Fit, Fits}
 use Rattle.cbor.specs.Laws.{ItemLaws, Bytes, Suffix}
-use Rattle.cbor.specs.View.{Scalar, number, minus, string, other, ScalarValid, scalarAt, andOn, scalarsAt}
+use Rattle.cbor.specs.View.{Scalar, number, minus, string, other, scalarAt, andOn, scalarsAt}
 use Rattle.cojp.specs.Lists.{Picked, nothing, picked, before, scalarItem, itemsOf, stringsIn, errorReportsIn, some, isInteger, bytesIn, listAnswer, fitting, sameAs, kept, pickedItems, itemsIn}
 use Rattle.cojp.specs.Bytes.{membersAt}
 use Rattle.protocol_version.specs.Version.{byVersion}
+use Rattle.cojp.specs.ListLemmas.{scalar-fit}
 use Rattle.cojp.specs.Writing.{labelled, listPairs, listInRange, missing}
 use Rattle.cojp.specs.declared.list.ItemList.{ItemList}
 use Rattle.cojp.specs.declared.list.ListParameter.{ListParameter}
@@ -26,24 +27,14 @@ use Rattle.cojp_list.specs.Laws.{ListWritten}
 use Rattle.cojp_laws.proofs.Fine.{Fine, FineItems, fine-if, fine-none, fine-array}
 
 -- ---- bytes are bytes in every part
-later : (a t : List ℕ) (x : ℕ) → List·Memᴰ x t → List·Memᴰ x (a ++ t)
-later [] t x m = m
-later (y ∷ a) t x m = List·Memᴰ·tail (later a t x m)
-
 earlier : (n : ℕ) (s : List ℕ) (x : ℕ) → List·Memᴰ x (take n s) → List·Memᴰ x s
 earlier (suc n) (y ∷ s) x (List·Memᴰ·head e) = List·Memᴰ·head e
 earlier (suc n) (y ∷ s) x (List·Memᴰ·tail m) = List·Memᴰ·tail (earlier n s x m)
 
 bytes-after : (t s : List ℕ) → Suffix 1 t s → Bytes s → Bytes t
-bytes-after t s f b x m = b x (rw (f .whole) (later (f .front) t x m))
+bytes-after t s f b x m = b x (rw (f .whole) (Memᴰ·append-right (f .front) m))
 
 -- ---- what is read of bytes fits
-plain-fit : (p : Scalar) → ScalarValid p → Fit (scalarItem p)
-plain-fit (number n) h = h
-plain-fit (minus n) h = h
-plain-fit (string s) h = h
-plain-fit other h = omega arith
-
 module _ (laws : ItemLaws) where
   plains-fit : (d n : ℕ) (s : List ℕ) → Bytes s → Fits (itemsOf (scalarsAt d n s))
   plains-fit d zero s b = tt
@@ -52,7 +43,7 @@ module _ (laws : ItemLaws) where
       go : ((t : List ℕ) → Bytes t → Fits (itemsOf (scalarsAt d n t))) → (o : Outcome Item) → decode d s ≡ o
           → Fits (itemsOf (andOn (scalarAt s) o (λ t. scalarsAt d n t)))
       go h (refused k) e = (omega arith, tt)
-      go h (got i t) e = (plain-fit (scalarAt s) (laws .plain-fits s b), h t (bytes-after t s (laws .item-suffix d s i t e) b))
+      go h (got i t) e = (scalar-fit (scalarAt s) (laws .plain-fits s b), h t (bytes-after t s (laws .item-suffix d s i t e) b))
 
 -- ---- and so does what is kept of it
 abbrev Keeps : (List Scalar → Picked) → Type 0

@@ -4,6 +4,7 @@ use mathlib.Core.Path.{_≡_, refl, _∙_}
 use mathlib.Core.Bool.{Bool, not}
 use native.Mathlib.Omega.{arith}
 use lib.Dec.{eqb}
+use borrow.Author.Tests.{not-false}
 use Rattle.refusal.specs.declared.Refusal.the-variants.{Range}
 use Rattle.cbor.specs.Encode.{encode}
 use Rattle.cbor.specs.HeadLaws.{HeadLaws}
@@ -34,7 +35,7 @@ use Rattle.cojp_laws.specs.RoundTrip.{RequestRoundTrip}
 use Rattle.cojp_laws.proofs.Forms.{ReportsOf, reports-of, list-kept}
 use Rattle.cojp_laws.proofs.ReadBack.{then, parameter-read, payload-read, following-good, kept-if}
 use Rattle.cojp_laws.proofs.ReadBack.{octetsGood, octetsBack, octets-back, octets-same, listGood, listBack, list-back, list-same}
-use Rattle.cojp_laws.proofs.Sizes.{emits, in-range, fitted, owed-none, fine-request}
+use Rattle.cojp_laws.proofs.Sizes.{emits, fitted, owed-none, fine-request}
 
 abbrev requested : ℕ → OctetsParameter → ListParameter → JoinRequest
 requested role network unsupported = record { role = role; network = network; unsupported = unsupported; errors = noErrorReports; unknown = 0 }
@@ -105,7 +106,7 @@ request-round-trip items heads lists q list v p e b =
     let (a, f) = emits (not (requestInRange v q)) Range (owingPlan owes (fits s)) p e in
     let (o, x) = owed-none owes s p f in
     let (n, y) = fitted s p x in
-    let h = in-range (requestInRange v q) a in
+    let h = not-false (requestInRange v q) a in
     let within = request-fits v q h in
     let reports = reports-of v q h in
     let owed = owing-back v (q .role) (q .network .disposition) (octetsGood (q .network)) refl ∙ o in

@@ -1,10 +1,10 @@
 -- The objects' pairs are few and small: parameter by parameter.
 use Prim.Native.Nat.{ℕ, _+_, _≤_}
-use mathlib.Core.Path.{_≡_, refl, sym}
+use mathlib.Core.Path.{_≡_, refl}
 use mathlib.Core.Bool.{Bool, true, false, cond, not}
 use mathlib.Core.List.{List}
 use native.Mathlib.Omega.{arith}
-use borrow.Author.Tests.{leb-true, le-leb}
+use borrow.Author.Tests.{leb-true, le-leb, not-false}
 use lib.Dec.{leb}
 use lib.ListN.{length}
 use Rattle.refusal.specs.declared.Refusal.{Refusal}
@@ -38,10 +38,6 @@ use Rattle.cojp_laws.proofs.Typed.{TypedConfiguration}
 pub emits : (b : Bool) (k : Refusal) (plan : Plan) (p : List ℕ) → cond b (refuse k) plan ≡ emit p → (b ≡ false) × (plan ≡ emit p)
 emits true k plan p e = absurd (let z : _≡_ {A = ℕ} 0 1 = cc in omega arith)
 emits false k plan p e = (refl, e)
-
-pub in-range : (b : Bool) → not b ≡ false → b ≡ true
-in-range true e = refl
-in-range false e = sym e
 
 -- it is the payload, of at most 256 bytes
 pub fitted : (s p : List ℕ) → fits s ≡ emit p → (length s ≤ 256) × (s ≡ p)
@@ -114,7 +110,7 @@ module _ (heads : HeadLaws) (items : ItemLaws) (lists : ListLaws) where
         let s = encode (map (configurationPairs c)) in
         let (a, x) = emits (not (configurationInRange Draft c)) Range (fits s) p e in
         let (n, y) = fitted s p x in
-        rw (← y) (draft-size (in-range (configurationInRange Draft c) a))
+        rw (← y) (draft-size (not-false (configurationInRange Draft c) a))
 
     pub draft-written : DraftWritten c
     unfolding configurationPlan

@@ -1,5 +1,5 @@
 -- What is written of a list that is kept reads back as it.
-use Prim.Native.Nat.{ℕ, suc, _≤_}
+use Prim.Native.Nat.{ℕ, _≤_}
 use mathlib.Core.Path.{_≡_, refl, ap, sym, _∙_}
 use mathlib.Core.Bool.{Bool, true, false, cond, _&&_}
 use mathlib.Core.List.{List, [], _∷_, _++_}
@@ -10,30 +10,21 @@ use lib.Seq.{take-append-seam}
 use borrow.Author.Tests.{le-leb, leb-true, eqb-true}
 use Rattle.cbor.specs.Encode.{encode, shortest}
 use Rattle.cbor.specs.Item.{array, count}
-use Rattle.cbor.specs.View.{Scalar, number, minus, string, other, scalarOf, scalarsOf, viewOf}
+use Rattle.cbor.specs.View.{Scalar, number, minus, string, other, scalarsOf, viewOf}
 use Rattle.lemmas.specs.lists.Same.{same}
-use Rattle.lemmas.specs.lists.Same.{same-equal}
+use Rattle.lemmas.specs.lists.SameLemmas.{same-equal}
 use Rattle.lemmas.specs.logic.Tests.{both-left, both-right}
 use Rattle.cojp.specs.Bytes.{membersAt}
 use Rattle.cojp.specs.Octets.{padded}
-use Rattle.cojp.specs.Lists.{Picked, nothing, picked, before, fitting, scalarItem, itemsOf, written, isInteger, stringsIn, errorReportsIn, some}
+use Rattle.cojp.specs.Lists.{Picked, nothing, picked, before, fitting, itemsOf, written, isInteger, stringsIn, errorReportsIn, some}
 use Rattle.cojp.specs.Lists.{inArray, listOf, listAnswer, bytesIn, sameAs, kept, itemsIn, pickedItems}
+use Rattle.cojp.specs.ListLemmas.{scalar-back, items-count}
 use Rattle.cojp.specs.declared.list.ItemList.{ItemList}
 
 -- ---- members as items, and back
-plain-back : (p : Scalar) → scalarOf (scalarItem p) ≡ p
-plain-back (number n) = refl
-plain-back (minus n) = refl
-plain-back (string s) = refl
-plain-back other = refl
-
 plains-back : (ps : List Scalar) → scalarsOf (itemsOf ps) ≡ ps
 plains-back [] = refl
-plains-back (p ∷ ps) = rw (plain-back p, plains-back ps)
-
-items-count : (ps : List Scalar) → count (itemsOf ps) ≡ length ps
-items-count [] = refl
-items-count (p ∷ ps) = ap suc (items-count ps)
+plains-back (p ∷ ps) = rw (scalar-back p, plains-back ps)
 
 -- ---- what is kept is kept again
 abbrev pub Again : (List Scalar → Picked) → Type 0

@@ -1,23 +1,24 @@
 -- A report that may be made is three bytes, its code, its label and null, and these are read as the three members that were written.
-use Prim.Native.Nat.{ℕ, zero, suc, _+_, _*_, _≤_}
+use Prim.Native.Nat.{ℕ, zero, suc, _*_, _≤_}
 use mathlib.Core.Path.{_≡_, refl, ap, sym, _∙_, subst}
-use mathlib.Core.Bool.{Bool, true, false, cond, _&&_}
-use mathlib.Core.List.{List, [], _∷_, _++_, append-assoc}
+use mathlib.Core.Bool.{Bool, true, false}
+use mathlib.Core.List.{List, [], _∷_, _++_}
 use native.Mathlib.Omega.{arith}
 use lib.Dec.{leb, eqb}
-use lib.ListN.{length, take, length-take}
+use lib.ListN.{length}
 use lib.Seq.{take-append-seam}
 use borrow.Author.Tests.{le-leb, leb-true, eqb-true, eq-eqb}
 use Rattle.byte_io.specs.BigEndian.{digits, bytesOf}
 use Rattle.cbor.specs.Decode.{decodeBy, heading, argument, next, majorOf}
 use Rattle.cbor.specs.Encode.{shortest, infoOf, extraOf}
 use Rattle.cbor.specs.View.{Scalar, scalarAt}
-use Rattle.lemmas.specs.lists.Same.{same-refl}
+use Rattle.lemmas.specs.lists.SameLemmas.{same-refl}
 use Rattle.link_key.specs.set.Lists.{allOf}
-use Rattle.lemmas.specs.logic.Tests.{both-left, both-right, both}
+use Rattle.lemmas.specs.logic.Tests.{both-left, both-right}
+use Rattle.cojp.specs.ListLemmas.{few-reports}
 use Rattle.cojp.specs.Bytes.{membersAt}
 use Rattle.cojp.specs.ErrorReports.{errorReportList, isReportable, validErrorReport, validErrorReports}
-use Rattle.cojp.specs.Lists.{Picked, picked, written, errorReportsIn, some, listOf, listAnswer, fitting, bytesIn, sameAs, kept}
+use Rattle.cojp.specs.Lists.{picked, written, errorReportsIn, some, listOf, bytesIn, sameAs, kept}
 use Rattle.cojp.specs.Octets.{padded}
 use Rattle.cojp.specs.Writing.{listInRange}
 use Rattle.cojp.specs.declared.error_report.ErrorReport.{ErrorReport}
@@ -97,10 +98,6 @@ members-many [] = refl
 members-many (x ∷ xs) = omega (arith, members-many xs)
 
 -- ---- the list
-few : (f : ErrorReports) → validErrorReports f ≡ true → length (errorReportList f) ≤ 5
-unfolding validErrorReports
-few f h = omega (arith, leb-true (f .count) 5 (both-left (leb (f .count) 5) (allOf validErrorReport (errorReportList f)) h), length-take (f .count) (f .reports))
-
 module _ (x : ErrorReport) (xs : List ErrorReport) (h : allOf validErrorReport (x ∷ xs) ≡ true) (n : length (x ∷ xs) ≤ 5) where
   abbrev ms : List Scalar
   ms = membersOf (x ∷ xs)
@@ -124,7 +121,7 @@ module _ (x : ErrorReport) (xs : List ErrorReport) (h : allOf validErrorReport (
 
 pub listed-in-range : (f : ErrorReports) → validErrorReports f ≡ true → listInRange (some errorReportsIn) (listedIn f) ≡ true
 unfolding validErrorReports listedIn
-listed-in-range f h = go (errorReportList f) (both-right (leb (f .count) 5) (allOf validErrorReport (errorReportList f)) h) (few f h)
+listed-in-range f h = go (errorReportList f) (both-right (leb (f .count) 5) (allOf validErrorReport (errorReportList f)) h) (few-reports f h)
   where
     go : (xs : List ErrorReport) → allOf validErrorReport xs ≡ true → length xs ≤ 5 → listInRange (some errorReportsIn) (listing xs) ≡ true
     go [] h n = refl
@@ -132,7 +129,7 @@ listed-in-range f h = go (errorReportList f) (both-right (leb (f .count) 5) (all
 
 pub listed-long : (f : ErrorReports) → validErrorReports f ≡ true → listedIn f .value .len ≡ 3 * length (errorReportList f)
 unfolding validErrorReports listedIn
-listed-long f h = go (errorReportList f) (both-right (leb (f .count) 5) (allOf validErrorReport (errorReportList f)) h) (few f h)
+listed-long f h = go (errorReportList f) (both-right (leb (f .count) 5) (allOf validErrorReport (errorReportList f)) h) (few-reports f h)
   where
     go : (xs : List ErrorReport) → allOf validErrorReport xs ≡ true → length xs ≤ 5 → listing xs .value .len ≡ 3 * length xs
     go [] h n = refl

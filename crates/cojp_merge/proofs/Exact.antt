@@ -13,6 +13,7 @@ use Rattle.short_address.specs.Address.{isAddress}
 use Rattle.link_key.specs.Key.{noKey}
 use Rattle.link_key.specs.set.KeySet.{keysOf, validKeys}
 use Rattle.link_key.specs.declared.Key.{Key}
+use Rattle.cojp.specs.DispositionLemmas.{by-disposition}
 use Rattle.cojp.specs.Address.{addressIn, addressOf, addressConcluded, addressRead}
 use Rattle.cojp.specs.Configuration.{emptyConfiguration, withKeys, withAddress, withJrc, withNetwork, withPrefix, withUnknownCount}
 use Rattle.cojp.specs.Configuration.{takingFor, noted, configurationTaking, configurationForm, configurationAnswer, readConfiguration}
@@ -35,7 +36,6 @@ use Rattle.protocol_version.specs.declared.Version.the-variants.{Draft}
 use Rattle.cojp.proofs.Walks.{Gives, payload-gives}
 use Rattle.cojp_merge.specs.Laws.{TakesEqual, ReadsExactly}
 use Rattle.cojp_merge.specs.Merge.{merged}
-use Rattle.cojp_merge.proofs.Merging.{of-both}
 
 -- ---- values that are told by what they mean
 leased : List ℕ → Option ℕ → ShortAddress
@@ -231,11 +231,11 @@ read-told p =
 
 merged-told : (a b : Configuration) → Told a → Told b → Told (merged a b)
 merged-told a b x y = record {
-  keys = of-both SetTold (a .keys) (b .keys) (b .keys .disposition) (x .keys) (y .keys);
-  address = of-both AddressTold (a .address) (b .address) (b .address .disposition) (x .address) (y .address);
-  jrc = of-both OctetsTold (a .jrc) (b .jrc) (b .jrc .disposition) (x .jrc) (y .jrc);
-  network = of-both OctetsTold (a .network) (b .network) (b .network .disposition) (x .network) (y .network);
-  prefix = of-both OctetsTold (a .prefix) (b .prefix) (b .prefix .disposition) (x .prefix) (y .prefix);
+  keys = by-disposition SetTold (b .keys .disposition) {x = b .keys} {y = a .keys} (y .keys) (x .keys);
+  address = by-disposition AddressTold (b .address .disposition) {x = b .address} {y = a .address} (y .address) (x .address);
+  jrc = by-disposition OctetsTold (b .jrc .disposition) {x = b .jrc} {y = a .jrc} (y .jrc) (x .jrc);
+  network = by-disposition OctetsTold (b .network .disposition) {x = b .network} {y = a .network} (y .network) (x .network);
+  prefix = by-disposition OctetsTold (b .prefix .disposition) {x = b .prefix} {y = a .prefix} (y .prefix) (x .prefix);
   blacklist = refl;
   rate = refl;
 }

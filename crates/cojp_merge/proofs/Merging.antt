@@ -8,6 +8,7 @@ use Rattle.refusal.specs.declared.Refusal.{Refusal}
 use Rattle.refusal.specs.declared.Verdict.the-variants.{Accepted, Refused}
 use Rattle.cojp.specs.Configuration.{emptyConfiguration}
 use Rattle.link_key.specs.set.KeySet.{keysOf}
+use Rattle.cojp.specs.DispositionLemmas.{by-disposition}
 use Rattle.cojp.specs.ErrorReports.{noErrorReports}
 use Rattle.cojp.specs.Lists.{noListParameter, bytesIn as listBytes}
 use Rattle.cojp.specs.Octets.{bytesIn, noOctetsParameter}
@@ -23,7 +24,7 @@ use Rattle.cojp.specs.declared.disposition.Disposition.{Disposition}
 use Rattle.cojp.specs.declared.disposition.Disposition.the-variants.{Absent, Taken, Discarded}
 use Rattle.protocol_version.specs.declared.Version.the-variants.{Draft}
 use Rattle.cojp_write.proofs.octets.Limits.{configuration-fits}
-use Rattle.lemmas.specs.logic.Tests.{both-left, both-right}
+use Rattle.lemmas.specs.logic.Tests.{both-left, both-right, both-true}
 use Rattle.cojp_merge.specs.Laws.{Associative, NeutralFirst, NeutralSecond, StaysInRange, RefusedEmpty}
 use Rattle.cojp_merge.specs.Merge.{merged, mergeAnswer, outsideLimits}
 use Rattle.cojp_merge.specs.declared.MergeResult.{MergeResult}
@@ -42,12 +43,6 @@ module _ {A : Type 0} (report : A → Disposition) where
   seen-after value absent x Absent n e = rw (e, n)
   seen-after value absent x Taken n e = rw (e, e)
   seen-after value absent x Discarded n e = rw (e, n)
-
--- what holds of both holds of the later one
-pub of-both : {A : Type 0} (P : A → Type 0) (x y : A) (r : Disposition) → P x → P y → P (ifTaken r y x)
-of-both P x y Absent p q = p
-of-both P x y Taken p q = q
-of-both P x y Discarded p q = p
 
 -- ---- the draft's five parameters
 abbrev of-five : KeysParameter → AddressParameter → OctetsParameter → OctetsParameter → OctetsParameter → Configuration
@@ -97,12 +92,12 @@ unfolding configurationInRange ofVersion
 merged-in-range a b e f =
     let x = configuration-fits Draft a e in
     let y = configuration-fits Draft b f in
-    let k = of-both (λ (p : KeysParameter). keysInRange p ≡ true) (a .keys) (b .keys) (b .keys .disposition) (x .keys) (y .keys) in
-    let l = of-both (λ (p : AddressParameter). addressInRange p ≡ true) (a .address) (b .address) (b .address .disposition) (x .address) (y .address) in
-    let j = of-both (λ (p : OctetsParameter). jrcInRange p ≡ true) (a .jrc) (b .jrc) (b .jrc .disposition) (x .jrc) (y .jrc) in
-    let n = of-both (λ (p : OctetsParameter). octetsInRange p ≡ true) (a .network) (b .network) (b .network .disposition) (x .network) (y .network) in
-    let p = of-both (λ (q : OctetsParameter). octetsInRange q ≡ true) (a .prefix) (b .prefix) (b .prefix .disposition) (x .prefix) (y .prefix) in
-    let o = of-both (λ (q : KeysParameter). keysWithoutAdditionalInfo q ≡ true) (a .keys) (b .keys) (b .keys .disposition) (drafted a (x .form) .keys) (drafted b (y .form) .keys) in
+    let k = by-disposition (λ (p : KeysParameter). keysInRange p ≡ true) (b .keys .disposition) {x = b .keys} {y = a .keys} (y .keys) (x .keys) in
+    let l = by-disposition (λ (p : AddressParameter). addressInRange p ≡ true) (b .address .disposition) {x = b .address} {y = a .address} (y .address) (x .address) in
+    let j = by-disposition (λ (p : OctetsParameter). jrcInRange p ≡ true) (b .jrc .disposition) {x = b .jrc} {y = a .jrc} (y .jrc) (x .jrc) in
+    let n = by-disposition (λ (p : OctetsParameter). octetsInRange p ≡ true) (b .network .disposition) {x = b .network} {y = a .network} (y .network) (x .network) in
+    let p = by-disposition (λ (q : OctetsParameter). octetsInRange q ≡ true) (b .prefix .disposition) {x = b .prefix} {y = a .prefix} (y .prefix) (x .prefix) in
+    let o = by-disposition (λ (q : KeysParameter). keysWithoutAdditionalInfo q ≡ true) (b .keys .disposition) {x = b .keys} {y = a .keys} (drafted b (y .form) .keys) (drafted a (x .form) .keys) in
     six k l j n p o
   where
     six : {k l j n p o : Bool} → k ≡ true → l ≡ true → j ≡ true → n ≡ true → p ≡ true → o ≡ true → (k && l && j && n && p && (o && true && true)) ≡ true
@@ -115,10 +110,6 @@ none-seen x Taken e = absurd (let z : _≡_ {A = ℕ} 0 1 = cc in omega arith)
 none-seen x Discarded e = refl
 
 -- ---- the answer
-both-true : (a b : Bool) → (a && b) ≡ true → (a ≡ true) × (b ≡ true)
-both-true false b e = absurd (let z : _≡_ {A = ℕ} 0 1 = cc in omega arith)
-both-true true b e = (refl, e)
-
 abbrev pub answered : Configuration → MergeResult
 answered c = record { verdict = Accepted; configuration = c }
 

@@ -2,7 +2,7 @@
 use Prim.Native.Nat.{ℕ, suc, _≤_}
 use native.Mathlib.Omega.{arith}
 use mathlib.Core.Path.{_≡_, refl, ap}
-use mathlib.Core.Bool.{Bool, true, false, cond, _&&_}
+use mathlib.Core.Bool.{Bool, true, false, cond, _&&_, and-false}
 use mathlib.Core.List.{List, [], _∷_, _++_}
 use mathlib.Core.Logic.{_⊎_, inl, inr}
 use lib.ListN.{length}
@@ -132,16 +132,12 @@ integer-found (minus n) = inl (below0 n, refl)
 integer-found (string s) = inr refl
 integer-found other = inr refl
 
-none-after : (a : Bool) → (a && false) ≡ false
-none-after true = refl
-none-after false = refl
-
 entry-found : (p q x : Scalar) (r : List Scalar) → IntegerFound p → IntegerFound q → EntriesFound r (errorReportsIn r) →
     EntriesFound (p ∷ q ∷ x ∷ r) (cond (isInteger p && isInteger q) (before (p ∷ q ∷ other ∷ []) (errorReportsIn r)) nothing)
 entry-found p q x r (inl i) (inl j) (inl g) =
     inl (record { code = i .0; label = j .0; third = x } ∷ g .0, rw (i .1, j .1, g .1))
 entry-found p q x r (inl i) (inl j) (inr e) = inr (rw (i .1, j .1, is-integer (i .0), is-integer (j .0), e))
-entry-found p q x r (inl i) (inr e) g = inr (rw (e, none-after (isInteger p)))
+entry-found p q x r (inl i) (inr e) g = inr (rw (e, and-false (isInteger p)))
 entry-found p q x r (inr e) j g = inr (rw e)
 
 entries-found : (ps : List Scalar) → EntriesFound ps (errorReportsIn ps)

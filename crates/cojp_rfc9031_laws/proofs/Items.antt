@@ -3,7 +3,7 @@ use Prim.Native.Nat.{ℕ, zero, suc, _+_, _^_, _≤_, _<_}
 use native.Mathlib.Omega.{arith}
 use mathlib.Core.Path.{_≡_, refl, ap, subst}
 use mathlib.Core.Bool.{Bool, true, false, cond}
-use mathlib.Core.List.{List, [], _∷_, _++_, List·Memᴰ, List·Memᴰ·tail}
+use mathlib.Core.List.{List, [], _∷_, List·Memᴰ, List·Memᴰ·tail, Memᴰ·append-right}
 use lib.Dec.{leb, ltb, eqb}
 use lib.ListN.{length, take, drop, length-append, length-take, length-drop}
 use borrow.Author.Tests.{leb-true}
@@ -59,12 +59,8 @@ ValuesFit empty = Unit {0}
 ValuesFit (pair k v ps) = ViewFits (viewOf v) × ValuesFit ps
 
 -- ---- bytes are bytes in every part
-later : (a t : List ℕ) (x : ℕ) → List·Memᴰ x t → List·Memᴰ x (a ++ t)
-later [] t x m = m
-later (y ∷ a) t x m = List·Memᴰ·tail (later a t x m)
-
 bytes-after : {n : ℕ} (t s : List ℕ) → Suffix n t s → Bytes s → Bytes t
-bytes-after t s f b x m = b x (rw (f .whole) (later (f .front) t x m))
+bytes-after t s f b x m = b x (rw (f .whole) (Memᴰ·append-right (f .front) m))
 
 suffix-long : {n : ℕ} (t s : List ℕ) → Suffix n t s → n + length t ≤ length s
 suffix-long t s f = omega (arith, ap length (f .whole), length-append (f .front) t, f .least)

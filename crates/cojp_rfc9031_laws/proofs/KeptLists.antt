@@ -7,34 +7,17 @@ use mathlib.Core.List.{List, [], _∷_, _++_}
 use lib.ListN.{length, replicate, length-append}
 use lib.Seq.{take-append-seam}
 use borrow.Author.Tests.{le-leb, eq-eqb}
-use Rattle.lemmas.specs.lists.Same.{same-refl}
+use Rattle.lemmas.specs.lists.SameLemmas.{same-refl}
 use Rattle.cbor.specs.Encode.{encode, encodes, shortest}
 use Rattle.cbor.specs.HeadLaws.{HeadLaws}
-use Rattle.cbor.specs.Item.{Fit, depth, array, count}
+use Rattle.cbor.specs.Item.{array, count}
 use Rattle.cbor.specs.Laws.{ItemLaws}
-use Rattle.cbor.specs.View.{Scalar, number, minus, string, other, ScalarValid, scalarOf}
+use Rattle.cbor.specs.View.{Scalar, number, minus, string, other}
 use Rattle.cojp.specs.Bytes.{membersAt}
 use Rattle.cojp.specs.Lists.{Picked, nothing, picked, before, scalarItem, itemsOf, written, isInteger, stringsIn, errorReportsIn, some, listOf, bytesIn, sameAs, kept, itemsIn}
+use Rattle.cojp.specs.ListLemmas.{scalar-back, scalar-depth, scalar-fit, items-count}
 use Rattle.cojp.specs.Octets.{padded}
 use Rattle.cojp_rfc9031_laws.proofs.Items.{headSize, plainSize, plainsSize, plain-least, PlainsFit}
-
-plain-back : (p : Scalar) → scalarOf (scalarItem p) ≡ p
-plain-back (number n) = refl
-plain-back (minus n) = refl
-plain-back (string s) = refl
-plain-back other = refl
-
-plain-fit : (p : Scalar) → ScalarValid p → Fit (scalarItem p)
-plain-fit (number n) h = h
-plain-fit (minus n) h = h
-plain-fit (string s) h = h
-plain-fit other h = omega arith
-
-shallow : (p : Scalar) → depth (scalarItem p) ≤ 6
-shallow (number n) = omega arith
-shallow (minus n) = omega arith
-shallow (string s) = omega arith
-shallow other = omega arith
 
 -- ---- how many bytes are written
 module _ (H : HeadLaws) where
@@ -48,18 +31,14 @@ module _ (H : HeadLaws) where
   written-size [] = refl
   written-size (p ∷ ps) = length-append (encode (scalarItem p)) (written ps) ∙ omega (arith, item-size p, written-size ps)
 
-items-many : (ps : List Scalar) → count (itemsOf ps) ≡ length ps
-items-many [] = refl
-items-many (p ∷ ps) = ap suc (items-many ps)
-
 -- ---- members that would be picked again
 module _ (laws : ItemLaws) (H : HeadLaws) where
   members-back : (ps : List Scalar) → PlainsFit ps → membersAt (length ps) (written ps) ≡ ps
   members-back [] h = refl
   members-back (p ∷ ps) h =
       let rest = encodes (itemsOf ps) in
-      let got-it = laws .round-trip (scalarItem p) 6 rest (shallow p) (plain-fit p (h .0)) in
-      let here = laws .item-plain 5 (encode (scalarItem p) ++ rest) (scalarItem p) rest got-it ∙ plain-back p in
+      let got-it = laws .round-trip (scalarItem p) 6 rest (scalar-depth p) (scalar-fit p (h .0)) in
+      let here = laws .item-plain 5 (encode (scalarItem p) ++ rest) (scalarItem p) rest got-it ∙ scalar-back p in
       rw (got-it, here, members-back ps (h .1))
 
   module _ (f : List Scalar → Picked) (ps : List Scalar) (fit : PlainsFit ps) (again : f ps ≡ picked ps) where
@@ -82,7 +61,7 @@ module _ (laws : ItemLaws) (H : HeadLaws) where
           again,
           length-append (shortest 4 (count (itemsOf ps))) (written ps),
           H .length-head 4 (count (itemsOf ps)),
-          items-many ps,
+          items-count ps,
           written-size H ps,
         )
 

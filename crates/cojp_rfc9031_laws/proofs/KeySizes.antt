@@ -11,13 +11,14 @@ use lib.Seq.{take-at}
 use borrow.Author.Tests.{ltb-true, lt-ltb}
 use Rattle.cbor.specs.Encode.{encode, encodes, encodePairs, shortest, extraOf}
 use Rattle.cbor.specs.HeadLaws.{HeadLaws}
-use Rattle.cbor.specs.Item.{Items, unsigned, bytes, array, more, count}
+use Rattle.cbor.specs.Item.{unsigned, bytes, array, more, count}
 use Rattle.cbor.specs.Item as item
 use Rattle.cbor.specs.View.{Scalar, number, minus, string, other, View, scalar, list}
 use Rattle.cojp.proofs.Walks.{Gives}
 use Rattle.cojp.specs.KeySet.{Groups, notGroups, groupsOf, group, further, groups, identified, used, valued, keysIn, keySetOf, keysConcluded, keysReadAs}
 use Rattle.cojp.specs.Reading.{good, unfit}
-use Rattle.cojp.specs.Writing.{chain, usageItems, additionalInfoItems, groupItems, groupsItems, keysPairs}
+use Rattle.cojp.specs.Writing.{usageItems, additionalInfoItems, groupItems, groupsItems, keysPairs}
+use Rattle.cojp.specs.WritingLemmas.{chain-count, chain-length}
 use Rattle.cojp.specs.declared.key_set.KeysParameter.{KeysParameter}
 use Rattle.link_key.specs.AdditionalInfo.{additionalInfoIn}
 use Rattle.link_key.specs.Key.{keyWithAdditionalInfo, noKey}
@@ -48,16 +49,6 @@ extra-grows m n l =
     (least (ltb n 65536) 1 2 _ (omega arith) (least (ltb n 4294967296) 1 4 8 (omega arith) (omega arith)))
     (step (ltb m 65536) (ltb n 65536) 2 _ _ (below 65536) (least (ltb n 4294967296) 2 4 8 (omega arith) (omega arith))
     (step (ltb m 4294967296) (ltb n 4294967296) 4 8 8 (below 4294967296) (omega arith) (omega arith))))
-
--- ---- items one after the other
-chain-many : (a b : Items) → count (chain a b) ≡ count a + count b
-chain-many item.none b = omega arith
-chain-many (more i a) b = omega (arith, chain-many a b)
-
-chain-size : (a b : Items) → length (encodes (chain a b)) ≡ length (encodes a) + length (encodes b)
-chain-size item.none b = omega arith
-chain-size (more i a) b =
-    length-append (encode i) (encodes (chain a b)) ∙ omega (arith, chain-size a b, length-append (encode i) (encodes a))
 
 -- ---- a key: so many members and bytes
 abbrev usageMany : ℕ → ℕ
@@ -119,11 +110,11 @@ module _ (H : HeadLaws) where
 
   key-many : (i u : ℕ) (v : List ℕ) (w : AdditionalInfo) → count (groupItems (keyWithAdditionalInfo i u v w)) ≡ keyMany u w
   key-many i u v w =
-      chain-many (more (unsigned i) (usageItems u)) (more (bytes v) (additionalInfoItems w)) ∙ omega (arith, usage-many u, info-many w)
+      chain-count (more (unsigned i) (usageItems u)) (more (bytes v) (additionalInfoItems w)) ∙ omega (arith, usage-many u, info-many w)
 
   key-size : (i u : ℕ) (v : List ℕ) (w : AdditionalInfo) → length (encodes (groupItems (keyWithAdditionalInfo i u v w))) ≡ keySize i u v w
   key-size i u v w =
-      chain-size (more (unsigned i) (usageItems u)) (more (bytes v) (additionalInfoItems w))
+      chain-length (more (unsigned i) (usageItems u)) (more (bytes v) (additionalInfoItems w))
       ∙ omega (
         arith,
         length-append (shortest 0 i) (encodes (usageItems u)),
@@ -138,8 +129,8 @@ module _ (H : HeadLaws) where
       Fine (keyMany u w + n) (keySize i u v w + size) (group i u v w g)
   group-fine i u v w n size notGroups h = tt
   group-fine i u v w n size (groupsOf ks) h = record {
-    many = omega (arith, chain-many (groupItems (keyWithAdditionalInfo i u v w)) (groupsItems ks), key-many i u v w, h .many);
-    bytes = omega (arith, chain-size (groupItems (keyWithAdditionalInfo i u v w)) (groupsItems ks), key-size i u v w, h .bytes);
+    many = omega (arith, chain-count (groupItems (keyWithAdditionalInfo i u v w)) (groupsItems ks), key-many i u v w, h .many);
+    bytes = omega (arith, chain-length (groupItems (keyWithAdditionalInfo i u v w)) (groupsItems ks), key-size i u v w, h .bytes);
   }
 
   wider : (n size m large : ℕ) (g : Groups) → n ≤ m → size ≤ large → Fine n size g → Fine m large g

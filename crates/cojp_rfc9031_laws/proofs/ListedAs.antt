@@ -5,7 +5,7 @@ use mathlib.Core.Path.{_≡_, refl, ap, ap₂, _∙_}
 use mathlib.Core.Bool.{Bool, true, false, _||_}
 use mathlib.Core.List.{List, [], _∷_, _++_, append-nil}
 use lib.Dec.{leb, eqb}
-use lib.ListN.{length, replicate, length-take}
+use lib.ListN.{length, replicate}
 use lib.Seq.{take-append-seam}
 use borrow.Author.Tests.{leb-true, eqb-true, lt-ltb}
 use Rattle.byte_io.specs.BigEndian.{digits, bytesOf}
@@ -13,6 +13,7 @@ use Rattle.cbor.specs.Decode.{decodeBy, heading, argument, next, majorOf}
 use Rattle.cbor.specs.Encode.{encode, encodePairs, shortest, infoOf, extraOf}
 use Rattle.cbor.specs.Item.{array}
 use Rattle.cbor.specs.View.{scalarAt}
+use Rattle.cojp.specs.ListLemmas.{few-reports}
 use Rattle.cojp.specs.ErrorReports.{errorReportList, isReportable, validErrorReport, validErrorReports}
 use Rattle.cojp.specs.Lists.{written, bytesIn, errorReportsIn, some, itemsIn}
 use Rattle.cojp.specs.Octets.{padded}
@@ -62,15 +63,6 @@ each-valid : (f : ErrorReports) → validErrorReports f ≡ true → allOf valid
 unfolding validErrorReports
 each-valid f e = both-right (leb (f .count) 5) (allOf validErrorReport (errorReportList f)) e
 
-five-most : (f : ErrorReports) → validErrorReports f ≡ true → length (errorReportList f) ≤ 5
-unfolding validErrorReports
-five-most f e =
-    omega (
-      arith,
-      leb-true (f .count) 5 (both-left (leb (f .count) 5) (allOf validErrorReport (errorReportList f)) e),
-      length-take (f .count) (f .reports),
-    )
-
 listing-bytes : (xs : List ErrorReport) → allOf validErrorReport xs ≡ true → bytesIn (listing xs .value) ≡ listedBytes xs
 unfolding padded
 listing-bytes [] h = refl
@@ -90,7 +82,7 @@ module _ (L : ListLaws) (f : ErrorReports) (valid : validErrorReports f ≡ true
   pair-written (x ∷ xs) e =
       let l = listing (x ∷ xs) .value in
       let members : l .count ≡ 3 * length (x ∷ xs) = rw e at (L .listed-members f) in
-      let few : length (x ∷ xs) ≤ 5 = rw e at (five-most f valid) in
+      let few : length (x ∷ xs) ≤ 5 = rw e at (few-reports f valid) in
       let array-bytes = L .unsupported-written l (rw e at (L .listed-in-range f valid)) in
       let body = listing-bytes (x ∷ xs) (rw e at (each-valid f valid)) in
       let head = one-byte 4 (l .count) (omega arith) ∙ ap (λ (n : ℕ). (128 + n) ∷ []) members in

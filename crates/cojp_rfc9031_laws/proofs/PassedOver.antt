@@ -6,7 +6,7 @@ use mathlib.Core.Bool.{Bool, true, false, cond}
 use mathlib.Core.List.{List}
 use lib.Dec.{eqb, ltb}
 use lib.ListN.{length}
-use Rattle.refusal.specs.Verdict.{refused-not}
+use Rattle.refusal.specs.RefusalLemmas.{refused-not}
 use Rattle.refusal.specs.declared.Refusal.the-variants as refusal
 use Rattle.refusal.specs.declared.Verdict.the-variants.{Accepted}
 use Rattle.byte_io.specs.BigEndian.{digits}

@@ -3,7 +3,7 @@
 use Prim.Native.Nat.{ℕ, _+_, _≤_, _<_}
 use native.Mathlib.Omega.{arith}
 use mathlib.Core.Path.{_≡_, refl, sym, ap, _∙_}
-use mathlib.Core.Bool.{Bool, true, false, cond, _&&_, _||_}
+use mathlib.Core.Bool.{Bool, true, false, cond, _&&_, _||_, or-false}
 use mathlib.Core.List.{List, [], _∷_, _++_, append-nil, append-assoc}
 use lib.Dec.{eqb, leb}
 use lib.ListN.{length, length-append}
@@ -37,10 +37,6 @@ use Rattle.cojp_rfc9031_laws.proofs.Walk.{Took, Agrees, payload-agrees}
 -- ---- one known label more
 abbrev isTaken : Disposition → Bool
 isTaken r = ifTaken r true false
-
-or-none : (b : Bool) → (b || false) ≡ b
-or-none true = refl
-or-none false = refl
 
 identified-snoc : (ks : List Known) (k : Known) →
     identified (ks ++ (k ∷ [])) ≡ ((eqb (k .label) 5 && isIdentifier (k .value)) || identified ks)
@@ -204,7 +200,7 @@ module _ (ks : List Known) (g : RequestState) (h : Asked ks g) (v : View) where
         network = comes 5 ks k _ refl (octets-met (octetsJudged 0 v));
         unsupported = stays 8 ks k _ refl (h .unsupported);
         reads = h .reads ∙ sym (role-others ks k refl);
-        due = identifier-good v ∙ sym (identified-snoc ks k ∙ ap (λ (b : Bool). (isIdentifier v || b)) unseen ∙ or-none (isIdentifier v));
+        due = identifier-good v ∙ sym (identified-snoc ks k ∙ ap (λ (b : Bool). (isIdentifier v || b)) unseen ∙ or-false (isIdentifier v));
         few = few-more 5 [] refl (rw (in-snoc 1 ks k, in-snoc 8 ks k) (omega arith));
         faults = silent 5 refl;
       }

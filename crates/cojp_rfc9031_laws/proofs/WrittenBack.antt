@@ -3,18 +3,18 @@ use Prim.Native.Nat.{ℕ, _+_, _≤_}
 use native.Mathlib.Omega.{arith}
 use mathlib.Core.Path.{_≡_, refl, sym, ap, subst, _∙_}
 use mathlib.Core.Bool.{Bool, true, false, cond}
-use mathlib.Core.List.{List, _++_}
+use mathlib.Core.List.{List}
 use lib.Dec.{eqb}
 use lib.ListN.{length, length-append}
 use borrow.Author.Tests.{le-leb}
-use Rattle.refusal.specs.Verdict.{refused-not}
+use Rattle.refusal.specs.RefusalLemmas.{refused-not}
 use Rattle.refusal.specs.declared.Refusal.the-variants as refusal
 use Rattle.refusal.specs.declared.Verdict.the-variants.{Accepted}
 use Rattle.byte_io.specs.BigEndian.{digits, bytesOf}
 use Rattle.cbor.specs.Decode.{payloadBy, decodeBy, heading, argument, next, members, pairs, majorOf}
 use Rattle.cbor.specs.Encode.{encode, encodePairs, shortest, infoOf, extraOf}
 use Rattle.cbor.specs.HeadLaws.{HeadLaws}
-use Rattle.cbor.specs.Item.{Item, Pairs, unsigned, array, bytes, map, more, empty, pair, countPairs}
+use Rattle.cbor.specs.Item.{Item, Pairs, unsigned, array, bytes, map, more, empty, countPairs}
 use Rattle.cbor.specs.Laws.{Bytes, ItemLaws}
 use Rattle.cbor.specs.Strict.{headBy}
 use Rattle.cbor.specs.View.{Scalar}
@@ -29,6 +29,7 @@ use Rattle.cojp.specs.Request.{requestLabelStatus, requestTaking, owing, readRe
 use Rattle.cojp.specs.Walk.{payloadReadBy}
 use Rattle.cojp.specs.Writing.{join, labelled, leaseItems, groupsItems, rolePairs, octetsPairs, addressPairs, keysPairs, listPairs, ratePairs, requestPairs, requestPlan}
 use Rattle.cojp.specs.Writing.{requestInRange, configurationPairs, configurationInRange, configurationPlan}
+use Rattle.cojp.specs.WritingLemmas.{join-count, join-length}
 use Rattle.cojp.specs.declared.address.AddressParameter.{AddressParameter}
 use Rattle.cojp.specs.declared.configuration.Configuration.{Configuration}
 use Rattle.cojp.specs.declared.configuration.ConfigurationRead.{ConfigurationRead}
@@ -45,23 +46,6 @@ use Rattle.cojp_rfc9031_laws.specs.WrittenBack.{WritesWithin, WrittenBac
 use Rattle.cojp_rfc9031_laws.proofs.Bounded.{Within, payload-bound}
 use Rattle.cojp_rfc9031_laws.proofs.ConfigurationSizes.{parts, Sized, none-sized, wider, passing, taking}
 use Rattle.cojp_rfc9031_laws.proofs.RequestLimits.{Accepts, accepts, in-range, roleBytes, networkBytes, listBytes}
-
--- ---- pairs one after the other
-join-many : (a b : Pairs) → countPairs (join a b) ≡ countPairs a + countPairs b
-join-many empty b = omega arith
-join-many (pair k v a) b = omega (arith, join-many a b)
-
-join-size : (a b : Pairs) → length (encodePairs (join a b)) ≡ length (encodePairs a) + length (encodePairs b)
-join-size empty b = omega arith
-join-size (pair k v a) b =
-    omega (
-      arith,
-      length-append (encode k) (encode v ++ encodePairs (join a b)),
-      length-append (encode v) (encodePairs (join a b)),
-      join-size a b,
-      length-append (encode k) (encode v ++ encodePairs a),
-      length-append (encode v) (encodePairs a),
-    )
 
 -- a parameter is one pair at most
 one-most : (r : Disposition) (n : ℕ) (i : Item) → countPairs (ifTaken r (labelled n i) empty) ≤ 1
@@ -103,13 +87,13 @@ module _ (H : HeadLaws) where
       map-size (requestPairs q)
       (omega (
         arith,
-        join-many (join r n) u,
-        join-many r n,
+        join-count (join r n) u,
+        join-count r n,
         role-one (q .role),
         octets-one 5 (q .network),
         list-one 8 (some errorReportsIn) (q .unsupported),
       ))
-      ∙ omega (arith, join-size (join r n) u, join-size r n)
+      ∙ omega (arith, join-length (join r n) u, join-length r n)
 
   configuration-size : (c : Configuration) → length (encode (map (configurationPairs c))) ≡ 1 + parts c
   configuration-size c =
@@ -123,12 +107,12 @@ module _ (H : HeadLaws) where
       map-size (configurationPairs c)
       (omega (
         arith,
-        join-many (join (join (join (join (join k a) j) n) p) b) r,
-        join-many (join (join (join (join k a) j) n) p) b,
-        join-many (join (join (join k a) j) n) p,
-        join-many (join (join k a) j) n,
-        join-many (join k a) j,
-        join-many k a,
+        join-count (join (join (join (join (join k a) j) n) p) b) r,
+        join-count (join (join (join (join k a) j) n) p) b,
+        join-count (join (join (join k a) j) n) p,
+        join-count (join (join k a) j) n,
+        join-count (join k a) j,
+        join-count k a,
         keys-one (c .keys),
         address-one (c .address),
         octets-one 4 (c .jrc),
@@ -139,12 +123,12 @@ module _ (H : HeadLaws) where
       ))
       ∙ omega (
         arith,
-        join-size (join (join (join (join (join k a) j) n) p) b) r,
-        join-size (join (join (join (join k a) j) n) p) b,
-        join-size (join (join (join k a) j) n) p,
-        join-size (join (join k a) j) n,
-        join-size (join k a) j,
-        join-size k a,
+        join-length (join (join (join (join (join k a) j) n) p) b) r,
+        join-length (join (join (join (join k a) j) n) p) b,
+        join-length (join (join (join k a) j) n) p,
+        join-length (join (join k a) j) n,
+        join-length (join k a) j,
+        join-length k a,
       )
 
 -- ---- join requests

@@ -1,17 +1,17 @@
 -- What the leaves write and read, byte by byte.
-use Prim.Native.Nat.{ℕ, zero, suc, _+_, _*_, _-_, _/_, _%_, _^_, _≤_, _<_}
+use Prim.Native.Nat.{ℕ, zero, suc, _+_, _-_, _/_, _%_, _≤_, _<_}
 use mathlib.Core.Path.{_≡_, refl, ap, _∙_}
 use mathlib.Core.Bool.{Bool, false, _&&_}
 use mathlib.Core.List.{List, [], _∷_, _++_, append-assoc, append-nil}
 use native.Mathlib.Omega.{arith}
-use native.Mathlib.Nat.{pow-suc, pow-le-pow-right}
 use native.Mathlib.Numerals.{add-one}
 use borrow.Author.Tests.{eq-eqb, ne-eqb}
 use lib.Dec.{eqb}
-use lib.ListN.{length, take, drop, set, length-set, getD, replicate, length-replicate, drop-of-length-le, length-drop}
-use lib.Seq.{drop-set-lt, drop-cons, getD-set-same, set-at, take-length, length-take-le}
+use lib.ListN.{length, take, drop, set, getD, replicate, length-replicate, drop-of-length-le, length-drop}
+use lib.Seq.{drop-cons, set-at, take-length, length-take-le}
+use Rattle.lemmas.specs.lists.BigEndian.{drop-set}
 use Rattle.byte_io.specs.Write.{Wrote}
-use Rattle.byte_io.specs.BigEndian.{bytesOf, digits}
+use Rattle.byte_io.specs.BigEndian.{bytesOf}
 use Rattle.image.specs.Part.{layout, isHeaded}
 
 -- ---- a byte, two bytes
@@ -39,11 +39,6 @@ module _ (s : List ℕ) (size kind : ℕ) where
   by-layout e h = rw (eq-eqb (length s) size e, eq-eqb (getD s 0 0) kind h)
 
 -- ---- a number, written from its last byte on
-drop-set : (l : List ℕ) (i b : ℕ) → i < length l → drop i (set l i b) ≡ b ∷ drop (suc i) l
-drop-set l i b h =
-    drop-cons (set l i b) i 0 (omega (arith, length-set l i b))
-    ∙ rw (getD-set-same l i b 0 h, drop-set-lt (suc i) l i b (omega arith))
-
 pub byte-step : (l : List ℕ) (i v : ℕ) → 0 < i → i ≤ length l
     → bytesOf i v ++ drop i l ≡ bytesOf (i - 1) (v / 256) ++ drop (i - 1) (set l (i - 1) (v % 256))
 unfolding bytesOf
@@ -56,26 +51,6 @@ pub no-bytes : (i v : ℕ) (l : List ℕ) → i ≤ 0 → bytesOf i v ++ drop i 
 unfolding bytesOf
 no-bytes zero v l h = refl
 no-bytes (suc i) v l h = absurd (omega arith)
-
--- ---- a number, read from its first byte on
-pub digits-step : (s : List ℕ) (v i end : ℕ) → i < end → end ≤ length s
-    → digits v (take (end - i) (drop i s)) ≡ digits (v * 256 + getD s i 0) (take (end - (i + 1)) (drop (i + 1) s))
-unfolding digits
-digits-step s v i end h l =
-    let e : end - i ≡ suc (end - (i + 1)) = omega arith in
-    rw (e, drop-cons s i 0 (omega arith), add-one i)
-
-pub grows : (v b i : ℕ) → v < 256 ^ i → b < 256 → v * 256 + b < 256 ^ (i + 1)
-grows v b i h k = rw (add-one, pow-suc 256 i) (omega arith)
-
-pub grown-fits : (v b i : ℕ) → v < 256 ^ i → b < 256 → i < 8 → v * 256 + b < 2 ^ 64
-grown-fits v b i h k l =
-    let m : 256 ^ (i + 1) ≤ 256 ^ 8 = pow-le-pow-right {n = 256} (omega arith) {i = i + 1} {j = 8} (omega arith) in
-    omega (arith, grows v b i h k)
-
-pub digits-none : (v k : ℕ) (s : List ℕ) → k ≡ 0 → digits v (take k s) ≡ v
-unfolding digits
-digits-none v k s e = rw e
 
 -- ---- zeros
 pub zero-step : (l : List ℕ) (i : ℕ) → i < length l

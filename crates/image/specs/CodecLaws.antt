@@ -8,15 +8,13 @@ use native.Mathlib.Omega.{arith}
 use borrow.Author.Tests.{eq-eqb, eqb-true}
 use lib.Dec.{leb, eqb}
 use lib.ListN.{length, take, drop, getD, length-append, length-drop}
-use lib.Seq.{take-at, drop-at, take-add, getD-drop, length-take-le}
+use lib.Seq.{take-at, drop-at, take-add, length-take-le}
 use Rattle.lemmas.specs.logic.Tests.{both-left, both-right, both as both-true}
 use Rattle.byte_io.specs.BigEndian.{bigEndian, bytesOf}
-use Rattle.image.specs.Numbers.{many-bytes, read-back, below, put-back}
+use Rattle.byte_io.specs.BigEndianLemmas.{length-bytesOf}
+use Rattle.image.specs.ByteLemmas.{dropped-bytes}
+use Rattle.image.specs.Numbers.{read-back, below, put-back}
 use Rattle.image.specs.Part.{Part, AllBytes, RoundTrips, byte, number, octets, upTo, both, viewedIf, viewed, code, puts, gets, goods, Fits, none, more, total, times, headed, isHeaded, layout}
-
--- bytes further on
-later : (n : ℕ) (s : List ℕ) → AllBytes s → AllBytes (drop n s)
-later n s b i = subst (λ (x : ℕ). x < 256) (sym (getD-drop n s i 0)) (b (n + i))
 
 first-byte : (s : List ℕ) → 1 ≤ length s → getD s 0 0 ∷ [] ≡ take 1 s
 first-byte [] h = absurd (omega arith)
@@ -41,8 +39,8 @@ byte-lawful =
 pub number-lawful : (k : ℕ) → RoundTrips (number k)
 number-lawful k =
     record {
-      sized = λ n h. many-bytes k n;
-      loaded = λ n r h. ap bigEndian (take-at (bytesOf k n) r k (many-bytes k n)) ∙ read-back k n h;
+      sized = λ n h. length-bytesOf k n;
+      loaded = λ n r h. ap bigEndian (take-at (bytesOf k n) r k (length-bytesOf k n)) ∙ read-back k n h;
       stored = λ n r h. refl;
       fits = λ s b h g. below s k b h;
       back = λ s b h g. put-back s k b h;
@@ -126,12 +124,12 @@ module _ {A B : Type 0} where
               (ap (q .good) (after x r (h .0)) ∙ m .stored (x .1) r (h .1));
           fits = λ s b h g. (
             l .fits s b (omega arith) (front s g),
-            m .fits (drop (p .size) s) (later (p .size) s b) (left-over s h) (rest s g),
+            m .fits (drop (p .size) s) (dropped-bytes (p .size) s b) (left-over s h) (rest s g),
           );
           back = λ s b h g.
               ap₂ (λ (x y : List ℕ). x ++ y)
               (l .back s b (omega arith) (front s g))
-              (m .back (drop (p .size) s) (later (p .size) s b) (left-over s h) (rest s g))
+              (m .back (drop (p .size) s) (dropped-bytes (p .size) s b) (left-over s h) (rest s g))
               ∙ sym (take-add (p .size) (q .size) s);
         }
 
@@ -170,14 +168,14 @@ module _ {A : Type 0} (p : Part A) (l : RoundTrips p) where
   gets-fit (suc n) s b h g =
       more
       (l .fits s b (omega arith) (both-left (p .good s) (goods p n (drop (p .size) s)) g))
-      (gets-fit n (drop (p .size) s) (later (p .size) s b) (omega (arith, length-drop (p .size) s)) (both-right (p .good s) (goods p n (drop (p .size) s)) g))
+      (gets-fit n (drop (p .size) s) (dropped-bytes (p .size) s b) (omega (arith, length-drop (p .size) s)) (both-right (p .good s) (goods p n (drop (p .size) s)) g))
 
   puts-back : (n : ℕ) (s : List ℕ) → AllBytes s → total p n ≤ length s → goods p n s ≡ true → puts p (gets p n s) ≡ take (total p n) s
   puts-back zero s b h g = refl
   puts-back (suc n) s b h g =
       ap₂ (λ (x y : List ℕ). x ++ y)
       (l .back s b (omega arith) (both-left (p .good s) (goods p n (drop (p .size) s)) g))
-      (puts-back n (drop (p .size) s) (later (p .size) s b) (omega (arith, length-drop (p .size) s)) (both-right (p .good s) (goods p n (drop (p .size) s)) g))
+      (puts-back n (drop (p .size) s) (dropped-bytes (p .size) s b) (omega (arith, length-drop (p .size) s)) (both-right (p .good s) (goods p n (drop (p .size) s)) g))
       ∙ sym (take-add (p .size) (total p n) s)
 
   pub times-lawful : (n : ℕ) → RoundTrips (times n p)
@@ -203,8 +201,8 @@ headed-lawful kind p l =
       sized = λ a h. ap (λ (n : ℕ). suc (suc n)) (l .sized a h);
       loaded = λ a r h. l .loaded a r h;
       stored = λ a r h. both-true _ _ (both-true _ _ (eq-eqb kind kind refl) refl) (l .stored a r h);
-      fits = λ s b h g. l .fits (drop 2 s) (later 2 s b) (omega (arith, length-drop 2 s)) (rest s g);
+      fits = λ s b h g. l .fits (drop 2 s) (dropped-bytes 2 s b) (omega (arith, length-drop 2 s)) (rest s g);
       back = λ s b h g.
           two-bytes kind s (p .put (p .get (drop 2 s))) (p .size) (omega arith) (front s g)
-          (l .back (drop 2 s) (later 2 s b) (omega (arith, length-drop 2 s)) (rest s g));
+          (l .back (drop 2 s) (dropped-bytes 2 s b) (omega (arith, length-drop 2 s)) (rest s g));
     }

@@ -19,6 +19,10 @@ pub whole-struct : {p d d′ : List ℕ} {n : ℕ} → length d ≡ n → Wrote 
 whole-struct {p} {d} {d′} {n} e w =
     w .holds ∙ rw (drop-of-length-le d {i = length p} (omega (arith, w .many))) (append-nil p)
 
+-- the same bytes, said otherwise
+pub wrote-same : {p q d d′ : List ℕ} {n : ℕ} → p ≡ q → Wrote p d n d′ → Wrote q d n d′
+wrote-same e w = rw e at w
+
 -- nothing further is asked
 pub and-good : (b : Bool) → b ≡ (b && true)
 and-good true = refl
@@ -28,6 +32,9 @@ and-good false = refl
 module _ (h a b : List ℕ) where
   pub two-fields : (h ++ a) ++ b ≡ h ++ (a ++ b)
   two-fields = append-assoc h a b
+
+  pub three-fields : (c : List ℕ) → ((h ++ a) ++ b) ++ c ≡ h ++ (a ++ (b ++ c))
+  three-fields c = append-assoc (h ++ a) b c ∙ append-assoc h a (b ++ c)
 
   pub four-fields : (c d : List ℕ) → (((h ++ a) ++ b) ++ c) ++ d ≡ h ++ (a ++ (b ++ (c ++ d)))
   four-fields c d = rw (append-assoc h a b, append-assoc h (a ++ b) c, append-assoc a b c, append-assoc h (a ++ (b ++ c)) d, append-assoc a (b ++ c) d, append-assoc b c d)

@@ -45,6 +45,11 @@ module _ (v : Verdict) (before after : List ℕ) {x : List ℕ} where
   pub refused : (k : Refusal) {r : ℕ} → v ≡ Refused k → r ≡ numberOf k → x ≡ before → (r ≡ verdictNumber v) × (x ≡ onAccept v before after)
   refused k e g h = rw e (g, h)
 
+-- the same in either case
+pub same-either : {A : Type 0} (v : Verdict) (x : A) → onAccept v x x ≡ x
+same-either Accepted x = refl
+same-either (Refused k) x = refl
+
 -- a call whose number is not 0 was refused, and leaves what stood before
 pub kept : {A : Type 0} (v : Verdict) (before after : A) {r : ℕ} {x : A} → r ≡ verdictNumber v → (r ≡ 0 → ⊥) → x ≡ onAccept v before after → x ≡ before
 kept Accepted before after e h f = absurd (h e)

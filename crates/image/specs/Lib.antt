@@ -1,4 +1,5 @@
 pub mod Part
+pub mod ByteLemmas
 pub mod Numbers
 pub mod CodecLaws
 pub mod Fields

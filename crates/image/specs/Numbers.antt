@@ -1,36 +1,18 @@
 -- Numbers in bytes: division by 256 gives the bytes, and the bytes give the number again.
 -- Assumes nothing.
-use Prim.Native.Nat.{ℕ, zero, suc, _+_, _*_, _-_, _/_, _%_, _^_, _<_, _≤_}
+use Prim.Native.Nat.{ℕ, zero, suc, _+_, _*_, _/_, _%_, _^_, _<_, _≤_}
 use mathlib.Core.Path.{_≡_, refl, ap, sym, _∙_}
-use mathlib.Core.List.{List, [], _∷_, _++_}
+use mathlib.Core.List.{List, [], _∷_}
 use native.Mathlib.Omega.{arith}
-use native.Mathlib.Nat.{pow-suc, div-lt-iff-lt-mul, mul-assoc}
-use lib.ListN.{length, take, getD, length-append}
+use native.Mathlib.Nat.{pow-suc}
+use lib.ListN.{length, take, getD}
 use lib.Seq.{take-suc}
 use Rattle.byte_io.specs.BigEndian.{bytesOf, digits, bigEndian}
-
-pub many-bytes : (k n : ℕ) → length (bytesOf k n) ≡ k
-unfolding bytesOf
-many-bytes zero n = refl
-many-bytes (suc k) n = omega (arith, length-append (bytesOf k (n / 256)) (n % 256 ∷ []), many-bytes k (n / 256))
-
-digits-append : (v : ℕ) (a b : List ℕ) → digits v (a ++ b) ≡ digits (digits v a) b
-unfolding digits
-digits-append v [] b = refl
-digits-append v (x ∷ a) b = digits-append (v * 256 + x) a b
-
-digits-bytes : (k v n : ℕ) → n < 256 ^ k → digits v (bytesOf k n) ≡ v * 256 ^ k + n
-unfolding bytesOf digits
-digits-bytes zero v n h = omega arith
-digits-bytes (suc k) v n h =
-    let l : n / 256 < 256 ^ k = div-lt-iff-lt-mul {k = 256} {x = n} {y = 256 ^ k} (omega arith) .1 (rw (pow-suc 256 k) at h) in
-    digits-append v (bytesOf k (n / 256)) (n % 256 ∷ [])
-    ∙ ap (λ (x : ℕ). x * 256 + n % 256) (digits-bytes k v (n / 256) l)
-    ∙ rw (pow-suc 256 k, ← mul-assoc v (256 ^ k) 256) (omega arith)
+use Rattle.byte_io.specs.BigEndianLemmas.{digits-append, digits-bytesOf}
 
 -- what was put is read
 pub read-back : (k n : ℕ) → n < 256 ^ k → bigEndian (bytesOf k n) ≡ n
-read-back k n h = digits-bytes k 0 n h ∙ omega arith
+read-back k n h = digits-bytesOf k 0 n h ∙ omega arith
 
 -- one byte more
 pub next-byte : (s : List ℕ) (k : ℕ) → k < length s → bigEndian (take (suc k) s) ≡ bigEndian (take k s) * 256 + getD s k 0

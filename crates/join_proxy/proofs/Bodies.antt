@@ -13,7 +13,8 @@ use lib.Dec.{ltb}
 use lib.ListN.{length, getD, take, drop, length-append, length-drop, drop-of-length-le, List·getD-eq-default}
 use lib.Seq.{take-all, take-at, drop-at, drop-drop}
 use Rattle.lemmas.specs.lists.Digits.{digits}
-use Rattle.lemmas.specs.lists.Table.{table, table-self}
+use Rattle.lemmas.specs.lists.Table.{table}
+use Rattle.lemmas.specs.lists.TableLemmas.{table-self}
 use Rattle.aes_ccm.specs.declared.WriteResult.{WriteResult}
 use Rattle.aes_ccm.specs.Ccm.{sealed, two}
 use Rattle.aes_ccm.specs.Laws.{CcmLaws}

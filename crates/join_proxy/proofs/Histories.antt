@@ -12,7 +12,8 @@ use borrow.Author.Tests.{eqb-true, eqb-false}
 use lib.Dec.{eqb}
 use lib.ListN.{length, take, length-append, List·getD-append}
 use lib.Seq.{getD-at}
-use Rattle.lemmas.specs.lists.Same.{same, same-equal, same-refl}
+use Rattle.lemmas.specs.lists.Same.{same}
+use Rattle.lemmas.specs.lists.SameLemmas.{same-equal, same-refl}
 use Rattle.aes_ccm.specs.Plan.{Plan, refuse, emit, answer, numberIn}
 use Rattle.join_proxy.specs.declared.proxy.Issued.{Issued}
 use Rattle.join_proxy.specs.declared.proxy.Issued.the-variants.{Count, All}

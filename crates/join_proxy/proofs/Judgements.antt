@@ -1,7 +1,7 @@
 -- What judging answers at each of its returns, and for which bodies it forwards: the definition's tests taken one by one, and what opens was sealed.
 -- Assumes nothing.
 use mathlib.Core.Path.{_≡_, refl, sym, _∙_, ap, ap₂}
-use mathlib.Core.Bool.{Bool, true, false, cond, _&&_}
+use mathlib.Core.Bool.{Bool, true, false, cond}
 use mathlib.Core.List.{List, [], _∷_, _++_, append-nil}
 use Prim.Native.Nat.{ℕ, _+_, _-_, _*_, _<_, _≤_}
 use native.Mathlib.Omega.{arith}
@@ -9,8 +9,9 @@ use borrow.Author.Tests.{lt-ltb, le-ltb, ltb-true, ltb-false, eq-eqb, ne-eqb, eq
 use lib.Dec.{ltb, eqb}
 use lib.ListN.{length, getD, take, drop, length-drop, drop-of-length-le, take-append-drop}
 use lib.Seq.{take-all, drop-at, length-take-le}
+use Rattle.lemmas.specs.logic.Tests.{both-true}
 use Rattle.lemmas.specs.lists.Table.{table}
-use Rattle.refusal.specs.Verdict.{accepted-not}
+use Rattle.refusal.specs.RefusalLemmas.{accepted-not}
 use Rattle.refusal.specs.declared.Refusal.{Refusal}
 use Rattle.refusal.specs.declared.Refusal.the-variants.{«Type», Range, Seal, Stale}
 use Rattle.refusal.specs.declared.Verdict.the-variants as verdict
@@ -129,14 +130,10 @@ accepted k w e =
     let z : _≡_ {A = ℕ} 0 1 = cc in
     omega arith
 
-both : (a b : Bool) → (a && b) ≡ true → (a ≡ true) × (b ≡ true)
-both true b e = (refl, e)
-both false b e = absurd (let z : _≡_ {A = ℕ} 0 1 = cc in omega arith)
-
 -- what a fresh number is
 pub fresh-both : (issued : Issued) (n : ℕ) → isFresh issued n ≡ true → (n < countOf issued) × (countOf issued - 1 - n < 64)
 fresh-both issued n e =
-    let two = both (ltb n (countOf issued)) (ltb (countOf issued - 1 - n) 64) e in
+    let two = both-true (ltb n (countOf issued)) (ltb (countOf issued - 1 - n) 64) e in
     (ltb-true n (countOf issued) (two .0), ltb-true (countOf issued - 1 - n) 64 (two .1))
 
 -- a text that is forwarded

@@ -1,7 +1,12 @@
 pub mod Xor
+pub mod XorLemmas
 pub mod Digits
+pub mod BigEndian
 pub mod Table
+pub mod TableLemmas
+pub mod Every
 pub mod Filling
 pub mod Writing
 pub mod Same
 pub mod Prefix
+pub mod SameLemmas

@@ -4,14 +4,14 @@ use native.Mathlib.Omega.{arith}
 use mathlib.Core.Path.{_≡_, refl}
 use mathlib.Core.Bool.{Bool, true, false, cond, _&&_}
 use mathlib.Core.List.{List}
-use mathlib.Core.Option.{Option, none, some}
+use mathlib.Core.Option.{none, some}
 use borrow.Author.Tests.{leb-true, eqb-true, eq-eqb, le-leb}
 use lib.Dec.{leb, eqb}
 use lib.ListN.{length}
 use Rattle.refusal.specs.declared.Refusal.the-variants.{Range}
 use Rattle.link_key.specs.usage.Usage.{usageOf, familyOf, familyCovers, listed, knownType, entryAt, entrySays}
 use Rattle.link_key.specs.AdditionalInfo.{additionalInfoBytes}
-use Rattle.link_key.specs.Key.{keyWithAdditionalInfo, validKey, sameKey, sameSecret, covers, coverageOf, coverageSays, foundKey}
+use Rattle.link_key.specs.Key.{keyWithAdditionalInfo, validKey, sameKey, sameSecret, covers, coverageOf, coverageSays}
 use Rattle.link_key.specs.declared.Key.{Key}
 use Rattle.link_key.specs.declared.additional_info.AdditionalInfo.{AdditionalInfo}
 use Rattle.link_key.specs.declared.usage.Coverage.the-variants.{Covered, Refused}
@@ -111,12 +111,3 @@ pub coverage-says :
     (k : Key) (type : ℕ) → coverageSays (coverageOf k type) ≡ cond (knownType type && listed (k .usage)) (0, some (covers k type)) (13, none)
 unfolding coverageOf
 coverage-says k type = choose-coverage (knownType type && listed (k .usage)) (covers k type)
-
--- what a search gave
-pub found-some : (o : Option Key) → foundKey o .found ≡ true → o ≡ some (foundKey o .key)
-found-some none e = cc
-found-some (some k) e = refl
-
-pub found-none : (o : Option Key) → foundKey o .found ≡ false → o ≡ none
-found-none none e = refl
-found-none (some k) e = cc

@@ -1,4 +1,4 @@
-mod Places
+pub mod Places
 pub mod Lists
 pub mod KeySets
 mod Flags

@@ -14,7 +14,7 @@ use Rattle.lemmas.specs.logic.Tests.{both-right}
 use Rattle.link_key.proofs.set.Lists.{first-is}
 use Rattle.link_key_counters.specs.Counters.{Slot, slot, slotsFrom, slotsOf, lastCounter, isUsedUp, serves, firstServing, placeOf}
 use Rattle.link_key_counters.specs.declared.CountedSet.{CountedSet}
-use Rattle.link_key_counters.proofs.Slots.{past}
+use Rattle.link_key.proofs.set.Places.{past}
 
 -- what stands at a place of a set
 abbrev pub standing : CountedSet → ℕ → Slot

@@ -10,23 +10,14 @@ use borrow.Author.Tests.{ne-eqb, eq-eqb}
 use lib.ListN.{length, drop, take, getD, set, replicate, length-map, length-take}
 use lib.Seq.{take-suc, set-at, append-snoc, length-take-le}
 use Rattle.lemmas.specs.lists.Prefix.{take-length-take, prefix-next, prefix-end}
-use Rattle.link_key.specs.Key.{keyOf, covers}
+use Rattle.link_key.specs.Key.{covers}
 use Rattle.link_key.specs.declared.Key.{Key}
+use Rattle.link_key.proofs.Same.{next}
+use Rattle.link_key.proofs.set.Places.{past, firsts}
 use Rattle.link_key.specs.set.KeySet.{keysOf}
 use Rattle.link_key.specs.declared.set.key_set.KeySet.{KeySet}
 use Rattle.link_key_counters.specs.Counters.{Slot, slot, slotsFrom, lastCounter, serves, keptCounter, keptCounters}
 use Rattle.link_key_counters.specs.declared.CountedSet.{CountedSet}
-
--- what a read past the end would give
-abbrev pub past : Key
-past = keyOf 0 0 []
-
--- the keys of a set are its first places, as many as there are keys
-pub firsts : (keys : KeySet) (n : ℕ) → n ≡ length (keysOf keys) → take n (keys .keys) ≡ keysOf keys
-firsts keys n e = ap (λ (m : ℕ). take m (keys .keys)) e ∙ take-length-take (keys .count) (keys .keys)
-
-pub within : (keys : KeySet) (n : ℕ) → n ≡ length (keysOf keys) → n ≤ length (keys .keys)
-within keys n e = omega (arith, length-take (keys .count) (keys .keys))
 
 -- the slots of the first n keys, from a place on
 abbrev pub rest : List Key → List ℕ → ℕ → ℕ → List Slot

@@ -10,7 +10,7 @@ use lib.ListN.{length, set, replicate, length-replicate}
 use Rattle.refusal.specs.Verdict.{verdictNumber}
 use Rattle.refusal.specs.declared.Verdict.{Verdict}
 use Rattle.lemmas.specs.lists.Same as bytes
-use Rattle.lemmas.specs.lists.Same.{same-equal, same-refl}
+use Rattle.lemmas.specs.lists.SameLemmas.{same-equal, same-refl}
 use Rattle.image.specs.Effects.{onAccept, resultBytes}
 use Rattle.node_image.specs.Node.{nodeImage}
 use Rattle.node_laws.specs.Calls.{NodeCall, starting, polling, delivering, asking, sending, receiving, reporting, lentTo}

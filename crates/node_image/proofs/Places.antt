@@ -1,8 +1,8 @@
 -- A field after another stands as many bytes further on as the first has: so fields are read, judged and written one after the other.
 use Prim.Native.Nat.{ℕ, _+_}
-use mathlib.Core.Bool.{Bool, true, false, _&&_}
+use mathlib.Core.Bool.{Bool, true, false, _&&_, and-assoc}
 use mathlib.Core.List.{List, _++_, append-assoc}
-use mathlib.Core.Path.{_≡_, refl, ap, ap₂, sym, _∙_, subst}
+use mathlib.Core.Path.{_≡_, ap, ap₂, sym, _∙_}
 use native.Mathlib.Omega.{arith}
 use lib.ListN.{drop, getD}
 use lib.Seq.{drop-drop, getD-drop}
@@ -29,13 +29,6 @@ module _ {A B : Type 0} (p : Part A) (q : Part B) (s : List ℕ) (at k : ℕ) (e
   pub not-good : {x : Bool} → x ≡ p .good (drop at s) → x ≡ false → false ≡ both p q .good (drop at s)
   not-good {x} f t = ap (λ (b : Bool). (b && q .good (drop (p .size) (drop at s)))) (sym t ∙ f)
 
--- the same bytes, said otherwise
-pub wrote-so : {p q d d′ : List ℕ} {n : ℕ} → p ≡ q → Wrote p d n d′ → Wrote q d n d′
-wrote-so {p} {q} {d} {d′} {n} e w = subst (λ (x : List ℕ). Wrote x d n d′) e w
-
-pub three-fields : (a b c d : List ℕ) → ((a ++ b) ++ c) ++ d ≡ a ++ (b ++ (c ++ d))
-three-fields a b c d = simp append-assoc
-
 pub eight-fields : (h a b c d e f g i : List ℕ)
     → (h ++ (((a ++ b) ++ c) ++ d)) ++ (((e ++ f) ++ g) ++ i) ≡ h ++ (a ++ (b ++ (c ++ (d ++ (e ++ (f ++ (g ++ i)))))))
 eight-fields h a b c d e f g i = simp append-assoc
@@ -43,10 +36,6 @@ eight-fields h a b c d e f g i = simp append-assoc
 -- ---- judging
 pub held-good : {x b : Bool} → x ≡ b → x ≡ (b && true)
 held-good {x} {b} e = e ∙ and-good b
-
-and-assoc : (a b c : Bool) → ((a && b) && c) ≡ (a && (b && c))
-and-assoc true b c = refl
-and-assoc false b c = refl
 
 -- a and b are asked together, and c where both hold
 module _ (a b c : Bool) {h : Bool} (e : h ≡ (a && b)) where

@@ -14,7 +14,7 @@ use Rattle.byte_io.specs.declared.WriteResult.{WriteResult}
 use Rattle.byte_io.specs.declared.WriteResult.the-variants as written
 use Rattle.image.specs.CodecLaws.{number-lawful, times-lawful}
 use Rattle.image.specs.Lent.{long}
-use Rattle.image.specs.Numbers.{many-bytes}
+use Rattle.byte_io.specs.BigEndianLemmas.{length-bytesOf}
 use Rattle.image.specs.Part.{AllBytes, RoundTrips, number, times, isImage}
 use Rattle.key_image.specs.Key.{keySetPart, countedSetPart}
 use Rattle.key_image.specs.Laws.{KeyImages}
@@ -63,9 +63,9 @@ attempt-size a =
       length-append c (s ++ (t ++ (a .count ∷ []))),
       length-append s (t ++ (a .count ∷ [])),
       length-append t (a .count ∷ []),
-      many-bytes 8 (a .clock),
-      many-bytes 8 (a .sent),
-      many-bytes 8 (a .timeout),
+      length-bytesOf 8 (a .clock),
+      length-bytesOf 8 (a .sent),
+      length-bytesOf 8 (a .timeout),
     )
 
 -- role, attempt, keys, counters, pending set and what is held: put as they are grouped, and with the counters alone in the middle

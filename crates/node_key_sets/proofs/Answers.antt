@@ -8,6 +8,7 @@ use Rattle.refusal.specs.declared.Refusal.{Refusal}
 use Rattle.refusal.specs.declared.Refusal.the-variants as refusal
 use Rattle.refusal.specs.declared.Verdict.the-variants as verdict
 use Rattle.link_key.specs.Key.{foundKey, covers}
+use Rattle.link_key.specs.KeyLemmas.{found-some, found-none}
 use Rattle.link_key.specs.set.KeySet.{has}
 use Rattle.link_key.specs.declared.FoundKey.{FoundKey}
 use Rattle.link_key.specs.declared.Key.{Key}
@@ -23,14 +24,6 @@ use Rattle.link_key_counters.specs.Counters.{Slot, firstServing, takenCounterOn
 use Rattle.link_key_counters.specs.declared.TakenCounter.{TakenCounter}
 
 -- ---- a key that was looked for
-found-some : (o : Option Key) → foundKey o .found ≡ true → o ≡ some (foundKey o .key)
-found-some none e = cc
-found-some (some k) e = refl
-
-found-none : (o : Option Key) → foundKey o .found ≡ false → o ≡ none
-found-none none e = refl
-found-none (some k) e = cc
-
 found-covers :
     (type : ℕ) (o : Option Key) →
     cond (foundKey o .found && covers (foundKey o .key) type) (withKey (foundKey o .key)) (withoutKey refusal.Silent) ≡ ifCovers type o

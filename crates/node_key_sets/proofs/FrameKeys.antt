@@ -8,7 +8,7 @@ use mathlib.Core.Option.{Option, none, some}
 use mathlib.Core.List.{List, List·Memᴰ}
 use borrow.Author.Tests.{le-leb, ne-eqb}
 use lib.Dec.{eqb}
-use Rattle.refusal.specs.Verdict.{refused-not}
+use Rattle.refusal.specs.RefusalLemmas.{refused-not}
 use Rattle.refusal.specs.declared.Refusal.the-variants as refusal
 use Rattle.refusal.specs.declared.Verdict.{Verdict}
 use Rattle.refusal.specs.declared.Verdict.the-variants as verdict

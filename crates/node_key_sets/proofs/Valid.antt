@@ -3,7 +3,7 @@ use mathlib.Core.Path.{_≡_, refl, sym, _∙_}
 use mathlib.Core.Bool.{Bool, true, false, cond, not, _&&_, _||_, or-true, and-true, and-false}
 use mathlib.Core.List.{List, [], List·Memᴰ, List·Memᴰ·not-nil}
 use borrow.Author.Tests.{eqb-true, not-true}
-use Rattle.refusal.specs.Verdict.{refused-not}
+use Rattle.refusal.specs.RefusalLemmas.{refused-not}
 use Rattle.refusal.specs.declared.Refusal.the-variants as refusal
 use Rattle.refusal.specs.declared.Verdict.the-variants as verdict
 use Rattle.link_key.specs.set.KeySet.{keysOf, validKeys, validSet, noAdditionalInfos, additionalInfoAllowed, sameKeys, shares}

@@ -9,8 +9,9 @@ use mathlib.Core.Option.{Option, none, some}
 use borrow.Author.Tests.{eq-eqb, ne-eqb, ltb-true, ltb-false}
 use lib.Dec.{leb, ltb, eqb}
 use lib.ListN.{length}
-use Rattle.refusal.specs.Verdict.{verdictNumber, isAccepted, refused-not}
-use Rattle.refusal.specs.Order.{refusedIf, inOrder, refused-first}
+use Rattle.refusal.specs.Verdict.{verdictNumber, isAccepted}
+use Rattle.refusal.specs.RefusalLemmas.{refused-not, refused-first}
+use Rattle.refusal.specs.Order.{refusedIf, inOrder}
 use Rattle.refusal.specs.declared.Refusal.the-variants as refusal
 use Rattle.refusal.specs.declared.Verdict.{Verdict}
 use Rattle.refusal.specs.declared.Verdict.the-variants as verdict

@@ -8,6 +8,7 @@ use Rattle.lemmas.specs.logic.Tests.{both, both-left, both-right, never}
 use Rattle.refusal.specs.declared.Verdict.{Verdict}
 use Rattle.refusal.specs.declared.Verdict.the-variants as verdict
 use Rattle.link_key.specs.set.KeySet.{keysOf, additionalInfoAllowed}
+use Rattle.cojp.specs.DispositionLemmas.{missing-keeps}
 use Rattle.cojp.specs.ErrorReports.{errorReportsValid}
 use Rattle.cojp.specs.InRange.{InRange, ErrorReportsValid}
 use Rattle.cojp.specs.Lists.{stringsIn, kept}
@@ -104,11 +105,6 @@ may-inform Published c e = go (c .keys .disposition)
     go Discarded = refl
 
 -- ---- what is held afterwards
-missing-keeps : {X : Type 0} (r : Disposition) (x k : X) → missing r ≡ true → ifTaken r x k ≡ k
-missing-keeps Absent x k e = refl
-missing-keeps Discarded x k e = refl
-missing-keeps Taken x k e = never false e refl
-
 pub octets-after :
     (border : Bool) (r : Disposition) (o : Octets) (old : HeldOctets) → ifTaken r (leb (o .len) 16) true ≡ true → validOctets old ≡ true →
     validOctets (octetsAfter (borderOnly border r) o old) ≡ true

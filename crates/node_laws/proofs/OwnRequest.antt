@@ -15,7 +15,7 @@ use Rattle.byte_io.specs.Write.{refuse, emit, answer}
 use Rattle.cbor.specs.Encode.{encode, encodePairs, shortest}
 use Rattle.cbor.specs.HeadLaws.{HeadLaws}
 use Rattle.byte_io.specs.declared.WriteResult.the-variants as written
-use Rattle.cbor.specs.Item.{Item, Pairs, unsigned, bytes, array, map, empty, pair, countPairs}
+use Rattle.cbor.specs.Item.{Item, Pairs, unsigned, bytes, array, map, empty, countPairs}
 use Rattle.cojp.specs.ErrorReports.{errorReportList, errorReportsValid, validErrorReport, validErrorReports}
 use Rattle.cojp.specs.Lists.{errorReportsIn, some, bytesIn, itemsIn, kept, noListParameter}
 use Rattle.cojp.specs.Octets as octets
@@ -24,6 +24,7 @@ use Rattle.cojp.specs.Request.{owing}
 use Rattle.protocol_version.specs.Version.{byVersion}
 use Rattle.cojp.specs.Writing.{join, labelled, rolePairs, octetsPairs, listPairs, requestPairs}
 use Rattle.cojp.specs.Writing.{octetsInRange, listInRange, missing, requestInRange, requestPlan}
+use Rattle.cojp.specs.WritingLemmas.{join-count, join-length}
 use Rattle.cojp.specs.declared.error_report.ErrorReports.{ErrorReports}
 use Rattle.cojp.specs.declared.list.ListParameter.{ListParameter}
 use Rattle.cojp.specs.declared.octets.OctetsParameter.{OctetsParameter}
@@ -42,24 +43,6 @@ use Rattle.node.specs.Timing.{requestOf}
 use Rattle.node.specs.declared.node.Node.{Node}
 use Rattle.node_laws.specs.Answers.{writtenNumber}
 use Rattle.node_laws.proofs.Valid.{others-valid}
-
--- ---- how long the bytes of pairs are
-join-long : (ps qs : Pairs) → length (encodePairs (join ps qs)) ≡ length (encodePairs ps) + length (encodePairs qs)
-join-long empty qs = omega arith
-join-long (pair k v ps) qs =
-    let rest : length (encodePairs (join ps qs)) ≡ length (encodePairs ps) + length (encodePairs qs) = join-long ps qs in
-    omega (
-      arith,
-      rest,
-      length-append (encode k) (encode v ++ encodePairs (join ps qs)),
-      length-append (encode v) (encodePairs (join ps qs)),
-      length-append (encode k) (encode v ++ encodePairs ps),
-      length-append (encode v) (encodePairs ps),
-    )
-
-join-many : (ps qs : Pairs) → countPairs (join ps qs) ≡ countPairs ps + countPairs qs
-join-many empty qs = omega arith
-join-many (pair k v ps) qs = let rest : countPairs (join ps qs) ≡ countPairs ps + countPairs qs = join-many ps qs in omega (arith, rest)
 
 -- at most one pair, of so many bytes
 Short : ℕ → Pairs → Type 0
@@ -174,13 +157,13 @@ module _ (H : HeadLaws) (L : ListLaws) (n : Node) (v : Valid n) where
       let x = role-short H (n .role) role-valid in
       let y = octets-short H (identifierIn (n .network)) (identifier-in-range (n .network) network-valid) in
       let z = list-short H L (listedIn (n .errors)) (l .0) (l .1) (l .2) in
-      let few : countPairs (requestPairs q) ≤ 23 = omega (arith, join-many (join a b) c, join-many a b, x .0, y .0, z .0) in
+      let few : countPairs (requestPairs q) ≤ 23 = omega (arith, join-count (join a b) c, join-count a b, x .0, y .0, z .0) in
       omega (
         arith,
         H .short-head 5 (countPairs (requestPairs q)) few,
         length-append (shortest 5 (countPairs (requestPairs q))) (encodePairs (requestPairs q)),
-        join-long (join a b) c,
-        join-long a b,
+        join-length (join a b) c,
+        join-length a b,
         x .1,
         y .1,
         z .1,

@@ -12,7 +12,7 @@ use Rattle.refusal.specs.declared.Verdict.the-variants as verdict
 use Rattle.byte_io.specs.Write.{answer}
 use Rattle.byte_io.specs.declared.WriteResult.{WriteResult}
 use Rattle.byte_io.specs.declared.WriteResult.the-variants as written
-use Rattle.refusal.specs.Verdict.{refused-not}
+use Rattle.refusal.specs.RefusalLemmas.{refused-not}
 use Rattle.cojp.specs.declared.configuration.Configuration.{Configuration}
 use Rattle.cojp.specs.declared.configuration.ConfigurationRead.{ConfigurationRead}
 use Rattle.protocol_version.specs.declared.Version.{Version}

@@ -1,8 +1,8 @@
 -- What the code reads and writes at fixed places is what the fields get and put, one after the other.
 use Prim.Native.Nat.{ℕ, suc, _+_}
-use mathlib.Core.Path.{_≡_, refl, ap, sym, _∙_}
-use mathlib.Core.Bool.{Bool, true, false, _&&_}
-use mathlib.Core.List.{List, [], _∷_, _++_, append-assoc}
+use mathlib.Core.Path.{_≡_, ap, sym, _∙_}
+use mathlib.Core.Bool.{Bool, true, false, _&&_, and-assoc}
+use mathlib.Core.List.{List, [], _∷_, _++_}
 use borrow.Author.Tests.{eqb-true}
 use lib.Dec.{eqb}
 use lib.ListN.{length, take, drop, getD}
@@ -10,7 +10,7 @@ use lib.Seq.{drop-drop}
 use Rattle.byte_io.specs.Write.{Wrote}
 use Rattle.byte_io.specs.BigEndian.{bigEndian, bytesOf}
 use Rattle.lemmas.specs.logic.Tests.{both-left, both-right}
-use Rattle.image.specs.Fields.{and-good, two-fields, four-fields, whole-struct}
+use Rattle.image.specs.Fields.{and-good, two-fields, three-fields, four-fields, whole-struct, wrote-same}
 use Rattle.image.specs.Part.{Part, headed, isHeaded, isImage}
 use Rattle.cojp.specs.declared.address.AddressParameter.{AddressParameter}
 use Rattle.cojp.specs.declared.configuration.Configuration.{Configuration}
@@ -29,13 +29,8 @@ use Rattle.object_image.specs.Rate.{rateParameterPart}
 use Rattle.object_image.specs.Request.{requestFields, requestTo, requestImage}
 use Rattle.object_image.specs.Request as request
 use Rattle.object_image.proofs.Got.{here}
-use Rattle.object_image.proofs.Put.{wrote-same}
 
 -- ---- which bytes are an image
-and-assoc : (a b c : Bool) → ((a && b) && c) ≡ (a && (b && c))
-and-assoc true b c = refl
-and-assoc false b c = refl
-
 module _ {A : Type 0} (kind : ℕ) (p : Part A) (s : List ℕ) where
   abbrev Long : Bool
   Long = eqb (length s) (suc (suc (p .size)))
@@ -62,9 +57,6 @@ module _ (s : List ℕ) where
       → u ≡ listParameterPart .get (drop 21 s) → x ≡ errorReportsPart .get (drop 277 s) → k ≡ bigEndian (take 8 (drop 288 s))
       → requestTo (getD s 2 0, (n, (u, (x, k)))) ≡ requestImage .get s
   request-got e f g h = rw (e, f, g, h, here s 2, drop-drop 1 2 s, drop-drop 18 3 s, drop-drop 256 21 s, drop-drop 11 277 s)
-
-three-fields : (h a b c : List ℕ) → ((h ++ a) ++ b) ++ c ≡ h ++ (a ++ (b ++ c))
-three-fields h a b c = append-assoc (h ++ a) b c ∙ append-assoc h a (b ++ c)
 
 pub later-request-wrote : (q : JoinRequest) {d e : List ℕ} {n : ℕ}
     → Wrote ((listParameterPart .put (q .unsupported) ++ errorReportsPart .put (q .errors)) ++ bytesOf 8 (q .unknown)) d n e

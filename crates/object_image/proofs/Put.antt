@@ -7,7 +7,7 @@ use lib.ListN.{length, getD, drop-of-length-le}
 use lib.Seq.{drop-cons}
 use Rattle.byte_io.specs.Write.{Wrote}
 use Rattle.byte_io.specs.BigEndian.{bytesOf}
-use Rattle.image.specs.Fields.{two-fields}
+use Rattle.image.specs.Fields.{two-fields, wrote-same}
 use Rattle.image.specs.Part.{puts}
 use Rattle.cojp.specs.ErrorReports.{errorReportOf}
 use Rattle.cojp.specs.declared.address.ShortAddress.{ShortAddress}
@@ -18,10 +18,6 @@ use Rattle.object_image.specs.Codes.{boolPart}
 use Rattle.object_image.specs.ErrorReports.{errorReportPart}
 use Rattle.object_image.specs.Lists.{listPart}
 use Rattle.object_image.specs.Request as request
-
--- the same bytes
-pub wrote-same : {p q d e : List ℕ} {n : ℕ} → p ≡ q → Wrote p d n e → Wrote q d n e
-wrote-same h w = rw h at w
 
 pub byte-wrote : {m k n : ℕ} {d e : List ℕ} → m ≡ k → Wrote (m ∷ []) d n e → Wrote (k ∷ []) d n e
 byte-wrote h w = rw h at w

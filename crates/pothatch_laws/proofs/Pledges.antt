@@ -7,10 +7,10 @@ use native.Mathlib.Omega.{arith}
 use lib.Dec.{eqb, ltb}
 use lib.ListN.{length, getD, take, drop, replicate}
 use Rattle.image.specs.Part.{AllBytes}
-use Rattle.aes.specs.Bounds.{tabled}
+use Rattle.aes.specs.BoundsLemmas.{tabled}
 use Rattle.aes_ccm.specs.Laws.{CcmLaws}
 use Rattle.aes_ccm.specs.Plan.{Plan, refuse, emit}
-use Rattle.lemmas.specs.lists.Table.{length-table}
+use Rattle.lemmas.specs.lists.TableLemmas.{length-table}
 use Rattle.join_proxy.specs.Body.{numberOf, nonceWith}
 use Rattle.join_proxy.specs.Judging.{nobody, isFresh, pledgeIn, judgeText, judgePlan, opening, judgeBody}
 use Rattle.join_proxy.specs.declared.judging.JudgeResult.{JudgeResult}

@@ -1,3 +1,4 @@
 pub mod Refusal
 pub mod Verdict
 pub mod Order
+pub mod RefusalLemmas

@@ -1,7 +1,7 @@
 -- The images are lawful by their tables; what the code reads at fixed places is what the fields get, one after the other.
-use Prim.Native.Nat.{ℕ, _+_, _<_, _≤_}
+use Prim.Native.Nat.{ℕ, _<_, _≤_}
 use mathlib.Core.Path.{_≡_, refl, ap, sym, _∙_}
-use mathlib.Core.Bool.{Bool, true, false, _&&_}
+use mathlib.Core.Bool.{Bool, true, false, _&&_, and-assoc}
 use mathlib.Core.List.{List, [], _∷_, _++_}
 use native.Mathlib.Omega.{arith}
 use borrow.Author.Tests.{lt-ltb, le-ltb, le-leb, ltb-true, ltb-false, leb-true, eqb-true}
@@ -80,10 +80,6 @@ issued-lawful =
     (upTo-lawful numbers (number 8) (number-lawful 8))
 
 -- ---- the proxy
-and-assoc : (a b c : Bool) → ((a && b) && c) ≡ (a && (b && c))
-and-assoc true b c = refl
-and-assoc false b c = refl
-
 module _ (s : List ℕ) where
   abbrev Head : Bool
   Head = (eqb (length s) 26 && isHeaded 0x50 s)

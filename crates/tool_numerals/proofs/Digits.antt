@@ -10,7 +10,7 @@ use borrow.Author.Tests.{lt-ltb, le-ltb, ne-eqb, leb-true, ltb-true, ltb-false}
 use lib.Dec.{leb, ltb, eqb, eqb→eq}
 use lib.ListN.{length, getD, drop, set, length-set, drop-of-length-le}
 use lib.Seq.{drop-cons, set-out, sets}
-use Rattle.tool_numerals.proofs.Table.{at}
+use Rattle.lemmas.specs.lists.Every.{every-at}
 use Rattle.tool_numerals.specs.Hex.{Sign, Digit, Space, Stray, signOf, signAt, before, digitsOf, isStray, anyStray, bytesOf, isOdd}
 use Rattle.tool_numerals.specs.Hex.{fresh, withDigit, storedDigit, withCharacter, stored, readOn, writtenOn, HexIsBytes}
 use Rattle.tool_numerals.specs.declared.hex.Hex.{Hex}
@@ -75,7 +75,7 @@ decoded Stray small = refl
 
 pub sign-at : (c : ℕ) → c < 256 → signAt (getD values c 0) ≡ signOf c
 unfolding values right
-sign-at c h = rw (eqb→eq (getD values c 0) (code (signOf c)) (at right values tt c h)) (decoded (signOf c) (small c))
+sign-at c h = rw (eqb→eq (getD values c 0) (code (signOf c)) (every-at right values tt c h)) (decoded (signOf c) (small c))
 
 -- what the value in the table says of a character
 

@@ -1,35 +1,15 @@
 -- Numbers of several bytes, byte by byte.
-use Prim.Native.Nat.{ℕ, suc, _+_, _*_, _-_, _^_, _≤_, _<_}
+use Prim.Native.Nat.{ℕ, _+_, _*_, _-_, _≤_, _<_}
 use mathlib.Core.Path.{_≡_}
-use mathlib.Core.List.{List, _∷_}
-use native.Mathlib.Omega.{arith}
-use native.Mathlib.Numerals.{add-one}
-use native.Mathlib.Nat.{pow-suc, pow-le-pow-right}
+use mathlib.Core.List.{List}
 use lib.ListN.{length, take, drop, getD}
-use lib.Seq.{drop-cons}
+use Rattle.lemmas.specs.lists.BigEndian.{part-cons}
 use Rattle.trace_record.specs.Layout.{bigEndianOn}
-
--- one byte further
-pub part-cons : (s : List ℕ) (i end : ℕ) → i < end → end ≤ length s → take (end - i) (drop i s) ≡ getD s i 0 ∷ take (end - (i + 1)) (drop (i + 1) s)
-part-cons s i end h l =
-    let e : end - i ≡ suc (end - (i + 1)) = omega arith in
-    let g : i < length s = omega arith in
-    rw (e, add-one i, drop-cons s i 0)
 
 pub number-step :
     (s : List ℕ) (v i end : ℕ) → i < end → end ≤ length s →
     bigEndianOn v (take (end - i) (drop i s)) ≡ bigEndianOn (v * 256 + getD s i 0) (take (end - (i + 1)) (drop (i + 1) s))
 number-step s v i end h l = rw (part-cons s i end h l)
-
--- below 256 ^ i, and one byte more, is below 256 ^ (i + 1)
-pub grows : (v b i : ℕ) → v < 256 ^ i → b < 256 → v * 256 + b < 256 ^ (i + 1)
-grows v b i h k = rw (add-one, pow-suc 256 i) (omega arith)
-
--- and fits 64 bits, for up to eight bytes
-pub grown-fits : (v b i : ℕ) → v < 256 ^ i → b < 256 → i < 8 → v * 256 + b < 2 ^ 64
-grown-fits v b i h k l =
-    let m : 256 ^ (i + 1) ≤ 256 ^ 8 = pow-le-pow-right {n = 256} (omega arith) {i = i + 1} {j = 8} (omega arith) in
-    omega (arith, grows v b i h k)
 
 pub number-none : (v k : ℕ) (s : List ℕ) → k ≡ 0 → bigEndianOn v (take k s) ≡ v
 number-none v k s e = rw e

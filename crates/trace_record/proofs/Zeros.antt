@@ -6,7 +6,7 @@ use mathlib.Core.List.{List}
 use lib.Dec.{eqb}
 use lib.ListN.{length, take, drop, getD}
 use Rattle.trace_record.specs.Layout.{zeros}
-use Rattle.trace_record.proofs.Numbers.{part-cons}
+use Rattle.lemmas.specs.lists.BigEndian.{part-cons}
 
 pub zeros-step :
     (s : List ℕ) (i end : ℕ) → i < end → end ≤ length s →

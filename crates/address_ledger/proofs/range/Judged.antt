@@ -1,13 +1,14 @@
 -- What the tests of range and memory show, one law to a way out of `judge`, and what an accepted range is known to have.
-use Prim.Native.Nat.{ℕ, zero, suc, _+_, _*_, _≤_, _<_}
+use Prim.Native.Nat.{ℕ, _+_, _*_, _≤_, _<_}
 use mathlib.Core.Path.{_≡_, refl}
 use mathlib.Core.Bool.{Bool, true, false, cond, _&&_}
 use native.Mathlib.Omega.{arith}
 use borrow.Author.Tests.{le-leb, lt-leb, leb-true}
 use lib.Dec.{leb}
-use Rattle.short_address.specs.Address.{isAddress, bytesOf}
+use Rattle.lemmas.specs.logic.Tests.{both-true}
 use Rattle.refusal.specs.declared.Refusal.the-variants.{Room, Range}
 use Rattle.refusal.specs.declared.Verdict.the-variants.{Accepted, Refused}
+use Rattle.address_ledger.specs.range.RangeLemmas.{counted-most}
 use Rattle.address_ledger.specs.range.Range.{inLimits, judged, counted, countedIn, Usable}
 
 -- ---- the limits
@@ -43,22 +44,7 @@ module _ (first size len : ℕ) where
     unfolding judged
     accepted q = rw (e, le-leb (9 * size) len q)
 
--- ---- no more addresses count than there are
-most-by : (first n : ℕ) (x : Bool) → counted (suc first) n ≤ n → isAddress (bytesOf first) ≡ x → counted first (suc n) ≤ suc n
-unfolding counted
-most-by first n true h e = rw e (omega arith)
-most-by first n false h e = rw e (omega arith)
-
-pub counted-most : (first n : ℕ) → counted first n ≤ n
-unfolding counted
-counted-most first zero = omega arith
-counted-most first (suc n) = most-by first n _ (counted-most (suc first) n) refl
-
 -- ---- back from an accepted range to its tests
-both : (p q : Bool) → (p && q) ≡ true → (p ≡ true) × (q ≡ true)
-both true q h = (refl, h)
-both false q h = (cc, cc)
-
 passed : (p q : Bool) → Accepted ≡ cond p (cond q Accepted (Refused Room)) (Refused Range) → (p ≡ true) × (q ≡ true)
 passed true true h = (refl, refl)
 passed true false h = (refl, cc)
@@ -68,8 +54,8 @@ module _ (first size : ℕ) (e : inLimits first size ≡ true) where
   limits : (leb 1 size ≡ true) × ((leb size 4096 ≡ true) × (leb (first + size) 0x10000 ≡ true))
   unfolding inLimits
   limits =
-      let p = both (leb 1 size) (leb size 4096 && leb (first + size) 0x10000) e in
-      (p .0, both (leb size 4096) (leb (first + size) 0x10000) (p .1))
+      let p = both-true (leb 1 size) (leb size 4096 && leb (first + size) 0x10000) e in
+      (p .0, both-true (leb size 4096) (leb (first + size) 0x10000) (p .1))
 
   pub within-size : size ≤ 4096
   within-size = leb-true size 4096 (limits .1 .0)

@@ -7,8 +7,8 @@ use native.Mathlib.Omega.{arith}
 use native.Mathlib.Decide.{decLt}
 use borrow.Author.Tests.{le-ltb, lt-ltb, ne-eqb}
 use lib.Dec.{ltb, eqb}
-use lib.ListN.{length, drop, set, length-set}
-use lib.Seq.{drop-set-lt, drop-cons, getD-set-same}
+use lib.ListN.{length, drop, set}
+use Rattle.lemmas.specs.lists.BigEndian.{drop-set}
 use Rattle.refusal.specs.declared.Refusal.the-variants.{Room, Range}
 use Rattle.byte_io.specs.Write.{Did, Wrote}
 use Rattle.byte_io.specs.BigEndian.{bytesOf}
@@ -54,11 +54,6 @@ info-direct a n e p q r t =
     (sym f, rw f at (info-most a))
 
 -- ---- the argument, from its last byte on
-drop-set : (l : List ℕ) (i b : ℕ) → i < length l → drop i (set l i b) ≡ b ∷ drop (suc i) l
-drop-set l i b h =
-    drop-cons (set l i b) i 0 (omega (arith, length-set l i b))
-    ∙ rw (getD-set-same l i b 0 h, drop-set-lt (suc i) l i b (omega arith))
-
 pub argument-step : (l : List ℕ) (i v : ℕ) → 1 < i → i ≤ length l
     → bytesOf (i - 1) v ++ drop i l ≡ bytesOf (i - 1 - 1) (v / 256) ++ drop (i - 1) (set l (i - 1) (v % 256))
 unfolding bytesOf

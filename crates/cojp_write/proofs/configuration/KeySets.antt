@@ -23,7 +23,8 @@ use Rattle.cojp.specs.declared.key_set.KeysParameter.{KeysParameter}
 use Rattle.cojp_write.specs.configuration.Room.{usedItems, keyLength, setLength}
 use Rattle.cojp_write.specs.octets.Size.{ItemsSize, PairsSize, Sum}
 use Rattle.cojp_write.specs.declared.octets.size.Size.{Size}
-use Rattle.cojp_write.proofs.octets.Joined.{chain-bytes, chain-count, chain-length, chain-assoc, chain-none, array-bytes}
+use Rattle.cojp.specs.WritingLemmas.{chain-bytes, chain-count, chain-length, chain-assoc, chain-none}
+use Rattle.cojp_write.proofs.octets.Joined.{array-bytes}
 use Rattle.cojp_write.proofs.octets.Strings.{string-length}
 use Rattle.cojp_write.proofs.octets.Sizes.{sizes-chain}
 use Rattle.cojp_write.proofs.range.Taken.{taken-is}

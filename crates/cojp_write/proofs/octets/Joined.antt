@@ -1,48 +1,14 @@
--- Pairs and items one after the other: their bytes, how many they are, and how a destination holds them.
-use Prim.Native.Nat.{ℕ, suc, _+_, _-_, _≤_}
-use mathlib.Core.Path.{_≡_, refl, ap, sym, _∙_}
+-- Labels with their values: their bytes, and how a destination holds them.
+use Prim.Native.Nat.{ℕ, _+_, _-_, _≤_}
+use mathlib.Core.Path.{_≡_, ap, sym, _∙_}
 use mathlib.Core.List.{List, _++_, append-assoc, append-nil}
-use native.Mathlib.Omega.{arith}
-use native.Mathlib.Nat.{suc-add, zero-add}
 use lib.ListN.{length, take, drop, length-append}
 use Rattle.byte_io.specs.Write.{Did, Wrote, emit}
 use Rattle.byte_io.specs.declared.WriteResult.{WriteResult}
 use Rattle.byte_io.specs.WriteLemmas.{seam}
 use Rattle.cbor.specs.Encode.{shortest, encode, encodes, encodePairs}
-use Rattle.cbor.specs.Item.{Item, Items, Pairs, none, more, empty, pair, array, count, countPairs}
-use Rattle.cojp.specs.Writing.{join, chain, labelled}
-
--- ---- pairs
-pub join-bytes : (a b : Pairs) → encodePairs (join a b) ≡ encodePairs a ++ encodePairs b
-join-bytes empty b = refl
-join-bytes (pair k v a) b = rw (join-bytes a b, append-assoc (encode k), append-assoc (encode v))
-
-pub join-count : (a b : Pairs) → countPairs (join a b) ≡ countPairs a + countPairs b
-join-count empty b = sym (zero-add (countPairs b))
-join-count (pair k v a) b = ap suc (join-count a b) ∙ sym (suc-add (countPairs a) (countPairs b))
-
-pub join-length : (a b : Pairs) → length (encodePairs (join a b)) ≡ length (encodePairs a) + length (encodePairs b)
-join-length a b = ap length (join-bytes a b) ∙ length-append (encodePairs a) (encodePairs b)
-
--- ---- items
-pub chain-bytes : (a b : Items) → encodes (chain a b) ≡ encodes a ++ encodes b
-chain-bytes none b = refl
-chain-bytes (more i a) b = rw (chain-bytes a b, append-assoc (encode i))
-
-pub chain-count : (a b : Items) → count (chain a b) ≡ count a + count b
-chain-count none b = sym (zero-add (count b))
-chain-count (more i a) b = ap suc (chain-count a b) ∙ sym (suc-add (count a) (count b))
-
-pub chain-length : (a b : Items) → length (encodes (chain a b)) ≡ length (encodes a) + length (encodes b)
-chain-length a b = ap length (chain-bytes a b) ∙ length-append (encodes a) (encodes b)
-
-pub chain-assoc : (a b c : Items) → chain (chain a b) c ≡ chain a (chain b c)
-chain-assoc none b c = refl
-chain-assoc (more i a) b c = ap (more i) (chain-assoc a b c)
-
-pub chain-none : (a : Items) → chain a none ≡ a
-chain-none none = refl
-chain-none (more i a) = ap (more i) (chain-none a)
+use Rattle.cbor.specs.Item.{Item, Items, Pairs, array, count}
+use Rattle.cojp.specs.Writing.{labelled}
 
 -- ---- a label and its value
 pub labelled-bytes : (n : ℕ) (i : Item) → encodePairs (labelled n i) ≡ shortest 0 n ++ encode i

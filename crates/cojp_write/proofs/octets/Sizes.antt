@@ -11,7 +11,7 @@ use Rattle.cbor.specs.Item.{Items, Pairs, empty, countPairs}
 use Rattle.cojp.specs.Writing.{join, chain, leaseItems}
 use Rattle.cojp_write.specs.octets.Size.{Sizes, ItemsSize, PairsSize, Sum}
 use Rattle.cojp_write.specs.declared.octets.size.Size.{Size}
-use Rattle.cojp_write.proofs.octets.Joined.{join-bytes, join-count, chain-bytes, chain-count}
+use Rattle.cojp.specs.WritingLemmas.{join-bytes, join-count, chain-bytes, chain-count}
 
 pub sizes-append : {a b k l m n : ℕ} {p q : List ℕ} {r s t : Size} → Sizes a p k m r → Sizes b q l n s → Sum r s t → Sizes (a + b) (p ++ q) (k + l) (m + n) t
 sizes-append {p = p} {q = q} x y z = record {

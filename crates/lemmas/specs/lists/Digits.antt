@@ -1,5 +1,5 @@
+-- Lemmas: nothing here has to be believed.
 -- A number in bytes: division by 256 over and over gives its digits.
--- Assumes nothing.
 use mathlib.Core.Path.{_≡_, sym, _∙_, ap}
 use Prim.Native.Nat.{ℕ, _+_, _*_, _/_, _%_}
 use native.Mathlib.Nat.{div-div-eq-div-mul, div-add-mod'}

@@ -1,5 +1,5 @@
+-- Lemmas: nothing here has to be believed.
 -- An array that a loop fills place by place: the places so far hold the table's entries.
--- Assumes nothing.
 use mathlib.Core.Path.{_≡_, refl, sym, _∙_, ap}
 use mathlib.Core.List.{List}
 use Prim.Native.Nat.{ℕ, _+_, _<_, _≤_}

@@ -1,5 +1,5 @@
+-- Lemmas: nothing here has to be believed.
 -- A lent slice that a loop writes from its front: the places so far hold the table's entries, the rest is as it was.
--- Assumes nothing.
 use mathlib.Core.Path.{_≡_, refl, sym, _∙_, ap}
 use mathlib.Core.List.{List, _++_}
 use Prim.Native.Nat.{ℕ, suc, _+_, _<_, _≤_}
@@ -7,7 +7,8 @@ use native.Mathlib.Numerals.{add-one}
 use native.Mathlib.Omega.{arith}
 use lib.ListN.{length, set, getD, drop, length-append, length-drop}
 use lib.Seq.{drop-cons, set-at, append-snoc}
-use Rattle.lemmas.specs.lists.Table.{table, length-table}
+use Rattle.lemmas.specs.lists.Table.{table}
+use Rattle.lemmas.specs.lists.TableLemmas.{length-table}
 
 -- the first j places of d hold f 0 to f (j - 1), and the rest is as in d₀
 pub record Writing (f : ℕ → ℕ) (d₀ d : List ℕ) (j : ℕ) : Type 0 where

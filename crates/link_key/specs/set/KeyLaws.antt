@@ -3,10 +3,10 @@ use Prim.Native.Nat.{ℕ, _≤_}
 use mathlib.Core.Path.{_≡_}
 use mathlib.Core.Bool.{true, false, not, cond, _&&_, _||_}
 use mathlib.Core.List.{List, [], _∷_, _++_, List·Memᴰ}
-use mathlib.Core.Option.{Option, none, some}
+use mathlib.Core.Option.{none, some}
 use lib.ListN.{length}
 use Rattle.link_key.specs.usage.Usage.{listed, knownType, usageOf, entryAt, entrySays}
-use Rattle.link_key.specs.Key.{validKey, hasNoAdditionalInfo, sameKey, covers, coverageOf, coverageSays, foundKey}
+use Rattle.link_key.specs.Key.{validKey, hasNoAdditionalInfo, sameKey, covers, coverageOf, coverageSays}
 use Rattle.link_key.specs.set.KeySet.{keysOf, noKeys, has, validKeys, validSet, noneTwice, allValid, noAdditionalInfos, sameKeys, shares, Apart}
 use Rattle.link_key.specs.set.KeySet.{findKey}
 use Rattle.link_key.specs.declared.Key.{Key}
@@ -40,8 +40,6 @@ pub record KeyLaws : Type 0 where
   pub limits-append : (xs ys : List Key) → allValid (xs ++ ys) ≡ (allValid xs && allValid ys)
   pub none-twice-append : (ks : List Key) (k : Key) → noneTwice (ks ++ (k ∷ [])) ≡ (noneTwice ks && not (has (k .identifier) ks))
   -- searches
-  pub found-some : (o : Option Key) → foundKey o .found ≡ true → o ≡ some (foundKey o .key)
-  pub found-none : (o : Option Key) → foundKey o .found ≡ false → o ≡ none
   pub find-found :
       (identifier : ℕ) (ks : List Key) (k : Key) → findKey identifier ks ≡ some k → List·Memᴰ k ks × (k .identifier ≡ identifier)
   pub find-own : (ks : List Key) (k : Key) → List·Memᴰ k ks → noneTwice ks ≡ true → findKey (k .identifier) ks ≡ some k

@@ -13,6 +13,7 @@ use Rattle.link_key.specs.declared.set.key_set.KeySet.{KeySet}
 use Rattle.link_key_counters.specs.CounterLaws.{CounterLaws}
 use Rattle.link_key_counters.specs.Counters.{withZeroCounters, noCounted, inheritCounters}
 use Rattle.link_key_counters.specs.declared.CountedSet.{CountedSet}
+use Rattle.cojp.specs.DispositionLemmas.{missing-keeps}
 use Rattle.cojp.specs.ErrorReports.{noErrorReports}
 use Rattle.cojp.specs.Reading.{ifTaken}
 use Rattle.cojp.specs.Reported.{errorReportsOf}
@@ -77,16 +78,11 @@ jrc-as-one : (f s : OctetsParameter) (old : HeldOctets) (r : Disposition) → s 
 jrc-as-one f s old r e = octets-as-one true f s old r e
 
 -- ---- what the draft has not: nothing is taken of it, and nothing is reported
-not-taken : {X : Type 0} (r : Disposition) (x old : X) → missing r ≡ true → ifTaken r x old ≡ old
-not-taken Absent x old e = refl
-not-taken Discarded x old e = refl
-not-taken Taken x old e = absurd (let z : _≡_ {A = ℕ} 0 1 = cc in omega arith)
-
 list-stays : (p : ListParameter) (old : HeldList) → missing (p .disposition) ≡ true → listAfter p old ≡ old
-list-stays p old e = not-taken (p .disposition) (record { held = true; value = p .value }) old e
+list-stays p old e = missing-keeps (p .disposition) (record { held = true; value = p .value }) old e
 
 rate-stays : (p : RateParameter) (old : HeldRate) → missing (p .disposition) ≡ true → rateAfter p old ≡ old
-rate-stays p old e = not-taken (p .disposition) (record { held = true; value = p .value }) old e
+rate-stays p old e = missing-keeps (p .disposition) (record { held = true; value = p .value }) old e
 
 pub none-reported : (c : Configuration) → c .labels .count ≡ 0 → errorReportsOf c ≡ noErrorReports
 unfolding errorReportsOf

@@ -4,7 +4,7 @@ use mathlib.Core.Path.{sym, _∙_}
 use native.Mathlib.Omega.{arith}
 use borrow.Author.Needs.{needs}
 use Rattle.address_ledger.specs.range.Range.{counted}
-use Rattle.address_ledger.proofs.range.Judged.{counted-most}
+use Rattle.address_ledger.specs.range.RangeLemmas.{counted-most}
 use Rattle.address_ledger.proofs.range.Counted.{ends-here, goes-on}
 use Rattle.address_ledger.proofs.range.count_down.Statement.{statement}
 use Rattle.address_ledger.proofs.range.count_down.Tie as tie

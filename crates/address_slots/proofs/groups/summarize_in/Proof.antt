@@ -3,7 +3,8 @@ use mathlib.Core.Bool.{not}
 use native.Mathlib.Omega.{arith}
 use borrow.Author.Needs.{needs}
 use lib.Dec.{eqb}
-use Rattle.address_slots.proofs.Summary.{Surveyed, bit-most, survey-none, survey-more, sum-most, marks-most, survey-end}
+use Rattle.address_slots.specs.SlotLemmas.{bit-most}
+use Rattle.address_slots.proofs.Summary.{Surveyed, survey-none, survey-more, sum-most, marks-most, survey-end}
 use Rattle.address_slots.proofs.groups.summarize_in.Statement.{statement}
 use Rattle.address_slots.proofs.groups.summarize_in.Tie as tie
 

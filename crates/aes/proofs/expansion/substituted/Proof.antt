@@ -3,7 +3,7 @@ use mathlib.Core.Path.{_∙_, ap}
 use mathlib.Core.List.{List}
 use Prim.Native.Nat.{ℕ}
 use lib.ListN.{getD}
-use Rattle.lemmas.specs.lists.Table.{getD-table}
+use Rattle.lemmas.specs.lists.TableLemmas.{getD-table}
 use Rattle.aes.specs.Field.{subByte}
 use borrow.Author.Needs.{needs}
 use Rattle.aes.proofs.expansion.substituted.Statement.{statement}

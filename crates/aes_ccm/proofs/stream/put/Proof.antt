@@ -5,7 +5,7 @@ use Prim.Native.Nat.{ℕ, _≤_, _-_}
 use native.Mathlib.Omega.{arith}
 use borrow.Author.Needs.{needs}
 use lib.ListN.{length, getD, drop}
-use Rattle.lemmas.specs.lists.Table.{table-self}
+use Rattle.lemmas.specs.lists.TableLemmas.{table-self}
 use Rattle.lemmas.specs.lists.Writing.{Writing, begin, step, long, all}
 use Rattle.aes_ccm.proofs.stream.put.Statement.{statement}
 use Rattle.aes_ccm.proofs.stream.put.Tie as tie

@@ -1,5 +1,5 @@
 -- The invariant: the bits found to differ so far, and whether the rest is the same, say whether the lists are.
-use Rattle.lemmas.specs.lists.Same.{Comparing, compare-begin, compare-step, compare-end}
+use Rattle.lemmas.specs.lists.SameLemmas.{Comparing, compare-begin, compare-step, compare-end}
 use lib.ListN.{length}
 use mathlib.Core.Path.{_≡_}
 use native.Mathlib.Omega.{arith}

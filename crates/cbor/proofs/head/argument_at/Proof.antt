@@ -4,8 +4,9 @@ use mathlib.Core.Path.{_≡_, refl, sym, _∙_}
 use native.Mathlib.Omega.{arith}
 use lib.ListN.{take, drop, getD}
 use Rattle.byte_io.specs.BigEndian.{digits, bigEndian}
+use Rattle.byte_io.specs.BigEndianLemmas.{digits-step, digits-none}
+use Rattle.lemmas.specs.lists.BigEndian.{grows, grown-fits}
 use Rattle.cbor.proofs.Heads.{argument-whole}
-use Rattle.cbor.proofs.Numbers.{digits-step, digits-none, grows, grown-fits}
 use Rattle.cbor.proofs.head.argument_at.Statement.{statement}
 use Rattle.cbor.proofs.head.argument_at.Tie as tie
 

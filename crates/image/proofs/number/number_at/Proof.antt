@@ -4,7 +4,8 @@ use mathlib.Core.Path.{_≡_, sym, _∙_}
 use native.Mathlib.Omega.{arith}
 use lib.ListN.{take, drop, getD}
 use Rattle.byte_io.specs.BigEndian.{digits, bigEndian}
-use Rattle.image.proofs.Leaves.{digits-step, digits-none, grows, grown-fits}
+use Rattle.byte_io.specs.BigEndianLemmas.{digits-step, digits-none}
+use Rattle.lemmas.specs.lists.BigEndian.{grows, grown-fits}
 use Rattle.image.proofs.number.number_at.Statement.{statement}
 use Rattle.image.proofs.number.number_at.Tie as tie
 

@@ -5,7 +5,7 @@ use mathlib.Core.List.{_++_}
 use native.Mathlib.Omega.{arith}
 use lib.ListN.{length, drop, length-set}
 use Rattle.byte_io.specs.BigEndian.{bytesOf}
-use Rattle.image.specs.Numbers.{many-bytes}
+use Rattle.byte_io.specs.BigEndianLemmas.{length-bytesOf}
 use Rattle.image.proofs.Leaves.{byte-step, no-bytes}
 use Rattle.image.proofs.number.put_number.Statement.{statement}
 use Rattle.image.proofs.number.put_number.Tie as tie
@@ -46,7 +46,7 @@ returns : tie.Need-returns Inv-loop μ-loop
 returns c =
     let l = c .before .loop in
     let a = c .before .before .args in
-    let many = many-bytes (a .width) (a .n) in
+    let many = length-bytesOf (a .width) (a .n) in
     let whole = sym (no-bytes (l .i) (l .left) (l .dst) (c .loop-test .left)) ∙ l .inv .2 in
     record { many = sym many; holds = whole ∙ ap (λ k. bytesOf (a .width) (a .n) ++ drop k (a .dst .now)) (sym many) }
 

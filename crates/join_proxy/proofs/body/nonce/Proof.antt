@@ -3,7 +3,8 @@ use mathlib.Core.Path.{_≡_, refl, ap}
 use mathlib.Core.List.{List, _∷_}
 use Prim.Native.Nat.{ℕ}
 use lib.ListN.{length, getD}
-use Rattle.lemmas.specs.lists.Table.{table, table-self}
+use Rattle.lemmas.specs.lists.Table.{table}
+use Rattle.lemmas.specs.lists.TableLemmas.{table-self}
 use borrow.Author.Needs.{needs}
 use Rattle.join_proxy.proofs.body.nonce.Statement.{statement}
 use Rattle.join_proxy.proofs.body.nonce.Tie as tie

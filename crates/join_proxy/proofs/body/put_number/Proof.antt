@@ -6,7 +6,7 @@ use Prim.Native.Nat.{ℕ, _≤_, _-_}
 use native.Mathlib.Omega.{arith}
 use borrow.Author.Needs.{needs}
 use lib.ListN.{length, getD, drop}
-use Rattle.lemmas.specs.lists.Table.{table-self}
+use Rattle.lemmas.specs.lists.TableLemmas.{table-self}
 use Rattle.lemmas.specs.lists.Writing.{Writing, begin, step, long, all}
 use Rattle.join_proxy.proofs.body.put_number.Statement.{statement}
 use Rattle.join_proxy.proofs.body.put_number.Tie as tie

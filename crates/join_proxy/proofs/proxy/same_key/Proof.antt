@@ -4,7 +4,7 @@ use Prim.Native.Nat.{_-_}
 use native.Mathlib.Omega.{arith}
 use borrow.Author.Needs.{needs}
 use lib.ListN.{length}
-use Rattle.lemmas.specs.lists.Same.{Comparing, compare-begin, compare-step, compare-end}
+use Rattle.lemmas.specs.lists.SameLemmas.{Comparing, compare-begin, compare-step, compare-end}
 use Rattle.join_proxy.proofs.proxy.same_key.Statement.{statement}
 use Rattle.join_proxy.proofs.proxy.same_key.Tie as tie
 

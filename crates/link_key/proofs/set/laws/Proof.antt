@@ -1,5 +1,5 @@
 -- `laws` meets its contract: each law is one of the law files'.
-use Rattle.link_key.proofs.Keys.{entry-says, coverage-says, found-some, found-none, coverage-covered, covers-known-type, covers-listed, same-key-self}
+use Rattle.link_key.proofs.Keys.{entry-says, coverage-says, coverage-covered, covers-known-type, covers-listed, same-key-self}
 use Rattle.link_key.proofs.Infos.{plain-info}
 use Rattle.link_key.proofs.Keys.{same-key-equal, valid-identifier, limits-fit}
 use Rattle.link_key.proofs.set.KeySets.{same-keys-self, same-keys-equal, has-none, none-has, shares-apart, apart-shares, shares-turned}
@@ -29,8 +29,6 @@ returns c =
       has-append = has-append;
       limits-append = limits-append;
       none-twice-append = none-twice-append;
-      found-some = found-some;
-      found-none = found-none;
       find-found = find-found;
       find-own = λ ks k m e. find-own m e;
       one-of-a-name = one-of-a-name;

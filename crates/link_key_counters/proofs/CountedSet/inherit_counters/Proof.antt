@@ -6,7 +6,8 @@ use borrow.Author.Needs.{needs}
 use lib.ListN.{length}
 use Rattle.link_key.specs.set.KeySet.{keysOf}
 use Rattle.link_key_counters.specs.Counters.{countedSet, inheritCounters}
-use Rattle.link_key_counters.proofs.Slots.{within, written, write, written-all}
+use Rattle.link_key.proofs.set.Places.{within}
+use Rattle.link_key_counters.proofs.Slots.{written, write, written-all}
 use Rattle.link_key_counters.proofs.CountedSet.inherit_counters.Statement.{statement}
 use Rattle.link_key_counters.proofs.CountedSet.inherit_counters.Tie as tie
 

@@ -10,7 +10,8 @@ use Rattle.link_key.specs.declared.Key.{Key}
 use Rattle.link_key.specs.set.KeySet.{keysOf}
 use Rattle.link_key.specs.set.Lists.{firstOf}
 use Rattle.link_key_counters.specs.Counters.{Slot, counterIn}
-use Rattle.link_key_counters.proofs.Slots.{firsts, within, rest, turn, stop}
+use Rattle.link_key.proofs.set.Places.{firsts, within}
+use Rattle.link_key_counters.proofs.Slots.{rest, turn, stop}
 use Rattle.link_key_counters.proofs.CountedSet.kept_counter.Statement.{statement}
 use Rattle.link_key_counters.proofs.CountedSet.kept_counter.Tie as tie
 

@@ -9,7 +9,8 @@ use lib.ListN.{length, getD}
 use Rattle.link_key.specs.set.KeySet.{keysOf}
 use Rattle.link_key.specs.set.Lists.{firstOf}
 use Rattle.link_key_counters.specs.Counters.{serves, slot}
-use Rattle.link_key_counters.proofs.Slots.{past, firsts, within, rest, turn, stop, does-serve, not-covering, used-up}
+use Rattle.link_key.proofs.set.Places.{past, firsts, within}
+use Rattle.link_key_counters.proofs.Slots.{rest, turn, stop, does-serve, not-covering, used-up}
 use Rattle.link_key_counters.proofs.CountedSet.serving.Statement.{statement}
 use Rattle.link_key_counters.proofs.CountedSet.serving.Tie as tie
 

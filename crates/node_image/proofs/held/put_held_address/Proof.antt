@@ -1,10 +1,9 @@
 -- Each field is written to the part after those before it.
 use native.Mathlib.Omega.{arith}
 use Rattle.byte_io.specs.BigEndian.{bytesOf}
-use Rattle.image.specs.Fields.{next-field, two-fields}
+use Rattle.image.specs.Fields.{next-field, two-fields, wrote-same}
 use Rattle.object_image.specs.Address.{shortAddressPart}
 use Rattle.object_image.specs.Codes.{boolPart}
-use Rattle.node_image.proofs.Places.{wrote-so}
 use borrow.Author.Needs.{needs}
 use Rattle.node_image.proofs.held.put_held_address.Statement.{statement}
 use Rattle.node_image.proofs.held.put_held_address.Tie as tie
@@ -48,7 +47,7 @@ returns c =
     let w1 = next-field (omega arith) (at-put-bool .put-bool .ensures) (at-put-short-address .put-short-address .ensures) in
     let a = start .args .address in
     let together = two-fields (boolPart .put (a .held)) (shortAddressPart .put (a .value)) (bytesOf 8 (a .received)) in
-    wrote-so together (next-field (omega arith) w1 (at-put-number .put-number .ensures))
+    wrote-same together (next-field (omega arith) w1 (at-put-number .put-number .ensures))
 
 pub put-held-address-spec : {M : Type 1} → statement M
 put-held-address-spec =

@@ -1,8 +1,7 @@
 -- Each field is written to the part after those before it.
 use native.Mathlib.Omega.{arith}
-use Rattle.image.specs.Fields.{next-field}
+use Rattle.image.specs.Fields.{next-field, wrote-same, three-fields}
 use Rattle.object_image.specs.ErrorReports.{errorReportsPart}
-use Rattle.node_image.proofs.Places.{wrote-so, three-fields}
 use Rattle.node_image.specs.Held.{heldListPart, heldRatePart}
 use Rattle.node_image.specs.Version.{versionPart}
 use borrow.Author.Needs.{needs}
@@ -63,7 +62,7 @@ returns c =
     let a = start .args in
     let together = three-fields (versionPart .put (a .version)) (heldListPart .put (a .blacklist)) (heldRatePart .put (a .rate))
     (errorReportsPart .put (a .faults)) in
-    wrote-so together (next-field (omega arith) w2 (at-put-faults .put-error-reports .ensures))
+    wrote-same together (next-field (omega arith) w2 (at-put-faults .put-error-reports .ensures))
 
 pub put-form-spec : {M : Type 1} → statement M
 put-form-spec =

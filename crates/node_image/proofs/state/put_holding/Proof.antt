@@ -1,7 +1,6 @@
 -- Each field is written to the part after those before it.
 use native.Mathlib.Omega.{arith}
-use Rattle.image.specs.Fields.{next-field, four-fields}
-use Rattle.node_image.proofs.Places.{wrote-so}
+use Rattle.image.specs.Fields.{next-field, four-fields, wrote-same}
 use Rattle.node_image.specs.Held.{heldAddressPart, heldOctetsPart}
 use Rattle.node_image.specs.Node.{formFields, formOf}
 use borrow.Author.Needs.{needs}
@@ -76,7 +75,7 @@ returns c =
     let w2 = next-field (omega (arith, start .pre)) w1 (at-put-held-octets2 .put-held-octets2 .ensures) in
     let w3 = next-field (omega (arith, start .pre)) w2 (at-put-held-octets3 .put-held-octets3 .ensures) in
     let w4 = next-field (omega (arith, start .pre)) w3 (at-put-form .put-form .ensures) in
-    wrote-so
+    wrote-same
     (four-fields (heldAddressPart .put (n .address)) (heldOctetsPart .put (n .jrc)) (heldOctetsPart .put (n .network)) (heldOctetsPart .put (n .prefix)) (formFields .put (formOf n))) w4
 
 pub put-holding-spec : {M : Type 1} → statement M

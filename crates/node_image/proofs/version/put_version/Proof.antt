@@ -1,9 +1,9 @@
 -- One byte is written.
-use Rattle.node_image.proofs.Places.{wrote-so}
 use mathlib.Core.List.{[], _∷_}
 use mathlib.Core.Path.{ap}
 use Prim.Native.Nat.{ℕ}
 use borrow.Author.Needs.{needs}
+use Rattle.image.specs.Fields.{wrote-same}
 use Rattle.node_image.proofs.version.put_version.Statement.{statement}
 use Rattle.node_image.proofs.version.put_version.Tie as tie
 
@@ -20,7 +20,7 @@ returns : tie.Need-returns
 returns c =
     let at-put-byte = c .before .before in
     let at-version-number = at-put-byte .before in
-    wrote-so (ap (λ (n : ℕ). n ∷ []) (at-version-number .version-number .ensures)) (at-put-byte .put-byte .ensures)
+    wrote-same (ap (λ (n : ℕ). n ∷ []) (at-version-number .version-number .ensures)) (at-put-byte .put-byte .ensures)
 
 pub put-version-spec : {M : Type 1} → statement M
 put-version-spec =

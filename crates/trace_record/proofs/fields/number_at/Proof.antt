@@ -3,7 +3,8 @@ use Prim.Native.Nat.{_≤_, _<_, _-_, _+_, _^_}
 use mathlib.Core.Path.{_≡_, refl, sym, _∙_}
 use native.Mathlib.Omega.{arith}
 use lib.ListN.{take, drop, getD}
-use Rattle.trace_record.proofs.Numbers.{number-step, number-none, grows, grown-fits}
+use Rattle.trace_record.proofs.Numbers.{number-step, number-none}
+use Rattle.lemmas.specs.lists.BigEndian.{grows, grown-fits}
 use Rattle.trace_record.specs.Layout.{bigEndianOn, number}
 use Rattle.trace_record.proofs.fields.number_at.Statement.{statement}
 use Rattle.trace_record.proofs.fields.number_at.Tie as tie
