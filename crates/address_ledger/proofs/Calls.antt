@@ -45,7 +45,8 @@ module _ (n : ℕ) (l : Ledger) (m b : List ℕ) (s : SlotFound) (r : CallResult
   unfolding granting
   grant-held k e h = rw (← e, h)
 
-  pub grant-free : (k : ℕ) → Free k ≡ s → (m′ : List ℕ) → m′ ≡ hold m k b → (l′ : Ledger) → l′ ≡ fewer n k m′ l → r ≡ answered (Address (l′ .first + k)) l′
+  pub grant-free : (k : ℕ) → Free k ≡ s → (m′ : List ℕ) → m′ ≡ hold m k b → (l′ : Ledger) → l′ ≡ fewer n k m′ l
+      → r ≡ answered (Address (l′ .first + k)) l′
       → outcome (r .answer) (r .ledger) m′ ≡ granting n l m b s
   unfolding granting
   grant-free k e m′ w l′ q h = rw (← e, h, q, w)
@@ -66,7 +67,8 @@ module _ (n : ℕ) (l : Ledger) (m b : List ℕ) (r : CallResult) (k : ℕ) (e :
   unknown-by (Free j) s h = refl
   unknown-by Nothing s h = refl
 
-  pub back-unknown : n ≤ k → r ≡ answered (Refused Unknown) l → outcome (r .answer) (r .ledger) m ≡ givingBack n l m (slotFound b (slots n m))
+  pub back-unknown : n ≤ k → r ≡ answered (Refused Unknown) l
+      → outcome (r .answer) (r .ledger) m ≡ givingBack n l m (slotFound b (slots n m))
   back-unknown h a = rw a (unknown-by _ refl h)
 
 -- ---- RANGE and ROOM come first
@@ -101,7 +103,8 @@ module _ (l : Ledger) where
 
 -- ---- a ledger in use: the places that count have room
 module _ (l : Ledger) (n : ℕ) where
-  pub sought-is : (m b : List ℕ) → Usable (l .first) (length m) n → (s : SlotFound) → s ≡ slotFoundBy (l .summary) b (slots (fit n (length m)) m)
+  pub sought-is : (m b : List ℕ) → Usable (l .first) (length m) n → (s : SlotFound)
+      → s ≡ slotFoundBy (l .summary) b (slots (fit n (length m)) m)
       → s ≡ slotFoundBy (l .summary) b (slots n m)
   sought-is m b u s e = rw (fit-all n (length m) (u .size) (u .room)) e
 

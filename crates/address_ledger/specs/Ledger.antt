@@ -1,4 +1,5 @@
--- The calls of a ledger: what each answers, and the ledger and the lent memory afterwards. RANGE comes first, and ROOM next where memory is lent.
+-- The calls of a ledger: what each answers, and the ledger and the lent memory afterwards.
+-- RANGE comes first, and ROOM next where memory is lent.
 use Prim.Native.Nat.{ℕ, _+_, _-_}
 use mathlib.Core.Bool.{cond}
 use mathlib.Core.List.{List}
@@ -55,7 +56,8 @@ abbrev pub withSummary : ℕ → ℕ → Summary → Ledger
 withSummary first size s = ledgerOf first size (s .free) (s .bitmap)
 
 unfoldable pub openedBy : Verdict → ℕ → ℕ → List ℕ → OpenResult
-openedBy verdict.Accepted first size m = record { verdict = verdict.Accepted; ledger = withSummary first size (summaryOf (slots (counted first size) m)) }
+openedBy verdict.Accepted first size m =
+    record { verdict = verdict.Accepted; ledger = withSummary first size (summaryOf (slots (counted first size) m)) }
 openedBy (verdict.Refused r) first size m = record { verdict = verdict.Refused r; ledger = emptyLedger }
 
 unfoldable pub opened : ℕ → ℕ → List ℕ → OpenResult
@@ -72,7 +74,8 @@ fewer n k m l = ledgerOf (l .first) (l .size) (cut n (l .free - 1)) (refreshed (
 abbrev pub more : ℕ → ℕ → List ℕ → Ledger → Ledger
 more n k m l = ledgerOf (l .first) (l .size) (cut n (l .free + 1)) (refreshed (l .summary) k (slots n m))
 
--- ---- granting, where n addresses count: the address that the board holds, again; else the free one that was found, and its place is written; else FULL
+-- ---- granting, where n addresses count: the address that the board holds, again;
+-- else the free one that was found, and its place is written; else FULL
 unfoldable pub granting : ℕ → Ledger → List ℕ → List ℕ → SlotFound → Outcome
 granting n l m b (Held k) = outcome (Address (l .first + k)) l m
 granting n l m b (Free k) = outcome (Address (l .first + k)) (fewer n k (hold m k b) l) (hold m k b)

@@ -23,7 +23,8 @@ ghost use lib.ListN.{length};
 ghost use Rattle.address_slots.specs.Slot.{slots, slotFound};
 ghost use Rattle.address_slots.specs.Marks.{slotFoundBy};
 ghost use Rattle.address_ledger.specs.range.Range.{Usable};
-ghost use Rattle.address_ledger.specs.Ledger.{opened, outcome, answered, fewer, more, granted, granting, givenBack, givingBack, freeCount};
+ghost use Rattle.address_ledger.specs.Ledger.{opened, outcome, answered, fewer, more, granted};
+ghost use Rattle.address_ledger.specs.Ledger.{granting, givenBack, givingBack, freeCount};
 
 // A range of short addresses, the first one and how many there are, how many of them are free, and where. Its memory is lent at each call.
 pub struct Ledger {
@@ -99,7 +100,8 @@ impl Ledger {
     // Grants among the first `count` places.
     fn grant_in(self, count: usize, memory: &mut [u8], board: [u8; 8]) -> CallResult
         requires { ⌜ Usable (self .first) (length (now memory)) count ⌝ }
-        ensures { λ r. ⌜ outcome (r .answer) (r .ledger) (now (memory .exit)) ≡ granting count self (now (memory .entry)) board (slotFoundBy (self .summary) board (slots count (now (memory .entry)))) ⌝ }
+        ensures { λ r. ⌜ outcome (r .answer) (r .ledger) (now (memory .exit))
+            ≡ granting count self (now (memory .entry)) board (slotFoundBy (self .summary) board (slots count (now (memory .entry)))) ⌝ }
     {
         let sought = find_slot(memory, count, self.summary, &board);
         match sought {
@@ -115,7 +117,8 @@ impl Ledger {
     // Gives back among the first `count` places.
     fn give_back_in(self, count: usize, memory: &mut [u8], board: [u8; 8]) -> CallResult
         requires { ⌜ Usable (self .first) (length (now memory)) count ⌝ }
-        ensures { λ r. ⌜ outcome (r .answer) (r .ledger) (now (memory .exit)) ≡ givingBack count self (now (memory .entry)) (slotFound board (slots count (now (memory .entry)))) ⌝ }
+        ensures { λ r. ⌜ outcome (r .answer) (r .ledger) (now (memory .exit))
+            ≡ givingBack count self (now (memory .entry)) (slotFound board (slots count (now (memory .entry)))) ⌝ }
     {
         let place = find_board(memory, count, &board);
         if place < count {

@@ -1,4 +1,5 @@
--- A freed address is granted again: its place is free, so the lowest free one is no higher; and where every lower address is held it is that one.
+-- A freed address is granted again: its place is free, so the lowest free one is no higher;
+-- and where every lower address is held it is that one.
 use Prim.Native.Nat.{ℕ, _+_, _-_, _*_, _≤_, _<_}
 use mathlib.Core.Path.{_≡_, refl, sym, ap, _∙_}
 use mathlib.Core.Bool.{Bool, true, false}
@@ -34,7 +35,8 @@ module _ (first size : ℕ) (s : Moment) (a : Agrees first size s) (c : List ℕ
       (sym (lists first (counted first size) c (s .memory) (s .holding) (a .tells)) ∙ y)
 
   new-by : (x : SlotFound) → x ≡ slotFound c (slots (counted first size) (s .memory))
-      → granting (counted first size) (rightLedger first size (s .memory)) (s .memory) c x .answer ≡ Address (first + lowest isFree (slots (counted first size) (s .memory)))
+      → granting (counted first size) (rightLedger first size (s .memory)) (s .memory) c x .answer
+      ≡ Address (first + lowest isFree (slots (counted first size) (s .memory)))
   unfolding granting
   new-by (Held k) x =
       let i = held-is c (slots (counted first size) (s .memory)) k x in
@@ -56,7 +58,8 @@ record Freed (first n : ℕ) (m : List ℕ) (a : ℕ) : Type 0 where
   lower : lowest isFree (slots n m) ≤ a - first
 
 module _ (first size : ℕ) (s : Moment) (g : Agrees first size s) (b : List ℕ) (a : ℕ) where
-  freed-by : (x : SlotFound) → x ≡ slotFound b (slots (counted first size) (s .memory)) → givingBack (counted first size) (rightLedger first size (s .memory)) (s .memory) x .answer ≡ Address a
+  freed-by : (x : SlotFound) → x ≡ slotFound b (slots (counted first size) (s .memory))
+      → givingBack (counted first size) (rightLedger first size (s .memory)) (s .memory) x .answer ≡ Address a
       → Freed first (counted first size) (givingBack (counted first size) (rightLedger first size (s .memory)) (s .memory) x .memory) a
   unfolding givingBack
   freed-by (Held k) x e =
@@ -94,7 +97,8 @@ module _ (first size : ℕ) (s : Moment) (g : Agrees first size s) (c : List ℕ
       let n = counted first size in
       let k = lowest isFree (slots (counted first size) (s .memory)) in
       let l : lowest isFree (slots (counted first size) (s .memory)) < a - first = ltb-true _ _ e in
-      let t : taken (first + lowest isFree (slots (counted first size) (s .memory))) (s .holding) ≡ true = h (first + k) (omega arith) (omega (arith, d .above)) in
+      let t : taken (first + lowest isFree (slots (counted first size) (s .memory))) (s .holding) ≡ true =
+      h (first + k) (omega arith) (omega (arith, d .above)) in
       let f : taken (first + lowest isFree (slots (counted first size) (s .memory))) (s .holding) ≡ false =
       rw (g .tells) (free-nobody first (slots n (s .memory)) (omega (arith, below-all, length-slots n (s .memory)))) in
       let z : true ≡ false = sym t ∙ f in

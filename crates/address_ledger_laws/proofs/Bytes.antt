@@ -6,7 +6,8 @@ use mathlib.Core.List.{List, [], _∷_, _++_, append-assoc}
 use native.Mathlib.Omega.{arith}
 use lib.Dec.{eqb}
 use lib.ListN.{length, take, drop, set, length-set, length-drop}
-use lib.Seq.{paste, length-paste, drop-paste, take-take, take-add, take-at, drop-at, drop-drop, take-all, length-take-le, take-set-le, drop-set-lt, drop-set-add, getD-set-same, getD-set-other}
+use lib.Seq.{paste, length-paste, drop-paste, take-take, take-add, take-at, drop-at, drop-drop, take-all}
+use lib.Seq.{length-take-le, take-set-le, drop-set-lt, drop-set-add, getD-set-same, getD-set-other}
 use Rattle.address_ledger_laws.specs.Written.{HoldsNow, FreeNow}
 use Rattle.address_slots.specs.Slot.{Slot, slotAt, slots, isFree, hold, freed}
 
@@ -30,14 +31,17 @@ places-set (suc n) (suc k) m m′ p h l w t q d =
     let e : 9 * suc k ≡ 9 + 9 * k = omega arith in
     let z : 9 + 9 * k + 9 ≡ 9 + (9 * k + 9) = omega arith in
     let t′ : take (9 + 9 * k) m′ ≡ take (9 + 9 * k) m = rw e at t in
-    let u : take 9 m′ ≡ take 9 m = sym (take-take 9 (9 + 9 * k) m′ (omega arith)) ∙ ap (λ (l : List ℕ). take 9 l) t′ ∙ take-take 9 (9 + 9 * k) m (omega arith) in
+    let u : take 9 m′ ≡ take 9 m =
+    sym (take-take 9 (9 + 9 * k) m′ (omega arith)) ∙ ap (λ (l : List ℕ). take 9 l) t′ ∙ take-take 9 (9 + 9 * k) m (omega arith) in
     let v : take (9 * k) (drop 9 m′) ≡ take (9 * k) (drop 9 m) =
     sym (drop-at (take 9 m′) (take (9 * k) (drop 9 m′)) 9 (length-take-le 9 m′ (omega arith)))
     ∙ ap (λ (l : List ℕ). drop 9 l) (sym (take-add 9 (9 * k) m′) ∙ t′ ∙ take-add 9 (9 * k) m)
     ∙ drop-at (take 9 m) (take (9 * k) (drop 9 m)) 9 (length-take-le 9 m (omega arith)) in
     let q′ : slotAt (drop (9 * k) (drop 9 m′)) ≡ p = rw (drop-drop (9 * k) 9 m′, ← e) q in
-    let d′ : drop (9 * k + 9) (drop 9 m′) ≡ drop (9 * k + 9) (drop 9 m) = rw (drop-drop (9 * k + 9) 9 m′, drop-drop (9 * k + 9) 9 m, ← z, ← e) d in
-    let i = places-set n k (drop 9 m) (drop 9 m′) p (omega arith) (simp length-drop (omega arith)) (simp length-drop (ap (λ (x : ℕ). x - 9) w)) v q′ d′ in
+    let d′ : drop (9 * k + 9) (drop 9 m′) ≡ drop (9 * k + 9) (drop 9 m) =
+    rw (drop-drop (9 * k + 9) 9 m′, drop-drop (9 * k + 9) 9 m, ← z, ← e) d in
+    let i = places-set n k (drop 9 m) (drop 9 m′) p (omega arith) (simp length-drop (omega arith))
+    (simp length-drop (ap (λ (x : ℕ). x - 9) w)) v q′ d′ in
     rw (same-nine m m′ u, i)
 
 pub length-hold : (m b : List ℕ) (k : ℕ) → 9 * k + 9 ≤ length m → length b ≡ 8 → length (hold m k b) ≡ length m
@@ -51,7 +55,8 @@ places-hold n k m b h l e =
     let at = 9 * k in
     let room : 9 * k + 9 ≤ length m = omega arith in
     let f : length (take (9 * k) m) ≡ 9 * k = length-take-le (9 * k) m (omega arith) in
-    let s : paste m (9 * k) (1 ∷ b) 9 ≡ take (9 * k) m ++ (take 9 (1 ∷ b) ++ drop (9 * k + 9) m) = append-assoc (take (9 * k) m) (take 9 (1 ∷ b)) (drop (9 * k + 9) m) in
+    let s : paste m (9 * k) (1 ∷ b) 9 ≡ take (9 * k) m ++ (take 9 (1 ∷ b) ++ drop (9 * k + 9) m) =
+    append-assoc (take (9 * k) m) (take 9 (1 ∷ b)) (drop (9 * k + 9) m) in
     let b8 : take 8 b ≡ b = take-all 8 b (omega arith) in
     places-set n k m (paste m (9 * k) (1 ∷ b) 9) (record { mark = 1; board = b }) h l
     (length-paste m (9 * k) (1 ∷ b) 9 room (omega arith))
@@ -64,7 +69,8 @@ pub hold-bytes : (m b : List ℕ) (k : ℕ) → 9 * k + 9 ≤ length m → lengt
 unfolding hold
 hold-bytes m b k room e =
     let f : length (take (9 * k) m) ≡ 9 * k = length-take-le (9 * k) m (omega arith) in
-    let s : paste m (9 * k) (1 ∷ b) 9 ≡ take (9 * k) m ++ (take 9 (1 ∷ b) ++ drop (9 * k + 9) m) = append-assoc (take (9 * k) m) (take 9 (1 ∷ b)) (drop (9 * k + 9) m) in
+    let s : paste m (9 * k) (1 ∷ b) 9 ≡ take (9 * k) m ++ (take 9 (1 ∷ b) ++ drop (9 * k + 9) m) =
+    append-assoc (take (9 * k) m) (take 9 (1 ∷ b)) (drop (9 * k + 9) m) in
     let b8 : take 8 b ≡ b = take-all 8 b (omega arith) in
     record {
       place = rw (s, drop-at (take (9 * k) m) (take 9 (1 ∷ b) ++ drop (9 * k + 9) m) (9 * k) f, b8, take-at b (drop (9 * k + 9) m) 8 e);

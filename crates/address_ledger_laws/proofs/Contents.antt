@@ -69,15 +69,18 @@ module _ (q : Slot → Bool) where
   lowest-none (suc n) m f =
       rw (f 0 (omega arith))
       (ap suc
-      (lowest-none n (drop 9 m) (λ j l. let d : 9 * suc j ≡ 9 + 9 * j = omega arith in rw (drop-drop (9 * j) 9 m, ← d) (f (suc j) (omega arith)))))
+      (lowest-none n (drop 9 m)
+      (λ j l. let d : 9 * suc j ≡ 9 + 9 * j = omega arith in rw (drop-drop (9 * j) 9 m, ← d) (f (suc j) (omega arith)))))
 
 -- ---- one place, by its bytes
 module _ (m b : List ℕ) (k : ℕ) where
   held-here : HeldAt m b k → heldBy b (slotAt (drop (9 * k) m)) ≡ true
   held-here h =
-      sym (held-same (9 * k) m b (h .mark)) ∙ ap (λ (t : List ℕ). same 8 (drop (9 * k + 1) m) t) (sym (h .board)) ∙ same-self 8 (drop (9 * k + 1) m)
+      sym (held-same (9 * k) m b (h .mark)) ∙ ap (λ (t : List ℕ). same 8 (drop (9 * k + 1) m) t) (sym (h .board))
+      ∙ same-self 8 (drop (9 * k + 1) m)
 
-  not-held-by : length b ≡ 8 → 9 * k + 9 ≤ length m → (HeldAt m b k → ⊥) → (x y : Bool) → eqb (getD m (9 * k) 0) 1 ≡ x → same 8 (drop (9 * k + 1) m) b ≡ y
+  not-held-by : length b ≡ 8 → 9 * k + 9 ≤ length m → (HeldAt m b k → ⊥) → (x y : Bool) → eqb (getD m (9 * k) 0) 1 ≡ x
+      → same 8 (drop (9 * k + 1) m) b ≡ y
       → heldBy b (slotAt (drop (9 * k) m)) ≡ false
   not-held-by l r n false y p q = sym (held-not (9 * k) m b (eqb-false (getD m (9 * k) 0) 1 p))
   not-held-by l r n true false p q = sym (held-same (9 * k) m b (eqb-true (getD m (9 * k) 0) 1 p)) ∙ q
@@ -146,8 +149,10 @@ any-memory l m b e f =
     let n = counted (l .first) (l .size) in
     let r = usable (l .first) (l .size) (length m) f (counted (l .first) (l .size)) refl .room in
     record {
-      same-again = λ k h. sym (grant-accepted l m b f n refl _ (ap (λ (s : SlotFound). granting n l m b s) (sought-held (l .summary) b n m k (sym (lowest-held m b n e r k h)) (h .within))));
-      lowest-free = λ w o k h. sym (walk-accepted l m f b w) ∙ ap (λ (s : SlotFound). granting n l m b s) (sym (found-free m b n e r o k h));
+      same-again = λ k h. sym (grant-accepted l m b f n refl _
+          (ap (λ (s : SlotFound). granting n l m b s) (sought-held (l .summary) b n m k (sym (lowest-held m b n e r k h)) (h .within))));
+      lowest-free =
+          λ w o k h. sym (walk-accepted l m f b w) ∙ ap (λ (s : SlotFound). granting n l m b s) (sym (found-free m b n e r o k h));
       full = λ w o h. sym (walk-accepted l m f b w) ∙ ap (λ (s : SlotFound). granting n l m b s) (sym (found-nothing m b n e r o h));
       given-back = λ k h. sym (back-accepted l m b f n refl _ (ap (λ (s : SlotFound). givingBack n l m s) (found-held m b n e r k h)));
       unknown = λ o. unknown-by l m b f n refl e r o _ refl;

@@ -19,7 +19,8 @@ unfolding countFree
 held-cons b p ps k true e ih = rw e (ap suc ih)
 held-cons b p ps k false e ih = rw e ih
 
-one-less : (b : List ℕ) (ps : List Slot) (k : ℕ) → freeAt ps k ≡ true → suc (countFree (set ps k (record { mark = 1; board = b }))) ≡ countFree ps
+one-less : (b : List ℕ) (ps : List Slot) (k : ℕ) → freeAt ps k ≡ true
+    → suc (countFree (set ps k (record { mark = 1; board = b }))) ≡ countFree ps
 unfolding freeAt countFree isFree
 one-less b [] k h = let z : _≡_ {A = ℕ} 0 1 = cc in absurd (omega arith)
 one-less b (p ∷ ps) zero h = rw h

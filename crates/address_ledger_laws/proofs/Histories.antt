@@ -14,7 +14,8 @@ use Rattle.refusal.specs.declared.Refusal.the-variants.{Full, Unknown}
 use Rattle.refusal.specs.declared.Verdict.the-variants.{Accepted}
 use Rattle.address_slots.specs.Slot.{slotAt, slots, lowest, heldBy, countFree, slotFound, hold, freed}
 use Rattle.address_ledger.specs.range.Range.{judged, counted}
-use Rattle.address_ledger.specs.Ledger.{Outcome, outcome, withSummary, cut, fewer, more, opened, granting, granted, givingBack, givenBack, freeCount}
+use Rattle.address_ledger.specs.Ledger.{Outcome, outcome, withSummary, cut, fewer, more, opened}
+use Rattle.address_ledger.specs.Ledger.{granting, granted, givingBack, givenBack, freeCount}
 use Rattle.address_ledger.specs.declared.answer.AddressAnswer.{AddressAnswer}
 use Rattle.address_ledger.specs.declared.answer.AddressAnswer.the-variants.{Address, Refused}
 use Rattle.address_ledger.specs.declared.ledger.Ledger.{Ledger}
@@ -26,11 +27,13 @@ use Rattle.address_slots.specs.Marks.{summaryOf}
 use Rattle.address_slots.proofs.Found.{held-is, free-is, nothing-is}
 use Rattle.address_slots.proofs.Offers.{freeAt, lowest-free}
 use Rattle.address_ledger.proofs.Calls.{open-accepted, back-accepted, free-within}
-use Rattle.address_ledger_laws.specs.History.{Call, opens, asks, gives, counts, Holding, listed, addressOf, afterAsk, afterGive, Moment, step, run, after, wholeBoards, Begins}
+use Rattle.address_ledger_laws.specs.History.{Call, opens, asks, gives, counts, Holding, listed, addressOf}
+use Rattle.address_ledger_laws.specs.History.{afterAsk, afterGive, Moment, step, run, after, wholeBoards, Begins}
 use Rattle.address_ledger_laws.specs.Laws.{HeldAndFree, OneHolder, SameAgain, GivesBack}
 use Rattle.address_ledger_laws.proofs.Bytes.{length-hold, places-hold, length-freed, places-freed, cleared, cleared-free, cleared-is}
 use Rattle.address_ledger_laws.proofs.Counting.{count-less, count-more}
-use Rattle.address_ledger_laws.proofs.Holders.{heldFrom, listed-held, strike-held, enter-held, held-and-free, one-holder, address-held}
+use Rattle.address_ledger_laws.proofs.Holders.{heldFrom, listed-held, strike-held, enter-held}
+use Rattle.address_ledger_laws.proofs.Holders.{held-and-free, one-holder, address-held}
 use Rattle.address_ledger_laws.proofs.Marking.{refreshed-right}
 use Rattle.address_ledger_laws.proofs.Marks.{walk-accepted}
 use Rattle.address_ledger_laws.proofs.Validity.{stands}
@@ -39,11 +42,13 @@ use Rattle.address_ledger_laws.proofs.Validity.{stands}
 abbrev pub rightLedger : ℕ → ℕ → List ℕ → Ledger
 rightLedger first size m = withSummary first size (summaryOf (slots (counted first size) m))
 
-pub opened-is : (first size : ℕ) (m : List ℕ) → Accepted ≡ judged first size (length m) → opened first size m .ledger ≡ rightLedger first size m
+pub opened-is : (first size : ℕ) (m : List ℕ) → Accepted ≡ judged first size (length m)
+    → opened first size m .ledger ≡ rightLedger first size m
 opened-is first size m f = rw (← open-accepted first size m f (counted first size) refl (summaryOf (slots (counted first size) m)) refl)
 
 -- the history lists a board exactly where a place is held by it
-pub lists : (first n : ℕ) (b m : List ℕ) (hs : List Holding) → hs ≡ heldFrom first (slots n m) → listed b hs ≡ ltb (lowest (heldBy b) (slots n m)) n
+pub lists : (first n : ℕ) (b m : List ℕ) (hs : List Holding) → hs ≡ heldFrom first (slots n m)
+    → listed b hs ≡ ltb (lowest (heldBy b) (slots n m)) n
 lists first n b m hs t = rw t (listed-held first b (slots n m) ∙ rw (length-slots n m))
 
 -- what a call leaves: memory as long as before, the ledger that opening would give, and the holdings that the places show
@@ -68,11 +73,13 @@ module _ (first size : ℕ) (b m : List ℕ) (hs : List Holding) (f : Accepted �
   unfolding afterAsk
   ask-held k s =
       let i = held-is b (slots (counted first size) m) k s in
-      let w : lowest (heldBy b) (slots (counted first size) m) < counted first size = omega (arith, i .0, i .1, length-slots (counted first size) m) in
+      let w : lowest (heldBy b) (slots (counted first size) m) < counted first size =
+      omega (arith, i .0, i .1, length-slots (counted first size) m) in
       record { long = refl; right = still m refl; tells = rw (lists first (counted first size) b m hs t, lt-ltb _ _ w) t }
 
   ask-free : length b ≡ 8 → (k : ℕ) → Free k ≡ slotFound b (slots (counted first size) m)
-      → Told first size m (λ (r : AddressAnswer). afterAsk b r hs) (outcome (Address (first + k)) (fewer (counted first size) k (hold m k b) (rightLedger first size m)) (hold m k b))
+      → Told first size m (λ (r : AddressAnswer). afterAsk b r hs)
+      (outcome (Address (first + k)) (fewer (counted first size) k (hold m k b) (rightLedger first size m)) (hold m k b))
   unfolding afterAsk
   ask-free e k s =
       let n = counted first size in
@@ -112,7 +119,8 @@ module _ (first size : ℕ) (b m : List ℕ) (hs : List Holding) (f : Accepted �
   asked e = rw (← walk-accepted (rightLedger first size m) m f b refl) (ask-by e _ refl)
 
   give-held : (k : ℕ) → Held k ≡ slotFound b (slots (counted first size) m)
-      → Told first size m (λ (r : AddressAnswer). afterGive b r hs) (outcome (Address (first + k)) (more (counted first size) k (freed m k) (rightLedger first size m)) (freed m k))
+      → Told first size m (λ (r : AddressAnswer). afterGive b r hs)
+      (outcome (Address (first + k)) (more (counted first size) k (freed m k) (rightLedger first size m)) (freed m k))
   unfolding afterGive
   give-held k s =
       let n = counted first size in
@@ -120,16 +128,24 @@ module _ (first size : ℕ) (b m : List ℕ) (hs : List Holding) (f : Accepted �
       let p : length (slots (counted first size) m) ≡ counted first size = length-slots (counted first size) m in
       let w : k < counted first size = omega (arith, i .1) in
       let g = length-freed m k in
-      let more-right : cut (counted first size) (countFree (slots (counted first size) m) + 1) ≡ countFree (set (slots (counted first size) m) k (cleared (drop (9 * k) m))) =
-      rw (i .0) (count-more n b (cleared (drop (9 * lowest (heldBy b) (slots n m)) m)) (slots n m) p (cleared-is (drop (9 * lowest (heldBy b) (slots n m)) m)) (omega (arith, i .0, i .1))) in
+      let more-right : cut (counted first size) (countFree (slots (counted first size) m) + 1)
+      ≡ countFree (set (slots (counted first size) m) k (cleared (drop (9 * k) m))) =
+      rw (i .0) (count-more n b (cleared (drop (9 * lowest (heldBy b) (slots n m)) m)) (slots n m) p
+      (cleared-is (drop (9 * lowest (heldBy b) (slots n m)) m)) (omega (arith, i .0, i .1))) in
       record {
         long = g;
         right =
-            rw (places-freed n k m w room, refreshed-right k (slots n m) (cleared (drop (9 * k) m)) (omega (arith, few)), more-right, ← places-freed n k m w room)
+            rw (
+              places-freed n k m w room,
+              refreshed-right k (slots n m) (cleared (drop (9 * k) m)) (omega (arith, few)),
+              more-right,
+              ← places-freed n k m w room,
+            )
             (still (freed m k) g);
         tells =
             rw (t, places-freed n k m w room, i .0)
-            (strike-held first b (cleared (drop (9 * lowest (heldBy b) (slots n m)) m)) (slots n m) (cleared-free (drop (9 * lowest (heldBy b) (slots n m)) m)) (omega (arith, i .0, i .1)));
+            (strike-held first b (cleared (drop (9 * lowest (heldBy b) (slots n m)) m)) (slots n m)
+            (cleared-free (drop (9 * lowest (heldBy b) (slots n m)) m)) (omega (arith, i .0, i .1)));
       }
 
   give-nothing : Told first size m (λ (r : AddressAnswer). afterGive b r hs) (outcome (Refused Unknown) (rightLedger first size m) m)
@@ -155,7 +171,8 @@ pub record Agrees (first size : ℕ) (s : Moment) : Type 0 where
 pub plain : (first size : ℕ) (s : Moment) → Agrees first size s → s .ledger ≡ rightLedger first size (s .memory)
 plain first size s a = a .right ∙ opened-is first size (s .memory) (a .accepted)
 
-asks-agrees : (first size : ℕ) (s : Moment) (b : List ℕ) → length b ≡ 8 → Agrees first size s → Agrees first size (step first size s (asks b))
+asks-agrees : (first size : ℕ) (s : Moment) (b : List ℕ) → length b ≡ 8 → Agrees first size s
+    → Agrees first size (step first size s (asks b))
 unfolding step
 asks-agrees first size s b e a =
     let p = asked first size b (s .memory) (s .holding) (a .accepted) (a .tells) e in
@@ -167,7 +184,8 @@ gives-agrees first size s b a =
     let p = gave first size b (s .memory) (s .holding) (a .accepted) (a .tells) in
     rw (plain first size s a) (record { accepted = rw (p .long) (a .accepted); right = p .right; tells = p .tells })
 
-run-agrees : (first size : ℕ) (s : Moment) (cs : List Call) → wholeBoards cs ≡ true → Agrees first size s → Agrees first size (run first size s cs)
+run-agrees : (first size : ℕ) (s : Moment) (cs : List Call) → wholeBoards cs ≡ true → Agrees first size s
+    → Agrees first size (run first size s cs)
 unfolding run step wholeBoards
 run-agrees first size s [] w a = a
 run-agrees first size s (opens ∷ cs) w a =
@@ -250,8 +268,12 @@ module _ (first size : ℕ) (s : Moment) (a : Agrees first size s) (b : List ℕ
       let i = nothing-is b (slots (counted first size) (s .memory)) x in
       let l = lists first n b (s .memory) (s .holding) (a .tells) in
       absurd
-      (omega
-      (arith, i .0, length-slots n (s .memory), ltb-true (lowest (heldBy b) (slots (counted first size) (s .memory))) (counted first size) (sym l ∙ y)))
+      (omega (
+        arith,
+        i .0,
+        length-slots n (s .memory),
+        ltb-true (lowest (heldBy b) (slots (counted first size) (s .memory))) (counted first size) (sym l ∙ y),
+      ))
 
   same : listed b (s .holding) ≡ true
       → granted (s .ledger) (s .memory) b ≡ outcome (Address (addressOf b (s .holding))) (s .ledger) (s .memory)
@@ -298,12 +320,18 @@ module _ (first size : ℕ) (s : Moment) (a : Agrees first size s) (b : List ℕ
 
   own : listed b (s .holding) ≡ true → givenBack (s .ledger) (s .memory) b .answer ≡ Address (addressOf b (s .holding))
   own y =
-      rw (plain first size s a, ← back-accepted (rightLedger first size (s .memory)) (s .memory) b (a .accepted) (counted first size) refl _ refl)
+      rw (
+        plain first size s a,
+        ← back-accepted (rightLedger first size (s .memory)) (s .memory) b (a .accepted) (counted first size) refl _ refl,
+      )
       (own-by y _ refl)
 
   none : listed b (s .holding) ≡ false → givenBack (s .ledger) (s .memory) b ≡ outcome (Refused Unknown) (s .ledger) (s .memory)
   none y =
-      rw (plain first size s a, ← back-accepted (rightLedger first size (s .memory)) (s .memory) b (a .accepted) (counted first size) refl _ refl)
+      rw (
+        plain first size s a,
+        ← back-accepted (rightLedger first size (s .memory)) (s .memory) b (a .accepted) (counted first size) refl _ refl,
+      )
       (none-by y _ refl)
 
 pub gives-own : GivesBack

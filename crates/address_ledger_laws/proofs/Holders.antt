@@ -107,7 +107,8 @@ above-cons : (a : ℕ) (p : Slot) (ps : List Slot) (x : Bool) → eqb (p .mark) 
 unfolding heldFrom
 above-cons a p ps true e ih h m =
     let m′ : List·Memᴰ h (holding (p .board) a ∷ heldFrom (suc a) ps) = rw e at m in
-    ⊎-elim (λ q. let z : h .address ≡ a = ap (λ (g : Holding). g .address) q in omega arith) (λ r. omega (arith, ih h r)) (List·Memᴰ·cases-cons m′)
+    ⊎-elim (λ q. let z : h .address ≡ a = ap (λ (g : Holding). g .address) q in omega arith) (λ r. omega (arith, ih h r))
+    (List·Memᴰ·cases-cons m′)
 above-cons a p ps false e ih h m = omega (arith, ih h (rw e at m))
 
 above : (a : ℕ) (ps : List Slot) (h : Holding) → List·Memᴰ h (heldFrom a ps) → a ≤ h .address
@@ -116,8 +117,10 @@ above a [] h m = absurd (List·Memᴰ·not-nil m)
 above a (p ∷ ps) h m = above-cons a p ps (eqb (p .mark) 1) refl (above (suc a) ps) h m
 
 apart-cons : (a : ℕ) (p : Slot) (ps : List Slot) (x : Bool) → eqb (p .mark) 1 ≡ x
-    → ((g h : Holding) → List·Memᴰ g (heldFrom (suc a) ps) → List·Memᴰ h (heldFrom (suc a) ps) → g .address ≡ h .address → g .board ≡ h .board)
-    → (g h : Holding) → List·Memᴰ g (heldFrom a (p ∷ ps)) → List·Memᴰ h (heldFrom a (p ∷ ps)) → g .address ≡ h .address → g .board ≡ h .board
+    → ((g h : Holding) → List·Memᴰ g (heldFrom (suc a) ps) → List·Memᴰ h (heldFrom (suc a) ps) → g .address ≡ h .address
+    → g .board ≡ h .board)
+    → (g h : Holding) → List·Memᴰ g (heldFrom a (p ∷ ps)) → List·Memᴰ h (heldFrom a (p ∷ ps)) → g .address ≡ h .address
+    → g .board ≡ h .board
 unfolding heldFrom
 apart-cons a p ps false e ih g h mg mh s = ih g h (rw e at mg) (rw e at mh) s
 apart-cons a p ps true e ih g h mg mh s =

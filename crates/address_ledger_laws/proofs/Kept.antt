@@ -11,7 +11,8 @@ use Rattle.refusal.specs.declared.Verdict.{Verdict}
 use Rattle.refusal.specs.declared.Verdict.the-variants as verdict
 use Rattle.address_slots.specs.Slot.{slots, heldBy, lowest, has, countFree, slotFound}
 use Rattle.address_ledger.specs.range.Range.{judged, counted}
-use Rattle.address_ledger.specs.Ledger.{countedOf, placesOf, judgedOf, cut, openedBy, opened, granting, grantedBy, granted, givingBack, givenBackBy, givenBack}
+use Rattle.address_ledger.specs.Ledger.{countedOf, placesOf, judgedOf, cut, openedBy, opened, granting}
+use Rattle.address_ledger.specs.Ledger.{grantedBy, granted, givingBack, givenBackBy, givenBack}
 use Rattle.address_ledger.specs.declared.answer.AddressAnswer.the-variants.{Address}
 use Rattle.address_ledger.specs.declared.ledger.Ledger.{Ledger}
 use Rattle.address_slots.specs.declared.slot.SlotFound.{SlotFound}
@@ -50,7 +51,8 @@ module _ (l : Ledger) (m b : List ℕ) (f : verdict.Accepted ≡ judgedOf l m) (
       let p : length (placesOf l m) ≡ countedOf l = length-slots n m in
       let w : k < countedOf l = omega (arith, i .1) in
       rw (places-freed n k m w room, c, i .0)
-      (count-more n b (cleared (drop (9 * lowest (heldBy b) (placesOf l m)) m)) (placesOf l m) p (cleared-is (drop (9 * lowest (heldBy b) (placesOf l m)) m))
+      (count-more n b (cleared (drop (9 * lowest (heldBy b) (placesOf l m)) m)) (placesOf l m) p
+      (cleared-is (drop (9 * lowest (heldBy b) (placesOf l m)) m))
       (omega (arith, i .0, i .1)))
   back-right (Free k) s = c
   back-right Nothing s = c

@@ -1,4 +1,5 @@
--- Where the marks lead: right ones to the lowest free place of all, since every lower group has none; any marks to the first marked group with one.
+-- Where the marks lead: right ones to the lowest free place of all, since every lower group has none;
+-- any marks to the first marked group with one.
 use Prim.Native.Nat.{ℕ, zero, suc, _+_, _*_, _/_, _%_, _≤_, _<_}
 use mathlib.Core.Path.{_≡_, refl, sym, ap, _∙_}
 use mathlib.Core.Bool.{Bool, true, false, cond}
@@ -32,14 +33,16 @@ in-front (suc i) (p ∷ ps) h = in-front-cons p i ps _ refl (in-front i ps) h
 
 behind-cons : (p : Slot) (i : ℕ) (ps : List Slot) (x : Bool) → isFree p ≡ x
     → (length (take i ps) ≤ lowest isFree (take i ps) → lowest isFree ps ≡ length (take i ps) + lowest isFree (drop i ps))
-    → suc (length (take i ps)) ≤ lowest isFree (p ∷ take i ps) → lowest isFree (p ∷ ps) ≡ suc (length (take i ps)) + lowest isFree (drop i ps)
+    → suc (length (take i ps)) ≤ lowest isFree (p ∷ take i ps)
+    → lowest isFree (p ∷ ps) ≡ suc (length (take i ps)) + lowest isFree (drop i ps)
 unfolding lowest
 behind-cons p i ps true e ih h = let g : suc (length (take i ps)) ≤ 0 = rw e at h in absurd (omega arith)
 behind-cons p i ps false e ih h =
     let g : suc (length (take i ps)) ≤ suc (lowest isFree (take i ps)) = rw e at h in
     rw e (omega (arith, ih (omega arith)))
 
-behind : (i : ℕ) (ps : List Slot) → length (take i ps) ≤ lowest isFree (take i ps) → lowest isFree ps ≡ length (take i ps) + lowest isFree (drop i ps)
+behind : (i : ℕ) (ps : List Slot) → length (take i ps) ≤ lowest isFree (take i ps)
+    → lowest isFree ps ≡ length (take i ps) + lowest isFree (drop i ps)
 unfolding lowest
 behind zero ps h = sym (zero-add (lowest isFree ps))
 behind (suc i) [] h = refl
@@ -73,7 +76,8 @@ module _ (j : ℕ) (ps : List Slot) where
       rw (t, le-ltb (lowest isFree ps) (length ps) w)
 
 walk-cons : (n j : ℕ) (ps : List Slot) (t : Bool) → has isFree (take 64 ps) ≡ t
-    → freeBy n (marksOf n (drop 64 ps)) (j + 64) (drop 64 ps) ≡ walkFound (j + 64) (drop 64 ps) → freeBy (suc n) (marksOf (suc n) ps) j ps ≡ walkFound j ps
+    → freeBy n (marksOf n (drop 64 ps)) (j + 64) (drop 64 ps) ≡ walkFound (j + 64) (drop 64 ps)
+    → freeBy (suc n) (marksOf (suc n) ps) j ps ≡ walkFound j ps
 unfolding freeBy marksOf marked
 walk-cons n j ps true t ih =
     rw (lowest-bit (has isFree (take 64 ps)) (marksOf n (drop 64 ps)), t) (front-found j ps t)
@@ -120,8 +124,10 @@ first-marked (suc n) zero x j ps h m f none =
     let e : 64 * 0 + lowest isFree (take 64 ps) ≡ lowest isFree (take 64 ps) = omega arith in
     rw (m, f, e)
 first-marked (suc n) (suc g) x j ps h m f none =
-    let i = first-marked n g (x / 2) (j + 64) (drop 64 ps) (omega arith) (marked-rest g x m) (rw (next-group g ps) at f) (none-further n x j ps g none) in
-    let e : j + 64 + (64 * g + lowest isFree (groupAt g (drop 64 ps))) ≡ j + (64 * suc g + lowest isFree (groupAt g (drop 64 ps))) = omega arith in
+    let i = first-marked n g (x / 2) (j + 64) (drop 64 ps) (omega arith) (marked-rest g x m) (rw (next-group g ps) at f)
+    (none-further n x j ps g none) in
+    let e : j + 64 + (64 * g + lowest isFree (groupAt g (drop 64 ps))) ≡ j + (64 * suc g + lowest isFree (groupAt g (drop 64 ps))) =
+    omega arith in
     passed n x j ps g none ∙ i ∙ rw (next-group g ps, e)
 
 pub none-marked : (n x j : ℕ) (ps : List Slot) → NoneBelow x ps n → freeBy n x j ps ≡ Nothing
@@ -162,7 +168,8 @@ unfolding has
 group-has ps k h =
     let e : 64 * (k / 64) + k % 64 ≡ k = omega arith in
     let f : freeAt ps (64 * (k / 64) + k % 64) ≡ true = rw e h in
-    let g : freeAt (groupAt (k / 64) ps) (k % 64) ≡ true = free-taken 64 (drop (64 * (k / 64)) ps) (k % 64) (omega arith) (free-dropped (64 * (k / 64)) ps (k % 64) f) in
+    let g : freeAt (groupAt (k / 64) ps) (k % 64) ≡ true =
+    free-taken 64 (drop (64 * (k / 64)) ps) (k % 64) (omega arith) (free-dropped (64 * (k / 64)) ps (k % 64) f) in
     lt-ltb (lowest isFree (groupAt (k / 64) ps)) (length (groupAt (k / 64) ps))
     (omega (arith, no-higher (groupAt (k / 64) ps) (k % 64) g, free-inside (groupAt (k / 64) ps) (k % 64) g))
 

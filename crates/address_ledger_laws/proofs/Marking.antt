@@ -57,7 +57,8 @@ marks-say (suc n) ps (suc g) h =
 
 -- ---- a place is set
 right-by : (n k : ℕ) (ps : List Slot) (p : Slot) (t : Bool) → ltb k 64 ≡ t
-    → (64 ≤ k → withMark ((k - 64) / 64) (has isFree (groupAt ((k - 64) / 64) (set (drop 64 ps) (k - 64) p))) (marksOf n (drop 64 ps)) ≡ marksOf n (set (drop 64 ps) (k - 64) p))
+    → (64 ≤ k → withMark ((k - 64) / 64) (has isFree (groupAt ((k - 64) / 64) (set (drop 64 ps) (k - 64) p))) (marksOf n (drop 64 ps))
+    ≡ marksOf n (set (drop 64 ps) (k - 64) p))
     → withMark (k / 64) (has isFree (groupAt (k / 64) (set ps k p))) (marksOf (suc n) ps) ≡ marksOf (suc n) (set ps k p)
 unfolding withMark marksOf
 right-by n k ps p true t ih =

@@ -18,7 +18,8 @@ use Rattle.address_slots.proofs.Found.{held-within}
 use Rattle.address_slots.proofs.Offers.{freeAt, held-told, free-inside-of}
 use Rattle.address_ledger.specs.range.Range.{judged, counted, Usable}
 use Rattle.address_ledger.proofs.range.Judged.{usable}
-use Rattle.address_ledger.specs.Ledger.{Outcome, countedOf, placesOf, judgedOf, openedBy, opened, granting, grantedBy, granted, givingBack, givenBackBy, givenBack}
+use Rattle.address_ledger.specs.Ledger.{Outcome, countedOf, placesOf, judgedOf, openedBy, opened}
+use Rattle.address_ledger.specs.Ledger.{granting, grantedBy, granted, givingBack, givenBackBy, givenBack}
 use Rattle.address_ledger.specs.declared.answer.AddressAnswer.the-variants.{Address, Refused}
 use Rattle.address_ledger.specs.declared.ledger.Ledger.{Ledger}
 use Rattle.address_ledger.proofs.Calls.{grant-accepted}
@@ -48,15 +49,18 @@ module _ (l : Ledger) (m : List ℕ) (f : verdict.Accepted ≡ judgedOf l m) whe
     grant-right e (Free k) s =
         let n = countedOf l in
         let i = free-inside-of (l .summary) b (countedOf l) m k s in
-        rw (places-hold n k m b i (in-use .room) e, w) (refreshed-right k (placesOf l m) (record { mark = 1; board = b }) (omega (arith, i, in-use .size)))
+        rw (places-hold n k m b i (in-use .room) e, w)
+        (refreshed-right k (placesOf l m) (record { mark = 1; board = b }) (omega (arith, i, in-use .size)))
     grant-right e Nothing s = w
 
-    back-right : (s : SlotFound) → s ≡ slotFound b (placesOf l m) → RightMarks (givingBack (countedOf l) l m s .ledger) (givingBack (countedOf l) l m s .memory)
+    back-right : (s : SlotFound) → s ≡ slotFound b (placesOf l m)
+        → RightMarks (givingBack (countedOf l) l m s .ledger) (givingBack (countedOf l) l m s .memory)
     unfolding givingBack
     back-right (Held k) s =
         let n = countedOf l in
         let i = held-within b (countedOf l) m k s in
-        rw (places-freed n k m i (in-use .room), w) (refreshed-right k (placesOf l m) (cleared (drop (9 * k) m)) (omega (arith, i, in-use .size)))
+        rw (places-freed n k m i (in-use .room), w)
+        (refreshed-right k (placesOf l m) (cleared (drop (9 * k) m)) (omega (arith, i, in-use .size)))
     back-right (Free k) s = w
     back-right Nothing s = w
 
@@ -96,7 +100,8 @@ unfolding AsWalked granted
 walks-alike l m b w = walked-by l m b w (judgedOf l m) refl
 
 -- ---- any marks
-written : (l : Ledger) (k : ℕ) (m′ : List ℕ) → k < 4096 → (o : Outcome) → o .memory ≡ m′ → o .ledger .summary ≡ refreshed (l .summary) k (placesOf l m′)
+written : (l : Ledger) (k : ℕ) (m′ : List ℕ) → k < 4096 → (o : Outcome) → o .memory ≡ m′
+    → o .ledger .summary ≡ refreshed (l .summary) k (placesOf l m′)
     → MarkedAnew l k o
 unfolding refreshed
 written l k m′ h o e q =
@@ -133,7 +138,8 @@ module _ (l : Ledger) (m b : List ℕ) (k : ℕ) (f : verdict.Accepted ≡ judge
   back-new Nothing s e = let z : _≡_ {A = ℕ} 0 1 = cc in absurd (omega arith)
 
   back-marked : (s : SlotFound) → s ≡ slotFound b (placesOf l m)
-      → givingBack (countedOf l) l m s .answer ≡ Address (l .first + k) → marked (k / 64) (givingBack (countedOf l) l m s .ledger .summary) ≡ true
+      → givingBack (countedOf l) l m s .answer ≡ Address (l .first + k)
+      → marked (k / 64) (givingBack (countedOf l) l m s .ledger .summary) ≡ true
   unfolding givingBack
   back-marked (Held j) s e =
       let i = held-within b (countedOf l) m j s in
@@ -141,13 +147,15 @@ module _ (l : Ledger) (m b : List ℕ) (k : ℕ) (f : verdict.Accepted ≡ judge
       let q = same-place l k j e in
       let free : freeAt (placesOf l (freed m j)) j ≡ true =
       rw (places-freed (countedOf l) j m i (in-use l m f .room))
-      (free-set (placesOf l m) j (cleared (drop (9 * j) m)) (omega (arith, i, length-slots (countedOf l) m)) (cleared-is (drop (9 * j) m))) in
+      (free-set (placesOf l m) j (cleared (drop (9 * j) m)) (omega (arith, i, length-slots (countedOf l) m))
+      (cleared-is (drop (9 * j) m))) in
       rw (← q) (w .own ∙ group-has (placesOf l (freed m j)) j free)
   back-marked (Free j) s e = let z : _≡_ {A = ℕ} 0 1 = cc in absurd (omega arith)
   back-marked Nothing s e = let z : _≡_ {A = ℕ} 0 1 = cc in absurd (omega arith)
 
 module _ (l : Ledger) (m b : List ℕ) (k : ℕ) where
-  granted-new : (v : Verdict) → v ≡ judgedOf l m → has (heldBy b) (placesOf l m) ≡ false → grantedBy v l m b .answer ≡ Address (l .first + k)
+  granted-new : (v : Verdict) → v ≡ judgedOf l m → has (heldBy b) (placesOf l m) ≡ false
+      → grantedBy v l m b .answer ≡ Address (l .first + k)
       → MarkedAnew l k (grantedBy v l m b)
   unfolding grantedBy
   granted-new verdict.Accepted f h e = grant-new l m b k f (slotFoundBy (l .summary) b (placesOf l m)) refl h e
@@ -168,7 +176,12 @@ pub any-marks : AnyMarks
 unfolding granted grantedBy granting givenBack slotFoundBy
 any-marks =
     record {
-      first = λ l m b f h g i t u none. rw (← f, h, first-marked 64 g (l .summary) 0 (placesOf l m) i t u none, zero-add (64 * g + lowest isFree (groupAt g (placesOf l m))));
+      first = λ l m b f h g i t u none. rw (
+        ← f,
+        h,
+        first-marked 64 g (l .summary) 0 (placesOf l m) i t u none,
+        zero-add (64 * g + lowest isFree (groupAt g (placesOf l m))),
+      );
       full = λ l m b f h none. rw (← f, h, none-marked 64 (l .summary) 0 (placesOf l m) none);
       granted-new = λ l m b k h e. granted-new l m b k (judgedOf l m) refl h e;
       given-back = λ l m b k e. given-new l m b k (judgedOf l m) refl e;

@@ -15,7 +15,8 @@ use Rattle.short_address.specs.Address.{isAddress, bytesOf, AddressLaws}
 use Rattle.address_slots.specs.Slot.{Slot, slots, lowest, has, countFree, slotFound}
 use Rattle.address_slots.specs.Marks.{slotFoundBy}
 use Rattle.address_ledger.specs.range.Range.{judged, counted}
-use Rattle.address_ledger.specs.Ledger.{outcome, countedOf, placesOf, judgedOf, granting, grantedBy, granted, givingBack, givenBackBy, givenBack, freeCount}
+use Rattle.address_ledger.specs.Ledger.{outcome, countedOf, placesOf, judgedOf, granting, grantedBy}
+use Rattle.address_ledger.specs.Ledger.{granted, givingBack, givenBackBy, givenBack, freeCount}
 use Rattle.address_ledger.specs.declared.answer.AddressAnswer.the-variants.{Address, Refused}
 use Rattle.address_ledger.specs.declared.ledger.Ledger.{Ledger}
 use Rattle.address_slots.specs.declared.slot.SlotFound.{SlotFound}
@@ -42,24 +43,28 @@ module _ (laws : AddressLaws) where
         let z : l .first + k ≡ a = cc in
         rw (← z) (counted-is-address laws (l .first) (l .size) k (end-limit (l .first) (l .size) (length m) f) w)
 
-    grant-by : (s : SlotFound) → s ≡ slotFoundBy (l .summary) b (placesOf l m) → granting (countedOf l) l m b s .answer ≡ Address a → isAddress (bytesOf a) ≡ true
+    grant-by : (s : SlotFound) → s ≡ slotFoundBy (l .summary) b (placesOf l m) → granting (countedOf l) l m b s .answer ≡ Address a
+        → isAddress (bytesOf a) ≡ true
     unfolding granting
     grant-by (Held k) s e = one k (held-inside (l .summary) b (counted (l .first) (l .size)) m k s) e
     grant-by (Free k) s e = one k (free-inside-of (l .summary) b (counted (l .first) (l .size)) m k s) e
     grant-by Nothing s e = let z : _≡_ {A = ℕ} 0 1 = cc in absurd (omega arith)
 
-    back-by : (s : SlotFound) → s ≡ slotFound b (placesOf l m) → givingBack (countedOf l) l m s .answer ≡ Address a → isAddress (bytesOf a) ≡ true
+    back-by : (s : SlotFound) → s ≡ slotFound b (placesOf l m) → givingBack (countedOf l) l m s .answer ≡ Address a
+        → isAddress (bytesOf a) ≡ true
     unfolding givingBack
     back-by (Held k) s e = one k (held-within b (counted (l .first) (l .size)) m k s) e
     back-by (Free k) s e = let z : _≡_ {A = ℕ} 0 1 = cc in absurd (omega arith)
     back-by Nothing s e = let z : _≡_ {A = ℕ} 0 1 = cc in absurd (omega arith)
 
-  granted-by : (l : Ledger) (m b : List ℕ) (a : ℕ) (v : Verdict) → v ≡ judgedOf l m → grantedBy v l m b .answer ≡ Address a → isAddress (bytesOf a) ≡ true
+  granted-by : (l : Ledger) (m b : List ℕ) (a : ℕ) (v : Verdict) → v ≡ judgedOf l m → grantedBy v l m b .answer ≡ Address a
+      → isAddress (bytesOf a) ≡ true
   unfolding grantedBy
   granted-by l m b a verdict.Accepted f e = grant-by l m b a f (slotFoundBy (l .summary) b (placesOf l m)) refl e
   granted-by l m b a (verdict.Refused r) f e = let z : _≡_ {A = ℕ} 0 1 = cc in absurd (omega arith)
 
-  given-by : (l : Ledger) (m b : List ℕ) (a : ℕ) (v : Verdict) → v ≡ judgedOf l m → givenBackBy v l m b .answer ≡ Address a → isAddress (bytesOf a) ≡ true
+  given-by : (l : Ledger) (m b : List ℕ) (a : ℕ) (v : Verdict) → v ≡ judgedOf l m → givenBackBy v l m b .answer ≡ Address a
+      → isAddress (bytesOf a) ≡ true
   unfolding givenBackBy
   given-by l m b a verdict.Accepted f e = back-by l m b a f (slotFound b (placesOf l m)) refl e
   given-by l m b a (verdict.Refused r) f e = let z : _≡_ {A = ℕ} 0 1 = cc in absurd (omega arith)

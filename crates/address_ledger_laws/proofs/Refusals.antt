@@ -13,12 +13,14 @@ use Rattle.refusal.specs.declared.Verdict.the-variants as verdict
 use Rattle.address_slots.specs.Slot.{Slot, heldBy, isFree, has, slotFound}
 use Rattle.address_slots.specs.Marks.{marked, freeBy, slotFoundBy}
 use Rattle.address_ledger.specs.range.Range.{inLimits, judged}
-use Rattle.address_ledger.specs.Ledger.{Outcome, countedOf, placesOf, judgedOf, emptyLedger, openedBy, opened, granting, grantedBy, granted, givingBack, givenBackBy, givenBack, freeCount}
+use Rattle.address_ledger.specs.Ledger.{Outcome, countedOf, placesOf, judgedOf, emptyLedger, openedBy, opened}
+use Rattle.address_ledger.specs.Ledger.{granting, grantedBy, granted, givingBack, givenBackBy, givenBack, freeCount}
 use Rattle.address_ledger.specs.Answers.{addressVerdict, addressValue, freeVerdict, freeValue}
 use Rattle.address_ledger.specs.declared.ledger.Ledger.{Ledger}
 use Rattle.address_slots.specs.declared.slot.SlotFound.{SlotFound}
 use Rattle.address_slots.specs.declared.slot.SlotFound.the-variants.{Held, Free, Nothing}
-use Rattle.address_ledger_laws.specs.Demand1.{LedgerCall, opening, asking, returning, counting, perform, Untouched, offers, refusalNumber, Demand1}
+use Rattle.address_ledger_laws.specs.Demand1.{LedgerCall, opening, asking, returning, counting}
+use Rattle.address_ledger_laws.specs.Demand1.{perform, Untouched, offers, refusalNumber, Demand1}
 
 -- ---- a refusal leaves everything
 record Left (l : Ledger) (m : List ℕ) (o : Outcome) : Type 0 where
@@ -65,7 +67,8 @@ unfolding openedBy
 open-left first size m r verdict.Accepted e = absurd (accepted-not r e)
 open-left first size m r (verdict.Refused x) e = refl
 
-untouched : (c : LedgerCall) (l : Ledger) (m : List ℕ) (r : Refusal) → perform c l m .verdict ≡ verdict.Refused r → Untouched c l m (perform c l m)
+untouched : (c : LedgerCall) (l : Ledger) (m : List ℕ) (r : Refusal) → perform c l m .verdict ≡ verdict.Refused r
+    → Untouched c l m (perform c l m)
 unfolding perform opened granted givenBack
 untouched (opening first size) l m r e =
     record { value = refl; ledger = open-left first size m r (judged first size (length m)) e; memory = refl }
@@ -79,7 +82,8 @@ untouched counting l m r e = record { value = free-left l r _ refl e; ledger = r
 
 -- ---- the numbers
 offer-cons : (n x j : ℕ) (ps : List Slot) (c : ℕ) (l : Ledger) (m b : List ℕ) (t : Bool) → (marked zero x && has isFree (take 64 ps)) ≡ t
-    → verdictNumber (addressVerdict (granting c l m b (freeBy n (x / 2) (j + 64) (drop 64 ps)) .answer)) ≡ cond (offers n (x / 2) (drop 64 ps)) 0 17
+    → verdictNumber (addressVerdict (granting c l m b (freeBy n (x / 2) (j + 64) (drop 64 ps)) .answer))
+    ≡ cond (offers n (x / 2) (drop 64 ps)) 0 17
     → verdictNumber (addressVerdict (granting c l m b (freeBy (suc n) x j ps) .answer)) ≡ cond (offers (suc n) x ps) 0 17
 unfolding freeBy offers granting
 offer-cons n x j ps c l m b true t ih = rw t
@@ -99,7 +103,8 @@ grant-own l m b true p = rw p
 grant-own l m b false p = rw p (offer 64 (l .summary) 0 (placesOf l m) (countedOf l) l m b)
 
 back-own : (l : Ledger) (m b : List ℕ) (x y : Bool) → has (heldBy b) (placesOf l m) ≡ x → has isFree (placesOf l m) ≡ y
-    → verdictNumber (addressVerdict (givingBack (countedOf l) l m (slotFound b (placesOf l m)) .answer)) ≡ cond (has (heldBy b) (placesOf l m)) 0 18
+    → verdictNumber (addressVerdict (givingBack (countedOf l) l m (slotFound b (placesOf l m)) .answer))
+    ≡ cond (has (heldBy b) (placesOf l m)) 0 18
 unfolding givingBack slotFound
 back-own l m b true y p q = rw p
 back-own l m b false true p q = rw (p, q)

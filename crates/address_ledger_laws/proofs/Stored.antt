@@ -22,7 +22,8 @@ use Rattle.address_ledger_laws.proofs.Bytes.{hold-bytes, freed-bytes}
 use Rattle.address_ledger_laws.proofs.Marks.{in-use, same-place}
 
 module _ (l : Ledger) (m b : List ℕ) (k : ℕ) where
-  new-by : verdict.Accepted ≡ judgedOf l m → length b ≡ 8 → (s : SlotFound) → s ≡ slotFoundBy (l .summary) b (placesOf l m) → has (heldBy b) (placesOf l m) ≡ false
+  new-by : verdict.Accepted ≡ judgedOf l m → length b ≡ 8 → (s : SlotFound) → s ≡ slotFoundBy (l .summary) b (placesOf l m)
+      → has (heldBy b) (placesOf l m) ≡ false
       → granting (countedOf l) l m b s .answer ≡ Address (l .first + k) → HoldsNow m k b (granting (countedOf l) l m b s .memory)
   unfolding granting has
   new-by f e (Held j) s h a =
@@ -34,7 +35,8 @@ module _ (l : Ledger) (m b : List ℕ) (k : ℕ) where
       rw (← q) (hold-bytes m b j (omega (arith, i, in-use l m f .room)) e)
   new-by f e Nothing s h a = let z : _≡_ {A = ℕ} 0 1 = cc in absurd (omega arith)
 
-  new : length b ≡ 8 → (v : Verdict) → v ≡ judgedOf l m → has (heldBy b) (placesOf l m) ≡ false → grantedBy v l m b .answer ≡ Address (l .first + k)
+  new : length b ≡ 8 → (v : Verdict) → v ≡ judgedOf l m → has (heldBy b) (placesOf l m) ≡ false
+      → grantedBy v l m b .answer ≡ Address (l .first + k)
       → HoldsNow m k b (grantedBy v l m b .memory)
   unfolding grantedBy
   new e verdict.Accepted f h a = new-by f e (slotFoundBy (l .summary) b (placesOf l m)) refl h a

@@ -1,5 +1,5 @@
--- The ledger and what is no address: FFFE and FFFF are neither granted nor given back, whoever wrote the memory; and a range of nothing else has
--- nothing free, and answers FULL and UNKNOWN.
+-- The ledger and what is no address: FFFE and FFFF are neither granted nor given back, whoever wrote the memory; and a range of nothing
+-- else has nothing free, and answers FULL and UNKNOWN.
 use Prim.Native.Nat.{ℕ, _≤_, _+_, _<_}
 use mathlib.Core.Path.{_≡_}
 use mathlib.Core.Bool.{true}

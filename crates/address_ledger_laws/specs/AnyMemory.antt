@@ -1,5 +1,5 @@
--- On lent memory with any contents, whoever wrote them, the lowest matching place counts, with marks that are right for those contents: said of the
--- bytes, place k being the nine from byte 9k on.
+-- On lent memory with any contents, whoever wrote them, the lowest matching place counts, with marks that are right for those contents:
+-- said of the bytes, place k being the nine from byte 9k on.
 use Prim.Native.Nat.{ℕ, _+_, _*_, _<_}
 use mathlib.Core.Path.{_≡_}
 use mathlib.Core.List.{List}
@@ -35,7 +35,8 @@ pub record LowestMatches (l : Ledger) (m b : List ℕ) (n : ℕ) : Type 0 where
   pub lowest-free : RightMarks l m → NoneAt (HeldAt m b) n → (k : ℕ) → LowestAt (FreeAt m) n k
       → granted l m b ≡ outcome (Address (l .first + k)) (fewer n k (hold m k b) l) (hold m k b)
   pub full : RightMarks l m → NoneAt (HeldAt m b) n → NoneAt (FreeAt m) n → granted l m b ≡ outcome (Refused Full) l m
-  pub given-back : (k : ℕ) → LowestAt (HeldAt m b) n k → givenBack l m b ≡ outcome (Address (l .first + k)) (more n k (freed m k) l) (freed m k)
+  pub given-back : (k : ℕ) → LowestAt (HeldAt m b) n k
+      → givenBack l m b ≡ outcome (Address (l .first + k)) (more n k (freed m k) l) (freed m k)
   pub unknown : NoneAt (HeldAt m b) n → givenBack l m b ≡ outcome (Refused Unknown) l m
 
 unfoldable pub AnyMemory : Type 0

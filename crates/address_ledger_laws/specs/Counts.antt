@@ -1,4 +1,5 @@
--- The kept count of free addresses, on any memory and after any call: right stays right; a wrong one changes no other answer, and moves as a right one.
+-- The kept count of free addresses, on any memory and after any call: right stays right;
+-- a wrong one changes no other answer, and moves as a right one.
 use Prim.Native.Nat.{ℕ, _+_, _-_}
 use mathlib.Core.Path.{_≡_}
 use mathlib.Core.Bool.{true, false}

@@ -1,4 +1,5 @@
--- Demand 1 for the ledger: every call answers, a refusal has its number and changes neither the ledger nor the lent memory, and its value is 0.
+-- Demand 1 for the ledger: every call answers, a refusal has its number and changes neither the ledger nor the
+-- lent memory, and its value is 0.
 use Prim.Native.Nat.{ℕ, zero, suc, _*_, _/_}
 use mathlib.Core.Path.{_≡_}
 use mathlib.Core.Bool.{Bool, false, cond, _&&_, _||_}
@@ -38,7 +39,8 @@ performed v n l m = record { verdict = v; value = n; ledger = l; memory = m }
 unfoldable pub perform : LedgerCall → Ledger → List ℕ → Performed
 perform (opening first size) l m = performed (opened first size m .verdict) 0 (opened first size m .ledger) m
 perform (asking b) l m =
-    performed (addressVerdict (granted l m b .answer)) (addressValue (granted l m b .answer)) (granted l m b .ledger) (granted l m b .memory)
+    performed (addressVerdict (granted l m b .answer)) (addressValue (granted l m b .answer)) (granted l m b .ledger)
+    (granted l m b .memory)
 perform (returning b) l m =
     performed (addressVerdict (givenBack l m b .answer)) (addressValue (givenBack l m b .answer)) (givenBack l m b .ledger)
     (givenBack l m b .memory)
@@ -95,5 +97,6 @@ unfoldable pub refusalNumber : LedgerCall → Ledger → List ℕ → ℕ
 refusalNumber c l m = cond (inLimits (firstOf c l) (sizeOf c l)) (roomNumber c l m) 13
 
 pub record Demand1 : Type 0 where
-  pub untouched : (c : LedgerCall) (l : Ledger) (m : List ℕ) (r : Refusal) → perform c l m .verdict ≡ verdict.Refused r → Untouched c l m (perform c l m)
+  pub untouched : (c : LedgerCall) (l : Ledger) (m : List ℕ) (r : Refusal) → perform c l m .verdict ≡ verdict.Refused r
+      → Untouched c l m (perform c l m)
   pub numbers : (c : LedgerCall) (l : Ledger) (m : List ℕ) → verdictNumber (perform c l m .verdict) ≡ refusalNumber c l m

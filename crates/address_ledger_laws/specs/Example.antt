@@ -1,4 +1,5 @@
--- A shift on three addresses, played: the laws are not about nothing. The memory was not zero before, and a byte stands after the last place.
+-- A shift on three addresses, played: the laws are not about nothing.
+-- The memory was not zero before, and a byte stands after the last place.
 use Prim.Native.Nat.{ℕ}
 use mathlib.Core.Path.{_≡_}
 use mathlib.Core.List.{List, [], _∷_, _++_}
@@ -42,7 +43,8 @@ pub record LedgerExample : Type 0 where
   pub again : asked (fill ++ (gives (board 11) ∷ [])) 13 ≡ Address 0x1001
   pub holding :
       final .holding
-      ≡ record { board = board 10; address = 0x1000 } ∷ record { board = board 13; address = 0x1001 } ∷ record { board = board 12; address = 0x1002 } ∷ []
+      ≡ record { board = board 10; address = 0x1000 } ∷ record { board = board 13; address = 0x1001 }
+      ∷ record { board = board 12; address = 0x1002 } ∷ []
   pub memory : final .memory ≡ (1 ∷ board 10) ++ ((1 ∷ board 13) ++ ((1 ∷ board 12) ++ (7 ∷ [])))
   pub left : freeCount (final .ledger) ≡ Count 0
   -- the one group is marked while an address is free; without its mark none is found

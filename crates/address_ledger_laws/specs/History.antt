@@ -1,5 +1,5 @@
--- Histories: lists of calls on one range and one lent memory, which nothing else writes; and who holds which address, told from the calls and
--- their answers alone.
+-- Histories: lists of calls on one range and one lent memory, which nothing else writes; and who holds which address, told from the calls
+-- and their answers alone.
 use Prim.Native.Nat.{ℕ, _*_, _<_}
 use mathlib.Core.Path.{_≡_}
 use mathlib.Core.Bool.{Bool, true, false, cond, _&&_, _||_}
@@ -21,7 +21,8 @@ pub data Call : Type 0 where
   gives : List ℕ → Call
   counts : Call
 
--- ---- who holds what, by the history: a board that was granted an address and has not given it back since, and the address that it was answered
+-- ---- who holds what, by the history: a board that was granted an address and has not given it back since,
+-- and the address that it was answered
 pub record Holding : Type 0 where
   pub board : List ℕ
   pub address : ℕ

@@ -1,4 +1,5 @@
--- What holds after every history from a fresh ledger on. A part of a history from its start is a history, so each law holds at every moment of a shift.
+-- What holds after every history from a fresh ledger on.
+-- A part of a history from its start is a history, so each law holds at every moment of a shift.
 use Prim.Native.Nat.{ℕ, _+_, _-_, _*_, _≤_, _<_}
 use mathlib.Core.Path.{_≡_}
 use mathlib.Core.Bool.{true, false}
@@ -16,7 +17,8 @@ use Rattle.address_ledger_laws.specs.History.{Call, gives, Holding, list
 -- ---- held plus free is the size of the range: held counted from the history, free from the memory; and that is what the ledger answers
 pub record HeldAndFree : Type 0 where
   pub all : (first size : ℕ) (m : List ℕ) (cs : List Call) → Begins first size m cs
-      → length (after first size m cs .holding) + countFree (slots (counted first size) (after first size m cs .memory)) ≡ counted first size
+      → length (after first size m cs .holding) + countFree (slots (counted first size) (after first size m cs .memory))
+      ≡ counted first size
   pub answered : (first size : ℕ) (m : List ℕ) (cs : List Call) → Begins first size m cs
       → freeCount (after first size m cs .ledger)
       ≡ Count (countFree (slots (counted first size) (after first size m cs .memory)))
@@ -47,14 +49,15 @@ SameAgain =
 pub record GivesBack : Type 0 where
   pub own : (first size : ℕ) (m : List ℕ) (cs : List Call) → Begins first size m cs
       → (b : List ℕ) → listed b (after first size m cs .holding) ≡ true
-      → givenBack (after first size m cs .ledger) (after first size m cs .memory) b .answer ≡ Address (addressOf b (after first size m cs .holding))
+      → givenBack (after first size m cs .ledger) (after first size m cs .memory) b .answer
+      ≡ Address (addressOf b (after first size m cs .holding))
   pub unknown : (first size : ℕ) (m : List ℕ) (cs : List Call) → Begins first size m cs
       → (b : List ℕ) → listed b (after first size m cs .holding) ≡ false
       → givenBack (after first size m cs .ledger) (after first size m cs .memory) b
       ≡ outcome (Refused Unknown) (after first size m cs .ledger) (after first size m cs .memory)
 
--- ---- a freed address is granted again: right after a board gave back address a, a board that holds none is granted one, and a itself where every
--- lower address of the range is held
+-- ---- a freed address is granted again: right after a board gave back address a, a board that holds none is granted one, and a itself
+-- where every lower address of the range is held
 pub record FreedAgain : Type 0 where
   pub some : (first size : ℕ) (m : List ℕ) (cs : List Call) → Begins first size m cs → (b c : List ℕ) (a : ℕ)
       → givenBack (after first size m cs .ledger) (after first size m cs .memory) b .answer ≡ Address a

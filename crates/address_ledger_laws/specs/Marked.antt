@@ -1,5 +1,5 @@
--- The marks of the groups of 64 addresses: right ones stay right and find what a walk of all addresses finds; with wrong ones the first marked group
--- that has a free address counts; and a call marks the group that it writes to anew, and no other.
+-- The marks of the groups of 64 addresses: right ones stay right and find what a walk of all addresses finds; with wrong ones the first
+-- marked group that has a free address counts; and a call marks the group that it writes to anew, and no other.
 use Prim.Native.Nat.{ℕ, _+_, _*_, _/_, _<_}
 use mathlib.Core.Path.{_≡_}
 use mathlib.Core.Bool.{true, false}
@@ -44,11 +44,13 @@ pub record MarkedAnew (l : Ledger) (k : ℕ) (o : Outcome) : Type 0 where
 
 pub record AnyMarks : Type 0 where
   pub first : (l : Ledger) (m b : List ℕ) → verdict.Accepted ≡ judgedOf l m → has (heldBy b) (placesOf l m) ≡ false
-      → (g : ℕ) → g < 64 → marked g (l .summary) ≡ true → has isFree (groupAt g (placesOf l m)) ≡ true → NoneBelow (l .summary) (placesOf l m) g
+      → (g : ℕ) → g < 64 → marked g (l .summary) ≡ true → has isFree (groupAt g (placesOf l m)) ≡ true
+      → NoneBelow (l .summary) (placesOf l m) g
       → granted l m b .answer ≡ Address (l .first + (64 * g + lowest isFree (groupAt g (placesOf l m))))
   pub full : (l : Ledger) (m b : List ℕ) → verdict.Accepted ≡ judgedOf l m → has (heldBy b) (placesOf l m) ≡ false
       → NoneBelow (l .summary) (placesOf l m) 64 → granted l m b ≡ outcome (Refused Full) l m
-  pub granted-new : (l : Ledger) (m b : List ℕ) (k : ℕ) → has (heldBy b) (placesOf l m) ≡ false → granted l m b .answer ≡ Address (l .first + k)
+  pub granted-new : (l : Ledger) (m b : List ℕ) (k : ℕ) → has (heldBy b) (placesOf l m) ≡ false
+      → granted l m b .answer ≡ Address (l .first + k)
       → MarkedAnew l k (granted l m b)
   pub given-back : (l : Ledger) (m b : List ℕ) (k : ℕ) → givenBack l m b .answer ≡ Address (l .first + k) → MarkedAnew l k (givenBack l m b)
   -- which after a give back has a free address

@@ -1,4 +1,5 @@
--- What the calls write, said of the bytes of the memory that they leave: a new grant the nine bytes of its place, a give back one byte, a repeated grant none.
+-- What the calls write, said of the bytes of the memory that they leave:
+-- a new grant the nine bytes of its place, a give back one byte, a repeated grant none.
 use Prim.Native.Nat.{ℕ, _+_, _*_}
 use mathlib.Core.Path.{_≡_}
 use mathlib.Core.Bool.{true, false}
@@ -24,4 +25,5 @@ pub record Written : Type 0 where
   pub granted-new : (l : Ledger) (m b : List ℕ) (k : ℕ) → length b ≡ 8 → has (heldBy b) (placesOf l m) ≡ false
       → granted l m b .answer ≡ Address (l .first + k) → HoldsNow m k b (granted l m b .memory)
   pub granted-again : (l : Ledger) (m b : List ℕ) → has (heldBy b) (placesOf l m) ≡ true → granted l m b .memory ≡ m
-  pub given-back : (l : Ledger) (m b : List ℕ) (k : ℕ) → givenBack l m b .answer ≡ Address (l .first + k) → FreeNow m k (givenBack l m b .memory)
+  pub given-back : (l : Ledger) (m b : List ℕ) (k : ℕ) → givenBack l m b .answer ≡ Address (l .first + k)
+      → FreeNow m k (givenBack l m b .memory)

@@ -1,4 +1,5 @@
-// What holds of a ledger over whole histories of its calls, on any memory, and of every refusal: claims about the definitions of `address_ledger`.
+// What holds of a ledger over whole histories of its calls, on any memory, and of every refusal:
+// claims about the definitions of `address_ledger`.
 ghost use Rattle.address_ledger_laws.specs.Laws.{HeldAndFree, OneHolder, SameAgain, GivesBack, FreedAgain};
 ghost use Rattle.address_ledger_laws.specs.AnyMemory.{AnyMemory};
 ghost use Rattle.address_ledger_laws.specs.Addresses.{AddressesAlone, TwoAlone};

@@ -18,7 +18,8 @@ module _ (b : List ℕ) (ps : List Slot) where
       let f : Held k ≡ Held (lowest (heldBy b) ps) = rw p at e in
       let g : k ≡ lowest (heldBy b) ps = cc in
       (g, omega (arith, ltb-true (lowest (heldBy b) ps) (length ps) p))
-  held-by k false true p q e = let f : Held k ≡ Free (lowest isFree ps) = rw (p, q) at e in let z : _≡_ {A = ℕ} 0 1 = cc in absurd (omega arith)
+  held-by k false true p q e = let f : Held k ≡ Free (lowest isFree ps) = rw (p, q) at e in let z : _≡_ {A = ℕ} 0 1 = cc in
+      absurd (omega arith)
   held-by k false false p q e = let f : Held k ≡ Nothing = rw (p, q) at e in let z : _≡_ {A = ℕ} 0 1 = cc in absurd (omega arith)
 
   free-by : (k : ℕ) (x y : Bool) → has (heldBy b) ps ≡ x → has isFree ps ≡ y → Free k ≡ slotFound b ps
@@ -41,7 +42,8 @@ module _ (b : List ℕ) (ps : List Slot) where
       let f : Nothing ≡ Held (lowest (heldBy b) ps) = rw p at e in
       let z : _≡_ {A = ℕ} 0 1 = cc in
       absurd (omega arith)
-  nothing-by false true p q e = let f : Nothing ≡ Free (lowest isFree ps) = rw (p, q) at e in let z : _≡_ {A = ℕ} 0 1 = cc in absurd (omega arith)
+  nothing-by false true p q e = let f : Nothing ≡ Free (lowest isFree ps) = rw (p, q) at e in let z : _≡_ {A = ℕ} 0 1 = cc in
+      absurd (omega arith)
   nothing-by false false p q e =
       (ltb-false (lowest (heldBy b) ps) (length ps) p, ltb-false (lowest isFree ps) (length ps) q)
 

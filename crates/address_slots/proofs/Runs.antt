@@ -31,7 +31,8 @@ places-drop (suc j) (suc n) m =
     rw (e, f, ← drop-drop (9 * j) 9 m) (places-drop j n (drop 9 m))
 
 -- group g of n places, which ends at `end`
-pub group-places : (g n end : ℕ) (m : List ℕ) → end ≡ min (64 * g + 64) n → groupAt g (slots n m) ≡ slots (end - 64 * g) (drop (9 * (64 * g)) m)
+pub group-places : (g n end : ℕ) (m : List ℕ) → end ≡ min (64 * g + 64) n
+    → groupAt g (slots n m) ≡ slots (end - 64 * g) (drop (9 * (64 * g)) m)
 group-places g n end m e =
     let f : min 64 (n - 64 * g) ≡ end - 64 * g = omega arith in
     ap (λ (ps : List Slot). take 64 ps) (places-drop (64 * g) n m)
@@ -39,7 +40,8 @@ group-places g n end m e =
     ∙ ap (λ (x : ℕ). slots x (drop (9 * (64 * g)) m)) f
 
 -- ---- the lowest free place of a group
-bounded-by : (q : Slot → Bool) (p : Slot) (ps : List Slot) (x : Bool) → q p ≡ x → lowest q ps ≤ length ps → lowest q (p ∷ ps) ≤ suc (length ps)
+bounded-by : (q : Slot → Bool) (p : Slot) (ps : List Slot) (x : Bool) → q p ≡ x → lowest q ps ≤ length ps
+    → lowest q (p ∷ ps) ≤ suc (length ps)
 unfolding lowest
 bounded-by q p ps true e h = rw e (omega arith)
 bounded-by q p ps false e h = rw e (omega arith)
@@ -61,7 +63,8 @@ module _ (g n end place : ℕ) (m : List ℕ) (e : end ≡ min (64 * g + 64) n)
   unfolding has
   any-by true t =
       rw t
-      (sym (lt-ltb (lowest isFree (groupAt g (slots n m))) (length (groupAt g (slots n m))) (omega (arith, found-at, group-length, ltb-true place end t))))
+      (sym (lt-ltb (lowest isFree (groupAt g (slots n m))) (length (groupAt g (slots n m)))
+      (omega (arith, found-at, group-length, ltb-true place end t))))
   any-by false t =
       rw t
       (sym
@@ -118,6 +121,7 @@ module _ (x k : ℕ) where
   unfolding refreshed
   refreshed-over ps h = rw (le-ltb k 4096 h)
 
-  pub refreshed-there : (ps : List Slot) → k < 4096 → (b : Bool) → b ≡ has isFree (groupAt (k / 64) ps) → (y : ℕ) → y ≡ withMark (k / 64) b x → y ≡ refreshed x k ps
+  pub refreshed-there : (ps : List Slot) → k < 4096 → (b : Bool) → b ≡ has isFree (groupAt (k / 64) ps) → (y : ℕ)
+      → y ≡ withMark (k / 64) b x → y ≡ refreshed x k ps
   unfolding refreshed
   refreshed-there ps h b e y f = rw (lt-ltb k 4096 h, ← e) f

@@ -48,14 +48,16 @@ module _ (n : ℕ) (m : List ℕ) (free marks above : ℕ) (w : Surveyed n m fre
         ∙ rw (next, ← w .counted, found-is)
 
     pub sum-most : free + found ≤ 4096
-    sum-most = omega (arith, whole, count-most (drop (64 * (above - 1)) (slots n m)), length-drop (64 * (above - 1)) (slots n m), length-slots n m)
+    sum-most =
+        omega (arith, whole, count-most (drop (64 * (above - 1)) (slots n m)), length-drop (64 * (above - 1)) (slots n m), length-slots n m)
 
     pub survey-more : (mark : ℕ) → mark ≡ bit (not (eqb found 0)) → Surveyed n m (free + found) (mark + 2 * marks) (above - 1)
     unfolding marksOf
     survey-more mark o =
         let v = w .within in
         let s : 64 - (above - 1) ≡ suc (64 - above) = omega arith in
-        let q : mark ≡ bit (has isFree (groupAt (above - 1) (slots n m))) = o ∙ rw (has-count (groupAt (above - 1) (slots n m)), found-is) in
+        let q : mark ≡ bit (has isFree (groupAt (above - 1) (slots n m))) =
+        o ∙ rw (has-count (groupAt (above - 1) (slots n m)), found-is) in
         record {
           within = omega arith;
           counted = omega (arith, whole);

@@ -1,5 +1,5 @@
--- The summary of the places: a mark for each group of 64 places from the lowest, saying whether any is free. The marks are the bits of one number,
--- that of the lowest group first; 64 groups are the 4,096 places that a ledger may have.
+-- The summary of the places: a mark for each group of 64 places from the lowest, saying whether any is free. The marks are the bits of one
+-- number, that of the lowest group first; 64 groups are the 4,096 places that a ledger may have.
 use Prim.Native.Nat.{ℕ, zero, suc, _+_, _*_, _/_, _%_}
 use mathlib.Core.Bool.{Bool, cond, _&&_}
 use mathlib.Core.List.{List}

@@ -1,4 +1,5 @@
--- The lent memory read as places, nine bytes an address and the lowest address first: a mark (1 held, else free) and the board's 8-byte identifier.
+-- The lent memory read as places, nine bytes an address and the lowest address first:
+-- a mark (1 held, else free) and the board's 8-byte identifier.
 use Prim.Native.Nat.{ℕ, zero, suc, _+_, _*_}
 use mathlib.Core.Bool.{Bool, true, cond, not, _&&_}
 use mathlib.Core.List.{List, [], _∷_}

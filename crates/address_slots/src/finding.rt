@@ -18,7 +18,8 @@ ghost use Rattle.address_slots.specs.Marks.{groupAt, freeBy, slotFoundBy
 fn find_in_group(memory: &[u8], count: usize, group: usize, mark: u64) -> usize
     requires { ⌜ group < 64 ⌝ }
     requires { ⌜ 9 * count ≤ length (now memory) ⌝ }
-    ensures { λ r. ⌜ r ≡ cond (eqb mark 1 && has isFree (groupAt group (slots count (now (memory .entry))))) (64 * group + lowest isFree (groupAt group (slots count (now (memory .entry))))) count ⌝ }
+    ensures { λ r. ⌜ r ≡ cond (eqb mark 1 && has isFree (groupAt group (slots count (now (memory .entry)))))
+        (64 * group + lowest isFree (groupAt group (slots count (now (memory .entry))))) count ⌝ }
 {
     if mark != 1 {
         return count;

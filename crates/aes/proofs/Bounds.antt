@@ -8,7 +8,8 @@ use lib.ListN.{getD}
 use Rattle.lemmas.specs.lists.Xor.{_⊕_}
 use Rattle.lemmas.specs.lists.Table.{table}
 use Rattle.aes.specs.Field.{xtime, affineBit, affineFrom, affine, subByte}
-use Rattle.aes.specs.Cipher.{cell, subBytes, shiftRows, addRoundKey, word, addWord, rotWord, subWord, rcon, nextKey, roundKeys, rounds, cipher}
+use Rattle.aes.specs.Cipher.{cell, subBytes, shiftRows, addRoundKey, word, addWord}
+use Rattle.aes.specs.Cipher.{rotWord, subWord, rcon, nextKey, roundKeys, rounds, cipher}
 use Rattle.aes.specs.Bounds.{Bytes}
 use Rattle.aes.specs.BoundsLemmas.{xor-byte, none, one, joined, tabled}
 
@@ -49,7 +50,8 @@ next-key : (rc : ℕ) (k : List ℕ) → rc < 256 → Bytes k → Bytes (nextKey
 unfolding nextKey
 next-key rc k h f =
     let first = rc ∷ 0 ∷ 0 ∷ 0 ∷ [] in
-    let c : Bytes first = one rc (0 ∷ 0 ∷ 0 ∷ []) h (one 0 (0 ∷ 0 ∷ []) (omega arith) (one 0 (0 ∷ []) (omega arith) (one 0 [] (omega arith) none))) in
+    let c : Bytes first =
+    one rc (0 ∷ 0 ∷ 0 ∷ []) h (one 0 (0 ∷ 0 ∷ []) (omega arith) (one 0 (0 ∷ []) (omega arith) (one 0 [] (omega arith) none))) in
     let turned = subWord (rotWord (word k 3)) in
     let w0 = addWord (word k 0) (addWord turned first) in
     let w1 = addWord (word k 1) w0 in

@@ -61,7 +61,8 @@ data-step ks x y z b a h eb ey ez =
     sym (rw (blocks-cons (headed a) pos, tail, ez, ey, eb))
 
 pub framed-bytes : (f n : ℕ) (nonce : List ℕ) → length nonce ≡ 13 →
-    f ∷ getD nonce 0 0 ∷ getD nonce 1 0 ∷ getD nonce 2 0 ∷ getD nonce 3 0 ∷ getD nonce 4 0 ∷ getD nonce 5 0 ∷ getD nonce 6 0 ∷ getD nonce 7 0
+    f ∷ getD nonce 0 0 ∷ getD nonce 1 0 ∷ getD nonce 2 0 ∷ getD nonce 3 0 ∷ getD nonce 4 0 ∷ getD nonce 5 0 ∷ getD nonce 6 0
+    ∷ getD nonce 7 0
     ∷ getD nonce 8 0 ∷ getD nonce 9 0 ∷ getD nonce 10 0 ∷ getD nonce 11 0 ∷ getD nonce 12 0 ∷ (n / 256) ∷ (n % 256) ∷ []
     ≡ framing f nonce n
 unfolding table

@@ -51,7 +51,8 @@ module _ (key nonce a m d : List ℕ) where
   pub seal-no-room : length a ≤ 64 → length m ≤ 256 → length d < length m + 8 → Did (sealPlan key nonce a m (length d)) d (Refused Room) d
   unfolding sealPlan
   seal-no-room h k l =
-      refused (sealPlan key nonce a m (length d)) Room d (rw (le-ltb 64 (length a) h, le-ltb 256 (length m) k, lt-ltb (length d) (length m + 8) l))
+      refused (sealPlan key nonce a m (length d)) Room d
+      (rw (le-ltb 64 (length a) h, le-ltb 256 (length m) k, lt-ltb (length d) (length m + 8) l))
 
 pub seal-plan : (key nonce a m : List ℕ) (room : ℕ) → length a ≤ 64 → length m ≤ 256 → length m + 8 ≤ room
     → sealPlan key nonce a m room ≡ emit (sealed key nonce a m)
@@ -60,7 +61,8 @@ seal-plan key nonce a m room h k l = rw (le-ltb 64 (length a) h, le-ltb 256 (len
 
 -- what is written at the front, and then into the part after it, stands there one after the other
 seam : (x u d : List ℕ) (n : ℕ) → length x ≡ n → n + length u ≤ length d
-    → (let e = x ++ drop n d in putMid n (length e - n) e (u ++ drop (length u) (take (length e - n) (drop n e)))) ≡ (x ++ u) ++ drop (length (x ++ u)) d
+    → (let e = x ++ drop n d in putMid n (length e - n) e (u ++ drop (length u) (take (length e - n) (drop n e))))
+    ≡ (x ++ u) ++ drop (length (x ++ u)) d
 seam x u d n h l =
     let long : length (x ++ drop n d) ≡ length d = rw (length-append x (drop n d), length-drop n d, h) (omega arith) in
     let rest : length (drop n d) ≤ length d - n = rw (length-drop n d) (omega arith) in
@@ -134,7 +136,8 @@ module _ (key nonce a c d : List ℕ) where
         (rw (le-ltb 64 (length a) ha, le-ltb (length c) 8 hc, le-ltb 264 (length c) hl, lt-ltb (length d) (length c - 8) h))
 
     -- f is the text as it was decrypted into room with z after it, u its tag, b whether the two tags are the same
-    pub unseal-done : (ks : List (List ℕ)) (f u z : List ℕ) (b : Bool) (r : WriteResult) (d′ : List ℕ) → length c - 8 ≤ length d → ks ≡ roundKeys 10 key
+    pub unseal-done : (ks : List (List ℕ)) (f u z : List ℕ) (b : Bool) (r : WriteResult) (d′ : List ℕ) → length c - 8 ≤ length d
+        → ks ≡ roundKeys 10 key
         → f ≡ crypt ks nonce (take (length c - 8) c) ++ z → u ≡ tag ks nonce a (take (length c - 8) f)
         → b ≡ same (take (length c - (length c - 8)) (drop (length c - 8) c)) u
         → Did (releasePlan b (take (length c - 8) f)) d r d′ → Did (unsealPlan key nonce a c (length d)) d r d′
@@ -142,7 +145,8 @@ module _ (key nonce a c d : List ℕ) where
     unseal-done ks f u z b r d′ hd eks ef eu eb did =
         let short : length (take (length c - 8) c) ≡ length c - 8 = length-take-le (length c - 8) c (omega arith) in
         let text : take (length c - 8) f ≡ textOf key nonce c
-        = rw (ef, eks) (take-at (crypt (roundKeys 10 key) nonce (take (length c - 8) c)) z (length c - 8) (length-crypt _ nonce _ ∙ short)) in
+        =
+        rw (ef, eks) (take-at (crypt (roundKeys 10 key) nonce (take (length c - 8) c)) z (length c - 8) (length-crypt _ nonce _ ∙ short)) in
         let whole : take (length c - (length c - 8)) (drop (length c - 8) c) ≡ drop (length c - 8) c
         = take-all (length c - (length c - 8)) (drop (length c - 8) c) (rw (length-drop (length c - 8) c) (omega arith)) in
         let tested : genuine key nonce a c ≡ b = sym (eb ∙ rw (whole, eu, text, eks)) in

@@ -1,4 +1,5 @@
--- What was sealed opens, since the key stream cancels itself and the tag is made of the same text; and what opens was sealed, for the same reason backwards.
+-- What was sealed opens, since the key stream cancels itself and the tag is made of the same text;
+-- and what opens was sealed, for the same reason backwards.
 -- Assumes nothing.
 use mathlib.Core.Path.{_≡_, refl, sym, _∙_, ap, ap₂, subst}
 use mathlib.Core.Bool.{Bool, true, false, cond}
@@ -34,7 +35,8 @@ unfolding releasePlan
 released true t m e = (refl, cc)
 released false t m e = absurd (let z : _≡_ {A = ℕ} 0 1 = cc in omega arith)
 
-judged-plan : (key nonce a c : List ℕ) (room : ℕ) → Judged a c room → unsealPlan key nonce a c room ≡ releasePlan (genuine key nonce a c) (textOf key nonce c)
+judged-plan : (key nonce a c : List ℕ) (room : ℕ) → Judged a c room
+    → unsealPlan key nonce a c room ≡ releasePlan (genuine key nonce a c) (textOf key nonce c)
 unfolding unsealPlan
 judged-plan key nonce a c room j =
     rw (
@@ -60,16 +62,19 @@ accepted key nonce a c m room e =
     let p5 = released (genuine key nonce a c) (textOf key nonce c) m (p4 .1) in
     record { tag-there = ltb-false (length c) 8 (p2 .0); right = p5 .0; text = p5 .1 }
 
-right-tag : (key nonce a c : List ℕ) (room : ℕ) → Judged a c room → RightTag key nonce a c → unsealPlan key nonce a c room ≡ emit (textOf key nonce c)
+right-tag : (key nonce a c : List ℕ) (room : ℕ) → Judged a c room → RightTag key nonce a c
+    → unsealPlan key nonce a c room ≡ emit (textOf key nonce c)
 unfolding genuine releasePlan
-right-tag key nonce a c room j e = judged-plan key nonce a c room j ∙ rw (e, same-refl (tag (roundKeys 10 key) nonce a (textOf key nonce c)))
+right-tag key nonce a c room j e =
+    judged-plan key nonce a c room j ∙ rw (e, same-refl (tag (roundKeys 10 key) nonce a (textOf key nonce c)))
 
 refuses : (b : Bool) (t : List ℕ) → (b ≡ true → ⊥) → releasePlan b t ≡ refuse Seal
 unfolding releasePlan
 refuses true t wrong = absurd (wrong refl)
 refuses false t wrong = refl
 
-wrong-tag : (key nonce a c : List ℕ) (room : ℕ) → Judged a c room → (RightTag key nonce a c → ⊥) → unsealPlan key nonce a c room ≡ refuse Seal
+wrong-tag : (key nonce a c : List ℕ) (room : ℕ) → Judged a c room → (RightTag key nonce a c → ⊥)
+    → unsealPlan key nonce a c room ≡ refuse Seal
 unfolding genuine
 wrong-tag key nonce a c room j wrong =
     judged-plan key nonce a c room j
@@ -110,7 +115,8 @@ module _ (laws : AesLaws) (key nonce a : List ℕ) where
         drop-at (crypt (roundKeys 10 key) nonce m) (tag (roundKeys 10 key) nonce a m) (length (sealed key nonce a m) - 8) cut
         ∙ ap (tag (roundKeys 10 key) nonce a) (sym text-back)
 
-    sealed-opens : (room : ℕ) → length a ≤ 64 → length m ≤ 256 → length m ≤ room → unsealPlan key nonce a (sealed key nonce a m) room ≡ emit m
+    sealed-opens : (room : ℕ) → length a ≤ 64 → length m ≤ 256 → length m ≤ room
+        → unsealPlan key nonce a (sealed key nonce a m) room ≡ emit m
     sealed-opens room ha hm hr =
         let n : length (sealed key nonce a m) ≡ length m + 8 = length-sealed key nonce a m in
         let fits : Judged a (sealed key nonce a m) room

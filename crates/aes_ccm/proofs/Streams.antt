@@ -36,7 +36,8 @@ pub tag-bytes : (ks : List (List ℕ)) (nonce a m t s : List ℕ) → t ≡ last
 unfolding tag mac
 tag-bytes ks nonce a m t s et es =
     table-ext 8 _ _
-    (λ j h. ap₂ (λ (x y : ℕ). x ⊕ y) (ap (λ (l : List ℕ). getD l j 0) et ∙ sym (getD-take 8 (lastOf ks nonce a m) j 0 h)) (ap (λ (l : List ℕ). getD l j 0) es))
+    (λ j h. ap₂ (λ (x y : ℕ). x ⊕ y) (ap (λ (l : List ℕ). getD l j 0) et ∙ sym (getD-take 8 (lastOf ks nonce a m) j 0 h))
+    (ap (λ (l : List ℕ). getD l j 0) es))
 
 module _ (laws : AesLaws) (ks : List (List ℕ)) (nonce : List ℕ) where
   length-stream : (i : ℕ) → length (stream ks nonce i) ≡ 16

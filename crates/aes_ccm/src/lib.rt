@@ -30,7 +30,8 @@ pub fn seal(
     text: &[u8],
     dst: &mut [u8],
 ) -> WriteResult
-    ensures { λ r. ⌜ Did (sealPlan key nonce (now (associated .entry)) (now (text .entry)) (length (now (dst .entry)))) (now (dst .entry)) r (now (dst .exit)) ⌝ }
+    ensures { λ r. ⌜ Did (sealPlan key nonce (now (associated .entry)) (now (text .entry)) (length (now (dst .entry)))) (now (dst .entry)) r
+        (now (dst .exit)) ⌝ }
 {
     if 64 < associated.len() {
         return WriteResult::Refused(Refusal::Range);
@@ -58,7 +59,8 @@ pub fn unseal(
     sealed: &[u8],
     dst: &mut [u8],
 ) -> WriteResult
-    ensures { λ r. ⌜ Did (unsealPlan key nonce (now (associated .entry)) (now (sealed .entry)) (length (now (dst .entry)))) (now (dst .entry)) r (now (dst .exit)) ⌝ }
+    ensures { λ r. ⌜ Did (unsealPlan key nonce (now (associated .entry)) (now (sealed .entry)) (length (now (dst .entry))))
+        (now (dst .entry)) r (now (dst .exit)) ⌝ }
 {
     if 64 < associated.len() {
         return WriteResult::Refused(Refusal::Range);

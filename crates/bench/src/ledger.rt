@@ -10,7 +10,8 @@ struct Played {
     sum: u64,
 }
 
-// Opens a ledger and plays the script: nine bytes a call, 0 grant, 1 give back, 2 how many are free, and the board. Answers are summed, a refusal as 70,000.
+// Opens a ledger and plays the script: nine bytes a call, 0 grant, 1 give back, 2 how many are free, and the board.
+// Answers are summed, a refusal as 70,000.
 #[no_mangle]
 pub extern "C" fn ledger_play(first: usize, size: usize, memory: &mut [u8], script: &[u8]) -> u64 {
     let opened = Ledger::open(first, size, memory);

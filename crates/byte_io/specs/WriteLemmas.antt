@@ -1,4 +1,5 @@
--- Lemmas: how the contents of a destination compose: what is written to its front, and then to the lent part after it, is written one after the other.
+-- Lemmas: how the contents of a destination compose:
+-- what is written to its front, and then to the lent part after it, is written one after the other.
 -- These facts hold by lists alone, of any bytes.
 use Prim.Native.Nat.{ℕ, _+_, _-_, _≤_, _<_}
 use mathlib.Core.Path.{_≡_, refl, ap, sym, _∙_}
@@ -24,7 +25,8 @@ module _ {p d d′ : List ℕ} {n : ℕ} (w : Wrote p d n d′) (fits : length p
       ∙ ap (drop n) (w .holds) ∙ drop-at p (drop (length p) d) n (sym (w .many))
 
 -- p was written, and then q in the part that was lent
-pub seam : {p q d d′ e : List ℕ} {n m : ℕ} → length p + length q ≤ length d → Wrote p d n d′ → Wrote q (take (length d′ - n) (drop n d′)) m e
+pub seam : {p q d d′ e : List ℕ} {n m : ℕ} → length p + length q ≤ length d → Wrote p d n d′
+    → Wrote q (take (length d′ - n) (drop n d′)) m e
     → Wrote (p ++ q) d (n + m) (take n d′ ++ (e ++ drop (length d′ - n) (drop n d′)))
 seam {p} {q} {d} {d′} {e} {n} {m} h w v =
     let f : length p ≤ length d = omega arith in
@@ -61,12 +63,14 @@ did-room p d h = record { says = simp (lt-leb (length p) (length d) h); holds = 
 pub did-kept : (p d : List ℕ) (r : WriteResult) (d′ : List ℕ) → length p ≤ length d → Did (emit p) d r d′ → Wrote p d (length p) d′
 did-kept p d r d′ h w = record { many = refl; holds = simp (le-leb (length p) (length d) h) at (w .holds) }
 
-pub did-done : (p d : List ℕ) (r : WriteResult) (d′ : List ℕ) (n : ℕ) → length p ≤ length d → Did (emit p) d r d′ → r ≡ wv.Length n → Wrote p d n d′
+pub did-done : (p d : List ℕ) (r : WriteResult) (d′ : List ℕ) (n : ℕ) → length p ≤ length d → Did (emit p) d r d′ → r ≡ wv.Length n
+    → Wrote p d n d′
 did-done p d r d′ n h w e =
     let f : r ≡ wv.Length (length p) = simp (le-leb (length p) (length d) h) at (w .says) in
     wrote-as n (cc) (did-kept p d r d′ h w)
 
-pub did-never : (p d : List ℕ) (r : WriteResult) (d′ : List ℕ) (k : Refusal) → length p ≤ length d → Did (emit p) d r d′ → r ≡ wv.Refused k → ⊥
+pub did-never : (p d : List ℕ) (r : WriteResult) (d′ : List ℕ) (k : Refusal) → length p ≤ length d → Did (emit p) d r d′ → r ≡ wv.Refused k
+    → ⊥
 did-never p d r d′ k h w e =
     let f : r ≡ wv.Length (length p) = simp (le-leb (length p) (length d) h) at (w .says) in
     let z : _≡_ {A = ℕ} 0 1 = cc in

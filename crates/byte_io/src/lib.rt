@@ -1,5 +1,5 @@
-// Bytes in lent slices, below any format: what a writer returns, and whether two slices are the same. The specs define what a writer does with its
-// destination and how a number is held in bytes, big-endian.
+// Bytes in lent slices, below any format: what a writer returns, and whether two slices are the same. The specs define what a writer does
+// with its destination and how a number is held in bytes, big-endian.
 mod compare;
 
 pub use compare::same_bytes;

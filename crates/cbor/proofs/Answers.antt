@@ -1,4 +1,5 @@
--- Between the equations of specs/Answer and what Places says: each answer is determined by the bytes that are left, and says where they begin.
+-- Between the equations of specs/Answer and what Places says:
+-- each answer is determined by the bytes that are left, and says where they begin.
 use Prim.Native.Nat.{ℕ, _+_, _-_, _≤_}
 use mathlib.Core.Path.{_≡_, refl, ap, sym, _∙_}
 use mathlib.Core.Bool.{Bool, false}

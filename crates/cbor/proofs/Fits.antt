@@ -10,7 +10,8 @@ use lib.Dec.{leb}
 use lib.ListN.{length, take, drop, length-take}
 use Rattle.refusal.specs.declared.Refusal.the-variants.{Cut}
 use Rattle.byte_io.specs.BigEndian.{bigEndian}
-use Rattle.cbor.specs.Decode.{Outcome, refused, got, Heading, Major, unsigneds, negatives, byteStrings, textStrings, arrays, maps, tags, others}
+use Rattle.cbor.specs.Decode.{Outcome, refused, got, Heading, Major, unsigneds, negatives}
+use Rattle.cbor.specs.Decode.{byteStrings, textStrings, arrays, maps, tags, others}
 use Rattle.cbor.specs.Decode.{majorOf, next, argument, heading}
 use Rattle.cbor.specs.Laws.{Bytes}
 use Rattle.cbor.specs.View.{ScalarValid, stringOf, scalarBy, scalarHead, scalarAt}

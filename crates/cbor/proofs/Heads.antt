@@ -88,8 +88,10 @@ module _ (s : List ℕ) (at : ℕ) where
     head-no k e = rw e
 
     pub head-yes : (v p : ℕ) (f : Bool) → p ≤ length s → argument (b % 32) (drop at s) ≡ got v (drop p s) → f ≡ isShort (b / 32) (b % 32) v
-        → hv.Got (record { major = b / 32; info = b % 32; argument = v; short = f; next = p }) ≡ headAnswer (length s) (heading (b ∷ drop at s))
+        → hv.Got (record { major = b / 32; info = b % 32; argument = v; short = f; next = p })
+        ≡ headAnswer (length s) (heading (b ∷ drop at s))
     unfolding heading
     head-yes v p f i e w =
         let q : p ≡ length s - length (drop p s) = omega (arith, length-drop p s) in
-        rw (e, w) (ap (λ (x : ℕ). hv.Got (record { major = b / 32; info = b % 32; argument = v; short = isShort (b / 32) (b % 32) v; next = x })) q)
+        rw (e, w)
+        (ap (λ (x : ℕ). hv.Got (record { major = b / 32; info = b % 32; argument = v; short = isShort (b / 32) (b % 32) v; next = x })) q)

@@ -10,7 +10,8 @@ use lib.Dec.{eqb}
 use lib.ListN.{length, drop}
 use Rattle.refusal.specs.declared.Refusal.{Refusal}
 use Rattle.cbor.specs.Item.{Item, Pairs, map, pair}
-use Rattle.cbor.specs.Decode.{Outcome, refused, got, andThen, next, heading, Heading, members, pairs, majorOf, content, decodeBy, decode, payload, payloadBy, ended}
+use Rattle.cbor.specs.Decode.{Outcome, refused, got, andThen, next, heading, Heading, members}
+use Rattle.cbor.specs.Decode.{pairs, majorOf, content, decodeBy, decode, payload, payloadBy, ended}
 use Rattle.cbor.specs.Answer.{mapAnswer, openAnswer, outcomeNumber, openedNumber}
 use Rattle.cbor.specs.ReaderSpecs.{PairsAt, saysOpened, OpenSpec}
 use Rattle.cbor.specs.Strict.{headBy}
@@ -83,7 +84,8 @@ module _ (x a : ℕ) (l : List ℕ) (i : Item) (t : List ℕ) where
       rw (← same-value e) (special-all (ifMap f r) r (λ n. refl) (λ w n. refl) x a)
 
 -- what the test of the major type decided
-by-test : (b : Bool) (n p : ℕ) (r : OpenResult) → r ≡ cond b (ov.Map n p) ov.NoMap → ((b ≡ true) × (r ≡ ov.Map n p)) ⊎ ((b ≡ false) × (r ≡ ov.NoMap))
+by-test : (b : Bool) (n p : ℕ) (r : OpenResult) → r ≡ cond b (ov.Map n p) ov.NoMap
+    → ((b ≡ true) × (r ≡ ov.Map n p)) ⊎ ((b ≡ false) × (r ≡ ov.NoMap))
 by-test true n p r e = inl (refl, e)
 by-test false n p r e = inr (refl, e)
 
@@ -147,7 +149,8 @@ module _ (s : List ℕ) (r : OpenResult) (e : r ≡ openAnswer (length s) (paylo
           (by-test (eqb (h .major) 5) (h .argument) (length s - length u) ov.NoMap f′)
 
 -- the pairs of a map stand one behind the other
-first-stands : (n : ℕ) (l : List ℕ) (k : Item) (t : List ℕ) (v : Item) (w : List ℕ) (ps : Pairs) → decode 7 l ≡ got k t → decode 7 t ≡ got v w
+first-stands : (n : ℕ) (l : List ℕ) (k : Item) (t : List ℕ) (v : Item) (w : List ℕ) (ps : Pairs) → decode 7 l ≡ got k t
+    → decode 7 t ≡ got v w
     → PairsAt n w ps → PairsAt (suc n) l (pair k v ps)
 first-stands n l k t v w ps a x q = (n, refl, tree-label 6 l k t a, rw a (tree-view 5 t v w x), rw (a, x) q)
 

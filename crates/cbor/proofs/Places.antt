@@ -1,4 +1,5 @@
--- What an answer says of the bytes: its place is where what is left begins. Between this and the equations of specs/Answer one follows from the other.
+-- What an answer says of the bytes: its place is where what is left begins.
+-- Between this and the equations of specs/Answer one follows from the other.
 use Prim.Native.Nat.{ℕ, _≤_}
 use mathlib.Core.Bool.{Bool}
 use mathlib.Core.List.{List}

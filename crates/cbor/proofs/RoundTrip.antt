@@ -1,4 +1,5 @@
--- What was encoded is read back: a head by its length information, an item by its parts. Shown for every reader of heads that reads the written ones.
+-- What was encoded is read back: a head by its length information, an item by its parts.
+-- Shown for every reader of heads that reads the written ones.
 use Prim.Native.Nat.{ℕ, suc, _+_, _*_, _-_, _/_, _%_, _^_, _≤_, _<_}
 use mathlib.Core.Path.{_≡_, refl, ap, _∙_}
 use mathlib.Core.Bool.{Bool, true, false, cond}
@@ -12,7 +13,8 @@ use lib.Seq.{take-append-seam, drop-append-seam, take-at, drop-at}
 use Rattle.byte_io.specs.BigEndian.{digits, bytesOf}
 use Rattle.cbor.specs.Item.{Size, half, single, double, Item, Items, Pairs, unsigned, negative, bytes, text, array, map, tag, simple}
 use Rattle.cbor.specs.Item.{float, none, more, empty, pair, count, countPairs, depth, depths, depthPairs, width, Fit, Fits, FitPairs}
-use Rattle.cbor.specs.Decode.{Outcome, got, andThen, next, argument, heading, Heading, members, pairs, majorOf, content, decodeBy, payloadBy}
+use Rattle.cbor.specs.Decode.{Outcome, got, andThen, next, argument, heading, Heading}
+use Rattle.cbor.specs.Decode.{members, pairs, majorOf, content, decodeBy, payloadBy}
 use Rattle.cbor.specs.Strict.{isShort, strictHeading, headBy}
 use Rattle.cbor.specs.Encode.{headWith, infoOf, extraOf, shortest, sizeInfo, encode, encodes, encodePairs}
 use Rattle.byte_io.specs.BigEndianLemmas.{length-bytesOf, digits-bytesOf}
@@ -33,7 +35,8 @@ wide-read k w n r l h e b =
     (ap (λ (x : ℕ). got x r) (digits-bytesOf w 0 n b ∙ omega arith))
 
 -- a head with k bytes of argument after the first
-heading-byte : (m k : ℕ) (t : List ℕ) → k < 32 → heading ((m * 32 + k) ∷ t) ≡ andThen (argument k t) (λ n u. got (record { major = m; info = k; argument = n }) u)
+heading-byte : (m k : ℕ) (t : List ℕ) → k < 32
+    → heading ((m * 32 + k) ∷ t) ≡ andThen (argument k t) (λ n u. got (record { major = m; info = k; argument = n }) u)
 unfolding heading
 heading-byte m k t h =
     let e : (m * 32 + k) % 32 ≡ k = omega arith in
@@ -44,7 +47,8 @@ head-wide : (m k w n : ℕ) (r : List ℕ) → 24 ≤ k → k ≤ 27 → 2 ^ (k 
     → heading (headWith m k w n ++ r) ≡ got (record { major = m; info = k; argument = n }) r
 head-wide m k w n r l h e b = heading-byte m k (bytesOf w n ++ r) (omega arith) ∙ rw (wide-read k w n r l h e b)
 
-pub head-read : (m n : ℕ) (r : List ℕ) → n < 2 ^ 64 → heading (shortest m n ++ r) ≡ got (record { major = m; info = infoOf n; argument = n }) r
+pub head-read : (m n : ℕ) (r : List ℕ) → n < 2 ^ 64
+    → heading (shortest m n ++ r) ≡ got (record { major = m; info = infoOf n; argument = n }) r
 unfolding shortest infoOf extraOf bytesOf
 head-read m n r h = go (decLt n 24) (decLt n 256) (decLt n 65536) (decLt n 4294967296)
   where
@@ -119,9 +123,11 @@ module _ (head : List ℕ → Outcome Heading) (read : Reads head) where
     read-item (bytes s) d r l f = rw append-assoc (decode-at d 2 (length s) (s ++ r) l f ∙ rw (next-all s r))
     read-item (text s) d r l f = rw append-assoc (decode-at d 3 (length s) (s ++ r) l f ∙ rw (next-all s r))
     read-item (array is) d r l f =
-        rw append-assoc (decode-at d 4 (count is) (encodes is ++ r) (omega arith) (f .0) ∙ rw (read-items is (d - 1) r (omega arith) (f .1)))
+        rw append-assoc
+        (decode-at d 4 (count is) (encodes is ++ r) (omega arith) (f .0) ∙ rw (read-items is (d - 1) r (omega arith) (f .1)))
     read-item (map ps) d r l f =
-        rw append-assoc (decode-at d 5 (countPairs ps) (encodePairs ps ++ r) (omega arith) (f .0) ∙ rw (read-pairs ps (d - 1) r (omega arith) (f .1)))
+        rw append-assoc
+        (decode-at d 5 (countPairs ps) (encodePairs ps ++ r) (omega arith) (f .0) ∙ rw (read-pairs ps (d - 1) r (omega arith) (f .1)))
     read-item (tag n i) d r l f =
         rw append-assoc (decode-at d 6 n (encode i ++ r) (omega arith) (f .0) ∙ rw (read-item i (d - 1) r (omega arith) (f .1)))
     read-item (simple n) d r l f = decode-at d 7 n r l (omega arith) ∙ rw (lt-ltb (infoOf n) 25 (small-info n f))
@@ -129,12 +135,18 @@ module _ (head : List ℕ → Outcome Heading) (read : Reads head) where
     read-item (float single n) d r l f = decode-float d single n r l f
     read-item (float double n) d r l f = decode-float d double n r l f
 
-    read-items : (is : Items) (d : ℕ) (r : List ℕ) → depths is ≤ d → Fits is → members (decodeBy head d) (count is) (encodes is ++ r) ≡ got is r
+    read-items : (is : Items) (d : ℕ) (r : List ℕ) → depths is ≤ d → Fits is
+        → members (decodeBy head d) (count is) (encodes is ++ r) ≡ got is r
     read-items none d r l f = refl
     read-items (more i is) d r l f =
-        rw (append-assoc (encode i) (encodes is) r, read-item i d (encodes is ++ r) (omega arith) (f .0), read-items is d r (omega arith) (f .1))
+        rw (
+          append-assoc (encode i) (encodes is) r,
+          read-item i d (encodes is ++ r) (omega arith) (f .0),
+          read-items is d r (omega arith) (f .1),
+        )
 
-    read-pairs : (ps : Pairs) (d : ℕ) (r : List ℕ) → depthPairs ps ≤ d → FitPairs ps → pairs (decodeBy head d) (countPairs ps) (encodePairs ps ++ r) ≡ got ps r
+    read-pairs : (ps : Pairs) (d : ℕ) (r : List ℕ) → depthPairs ps ≤ d → FitPairs ps
+        → pairs (decodeBy head d) (countPairs ps) (encodePairs ps ++ r) ≡ got ps r
     read-pairs empty d r l f = refl
     read-pairs (pair k v ps) d r l f =
         rw (

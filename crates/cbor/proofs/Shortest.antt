@@ -42,7 +42,8 @@ extra : (n : ℕ) → Extra n
 unfolding extraOf
 extra n = go (decLt n 24) (decLt n 256) (decLt n 65536) (decLt n 4294967296)
   where
-    at-most : (k : ℕ) → extraOf n ≡ k → (24 ≤ n ⊎ k ≤ 0) → (256 ≤ n ⊎ k ≤ 1) → (65536 ≤ n ⊎ k ≤ 2) → (4294967296 ≤ n ⊎ k ≤ 4) → k ≤ 8 → Extra n
+    at-most : (k : ℕ) → extraOf n ≡ k → (24 ≤ n ⊎ k ≤ 0) → (256 ≤ n ⊎ k ≤ 1) → (65536 ≤ n ⊎ k ≤ 2) → (4294967296 ≤ n ⊎ k ≤ 4) → k ≤ 8
+        → Extra n
     at-most k e a b c d f = record {
       none = λ h. ⊎-elim (λ l. absurd (omega arith)) (λ l. rw e l) a;
       one = λ h. ⊎-elim (λ l. absurd (omega arith)) (λ l. rw e l) b;
@@ -60,18 +61,21 @@ extra n = go (decLt n 24) (decLt n 256) (decLt n 65536) (decLt n 4294967296)
     go (no a) (no b) (yes c) d =
         let a′ : 24 ≤ n = omega arith in
         let b′ : 256 ≤ n = omega arith in
-        at-most 2 (simp (le-ltb n 24 a′, le-ltb n 256 b′, lt-ltb n 65536 c)) (inl a′) (inl b′) (inr (omega arith)) (inr (omega arith)) (omega arith)
+        at-most 2 (simp (le-ltb n 24 a′, le-ltb n 256 b′, lt-ltb n 65536 c)) (inl a′) (inl b′) (inr (omega arith))
+        (inr (omega arith)) (omega arith)
     go (no a) (no b) (no c) (yes d) =
         let a′ : 24 ≤ n = omega arith in
         let b′ : 256 ≤ n = omega arith in
         let c′ : 65536 ≤ n = omega arith in
-        at-most 4 (simp (le-ltb n 24 a′, le-ltb n 256 b′, le-ltb n 65536 c′, lt-ltb n 4294967296 d)) (inl a′) (inl b′) (inl c′) (inr (omega arith)) (omega arith)
+        at-most 4 (simp (le-ltb n 24 a′, le-ltb n 256 b′, le-ltb n 65536 c′, lt-ltb n 4294967296 d)) (inl a′) (inl b′) (inl c′)
+        (inr (omega arith)) (omega arith)
     go (no a) (no b) (no c) (no d) =
         let a′ : 24 ≤ n = omega arith in
         let b′ : 256 ≤ n = omega arith in
         let c′ : 65536 ≤ n = omega arith in
         let d′ : 4294967296 ≤ n = omega arith in
-        at-most 8 (simp (le-ltb n 24 a′, le-ltb n 256 b′, le-ltb n 65536 c′, le-ltb n 4294967296 d′)) (inl a′) (inl b′) (inl c′) (inl d′) (omega arith)
+        at-most 8 (simp (le-ltb n 24 a′, le-ltb n 256 b′, le-ltb n 65536 c′, le-ltb n 4294967296 d′)) (inl a′) (inl b′) (inl c′)
+        (inl d′) (omega arith)
 
 -- the bytes of an argument that were read are as many as the written head has, at least
 wide-extra : (k n : ℕ) → 24 ≤ k → k ≤ 27 → n < 256 ^ (2 ^ (k - 24)) → extraOf n ≤ 2 ^ (k - 24)
@@ -136,7 +140,8 @@ info-extra : (k n : ℕ) → 24 ≤ k → k ≤ 27 → eqb k (infoOf n) ≡ eqb 
 unfolding infoOf extraOf
 info-extra k n l h = let e : k ≡ 24 + (k - 24) = omega arith in rw e (by (k - 24) (omega arith) (decLt n 24))
   where
-    wide : (j : ℕ) → j ≤ 3 → (b c d : Bool) → eqb (24 + j) (cond b 24 (cond c 25 (cond d 26 27))) ≡ eqb (2 ^ (24 + j - 24)) (cond b 1 (cond c 2 (cond d 4 8)))
+    wide : (j : ℕ) → j ≤ 3 → (b c d : Bool)
+        → eqb (24 + j) (cond b 24 (cond c 25 (cond d 26 27))) ≡ eqb (2 ^ (24 + j - 24)) (cond b 1 (cond c 2 (cond d 4 8)))
     wide zero l true c d = refl
     wide zero l false true d = refl
     wide zero l false false true = refl
@@ -193,7 +198,8 @@ argument-flag k n s u e = go (decLt k 24) (decLt 27 k)
         let i : k ≡ n = same-value g in
         let j : length s ≡ length u = ap length (same-rest g) in
         let c : n < 24 = omega arith in
-        eq-eqb k (infoOf n) (i ∙ sym (small-info n c)) ∙ sym (eq-eqb (suc (length s)) (extraOf n + 1 + length u) (omega (arith, small-extra n c)))
+        eq-eqb k (infoOf n) (i ∙ sym (small-info n c))
+        ∙ sym (eq-eqb (suc (length s)) (extraOf n + 1 + length u) (omega (arith, small-extra n c)))
     go (no a) (yes b) = absurd (never (rw (argument-form k s b) at e))
     go (no a) (no b) = wide (omega arith) (omega arith) (decLe (2 ^ (k - 24)) (length s))
 
@@ -209,4 +215,5 @@ unfolding heading
 head-flag [] h t e m = absurd (never e)
 head-flag (x ∷ s) h t e m =
     let (n, u, f, g) = then-got (argument (x % 32) s) _ h t e in
-    flag-of h s t u (x % 32) n m (ap (λ (k : Heading). k .info) (same-value g)) (ap (λ (k : Heading). k .argument) (same-value g)) (same-rest g) f
+    flag-of h s t u (x % 32) n m (ap (λ (k : Heading). k .info) (same-value g))
+    (ap (λ (k : Heading). k .argument) (same-value g)) (same-rest g) f

@@ -13,12 +13,14 @@ use Rattle.refusal.specs.declared.Refusal.{Refusal}
 use Rattle.refusal.specs.declared.Refusal.the-variants.{Loose}
 use Rattle.cbor.specs.Item.{Item, more, pair, array, map, tag}
 use Rattle.cbor.specs.Decode.{Outcome, refused, got, andThen, next, argument, heading, Heading, members, pairs, Major, unsigneds}
-use Rattle.cbor.specs.Decode.{negatives, byteStrings, textStrings, arrays, maps, tags, others, majorOf, content, decodeBy, decode, payload, payloadBy, ended}
+use Rattle.cbor.specs.Decode.{negatives, byteStrings, textStrings, arrays, maps, tags, others}
+use Rattle.cbor.specs.Decode.{majorOf, content, decodeBy, decode, payload, payloadBy, ended}
 use Rattle.cbor.specs.Answer.{headAnswer}
 use Rattle.cbor.specs.declared.head.Head.{Head}
 use Rattle.cbor.specs.declared.head.HeadResult.{HeadResult}
 use Rattle.cbor.specs.declared.head.HeadResult.the-variants as hv
-use Rattle.cbor.specs.Strict.{short, shortOnly, strictHeading, headBy, after, looseMembers, loosePairs, looseContent, looseHead, loose, strictPayload, loosePayload}
+use Rattle.cbor.specs.Strict.{short, shortOnly, strictHeading, headBy, after, looseMembers}
+use Rattle.cbor.specs.Strict.{loosePairs, looseContent, looseHead, loose, strictPayload, loosePayload}
 
 -- ---- a head, by the returns of `read_head_by`
 abbrev strictly : HeadResult → HeadResult
@@ -64,7 +66,8 @@ then-loose false (refused k) f f′ g h = refl
 then-loose false (got a t) f f′ g h = h a t
 
 -- what only puts a value together meets nothing
-then-built : {A B : Type 0} (b : Bool) (o : Outcome A) (f : A → B) → andThen (or-loose b o) (λ a t. got (f a) t) ≡ or-loose b (andThen o (λ a t. got (f a) t))
+then-built : {A B : Type 0} (b : Bool) (o : Outcome A) (f : A → B)
+    → andThen (or-loose b o) (λ a t. got (f a) t) ≡ or-loose b (andThen o (λ a t. got (f a) t))
 then-built true o f = refl
 then-built false o f = refl
 
@@ -87,7 +90,8 @@ module _ (item item′ : List ℕ → Outcome Item) (longer : List ℕ → Bool)
       (then-loose (longer t) (item t) _ _ (λ u. loosePairs item longer n u) (λ v u.
       rw (pairs-loose n u) (then-built (loosePairs item longer n u) (pairs item n u) (pair k v))))))
 
-  content-loose : (M : Major) (x a : ℕ) (s : List ℕ) → content item′ M x a s ≡ or-loose (looseContent item longer M a s) (content item M x a s)
+  content-loose : (M : Major) (x a : ℕ) (s : List ℕ)
+      → content item′ M x a s ≡ or-loose (looseContent item longer M a s) (content item M x a s)
   content-loose unsigneds x a s = refl
   content-loose negatives x a s = refl
   content-loose byteStrings x a s = refl
@@ -139,7 +143,8 @@ abbrev Firm : {A : Type 0} → Outcome A → Type 0
 Firm (refused k) = numberOf k ≤ 4
 Firm (got a t) = Unit {0}
 
-firm-then : {A B : Type 0} (o : Outcome A) (f : A → List ℕ → Outcome B) → Firm o → ((a : A) (t : List ℕ) → Firm (f a t)) → Firm (andThen o f)
+firm-then : {A B : Type 0} (o : Outcome A) (f : A → List ℕ → Outcome B) → Firm o → ((a : A) (t : List ℕ) → Firm (f a t))
+    → Firm (andThen o f)
 firm-then (refused k) f p q = p
 firm-then (got a t) f p q = q a t
 
@@ -157,7 +162,8 @@ heading-firm [] = omega arith
 heading-firm (b ∷ s) =
     firm-then (argument (b % 32) s) _
     (firm-cond (ltb (b % 32) 24) _ _ tt
-    (firm-cond (ltb 27 (b % 32)) _ _ (omega arith) (firm-then (next (2 ^ (b % 32 - 24)) s) _ (next-firm (2 ^ (b % 32 - 24)) s) (λ bs t. tt))))
+    (firm-cond (ltb 27 (b % 32)) _ _ (omega arith)
+    (firm-then (next (2 ^ (b % 32 - 24)) s) _ (next-firm (2 ^ (b % 32 - 24)) s) (λ bs t. tt))))
     (λ n t. tt)
 
 module _ (item : List ℕ → Outcome Item) (firm : (s : List ℕ) → Firm (item s)) where
@@ -170,7 +176,8 @@ module _ (item : List ℕ → Outcome Item) (firm : (s : List ℕ) → Firm (ite
   unfolding pairs
   pairs-firm zero s = tt
   pairs-firm (suc n) s =
-      firm-then (item s) _ (firm s) (λ k t. firm-then (item t) _ (firm t) (λ v u. firm-then (pairs item n u) _ (pairs-firm n u) (λ ps w. tt)))
+      firm-then (item s) _ (firm s)
+      (λ k t. firm-then (item t) _ (firm t) (λ v u. firm-then (pairs item n u) _ (pairs-firm n u) (λ ps w. tt)))
 
   content-firm : (M : Major) (x a : ℕ) (s : List ℕ) → Firm (content item M x a s)
   content-firm unsigneds x a s = tt

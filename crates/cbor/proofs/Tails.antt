@@ -21,7 +21,8 @@ abbrev pub Tail : {A : Type 0} → List ℕ → ℕ → Outcome A → Type 0
 Tail l j (refused k) = Unit {0}
 Tail l j (got a t) = (k : ℕ) × (j ≤ k) × (k ≤ length l) × (t ≡ drop k l)
 
-from : {A : Type 0} (l : List ℕ) (j m k : ℕ) (t : List ℕ) (o : Outcome A) → j ≤ k → k ≤ length l → t ≡ drop k l → Tail t m o → Tail l (j + m) o
+from : {A : Type 0} (l : List ℕ) (j m k : ℕ) (t : List ℕ) (o : Outcome A) → j ≤ k → k ≤ length l → t ≡ drop k l → Tail t m o
+    → Tail l (j + m) o
 from l j m k t (refused i) p q e h = tt
 from l j m k t (got a u) p q e h =
     (k + h .0, omega (arith, h .1), omega (arith, h .2, ap length e, length-drop k l), h .3 ∙ rw e (drop-drop (h .0) k l))

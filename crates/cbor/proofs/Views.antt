@@ -17,7 +17,8 @@ use Rattle.cbor.specs.Decode.{byteStrings, textStrings, arrays, maps, ta
 use Rattle.cbor.specs.Answer.{headAnswer, outcomeNumber, headNumber}
 use Rattle.cbor.specs.ReaderSpecs.{LabelSpec, saysLabel, HeadSpec}
 use Rattle.cbor.specs.View.{number, string, other, scalar, list, scalarOf, scalarsOf, viewOf, labelOf, scalarBy, scalarAt}
-use Rattle.cbor.specs.View.{scalarsAt, viewBy, viewAt, labelBy, labelAt, valueBy, valueAnswer, restOf, afterItem, afterItems, ValueAt, ValueSpec}
+use Rattle.cbor.specs.View.{scalarsAt, viewBy, viewAt, labelBy, labelAt, valueBy}
+use Rattle.cbor.specs.View.{valueAnswer, restOf, afterItem, afterItems, ValueAt, ValueSpec}
 use Rattle.cbor.specs.declared.head.Head.{Head}
 use Rattle.cbor.specs.declared.head.HeadResult.{HeadResult}
 use Rattle.cbor.specs.declared.head.HeadResult.the-variants as hv
@@ -164,7 +165,8 @@ after-members d (suc n) l = after-item d n (λ t. after-members d n t) (decode d
 
 -- ---- what an answer of `value_at` says
 module _ (d : ℕ) (s : List ℕ) (at : ℕ) where
-  module _ (h : Heading) (t : List ℕ) (e : got h t ≡ heading (drop at s)) (l : t ≡ drop (length s - length t) s) (i : length s - length t ≤ length s) where
+  module _ (h : Heading) (t : List ℕ) (e : got h t ≡ heading (drop at s)) (l : t ≡ drop (length s - length t) s)
+      (i : length s - length t ≤ length s) where
     decode-headed : decode (suc d) (drop at s) ≡ content (decode d) (majorOf (h .major)) (h .info) (h .argument) t
     unfolding decodeBy
     decode-headed = rw (← e)
@@ -184,7 +186,8 @@ module _ (d : ℕ) (s : List ℕ) (at : ℕ) where
     arg = h .argument
 
     -- neither an integer, nor a byte string, nor an array
-    says-other : (M : Major) → majorOf (h .major) ≡ M → viewBy (suc d) M arg t ≡ scalar other → scalarBy M arg t ≡ other → ValueAt d s at vv.Other
+    says-other : (M : Major) → majorOf (h .major) ≡ M → viewBy (suc d) M arg t ≡ scalar other → scalarBy M arg t ≡ other
+        → ValueAt d s at vv.Other
     says-other M f v q = record { view = view-headed ∙ rw f v; member = plain-headed ∙ rw f q; rest = tt }
 
     says-string : majorOf (h .major) ≡ byteStrings → Dec (arg ≤ length t) → ValueAt d s at (valueBy (length s) byteStrings arg t)
@@ -286,7 +289,8 @@ tree-plain d l k u e =
     rw (q .2) (plain-by (decode d) (q .0 .info) (q .0 .argument) (q .1) k u (majorOf (q .0 .major)) (q .3))
 
 module _ (d : ℕ) where
-  tree-plains : (n : ℕ) (l : List ℕ) (is : Items) (u : List ℕ) → members (decode (suc d)) n l ≡ got is u → scalarsAt (suc d) n l ≡ scalarsOf is
+  tree-plains : (n : ℕ) (l : List ℕ) (is : Items) (u : List ℕ) → members (decode (suc d)) n l ≡ got is u
+      → scalarsAt (suc d) n l ≡ scalarsOf is
   unfolding members
   tree-plains zero l is u e = ap scalarsOf (same-value e)
   tree-plains (suc n) l is u e =

@@ -8,7 +8,8 @@ use lib.Dec.{ltb, leb, eqb}
 use Rattle.refusal.specs.declared.Refusal.{Refusal}
 use Rattle.refusal.specs.declared.Refusal.the-variants.{Cut, Form, Deep, Extra}
 use Rattle.byte_io.specs.BigEndian.{bigEndian}
-use Rattle.cbor.specs.Item.{half, single, double, Item, Items, Pairs, unsigned, negative, bytes, text, array, map, tag, simple, float, none, more, empty, pair}
+use Rattle.cbor.specs.Item.{half, single, double, Item, Items, Pairs, unsigned, negative, bytes}
+use Rattle.cbor.specs.Item.{text, array, map, tag, simple, float, none, more, empty, pair}
 
 -- reading from the front of some bytes: a refusal, or a value and the bytes after it
 pub data Outcome (A : Type 0) : Type 0 where

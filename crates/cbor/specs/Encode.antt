@@ -5,7 +5,8 @@ use mathlib.Core.List.{List, [], _∷_, _++_}
 use lib.ListN.{length}
 use lib.Dec.{ltb}
 use Rattle.byte_io.specs.BigEndian.{bytesOf}
-use Rattle.cbor.specs.Item.{Size, half, single, double, Item, Items, Pairs, unsigned, negative, bytes, text, array, map, tag, simple, float, none, more, empty, pair, count, countPairs, width}
+use Rattle.cbor.specs.Item.{Size, half, single, double, Item, Items, Pairs, unsigned, negative, bytes, text}
+use Rattle.cbor.specs.Item.{array, map, tag, simple, float, none, more, empty, pair, count, countPairs, width}
 
 -- the head of a major type with this length information and k bytes for the argument
 abbrev pub headWith : ℕ → ℕ → ℕ → ℕ → List ℕ

@@ -7,7 +7,8 @@ use mathlib.Core.List.{List, [], _∷_}
 use lib.Dec.{leb}
 use lib.ListN.{length, take, drop}
 use Rattle.cbor.specs.Item.{Item, Items, Pairs, unsigned, negative, bytes, text, array, map, tag, simple, float, none, more}
-use Rattle.cbor.specs.Decode.{Outcome, refused, got, Heading, Major, unsigneds, negatives, byteStrings, textStrings, arrays, maps, tags, others, majorOf, next, heading, decode}
+use Rattle.cbor.specs.Decode.{Outcome, refused, got, Heading, Major, unsigneds, negatives, byteStrings}
+use Rattle.cbor.specs.Decode.{textStrings, arrays, maps, tags, others, majorOf, next, heading, decode}
 use Rattle.cbor.specs.declared.value.Label.{Label}
 use Rattle.cbor.specs.declared.value.Label.the-variants as lv
 use Rattle.cbor.specs.declared.value.Value.{Value}

@@ -104,7 +104,8 @@ fn plain_end(s: &[u8], at: usize, strict: bool) -> usize
 // Passes over `count` items from a place on, each with so many levels left. A map of n pairs is n items and n items again.
 // `plain_end` knows no levels: where none is left, `skip_item` refuses items without members too.
 pub(crate) fn skip_members(s: &[u8], at: usize, levels: u8, count: u64, strict: bool) -> SkipResult
-    ensures { λ r. ⌜ r ≡ skipAnswer (length (now (s .entry))) (members (decodeBy (headBy strict) levels) count (drop at (now (s .entry)))) ⌝ }
+    ensures { λ r. ⌜ r
+        ≡ skipAnswer (length (now (s .entry))) (members (decodeBy (headBy strict) levels) count (drop at (now (s .entry)))) ⌝ }
 {
     let mut p = inside(s, at);
     let mut left = count;

@@ -11,7 +11,8 @@ use Rattle.cipher_calls.specs.Cipher.{Wrote, rangeFirst, fitKey, sealing
 pub unfit : (right : Bool) (plan : Plan) (d : List ℕ) → right ≡ false → Wrote (rangeFirst right plan) d 13 d 0
 unfit right plan d e = record { number = rw e; dst = rw e; long = rw e }
 
-fit : (right : Bool) (plan : Plan) (d d′ : List ℕ) (w : WriteResult) {r n : ℕ} → right ≡ true → Did plan d w d′ → r ≡ numberIn w → n ≡ lengthIn w
+fit : (right : Bool) (plan : Plan) (d d′ : List ℕ) (w : WriteResult) {r n : ℕ} → right ≡ true → Did plan d w d′ → r ≡ numberIn w
+    → n ≡ lengthIn w
     → Wrote (rangeFirst right plan) d r d′ n
 fit right plan d d′ w e f a b =
     record {
@@ -20,7 +21,8 @@ fit right plan d d′ w e f a b =
       long = rw e (b ∙ ap lengthIn (f .says));
     }
 
-module _ (key nonce a m d d′ : List ℕ) (w : WriteResult) {k n : List ℕ} {r x : ℕ} (right : fitKey key nonce ≡ true) (e : k ≡ key) (f : n ≡ nonce) where
+module _ (key nonce a m d d′ : List ℕ) (w : WriteResult) {k n : List ℕ} {r x : ℕ} (right : fitKey key nonce ≡ true) (e : k ≡ key)
+    (f : n ≡ nonce) where
   pub sealed-told : Did (sealPlan k n a m (length d)) d w d′ → r ≡ numberIn w → x ≡ lengthIn w
       → Wrote (sealing key nonce a m (length d)) d r d′ x
   sealed-told did y z = fit (fitKey key nonce) (sealPlan key nonce a m (length d)) d d′ w right (rw (e, f) at did) y z

@@ -15,7 +15,8 @@ pub fn seal(
     dst: &mut [u8],
     length: &mut u64,
 ) -> u32
-    ensures { λ r. ⌜ Wrote (sealing (now (key .entry)) (now (nonce .entry)) (now (associated .entry)) (now (text .entry)) (size (now (dst .entry)))) (now (dst .entry)) r (now (dst .exit)) (now (length .exit)) ⌝ }
+    ensures { λ r. ⌜ Wrote (sealing (now (key .entry)) (now (nonce .entry)) (now (associated .entry)) (now (text .entry))
+        (size (now (dst .entry)))) (now (dst .entry)) r (now (dst .exit)) (now (length .exit)) ⌝ }
 {
     if key.len() != 16 {
         *length = 0;
@@ -44,7 +45,8 @@ pub fn unseal(
     dst: &mut [u8],
     length: &mut u64,
 ) -> u32
-    ensures { λ r. ⌜ Wrote (unsealing (now (key .entry)) (now (nonce .entry)) (now (associated .entry)) (now (sealed .entry)) (size (now (dst .entry)))) (now (dst .entry)) r (now (dst .exit)) (now (length .exit)) ⌝ }
+    ensures { λ r. ⌜ Wrote (unsealing (now (key .entry)) (now (nonce .entry)) (now (associated .entry)) (now (sealed .entry))
+        (size (now (dst .entry)))) (now (dst .entry)) r (now (dst .exit)) (now (length .exit)) ⌝ }
 {
     if key.len() != 16 {
         *length = 0;

@@ -1,4 +1,5 @@
-// AES-CCM-16-64-128, for C: key and nonce are lent bytes. RANGE comes first where they are not of their size; then each call is the cipher's own.
+// AES-CCM-16-64-128, for C: key and nonce are lent bytes. RANGE comes first where they are not of their size;
+// then each call is the cipher's own.
 mod cipher;
 mod store;
 

@@ -72,7 +72,11 @@ module _ (s : List ℕ) (at n : ℕ) where
     pub value-told : (m : Member) → memberOf v ≡ m → MemberSpec s at n m
     value-told m f =
         let l : 0 < n = omega arith in
-        rw (← f) (record { is = rw (ne-eqb n 0 h) (ap memberOf (e .is)); here = value-member s at n l v (e .says 5); rest = value-rest s at n l v (e .says 5) })
+        rw (← f) (record {
+          is = rw (ne-eqb n 0 h) (ap memberOf (e .is));
+          here = value-member s at n l v (e .says 5);
+          rest = value-rest s at n l v (e .says 5);
+        })
 
     pub neither-told : ((x p : ℕ) → ¬ (v ≡ vv.Number x p)) → ((p a : ℕ) → ¬ (v ≡ vv.Bytes p a)) → MemberSpec s at n mv.Neither
     neither-told no-number no-string = value-told mv.Neither (go v no-number no-string)

@@ -23,14 +23,33 @@ use Rattle.cbor.specs.Encode.{shortest, extraOf}
 
 pub marked : MarkedExamples
 unfolding payloadBy strictHeading isShort infoOf decodeBy heading argument next digits members pairs majorOf validKeys padded octetsJudged
-    isAddress addressIn groups identified used valued payloadReadBy roleJudged requestLabelStatus requestTaking owing parameterOf laterParameter
+    isAddress addressIn groups identified used valued payloadReadBy roleJudged requestLabelStatus requestTaking owing
+    parameterOf laterParameter
     configurationTaking
 marked =
     (refl, (refl, (refl, (refl, (refl, (refl, (refl, (refl, (refl, (refl, (refl, (refl, (refl, (refl, (refl, tt)))))))))))))))
 
 pub published : PublishedExamples
 unfolding payloadBy infoOf decodeBy heading argument next digits members pairs majorOf validKeys padded octetsJudged isAddress addressIn
-    groups identified used valued payloadReadBy roleJudged requestLabelStatus requestTaking owing parameterOf laterParameter configurationTaking
+    groups identified used valued payloadReadBy roleJudged requestLabelStatus requestTaking owing parameterOf laterParameter
+    configurationTaking
     validKey added stringsIn errorReportsIn rateTaken shortest extraOf bytesOf
-published =
-    (refl, (refl, (refl, (refl, (refl, (refl, (refl, (refl, (refl, (refl, (refl, (refl, (refl, (refl, (refl, (refl, (refl, (refl, (refl, (refl, (refl, tt)))))))))))))))))))))
+published = (
+  refl,
+  (
+    refl,
+    (
+      refl,
+      (
+        refl,
+        (
+          refl,
+          (
+            refl,
+            (refl, (refl, (refl, (refl, (refl, (refl, (refl, (refl, (refl, (refl, (refl, (refl, (refl, (refl, (refl, tt))))))))))))))),
+          ),
+        ),
+      ),
+    ),
+  ),
+)

@@ -11,7 +11,8 @@ use lib.Seq.{take-suc-set}
 use borrow.Author.Tests.{leb-true, le-leb, ltb-true, eqb-true}
 use Rattle.link_key.specs.set.Lists.{allOf}
 use Rattle.lemmas.specs.logic.Tests.{both, both-left, both-right}
-use Rattle.cojp.specs.ErrorReports.{errorReportOf, noErrorReports, errorReportList, isReportable, validErrorReport, validErrorReports, errorReportsValid, added}
+use Rattle.cojp.specs.ErrorReports.{errorReportOf, noErrorReports, errorReportList, isReportable}
+use Rattle.cojp.specs.ErrorReports.{validErrorReport, validErrorReports, errorReportsValid, added}
 use Rattle.cojp.specs.InRange.{ErrorReportsValid}
 use Rattle.cojp.specs.Reported.{badIn, badAt, reportsOn, errorReportsOf}
 use Rattle.cojp.specs.declared.configuration.Configuration.{Configuration}
@@ -29,13 +30,15 @@ pub record Listed (f : ErrorReports) : Type 0 where
 pub none-listed : Listed noErrorReports
 none-listed = record { places = refl; few = omega arith; each = refl }
 
-all-snoc : (xs : List ErrorReport) (x : ErrorReport) → allOf validErrorReport xs ≡ true → validErrorReport x ≡ true → allOf validErrorReport (xs ++ (x ∷ [])) ≡ true
+all-snoc : (xs : List ErrorReport) (x : ErrorReport) → allOf validErrorReport xs ≡ true → validErrorReport x ≡ true
+    → allOf validErrorReport (xs ++ (x ∷ [])) ≡ true
 all-snoc [] x h e = both (validErrorReport x) true e refl
 all-snoc (y ∷ ys) x h e =
     both (validErrorReport y) (allOf validErrorReport (ys ++ (x ∷ []))) (both-left (validErrorReport y) (allOf validErrorReport ys) h)
     (all-snoc ys x (both-right (validErrorReport y) (allOf validErrorReport ys) h) e)
 
-pub added-listed : (f : ErrorReports) (code label : ℕ) → Listed f → validErrorReport (errorReportOf code label) ≡ true → Listed (added f code label)
+pub added-listed : (f : ErrorReports) (code label : ℕ) → Listed f → validErrorReport (errorReportOf code label) ≡ true
+    → Listed (added f code label)
 unfolding added
 added-listed f code label h e = go (ltb (f .count) 5) refl
   where
@@ -55,12 +58,14 @@ added-listed f code label h e = go (ltb (f .count) 5) refl
         }
 
 -- ---- the reports of a configuration
-reports-listed : (b : Bad) (xs : List ErrorReport) (f : ErrorReports) → allOf validErrorReport xs ≡ true → Listed f → Listed (reportsOn b f xs)
+reports-listed : (b : Bad) (xs : List ErrorReport) (f : ErrorReports) → allOf validErrorReport xs ≡ true → Listed f
+    → Listed (reportsOn b f xs)
 reports-listed b [] f e h = h
 reports-listed b (x ∷ xs) f e h =
     let own = both-left (validErrorReport x) (allOf validErrorReport xs) e in
     let rest = both-right (validErrorReport x) (allOf validErrorReport xs) e in
-    reports-listed b xs (cond (badAt b (x .label)) (added f (x .code) (x .label)) f) rest (go (badAt b (x .label)) (added-listed f (x .code) (x .label) h own))
+    reports-listed b xs (cond (badAt b (x .label)) (added f (x .code) (x .label)) f) rest
+    (go (badAt b (x .label)) (added-listed f (x .code) (x .label) h own))
   where
     go : (c : Bool) → Listed (added f (x .code) (x .label)) → Listed (cond c (added f (x .code) (x .label)) f)
     go true g = g
@@ -75,4 +80,5 @@ unfolding errorReportsValid validErrorReports errorReportsOf
 reports-fit Draft c e = rw (eqb-true (c .labels .count) 0 e)
 reports-fit Published c e =
     listed-valid (reportsOn (badIn c) noErrorReports (errorReportList (c .labels)))
-    (reports-listed (badIn c) (errorReportList (c .labels)) noErrorReports (both-right (leb (c .labels .count) 5) (allOf validErrorReport (errorReportList (c .labels))) e) none-listed)
+    (reports-listed (badIn c) (errorReportList (c .labels)) noErrorReports
+    (both-right (leb (c .labels .count) 5) (allOf validErrorReport (errorReportList (c .labels))) e) none-listed)

@@ -36,7 +36,8 @@ module _ (laws : ItemLaws) where
       rw (got-it, here, members-back ps (h .1))
 
   -- so a list of them is kept, if they are what would be picked of them and have room
-  pub listed-kept : (f : List Scalar → Picked) (ps : List Scalar) → Small ps → f ps ≡ picked ps → length (written ps) ≤ 253 → kept f (listOf ps) ≡ true
+  pub listed-kept : (f : List Scalar → Picked) (ps : List Scalar) → Small ps → f ps ≡ picked ps → length (written ps) ≤ 253
+      → kept f (listOf ps) ≡ true
   unfolding kept sameAs padded
   listed-kept f ps h e r =
       let w = written ps in

@@ -35,7 +35,8 @@ use Rattle.cojp.specs.Walk.{payloadRead}
 use Rattle.cojp.specs.Configuration.{emptyConfiguration, withKeys, withAddress, withJrc, withNetwork, withPrefix, withUnknownCount}
 use Rattle.cojp.specs.Configuration.{labelStatusFor, takingFor, noted, configurationTaking, configurationForm, configurationAnswer}
 use Rattle.cojp.specs.InRange.{InRange, ReadsInRange}
-use Rattle.cojp.specs.Writing.{keysInRange, keysWithoutAdditionalInfo, addressInRange, jrcInRange, octetsInRange, listInRange, missing, ofVersion}
+use Rattle.cojp.specs.Writing.{keysInRange, keysWithoutAdditionalInfo, addressInRange}
+use Rattle.cojp.specs.Writing.{jrcInRange, octetsInRange, listInRange, missing, ofVersion}
 use Rattle.cojp.specs.declared.address.AddressParameter.{AddressParameter}
 use Rattle.cojp.specs.declared.address.ShortAddress.{ShortAddress}
 use Rattle.cojp.specs.declared.configuration.Configuration.{Configuration}
@@ -106,7 +107,8 @@ mutual
   valued-plain (string w ∷ r) i u v = tt
   valued-plain (other ∷ r) i u v = tt
 
-draft-plain : (allowsAdditionalInfo : Bool) (ps : List Scalar) → allowsAdditionalInfo ≡ false → (ks : List Key) → groups allowsAdditionalInfo ps ≡ groupsOf ks → noAdditionalInfos ks ≡ true
+draft-plain : (allowsAdditionalInfo : Bool) (ps : List Scalar) → allowsAdditionalInfo ≡ false → (ks : List Key)
+    → groups allowsAdditionalInfo ps ≡ groupsOf ks → noAdditionalInfos ks ≡ true
 draft-plain true ps i ks e = absurd (let z : _≡_ {A = ℕ} 0 1 = cc in omega arith)
 draft-plain false ps i ks e = rw e at (groups-plain ps)
 
@@ -128,7 +130,10 @@ module _ (K : KeyLaws) where
       go notGroups e = tt
       go (groupsOf ks) e =
           good-if (FineSet allowsAdditionalInfo) (validKeys ks) (keySetOf ks)
-          (λ h. (set-of ks h, λ i. rw (take-at ks (replicate (8 - length ks) noKey) (length ks) refl) (draft-plain allowsAdditionalInfo ps i ks e)))
+          (λ h. (
+            set-of ks h,
+            λ i. rw (take-at ks (replicate (8 - length ks) noKey) (length ks) refl) (draft-plain allowsAdditionalInfo ps i ks e),
+          ))
 
 address-by : (s : List ℕ) (leased : Bool) (lease : ℕ) → Good (λ (a : ShortAddress). isAddress (a .bytes) ≡ true) (addressBy s leased lease)
 address-by s leased lease = good-if (λ (a : ShortAddress). isAddress (a .bytes) ≡ true) (isAddress s) (addressOf s leased lease) (λ e. e)
@@ -183,7 +188,8 @@ follows-well R Published bad (refused k) b g = b
 follows-well R Published bad (read p) b g = g
 
 puts-well :
-    {P S : Type 0} (R : P → Type 0) (Q : S → Type 0) (f : P → S) (r : Reading P) → Gives R r → ((p : P) → R p → Q (f p)) → Gives Q (mapReading f r)
+    {P S : Type 0} (R : P → Type 0) (Q : S → Type 0) (f : P → S) (r : Reading P) → Gives R r → ((p : P) → R p → Q (f p))
+    → Gives Q (mapReading f r)
 puts-well R Q f (refused k) g h = tt
 puts-well R Q f (read p) g h = h p g
 
@@ -224,13 +230,15 @@ known-of Published n =
     (either-of Published (eqb n 3) _ _ tt (either-of Published (eqb n 4) _ _ tt (later-of Published n)))
 
 -- a label that is known in the published form may be reported
-known-reportable : (v : Version) (c : Configuration) (n : ℕ) → labelStatusFor c (parameterOf v n) ≡ First → byVersion v true (isReportable n) ≡ true
+known-reportable : (v : Version) (c : Configuration) (n : ℕ) → labelStatusFor c (parameterOf v n) ≡ First
+    → byVersion v true (isReportable n) ≡ true
 unfolding parameterOf laterParameter
 known-reportable Draft c n e = refl
 known-reportable Published c n e = go (eqb n 2) (eqb n 3) (eqb n 4) (eqb n 6) (eqb n 7) e
   where
     go : (a b d f g : Bool)
-        → labelStatusFor c (cond a name.Keys (cond b name.Address (cond d name.Jrc (cond f name.Blacklist (cond g name.Rate name.Unknown))))) ≡ First
+        → labelStatusFor c
+        (cond a name.Keys (cond b name.Address (cond d name.Jrc (cond f name.Blacklist (cond g name.Rate name.Unknown))))) ≡ First
         → (a || b || d || f || g) ≡ true
     go true b d f g e = refl
     go false true d f g e = refl
@@ -241,7 +249,8 @@ known-reportable Published c n e = go (eqb n 2) (eqb n 3) (eqb n 4) (eqb n 6) (e
 
 -- ---- a configuration whose parameters are fine, and what its form asks besides
 abbrev FormFine : Version → Configuration → Type 0
-FormFine Draft c = (keysWithoutAdditionalInfo (c .keys) ≡ true) × (missing (c .blacklist .disposition) ≡ true) × (missing (c .rate .disposition) ≡ true)
+FormFine Draft c =
+    (keysWithoutAdditionalInfo (c .keys) ≡ true) × (missing (c .blacklist .disposition) ≡ true) × (missing (c .rate .disposition) ≡ true)
 FormFine Published c =
     (missing (c .network .disposition) ≡ true) × (missing (c .prefix .disposition) ≡ true) × (listInRange stringsIn (c .blacklist) ≡ true)
 
@@ -264,14 +273,17 @@ KeysFine Draft p = (keysInRange p ≡ true) × (keysWithoutAdditionalInfo p ≡ 
 KeysFine Published p = (keysInRange p ≡ true) × Unit {0}
 
 module _ (K : KeyLaws) where
-  keys-fine : (v : Version) (x : View) → Gives (KeysFine v) (byVersionOf v (noKeysParameter Discarded) (keysReadAs (allowsAdditionalInfo v) x))
+  keys-fine : (v : Version) (x : View)
+      → Gives (KeysFine v) (byVersionOf v (noKeysParameter Discarded) (keysReadAs (allowsAdditionalInfo v) x))
   unfolding FineSet
   keys-fine Draft x =
-      reads-well (FineSet K false) (KeysFine Draft) (keysParameter Taken) (refused refusal.Keys) (keysJudgedAs false x) (keys-good K false x) tt
+      reads-well (FineSet K false) (KeysFine Draft) (keysParameter Taken) (refused refusal.Keys) (keysJudgedAs false x)
+      (keys-good K false x) tt
       (λ s e. (e .0, e .1 refl))
   keys-fine Published x =
       follows-well (KeysFine Published) Published (noKeysParameter Discarded) (keysReadAs true x) (refl, tt)
-      (reads-well (FineSet K true) (KeysFine Published) (keysParameter Taken) (refused refusal.Keys) (keysJudgedAs true x) (keys-good K true x) tt
+      (reads-well (FineSet K true) (KeysFine Published) (keysParameter Taken) (refused refusal.Keys) (keysJudgedAs true x)
+      (keys-good K true x) tt
       (λ s e. (e .0, tt)))
 
 address-fine :
@@ -281,7 +293,8 @@ address-fine v x =
     let R : AddressParameter → Type 0 = λ p. addressInRange p ≡ true in
     let none = noAddressParameter Discarded in
     follows-well R v none (addressRead x) refl
-    (reads-well (λ (a : ShortAddress). isAddress (a .bytes) ≡ true) R (addressParameter Taken) (read none) (addressJudged x) (address-good x) refl
+    (reads-well (λ (a : ShortAddress). isAddress (a .bytes) ≡ true) R (addressParameter Taken) (read none) (addressJudged x)
+    (address-good x) refl
     (λ a e. e))
 
 octets-fine : (x : View) → Gives (λ (p : OctetsParameter). octetsInRange p ≡ true) (octetsRead 0 x)
@@ -303,20 +316,34 @@ jrc-fine v x =
 
 -- ---- one parameter put in its place
 keys-put : (v : Version) (c : Configuration) → Fine v c → (p : KeysParameter) → KeysFine v p → Fine v (withKeys c p)
-keys-put Draft c h p e = record { keys = e .0; address = h .address; jrc = h .jrc; network = h .network; prefix = h .prefix; form = (e .1, h .form .1, h .form .2); met = h .met }
-keys-put Published c h p e = record { keys = e .0; address = h .address; jrc = h .jrc; network = h .network; prefix = h .prefix; form = h .form; met = h .met }
+keys-put Draft c h p e = record {
+  keys = e .0;
+  address = h .address;
+  jrc = h .jrc;
+  network = h .network;
+  prefix = h .prefix;
+  form = (e .1, h .form .1, h .form .2);
+  met = h .met;
+}
+keys-put Published c h p e =
+    record { keys = e .0; address = h .address; jrc = h .jrc; network = h .network; prefix = h .prefix; form = h .form; met = h .met }
 
 address-put : (v : Version) (c : Configuration) → Fine v c → (p : AddressParameter) → addressInRange p ≡ true → Fine v (withAddress c p)
-address-put Draft c h p e = record { keys = h .keys; address = e; jrc = h .jrc; network = h .network; prefix = h .prefix; form = h .form; met = h .met }
-address-put Published c h p e = record { keys = h .keys; address = e; jrc = h .jrc; network = h .network; prefix = h .prefix; form = h .form; met = h .met }
+address-put Draft c h p e =
+    record { keys = h .keys; address = e; jrc = h .jrc; network = h .network; prefix = h .prefix; form = h .form; met = h .met }
+address-put Published c h p e =
+    record { keys = h .keys; address = e; jrc = h .jrc; network = h .network; prefix = h .prefix; form = h .form; met = h .met }
 
 jrc-put : (v : Version) (c : Configuration) → Fine v c → (p : OctetsParameter) → jrcInRange p ≡ true → Fine v (withJrc c p)
-jrc-put Draft c h p e = record { keys = h .keys; address = h .address; jrc = e; network = h .network; prefix = h .prefix; form = h .form; met = h .met }
-jrc-put Published c h p e = record { keys = h .keys; address = h .address; jrc = e; network = h .network; prefix = h .prefix; form = h .form; met = h .met }
+jrc-put Draft c h p e =
+    record { keys = h .keys; address = h .address; jrc = e; network = h .network; prefix = h .prefix; form = h .form; met = h .met }
+jrc-put Published c h p e =
+    record { keys = h .keys; address = h .address; jrc = e; network = h .network; prefix = h .prefix; form = h .form; met = h .met }
 
 -- the notes of what came: the label of a known parameter may be reported
 noting-fine : (v : Version) (c : Configuration) (n : ℕ) → byVersion v true (isReportable n) ≡ true → Fine v c → Fine v (noted v n c)
-noting-fine Draft c n e h = record { keys = h .keys; address = h .address; jrc = h .jrc; network = h .network; prefix = h .prefix; form = h .form; met = h .met }
+noting-fine Draft c n e h =
+    record { keys = h .keys; address = h .address; jrc = h .jrc; network = h .network; prefix = h .prefix; form = h .form; met = h .met }
 noting-fine Published c n e h = record {
   keys = h .keys;
   address = h .address;
@@ -328,12 +355,15 @@ noting-fine Published c n e h = record {
 }
 
 passing-fine : (v : Version) (c : Configuration) (m : ℕ) → Fine v c → Fine v (withUnknownCount c m)
-passing-fine Draft c m h = record { keys = h .keys; address = h .address; jrc = h .jrc; network = h .network; prefix = h .prefix; form = h .form; met = h .met }
-passing-fine Published c m h = record { keys = h .keys; address = h .address; jrc = h .jrc; network = h .network; prefix = h .prefix; form = h .form; met = h .met }
+passing-fine Draft c m h =
+    record { keys = h .keys; address = h .address; jrc = h .jrc; network = h .network; prefix = h .prefix; form = h .form; met = h .met }
+passing-fine Published c m h =
+    record { keys = h .keys; address = h .address; jrc = h .jrc; network = h .network; prefix = h .prefix; form = h .form; met = h .met }
 
 module _ (laws : ItemLaws) (K : KeyLaws) where
   parameter-fine : (p : Parameter) (v : Version) (c : Configuration) → Fine v c → Of v p → (x : View) → Gives (Fine v) (takingFor v c p x)
-  parameter-fine name.Keys v c h o x = puts-well (KeysFine v) (Fine v) (withKeys c) (byVersionOf v (noKeysParameter Discarded) (keysReadAs (allowsAdditionalInfo v) x)) (keys-fine K v x) (keys-put v c h)
+  parameter-fine name.Keys v c h o x = puts-well (KeysFine v) (Fine v) (withKeys c)
+      (byVersionOf v (noKeysParameter Discarded) (keysReadAs (allowsAdditionalInfo v) x)) (keys-fine K v x) (keys-put v c h)
   parameter-fine name.Address v c h o x =
       puts-well (λ (p : AddressParameter). addressInRange p ≡ true) (Fine v) (withAddress c)
       (byVersionOf v (noAddressParameter Discarded) (addressRead x)) (address-fine v x) (address-put v c h)
@@ -381,7 +411,8 @@ module _ (laws : ItemLaws) (K : KeyLaws) where
 -- ---- the whole payload
 empty-fine : (v : Version) → Fine v emptyConfiguration
 empty-fine Draft = record { keys = refl; address = refl; jrc = refl; network = refl; prefix = refl; form = (refl, refl, refl); met = refl }
-empty-fine Published = record { keys = refl; address = refl; jrc = refl; network = refl; prefix = refl; form = (refl, refl, refl); met = none-listed }
+empty-fine Published =
+    record { keys = refl; address = refl; jrc = refl; network = refl; prefix = refl; form = (refl, refl, refl); met = none-listed }
 
 in-range : (v : Version) (c : Configuration) → Fine v c → InRange v c
 unfolding ofVersion errorReportsValid
@@ -407,9 +438,11 @@ in-range Published c h = record {
 pub reads-in-range : ItemLaws → KeyLaws → ReadsInRange
 reads-in-range laws K v p e =
     go (payloadRead (configurationForm v) emptyConfiguration p)
-    (payload-gives (configurationForm v) (Fine v) (λ c h. passing-fine v c (c .unknown + 1) h) (taking-fine laws K v) heading emptyConfiguration
+    (payload-gives (configurationForm v) (Fine v) (λ c h. passing-fine v c (c .unknown + 1) h) (taking-fine laws K v) heading
+    emptyConfiguration
     (empty-fine v) p) e
   where
-    go : (r : Reading Configuration) → Gives (Fine v) r → configurationAnswer r .verdict ≡ Accepted → InRange v (configurationAnswer r .configuration)
+    go : (r : Reading Configuration) → Gives (Fine v) r → configurationAnswer r .verdict ≡ Accepted
+        → InRange v (configurationAnswer r .configuration)
     go (refused k) h q = refused-not k q
     go (read c) h q = in-range v c h

@@ -118,7 +118,8 @@ module _ {S : Type 0} (F : Form S) (taking : (s : S) (n : ℕ) (v : View) → Fi
   payload-firm : ItemLaws → (s : S) (p : List ℕ) → Firm (payloadRead F s p)
   unfolding payloadReadBy
   payload-firm laws s p =
-      firm-cond (ltb 256 (length p)) (refused Long) (scannedRead F s (payload p)) (another Long (omega arith)) (scanned-firm (payload p) s (laws .never-loose p))
+      firm-cond (ltb 256 (length p)) (refused Long) (scannedRead F s (payload p)) (another Long (omega arith))
+      (scanned-firm (payload p) s (laws .never-loose p))
 
 octets-firm : (least : ℕ) (v : View) → Firm (octetsRead least v)
 octets-firm least v = firm-concluded (read (noOctetsParameter Discarded)) (octetsParameter Taken) (octetsJudged least v) tt
@@ -146,7 +147,8 @@ parameter-firm v c name.Keys x =
     let none = noKeysParameter Discarded in
     let r = keysReadAs (allowsAdditionalInfo v) x in
     firm-put (withKeys c) (byVersionOf v none r)
-    (following-firm v none r (firm-concluded (refused Keys) (keysParameter Taken) (keysJudgedAs (allowsAdditionalInfo v) x) (another Keys (omega arith))))
+    (following-firm v none r
+    (firm-concluded (refused Keys) (keysParameter Taken) (keysJudgedAs (allowsAdditionalInfo v) x) (another Keys (omega arith))))
 parameter-firm v c name.Address x =
     let none = noAddressParameter Discarded in
     let r = addressRead x in
@@ -176,7 +178,8 @@ configuration-never (read c) h e = let z : _≡_ {A = ℕ} 0 1 = cc in omega ari
 
 settled-firm : (v : Version) (g : RequestState) → Firm (settled v g)
 settled-firm v g =
-    firm-cond (owing v (g .request .role) (g .request .network .disposition)) (refused Owed) (read (g .request)) (another Owed (omega arith)) tt
+    firm-cond (owing v (g .request .role) (g .request .network .disposition)) (refused Owed) (read (g .request))
+    (another Owed (omega arith)) tt
 
 -- the answer to a request after its last pair
 answered : Version → Reading RequestState → RequestRead

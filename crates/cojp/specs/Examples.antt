@@ -10,7 +10,8 @@ use Rattle.cojp.specs.Lists.{noListParameter}
 use Rattle.cojp.specs.Octets.{octetsParameter, noOctetsParameter}
 use Rattle.cojp.specs.Address.{addressOf, addressParameter, noAddressParameter}
 use Rattle.cojp.specs.Request.{readRequest, readRequestAs, readStrictRequest, refuseRequest, acceptRequest}
-use Rattle.cojp.specs.Configuration.{emptyConfiguration, withAddress, withUnknownCount, readConfiguration, readConfigurationAs, refuseConfiguration, acceptConfiguration}
+use Rattle.cojp.specs.Configuration.{emptyConfiguration, withAddress, withUnknownCount, readConfiguration}
+use Rattle.cojp.specs.Configuration.{readConfigurationAs, refuseConfiguration, acceptConfiguration}
 use Rattle.cojp.specs.declared.configuration.ConfigurationRead.{ConfigurationRead}
 use Rattle.cojp.specs.declared.octets.OctetsParameter.{OctetsParameter}
 use Rattle.cojp.specs.declared.disposition.Disposition.the-variants.{Absent, Taken, Discarded}
@@ -69,7 +70,8 @@ markedExamples =
     ∷ configuration (0xA1 ∷ 0x02 ∷ 0x81 ∷ 0x01 ∷ []) (refuseConfiguration refusal.«Type»)  -- M11
     ∷ configuration (0xA1 ∷ 0x18 ∷ 0x63 ∷ 0xF6 ∷ []) onePassed  -- M12
     ∷ configuration (0xA1 ∷ 0x18 ∷ 0x63 ∷ 0x81 ∷ 0x81 ∷ 0x81 ∷ 0x81 ∷ 0x81 ∷ 0x81 ∷ 0x00 ∷ []) onePassed  -- M13
-    ∷ configuration (0xA1 ∷ 0x18 ∷ 0x63 ∷ 0x81 ∷ 0x81 ∷ 0x81 ∷ 0x81 ∷ 0x81 ∷ 0x81 ∷ 0x81 ∷ 0x00 ∷ []) (refuseConfiguration refusal.Deep)  -- M13
+    ∷ configuration (0xA1 ∷ 0x18 ∷ 0x63 ∷ 0x81 ∷ 0x81 ∷ 0x81 ∷ 0x81 ∷ 0x81 ∷ 0x81 ∷ 0x81 ∷ 0x00 ∷ [])
+    (refuseConfiguration refusal.Deep)  -- M13
     ∷ []
 
 abbrev pub MarkedExamples : Type 0

@@ -27,4 +27,5 @@ ReadsInRange =
 
 -- the reports of a configuration are among what came, so they may be made if what came may be reported
 abbrev pub ErrorReportsValid : Type 0
-ErrorReportsValid = (v : Version) (c : Configuration) → errorReportsValid v (c .labels) ≡ true → errorReportsValid v (errorReportsOf c) ≡ true
+ErrorReportsValid =
+    (v : Version) (c : Configuration) → errorReportsValid v (c .labels) ≡ true → errorReportsValid v (errorReportsOf c) ≡ true

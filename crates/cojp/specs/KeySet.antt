@@ -48,8 +48,8 @@ further false i u v w gs = notGroups
 further true i u v none gs = notGroups
 further true i u v (some w) gs = group i u v w gs
 
--- what comes next, `allowsAdditionalInfo` telling whether keys may have additional information: an identifier; after it a usage or a value; after a usage
--- a value; after a value perhaps additional information, and then the next group
+-- what comes next, `allowsAdditionalInfo` telling whether keys may have additional information: an identifier; after it a usage or a value;
+-- after a usage a value; after a value perhaps additional information, and then the next group
 unfoldable mutual
   pub groups : Bool → List Scalar → Groups
   groups allowed [] = groupsOf []

@@ -12,10 +12,12 @@ use Rattle.refusal.specs.declared.Verdict.the-variants.{Refused}
 use Rattle.cbor.specs.Decode.{Outcome, Heading}
 use Rattle.cbor.specs.Strict.{loosePayload}
 use Rattle.cojp.specs.Request.{emptyRequest, refuseRequest, readRequestBy, readRequestAs, readStrictRequestAs}
-use Rattle.cojp.specs.Configuration.{emptyConfiguration, refuseConfiguration, readConfigurationBy, readConfigurationAs, readStrictConfigurationAs}
+use Rattle.cojp.specs.Configuration.{emptyConfiguration, refuseConfiguration, readConfigurationBy}
+use Rattle.cojp.specs.Configuration.{readConfigurationAs, readStrictConfigurationAs}
 use Rattle.protocol_version.specs.declared.Version.{Version}
 
--- ---- demand 1, for both forms and every reader of heads: a refusal comes with the empty object; it is told by its number, which is not 0, or by its case
+-- ---- demand 1, for both forms and every reader of heads: a refusal comes with the empty object;
+-- it is told by its number, which is not 0, or by its case
 pub record ReadersDemand1 : Type 0 where
   pub request :
       (v : Version) (head : List ℕ → Outcome Heading) (s : List ℕ) (k : Refusal) → readRequestBy v head s .verdict ≡ Refused k →

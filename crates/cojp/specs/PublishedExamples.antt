@@ -8,7 +8,8 @@ use Rattle.link_key.specs.Key.{keyWithAdditionalInfo}
 use Rattle.link_key.specs.declared.Key.{Key}
 use Rattle.link_key.specs.declared.additional_info.AdditionalInfo.the-variants as info
 use Rattle.cojp.specs.Address.{addressOf, addressParameter, noAddressParameter}
-use Rattle.cojp.specs.Configuration.{emptyConfiguration, withKeys, withAddress, withJrc, withPrefix, withBlacklist, withRate, withLabelsSeen, withUnknownCount}
+use Rattle.cojp.specs.Configuration.{emptyConfiguration, withKeys, withAddress, withJrc, withPrefix}
+use Rattle.cojp.specs.Configuration.{withBlacklist, withRate, withLabelsSeen, withUnknownCount}
 use Rattle.cojp.specs.Configuration.{refuseConfiguration, acceptConfiguration}
 use Rattle.cojp.specs.Examples.{Example, configuration, publishedRequest, publishedConfiguration, AllShown, cafe}
 use Rattle.cojp.specs.ErrorReports.{errorReportOf, noErrorReports}
@@ -33,7 +34,8 @@ abbrev pub oneErrorReport : ℕ → ℕ → ErrorReports
 oneErrorReport code label = record { count = 1; reports = errorReportOf code label ∷ replicate 4 (errorReportOf 0 0) }
 
 abbrev pub twoErrorReports : ℕ → ℕ → ErrorReports
-twoErrorReports first second = record { count = 2; reports = errorReportOf 1 first ∷ errorReportOf 1 second ∷ replicate 3 (errorReportOf 0 0) }
+twoErrorReports first second =
+    record { count = 2; reports = errorReportOf 1 first ∷ errorReportOf 1 second ∷ replicate 3 (errorReportOf 0 0) }
 
 -- a request of role 0 with this network identifier, list of reports, and reports of its own
 abbrev pub joining : OctetsParameter → ListParameter → ErrorReports → RequestRead
@@ -81,7 +83,8 @@ publishedExamples =
     (met 2 (withKeys emptyConfiguration (noKeysParameter Discarded)))
     -- a short identifier of one byte, and FFFE, are malformed; a lease is a number of hours
     ∷ publishedConfiguration (0xA1 ∷ 0x03 ∷ 0x81 ∷ 0x41 ∷ 0x12 ∷ []) (met 3 (withAddress emptyConfiguration (noAddressParameter Discarded)))
-    ∷ publishedConfiguration (0xA1 ∷ 0x03 ∷ 0x81 ∷ 0x42 ∷ 0xFF ∷ 0xFE ∷ []) (met 3 (withAddress emptyConfiguration (noAddressParameter Discarded)))
+    ∷ publishedConfiguration (0xA1 ∷ 0x03 ∷ 0x81 ∷ 0x42 ∷ 0xFF ∷ 0xFE ∷ [])
+    (met 3 (withAddress emptyConfiguration (noAddressParameter Discarded)))
     ∷ publishedConfiguration (0xA1 ∷ 0x03 ∷ 0x82 ∷ 0x42 ∷ 0x12 ∷ 0x34 ∷ 0x01 ∷ [])
     (met 3 (withAddress emptyConfiguration (addressParameter Taken (addressOf (0x12 ∷ 0x34 ∷ []) true 1))))
     -- an empty blacklist is a list, and 0 is a rate
@@ -90,15 +93,18 @@ publishedExamples =
     -- bad values are noted in payload order, and the rest of the payload is read
     ∷ publishedConfiguration (0xA2 ∷ 0x04 ∷ 0x41 ∷ 0x00 ∷ 0x03 ∷ 0x05 ∷ [])
     (acceptConfiguration
-    (withLabelsSeen (withAddress (withJrc emptyConfiguration (noOctetsParameter Discarded)) (noAddressParameter Discarded)) (twoErrorReports 4 3)))
+    (withLabelsSeen (withAddress (withJrc emptyConfiguration (noOctetsParameter Discarded)) (noAddressParameter Discarded))
+    (twoErrorReports 4 3)))
     -- a request: the network identifier is due from a 6LBR too; a bad role reads as 0 and is reported, by its kind
     ∷ publishedRequest (0xA1 ∷ 0x01 ∷ 0x01 ∷ []) (refuseRequest refusal.Owed)
     ∷ publishedRequest (0xA2 ∷ 0x01 ∷ 0x02 ∷ 0x05 ∷ 0x41 ∷ 0x00 ∷ []) (joining zeroByte (noListParameter Absent) (oneErrorReport 0 1))
-    ∷ publishedRequest (0xA2 ∷ 0x01 ∷ 0x61 ∷ 0x31 ∷ 0x05 ∷ 0x41 ∷ 0x00 ∷ []) (joining zeroByte (noListParameter Absent) (oneErrorReport 1 1))
+    ∷ publishedRequest (0xA2 ∷ 0x01 ∷ 0x61 ∷ 0x31 ∷ 0x05 ∷ 0x41 ∷ 0x00 ∷ [])
+    (joining zeroByte (noListParameter Absent) (oneErrorReport 1 1))
     -- a list of reports has groups of three, at least one; the third member is kept as null
     ∷ publishedRequest (0xA2 ∷ 0x05 ∷ 0x42 ∷ 0xCA ∷ 0xFE ∷ 0x08 ∷ 0x80 ∷ []) (joining cafe (noListParameter Discarded) (oneErrorReport 1 8))
     ∷ publishedRequest (0xA2 ∷ 0x05 ∷ 0x42 ∷ 0xCA ∷ 0xFE ∷ 0x08 ∷ 0x83 ∷ 0x00 ∷ 0x07 ∷ 0x81 ∷ 0x00 ∷ [])
-    (joining cafe (listParameter Taken (record { count = 3; len = 3; bytes = (0x00 ∷ 0x07 ∷ 0xF6 ∷ []) ++ replicate 250 0 })) noErrorReports)
+    (joining cafe (listParameter Taken (record { count = 3; len = 3; bytes = (0x00 ∷ 0x07 ∷ 0xF6 ∷ []) ++ replicate 250 0 }))
+    noErrorReports)
     ∷ []
 
 abbrev pub PublishedExamples : Type 0

@@ -12,7 +12,8 @@ use Rattle.cbor.specs.Strict.{strictHeading}
 use Rattle.cbor.specs.View.{number, minus, string, other, View, scalar, list}
 use Rattle.cojp.specs.ErrorReports.{noErrorReports, added}
 use Rattle.cojp.specs.Lists.{noListParameter, unsupportedTaken}
-use Rattle.cojp.specs.Reading.{Reading, refused, read, bind, mapReading, Judgement, broken, unfit, good, concluded, byVersionOf, ifTaken}
+use Rattle.cojp.specs.Reading.{Reading, refused, read, bind, mapReading, Judgement}
+use Rattle.cojp.specs.Reading.{broken, unfit, good, concluded, byVersionOf, ifTaken}
 use Rattle.cojp.specs.Octets.{noOctetsParameter, octetsRead}
 use Rattle.protocol_version.specs.Version.{byVersion}
 use Rattle.cojp.specs.Walk.{Form, labelStatusOf, payloadReadBy}

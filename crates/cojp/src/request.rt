@@ -14,8 +14,8 @@ ghost use lib.Dec.{eqb};
 ghost use Rattle.cojp.specs.Request.{emptyRequest, owing};
 ghost use Rattle.protocol_version.specs.Version.{byVersion};
 
-// Role 0 is an ordinary node, 1 the border router (6LBR). In the published form `unsupported` has what a node could not act on, and `faults`
-// what was bad in this request; in the draft both are empty. `unknown` labels were passed over.
+// Role 0 is an ordinary node, 1 the border router (6LBR). In the published form `unsupported` has what a node could not act on, and
+// `faults` what was bad in this request; in the draft both are empty. `unknown` labels were passed over.
 pub struct JoinRequest {
     pub role: u8,
     pub network: OctetsParameter,

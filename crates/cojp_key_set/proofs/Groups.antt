@@ -23,7 +23,8 @@ use Rattle.cojp.proofs.Arrays.{members-some}
 use Rattle.cojp.proofs.members.Member as member
 use Rattle.cojp_key_set.proofs.Infos.{info-said}
 
-pub rest-on : (s : List ℕ) (at n q m : ℕ) (r : Group) → afterMembers n (drop at s) ≡ afterMembers m (drop q s) → GroupRest s q m r → GroupRest s at n r
+pub rest-on : (s : List ℕ) (at n q m : ℕ) (r : Group) → afterMembers n (drop at s) ≡ afterMembers m (drop q s) → GroupRest s q m r
+    → GroupRest s at n r
 rest-on s at n q m gv.Broken e w = tt
 rest-on s at n q m (gv.Closed i u p a k t j) e w = e ∙ w
 
@@ -108,7 +109,8 @@ module _ (b : Bool) where
             none (minus x ∷ ps) w = refl
             none (other ∷ ps) w = refl
 
-            go : (v : Member) → MemberAt l at n v → OneOf (0 ∷ 2 ∷ []) (tagOf member.the-type v) → used b i u (membersAt n (drop at l)) ≡ notGroups
+            go : (v : Member) → MemberAt l at n v → OneOf (0 ∷ 2 ∷ []) (tagOf member.the-type v)
+                → used b i u (membersAt n (drop at l)) ≡ notGroups
             go (mv.Number x p) w o = rw (w .1)
             go (mv.Bytes p a) w o = absurd (⊎-elim (λ e. omega arith) (λ e. omega arith) o)
             go mv.Neither w o = none (membersAt n (drop at l)) w
@@ -160,7 +162,8 @@ module _ (l : List ℕ) (i u p a n : ℕ) (h : p + a ≤ length l) where
         go mv.Neither w o = none left-over w
 
     -- where one comes, of k bytes from q on, it is additional information or breaks the pattern
-    module _ (q k : ℕ) (g : v ≡ mv.Bytes q k) (r : AdditionalInfoRead) (f : r ≡ additionalInfoAnswer (additionalInfoIn (take k (drop q l)))) where
+    module _ (q k : ℕ) (g : v ≡ mv.Bytes q k) (r : AdditionalInfoRead)
+        (f : r ≡ additionalInfoAnswer (additionalInfoIn (take k (drop q l)))) where
       info-here : MemberAt l (p + a) n (mv.Bytes q k)
       info-here = rw g at (e .here)
 
@@ -172,10 +175,16 @@ module _ (l : List ℕ) (i u p a n : ℕ) (h : p + a ≤ length l) where
       info-before : additionalInfoBefore l (q + k) k ≡ r .info
       info-before =
           let begin : q + k - k ≡ q = omega arith in
-          ap (λ (at : ℕ). additionalInfoAnswer (additionalInfoIn (take k (drop at l))) .info) begin ∙ ap (λ (x : AdditionalInfoRead). x .info) (sym f)
+          ap (λ (at : ℕ). additionalInfoAnswer (additionalInfoIn (take k (drop at l))) .info) begin
+          ∙ ap (λ (x : AdditionalInfoRead). x .info) (sym f)
 
       pub value-allowed :
           r .good ≡ true → GroupAt true l (n + 1) (valued true i u value-here left-over) (gv.Closed i u p a k (q + k) (n - 1))
       unfolding groups
-      value-allowed z =
-          (h, omega arith, info-here .1, omega arith, rw (info-before, info-here .2, info-said r (additionalInfoIn (take k (drop q l))) f, z))
+      value-allowed z = (
+        h,
+        omega arith,
+        info-here .1,
+        omega arith,
+        rw (info-before, info-here .2, info-said r (additionalInfoIn (take k (drop q l))) f, z),
+      )

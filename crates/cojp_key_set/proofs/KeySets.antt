@@ -45,7 +45,8 @@ outside true true true d f k e = rw e (and-false d)
 
 pub not-storable : (k : Key) → storable (k .identifier) (k .usage) (length (k .value)) ≡ false → validKey k ≡ false
 unfolding validKey
-not-storable k e = outside (leb 1 (k .identifier)) (leb (k .identifier) 255) (leb (k .usage) 255) (leb (k .usage) 14) (eqb (length (k .value)) 16) (wide (k .usage)) e
+not-storable k e = outside (leb 1 (k .identifier)) (leb (k .identifier) 255) (leb (k .usage) 255) (leb (k .usage) 14)
+    (eqb (length (k .value)) 16) (wide (k .usage)) e
 
 -- neither a set of nine keys nor one with a key outside the limits is validKeys
 long-not-valid : (ks : List Key) → 8 < length ks → validKeys ks ≡ false
@@ -90,7 +91,8 @@ module _ (ks : List Key) (k : Key) where
       (set-at ks noKey (replicate (8 - length (ks ++ (k ∷ []))) noKey) k (length ks) refl
       ∙ sym (append-snoc ks k (replicate (8 - length (ks ++ (k ∷ []))) noKey)))
 
-  one-more : length ks < 8 → _≡_ {A = KeySet} (record { count = length ks + 1; keys = set (keySetOf ks .keys) (length ks) k }) (keySetOf (ks ++ (k ∷ [])))
+  one-more : length ks < 8
+      → _≡_ {A = KeySet} (record { count = length ks + 1; keys = set (keySetOf ks .keys) (length ks) k }) (keySetOf (ks ++ (k ∷ [])))
   one-more h =
       let c : length ks + 1 ≡ length (ks ++ (k ∷ [])) = omega (arith, length-append ks (k ∷ [])) in
       same-set (length ks + 1) (length (ks ++ (k ∷ []))) _ _ c (stored h)
@@ -102,13 +104,15 @@ module _ (ks : List Key) (k : Key) where
   stored-more false after h once m = lost (more-lost (λ js. once-not-valid (ks ++ (k ∷ js)) (m .bad refl js))) refl
 
   pub holds-stored : (seen : List ℕ) (s : KeySet) → Holds ks seen s → s .count < 8 → (joined : Bool) (after : List ℕ)
-      → (Exactly seen ks → OneMore ks k joined after) → Holds (ks ++ (k ∷ [])) after (record { count = cond joined (s .count + 1) 9; keys = set (s .keys) (s .count) k })
+      → (Exactly seen ks → OneMore ks k joined after)
+      → Holds (ks ++ (k ∷ [])) after (record { count = cond joined (s .count + 1) 9; keys = set (s .keys) (s .count) k })
   holds-stored seen s (held l once clear e) h joined after m =
       rw e (stored-more joined after (let few : keySetOf ks .count < 8 = rw e at h in few) once (m clear))
   holds-stored seen s (lost f e) h joined after m = absurd (omega arith)
 
   -- no place can hold it
-  pub holds-nine : (seen : List ℕ) (s : KeySet) → Holds ks seen s → (ltb (s .count) 8 && storable (k .identifier) (k .usage) (length (k .value))) ≡ false
+  pub holds-nine : (seen : List ℕ) (s : KeySet) → Holds ks seen s
+      → (ltb (s .count) 8 && storable (k .identifier) (k .usage) (length (k .value))) ≡ false
       → Holds (ks ++ (k ∷ [])) seen (record { count = 9; keys = s .keys })
   holds-nine seen s (held l once clear e) none = lost (more-lost (go (ltb (length ks) 8) refl)) refl
     where
@@ -140,7 +144,8 @@ after-none notGroups = refl
 after-none (groupsOf js) = refl
 
 after-more :
-    (ks : List Key) (i u : ℕ) (v : List ℕ) (o : AdditionalInfo) (gs : Groups) → after ks (group i u v o gs) ≡ after (ks ++ (keyWithAdditionalInfo i u v o ∷ [])) gs
+    (ks : List Key) (i u : ℕ) (v : List ℕ) (o : AdditionalInfo) (gs : Groups)
+    → after ks (group i u v o gs) ≡ after (ks ++ (keyWithAdditionalInfo i u v o ∷ [])) gs
 after-more ks i u v o notGroups = refl
 after-more ks i u v o (groupsOf js) = ap groupsOf (sym (append-snoc ks (keyWithAdditionalInfo i u v o) js))
 
@@ -171,12 +176,14 @@ pub record Gathering (allowed : Bool) (s : List ℕ) (from count at left : ℕ) 
   pub inside : at ≤ length s
   pub rest : afterMembers count (drop from s) ≡ afterMembers left (drop at s)
 
-pub gathering-none : (allowed : Bool) (s : List ℕ) (from count : ℕ) (k : KeySet) (seen : List ℕ) → from ≤ length s → k ≡ noKeys → Exactly seen []
+pub gathering-none : (allowed : Bool) (s : List ℕ) (from count : ℕ) (k : KeySet) (seen : List ℕ) → from ≤ length s → k ≡ noKeys
+    → Exactly seen []
     → Gathering allowed s from count from count k seen
 gathering-none allowed s from count k seen h e clear =
     record { keys = []; holds = holds-none seen k clear e; so-far = after-none _; inside = h; rest = refl }
 
-module _ (allowed : Bool) (s : List ℕ) (from count at n : ℕ) (k : KeySet) (seen : List ℕ) (w : Gathering allowed s from count at n k seen) where
+module _ (allowed : Bool) (s : List ℕ) (from count at n : ℕ) (k : KeySet) (seen : List ℕ)
+    (w : Gathering allowed s from count at n k seen) where
   pub gathering-done : n ≤ 0 → (r : Reading KeysParameter) → r ≡ keysConcluded (cond (someFew k) (good k) unfit)
       → r ≡ keysConcluded (keysIn (groups allowed (membersAt count (drop from s))))
   unfolding groups
@@ -189,7 +196,8 @@ module _ (allowed : Bool) (s : List ℕ) (from count at n : ℕ) (k : KeySet) (s
   pub gathering-end : n ≤ 0 → EndsAt s at (afterMembers count (drop from s))
   gathering-end h = record { rest = sym (w .rest ∙ nothing-left n (drop at s) (omega arith)); inside = w .inside }
 
-  module _ (r : Group) (g : GroupAt allowed (take (length s - at) (drop at s)) n (groups allowed (membersAt n (take (length s - at) (drop at s)))) r) where
+  module _ (r : Group)
+      (g : GroupAt allowed (take (length s - at) (drop at s)) n (groups allowed (membersAt n (take (length s - at) (drop at s)))) r) where
     part : take (length s - at) (drop at s) ≡ drop at s
     part = take-all (length s - at) (drop at s) (omega (arith, length-drop at s))
 
@@ -219,7 +227,8 @@ module _ (allowed : Bool) (s : List ℕ) (from count at n : ℕ) (k : KeySet) (s
 
       module _ (y : GroupRest (take (length s - at) (drop at s)) 0 n r) where
         abbrev read : Key
-        read = keyWithAdditionalInfo i u (take a (drop p (take (length s - at) (drop at s)))) (additionalInfoBefore (take (length s - at) (drop at s)) q o)
+        read = keyWithAdditionalInfo i u (take a (drop p (take (length s - at) (drop at s))))
+            (additionalInfoBefore (take (length s - at) (drop at s)) q o)
 
         gathering-more : (x : KeySet) (seen' : List ℕ) → Holds (w .keys ++ (read ∷ [])) seen' x
             → Gathering allowed s from count (at + q) m x seen'
@@ -238,7 +247,8 @@ module _ (allowed : Bool) (s : List ℕ) (from count at n : ℕ) (k : KeySet) (s
             }
 
         pub gathering-stored : k .count < 8
-            → (x : AdditionalInfoRead) → x ≡ additionalInfoAnswer (additionalInfoIn (take o (drop (q - o) (take (length s - at) (drop at s)))))
+            → (x : AdditionalInfoRead)
+            → x ≡ additionalInfoAnswer (additionalInfoIn (take o (drop (q - o) (take (length s - at) (drop at s)))))
             → (j : Key) → j ≡ keyWithAdditionalInfo i u (take a (drop p (take (length s - at) (drop at s)))) (x .info)
             → (seen' : List ℕ) → WithOneMore seen j (joins seen j) seen'
             → (c : ℕ) → c ≡ cond (joins seen j) (k .count + 1) 9

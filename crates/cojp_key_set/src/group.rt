@@ -24,8 +24,8 @@ pub enum Group {
     },
 }
 
-// The group at the front of a part of the payload, where `left` members are left. `allowsAdditionalInfo` tells whether keys may have additional
-// information.
+// The group at the front of a part of the payload, where `left` members are left. `allowsAdditionalInfo` tells whether keys may have
+// additional information.
 pub(crate) fn read_group(part: &[u8], left: u64, allowed: bool) -> Group
     requires { ⌜ 0 < left ⌝ }
     ensures { λ r. ⌜ GroupAt allowed (now (part .entry)) left (groups allowed (membersAt left (now (part .entry)))) r ⌝ }
@@ -40,7 +40,8 @@ pub(crate) fn read_group(part: &[u8], left: u64, allowed: bool) -> Group
 
 // The rest of a group after its identifier: a value, or a usage and a value.
 fn after_identifier(part: &[u8], at: usize, left: u64, allowed: bool, identifier: u64) -> Group
-    ensures { λ r. ⌜ GroupAt allowed (now (part .entry)) left (identified allowed identifier (membersAt left (drop at (now (part .entry))))) r ⌝ }
+    ensures { λ r. ⌜ GroupAt allowed (now (part .entry)) left
+        (identified allowed identifier (membersAt left (drop at (now (part .entry))))) r ⌝ }
     ensures rest { λ r. ⌜ GroupRest (now (part .entry)) at left r ⌝ }
 {
     let second = member_at(part, at, left);
@@ -75,7 +76,8 @@ fn after_usage(
     identifier: u64,
     usage: u64,
 ) -> Group
-    ensures { λ r. ⌜ GroupAt allowed (now (part .entry)) left (used allowed identifier usage (membersAt left (drop at (now (part .entry))))) r ⌝ }
+    ensures { λ r. ⌜ GroupAt allowed (now (part .entry)) left
+        (used allowed identifier usage (membersAt left (drop at (now (part .entry))))) r ⌝ }
     ensures rest { λ r. ⌜ GroupRest (now (part .entry)) at left r ⌝ }
 {
     let third = member_at(part, at, left);
@@ -105,7 +107,8 @@ fn after_value(
 ) -> Group
     requires { ⌜ start + len ≤ length (now part) ⌝ }
     ensures { λ r. ⌜ GroupAt allowed (now (part .entry)) (left + 1)
-        (valued allowed identifier usage (take len (drop start (now (part .entry)))) (membersAt left (drop (start + len) (now (part .entry))))) r ⌝ }
+        (valued allowed identifier usage (take len (drop start (now (part .entry))))
+        (membersAt left (drop (start + len) (now (part .entry))))) r ⌝ }
     ensures rest { λ r. ⌜ GroupRest (now (part .entry)) (start + len) left r ⌝ }
 {
     let end = start + len;

@@ -109,7 +109,8 @@ fn close_set(set: KeySet, next: usize) -> KeysRead
     }
 }
 
-// The key set whose `count` members begin at a place: the pattern to its end, and then the limits, which each key has met or not as it came.
+// The key set whose `count` members begin at a place:
+// the pattern to its end, and then the limits, which each key has met or not as it came.
 fn gather_keys(s: &[u8], from: usize, count: u64, allowed: bool) -> KeysRead
     requires { ⌜ from ≤ length (now s) ⌝ }
     ensures { λ r. ⌜ r ≡ keysAnswer (keysConcluded (keysIn (groups allowed (membersAt count (drop from (now (s .entry))))))) (r .next) ⌝ }

@@ -20,7 +20,8 @@ use Rattle.cojp_laws.specs.Largest.{LargestAttained, LongestRead}
 use Rattle.cojp_laws.specs.Written.{AllShown, writtenExamples, publishedExamples, longestExamples, WrittenExamples}
 
 pub largest-attained : LargestAttained
-unfolding configurationPlan configurationInRange ofVersion validSet validKeys validKey hasNoAdditionalInfo isAddress padded bytesOf infoOf extraOf shortest
+unfolding configurationPlan configurationInRange ofVersion validSet validKeys validKey hasNoAdditionalInfo isAddress padded bytesOf infoOf
+    extraOf shortest
 largest-attained = record { written = refl; no-less = refl }
 
 pub longest-read : LongestRead
@@ -30,11 +31,14 @@ longest-read = record { size = refl; accepted = refl; taken = refl; long = refl 
 
 marked : AllShown writtenExamples
 unfolding requestPlan requestInRange owing configurationPlan configurationInRange ofVersion isAddress bytesOf infoOf extraOf shortest
-marked =
-    ((refl, refl), ((refl, refl), ((refl, refl), ((refl, refl), ((refl, refl), ((refl, refl), ((refl, refl), ((refl, refl), ((refl, refl), tt)))))))))
+marked = (
+  (refl, refl),
+  ((refl, refl), ((refl, refl), ((refl, refl), ((refl, refl), ((refl, refl), ((refl, refl), ((refl, refl), ((refl, refl), tt)))))))),
+)
 
 published : AllShown publishedExamples
-unfolding requestPlan requestInRange owing configurationPlan configurationInRange ofVersion validSet validKeys validKey hasNoAdditionalInfo padded bytesOf infoOf extraOf shortest
+unfolding requestPlan requestInRange owing configurationPlan configurationInRange ofVersion validSet validKeys validKey hasNoAdditionalInfo
+    padded bytesOf infoOf extraOf shortest
     kept sameAs same stringsIn errorReportsIn scalarAt decodeBy heading argument next digits majorOf
 published = (
   (refl, refl),

@@ -1,4 +1,5 @@
--- What is written of a configuration reads back as the same configuration: its parameters one after the other, those of the other form missing.
+-- What is written of a configuration reads back as the same configuration:
+-- its parameters one after the other, those of the other form missing.
 use Prim.Native.Nat.{ℕ, _≤_}
 use mathlib.Core.Path.{_≡_, refl, subst}
 use mathlib.Core.Bool.{Bool, not}
@@ -47,8 +48,10 @@ use Rattle.cojp_write.proofs.octets.Limits.{Judged, configuration-fits}
 use Rattle.cojp_laws.specs.RoundTrip.{ConfigurationBack, ConfigurationRoundTrip}
 use Rattle.cojp_laws.proofs.Forms.{OfForm, of-form, keys-fitting, list-kept, draft-taken, published-taken}
 use Rattle.cojp_laws.proofs.ReadBack.{then, parameter-read, payload-read, following-good, kept-if}
-use Rattle.cojp_laws.proofs.ReadBack.{octetsGood, octetsBack, octets-back, jrc-back, octets-same, addressItems, addressGood, addressBack, address-back, address-same}
-use Rattle.cojp_laws.proofs.ReadBack.{keysGood, keysBack, keys-back, keys-same, listGood, listBack, list-back, list-same, rateGood, rateBack, rate-same}
+use Rattle.cojp_laws.proofs.ReadBack.{octetsGood, octetsBack, octets-back, jrc-back, octets-same}
+use Rattle.cojp_laws.proofs.ReadBack.{addressItems, addressGood, addressBack, address-back, address-same}
+use Rattle.cojp_laws.proofs.ReadBack.{keysGood, keysBack, keys-back, keys-same, listGood, listBack}
+use Rattle.cojp_laws.proofs.ReadBack.{list-back, list-same, rateGood, rateBack, rate-same}
 use Rattle.cojp_laws.proofs.Sizes.{emits, fitted, fine-configuration}
 use Rattle.cojp_laws.proofs.Typed.{TypedConfiguration}
 use Rattle.cojp_laws.proofs.Unreported.{unreported}
@@ -81,7 +84,8 @@ module _ (v : Version) (s : Configuration) (x : View) where
   prefix-step p d a e = rw (d, a, e)
 
   -- the published form's
-  blacklist-step : (p : ListParameter) → v ≡ Published → s .blacklist .disposition ≡ Absent → blacklistTaken x ≡ p → Reads 6 (withBlacklist s p)
+  blacklist-step : (p : ListParameter) → v ≡ Published → s .blacklist .disposition ≡ Absent → blacklistTaken x ≡ p
+      → Reads 6 (withBlacklist s p)
   unfolding parameterOf laterParameter configurationTaking
   blacklist-step p d a e = rw (d, a, e)
 
@@ -91,7 +95,8 @@ module _ (v : Version) (s : Configuration) (x : View) where
 
 -- ---- all of them
 abbrev configured :
-    KeysParameter → AddressParameter → OctetsParameter → OctetsParameter → OctetsParameter → ListParameter → RateParameter → ErrorReports → Configuration
+    KeysParameter → AddressParameter → OctetsParameter → OctetsParameter → OctetsParameter → ListParameter → RateParameter → ErrorReports
+    → Configuration
 configured keys address jrc network prefix blacklist rate met = record {
   keys = keys;
   address = address;
@@ -116,8 +121,10 @@ noting v n met = byVersion v met (added met 1 n)
 abbrev notedIf : Version → ℕ → Disposition → ErrorReports → ErrorReports
 notedIf v n r met = ifTaken r (noting v n met) met
 
-module _ (keys : KeyLaws) (lists : ListLaws) (v : Version) (c : Configuration) (f : Judged v c) (o : OfForm v c) (l : length (c .jrc .value .bytes) ≡ 16) where
-  configuration-read : (met : ErrorReports) × (pairsRead (configurationForm v) emptyConfiguration (configurationPairs c) ≡ read (read-back c met))
+module _ (keys : KeyLaws) (lists : ListLaws) (v : Version) (c : Configuration) (f : Judged v c) (o : OfForm v c)
+    (l : length (c .jrc .value .bytes) ≡ 16) where
+  configuration-read : (met : ErrorReports)
+      × (pairsRead (configurationForm v) emptyConfiguration (configurationPairs c) ≡ read (read-back c met))
   unfolding rateTaken
   configuration-read =
       let F = configurationForm v in
@@ -153,33 +160,40 @@ module _ (keys : KeyLaws) (lists : ListLaws) (v : Version) (c : Configuration) (
       let blacklist = array (itemsIn stringsIn (c .blacklist .value)) in
       let rate = unsigned (c .rate .value) in
       let e1 =
-      parameter-read F s0 2 (c .keys .disposition) groups (λ x g. configured x no-address none none none no-list no-rate g) (keysGood (c .keys))
+      parameter-read F s0 2 (c .keys .disposition) groups (λ x g. configured x no-address none none none no-list no-rate g)
+      (keysGood (c .keys))
       (noKeysParameter Absent) (noting v 2 noErrorReports) noErrorReports refl
       (λ t. keys-step v s0 (viewOf groups) (keysGood (c .keys)) refl
       (keys-back (allowsAdditionalInfo v) keys (c .keys) (f .keys) (keys-fitting keys v (c .keys) (o .keys) t) t)) in
       let e2 =
-      parameter-read F s1 3 (c .address .disposition) place (λ x g. configured k x none none none no-list no-rate g) (addressGood (c .address)) no-address
+      parameter-read F s1 3 (c .address .disposition) place (λ x g. configured k x none none none no-list no-rate g)
+      (addressGood (c .address)) no-address
       (noting v 3 f1) f1 refl
       (λ t. address-step v s1 (viewOf place) (addressGood (c .address)) refl (address-back (c .address) (f .address) t)) in
       let e3 =
-      parameter-read F s2 4 (c .jrc .disposition) jrc (λ x g. configured k a x none none no-list no-rate g) (octetsGood (c .jrc)) none (noting v 4 f2) f2 refl
+      parameter-read F s2 4 (c .jrc .disposition) jrc (λ x g. configured k a x none none no-list no-rate g) (octetsGood (c .jrc)) none
+      (noting v 4 f2) f2 refl
       (λ t. jrc-step v s2 (viewOf jrc) (octetsGood (c .jrc)) refl (jrc-back (c .jrc) (f .jrc) l t)) in
       let e4 =
-      parameter-read F s3 5 (c .network .disposition) network (λ x g. configured k a j x none no-list no-rate g) (octetsGood (c .network)) none (noting v 5 f3) f3 refl
+      parameter-read F s3 5 (c .network .disposition) network (λ x g. configured k a j x none no-list no-rate g) (octetsGood (c .network))
+      none (noting v 5 f3) f3 refl
       (λ t. network-step v s3 (viewOf network) (octetsGood (c .network)) (draft-taken v (c .network .disposition) (o .network) t) refl
       (octets-back (c .network) (f .network) t)) in
       let e5 =
-      parameter-read F s4 6 (c .prefix .disposition) prefix (λ x g. configured k a j n x no-list no-rate g) (octetsGood (c .prefix)) none (noting v 6 f4) f4 refl
+      parameter-read F s4 6 (c .prefix .disposition) prefix (λ x g. configured k a j n x no-list no-rate g) (octetsGood (c .prefix)) none
+      (noting v 6 f4) f4 refl
       (λ t. prefix-step v s4 (viewOf prefix) (octetsGood (c .prefix)) (draft-taken v (c .prefix .disposition) (o .prefix) t) refl
       (octets-back (c .prefix) (f .prefix) t)) in
       let e6 =
-      parameter-read F s5 6 (c .blacklist .disposition) blacklist (λ x g. configured k a j n p x no-rate g) (listGood stringsIn (c .blacklist)) no-list (noting v 6 f5) f5 refl
+      parameter-read F s5 6 (c .blacklist .disposition) blacklist (λ x g. configured k a j n p x no-rate g)
+      (listGood stringsIn (c .blacklist)) no-list (noting v 6 f5) f5 refl
       (λ t.
       let (q, h) = list-kept v stringsIn (c .blacklist) (o .blacklist) t in
       blacklist-step v s5 (viewOf blacklist) (listGood stringsIn (c .blacklist)) q refl
       (list-back stringsIn (lists .blacklist-back) (c .blacklist) (λ u. h) t)) in
       let e7 =
-      parameter-read F s6 7 (c .rate .disposition) rate (λ x g. configured k a j n p b x g) (rateGood (c .rate)) no-rate (noting v 7 f6) f6 refl
+      parameter-read F s6 7 (c .rate .disposition) rate (λ x g. configured k a j n p b x g) (rateGood (c .rate)) no-rate
+      (noting v 7 f6) f6 refl
       (λ t. rate-step v s6 (viewOf rate) (rateGood (c .rate)) (published-taken v (c .rate .disposition) (o .rate) t) refl refl) in
       let ka = join (keysPairs (c .keys)) (addressPairs (c .address)) in
       let kaj = join ka (octetsPairs 4 (c .jrc)) in
@@ -199,13 +213,17 @@ same-back : (lists : ListLaws) (v : Version) (c : Configuration) → OfForm v c 
 same-back lists v c o met r e =
     let none = noOctetsParameter Absent in
     let report : OctetsParameter → Disposition = λ o. o .disposition in
-    let keys = kept-if (λ (k : KeysParameter). k .disposition) (keysGood (c .keys)) (noKeysParameter Absent) (c .keys .disposition) refl refl in
+    let keys =
+    kept-if (λ (k : KeysParameter). k .disposition) (keysGood (c .keys)) (noKeysParameter Absent) (c .keys .disposition) refl refl in
     let address =
-    kept-if (λ (a : AddressParameter). a .disposition) (addressGood (c .address)) (noAddressParameter Absent) (c .address .disposition) refl refl in
+    kept-if (λ (a : AddressParameter). a .disposition) (addressGood (c .address)) (noAddressParameter Absent)
+    (c .address .disposition) refl refl in
     let jrc = kept-if report (octetsGood (c .jrc)) none (c .jrc .disposition) refl refl in
     let list =
-    kept-if (λ (l : ListParameter). l .disposition) (listGood stringsIn (c .blacklist)) (noListParameter Absent) (c .blacklist .disposition) refl refl in
-    let rate = kept-if (λ (r : RateParameter). r .disposition) (rateGood (c .rate)) (noRateParameter Absent) (c .rate .disposition) refl refl in
+    kept-if (λ (l : ListParameter). l .disposition) (listGood stringsIn (c .blacklist)) (noListParameter Absent)
+    (c .blacklist .disposition) refl refl in
+    let rate =
+    kept-if (λ (r : RateParameter). r .disposition) (rateGood (c .rate)) (noRateParameter Absent) (c .rate .disposition) refl refl in
     rw e (record {
       accepted = refl;
       same = record {
@@ -214,7 +232,8 @@ same-back lists v c o met r e =
         jrc = octets-same (c .jrc);
         network = octets-same (c .network);
         prefix = octets-same (c .prefix);
-        blacklist = list-same stringsIn (lists .blacklist-back) (c .blacklist) (λ t. list-kept v stringsIn (c .blacklist) (o .blacklist) t .1);
+        blacklist =
+            list-same stringsIn (lists .blacklist-back) (c .blacklist) (λ t. list-kept v stringsIn (c .blacklist) (o .blacklist) t .1);
         rate = rate-same (c .rate);
       };
       keys-kept = keys;

@@ -1,4 +1,5 @@
--- A plan that is answered by a refusal is that refusal, or bytes that have no room; each test that refuses gives its number before the next is asked.
+-- A plan that is answered by a refusal is that refusal, or bytes that have no room;
+-- each test that refuses gives its number before the next is asked.
 use Prim.Native.Nat.{ℕ}
 use mathlib.Core.Path.{_≡_, refl, ap}
 use mathlib.Core.Bool.{Bool, true, false, cond, not}
@@ -16,7 +17,8 @@ use Rattle.cbor.specs.Item.{map}
 use Rattle.byte_io.specs.declared.WriteResult.the-variants.{Refused, Length}
 use Rattle.cojp.specs.Reading.{ifTaken}
 use Rattle.cojp.specs.Request.{owing}
-use Rattle.cojp.specs.Writing.{octetsPairs, owingPlan, fits, requestPairs, requestInRange, requestPlan, configurationPairs, configurationInRange, configurationPlan}
+use Rattle.cojp.specs.Writing.{octetsPairs, owingPlan, fits, requestPairs, requestInRange, requestPlan}
+use Rattle.cojp.specs.Writing.{configurationPairs, configurationInRange, configurationPlan}
 use Rattle.cojp.specs.declared.list.ListParameter.{ListParameter}
 use Rattle.cojp.specs.declared.disposition.Disposition.{Disposition}
 use Rattle.cojp.specs.declared.disposition.Disposition.the-variants.{Absent, Taken, Discarded}
@@ -52,7 +54,8 @@ module _ (p d : List ℕ) where
   range-room true = refl
   range-room false = room-by p d (noRoom p d) refl
 
-  in-range-room : (r : Bool) → numberSaid (cond r (emit p) (refuse Range)) d ≡ inOrder (refusedIf (not r) 13 ∷ refusedIf (noRoom p d) 12 ∷ [])
+  in-range-room : (r : Bool)
+      → numberSaid (cond r (emit p) (refuse Range)) d ≡ inOrder (refusedIf (not r) 13 ∷ refusedIf (noRoom p d) 12 ∷ [])
   in-range-room true = room-by p d (noRoom p d) refl
   in-range-room false = refl
 
@@ -74,13 +77,15 @@ module _ (p d : List ℕ) where
 
 -- a list that is not taken is no byte
 list-said : (label : ℕ) (p : ListParameter) (d : List ℕ)
-    → numberSaid (listParameterPlan label p) d ≡ inOrder (refusedIf (not (listFits p)) 13 ∷ refusedIf (noRoom (listBytes label p) d) 12 ∷ [])
+    → numberSaid (listParameterPlan label p) d
+    ≡ inOrder (refusedIf (not (listFits p)) 13 ∷ refusedIf (noRoom (listBytes label p) d) 12 ∷ [])
 unfolding arrayPlan
 list-said label p d = go (p .disposition)
   where
     go : (r : Disposition)
         → numberSaid (ifTaken r (arrayPlan label (p .value)) (emit [])) d
-        ≡ inOrder (refusedIf (not (ifTaken r (leb (p .value .len) 253) true)) 13 ∷ refusedIf (noRoom (ifTaken r (arrayBytes label (p .value)) []) d) 12 ∷ [])
+        ≡ inOrder (refusedIf (not (ifTaken r (leb (p .value .len) 253) true)) 13
+        ∷ refusedIf (noRoom (ifTaken r (arrayBytes label (p .value)) []) d) 12 ∷ [])
     go Absent = in-range-room [] d true
     go Taken = in-range-room (arrayBytes label (p .value)) d (leb (p .value .len) 253)
     go Discarded = in-range-room [] d true
@@ -92,6 +97,8 @@ writers-demand1 = record {
   head-number = λ major n d. range-room (shortest major n) d (ltb 7 major);
   string-number = λ label p d. in-range-room (encodePairs (octetsPairs label p)) d (stringInRange label p);
   list-number = list-said;
-  request-number = λ v q d. let p = encode (map (requestPairs q)) in owed-room p d (not (requestInRange v q)) (tooLong p) (owing v (q .role) (q .network .disposition)) refl;
-  configuration-number = λ v c d. let p = encode (map (configurationPairs c)) in long-room p d (not (configurationInRange v c)) (tooLong p) refl;
+  request-number = λ v q d. let p = encode (map (requestPairs q)) in
+      owed-room p d (not (requestInRange v q)) (tooLong p) (owing v (q .role) (q .network .disposition)) refl;
+  configuration-number = λ v c d. let p = encode (map (configurationPairs c)) in
+      long-room p d (not (configurationInRange v c)) (tooLong p) refl;
 }

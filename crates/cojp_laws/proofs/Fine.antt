@@ -9,7 +9,8 @@ use lib.Dec.{leb, eqb}
 use lib.ListN.{length, length-append, length-take}
 use Rattle.cbor.specs.Encode.{extraOf, shortest, encode, encodes, encodePairs}
 use Rattle.cbor.specs.HeadLaws.{HeadLaws}
-use Rattle.cbor.specs.Item.{Item, Items, Pairs, unsigned, bytes, array, none, more, empty, pair, count, countPairs, depth, depths, depthPairs}
+use Rattle.cbor.specs.Item.{Item, Items, Pairs, unsigned, bytes, array, none, more}
+use Rattle.cbor.specs.Item.{empty, pair, count, countPairs, depth, depths, depthPairs}
 use Rattle.cbor.specs.Item.{Fit, Fits, FitPairs}
 use Rattle.link_key.specs.AdditionalInfo.{additionalInfoBytes}
 use Rattle.link_key.specs.Key.{validKey}
@@ -21,7 +22,8 @@ use Rattle.link_key.specs.declared.additional_info.AdditionalInfo.the-variants 
 use Rattle.cojp.specs.Octets.{bytesIn}
 use Rattle.cojp.specs.Reading.{ifTaken}
 use Rattle.protocol_version.specs.Version.{byVersion}
-use Rattle.cojp.specs.Writing.{join, chain, labelled, rolePairs, octetsPairs, leaseItems, addressPairs, usageItems, additionalInfoItems, groupItems, groupsItems, keysPairs, ratePairs}
+use Rattle.cojp.specs.Writing.{join, chain, labelled, rolePairs, octetsPairs, leaseItems, addressPairs}
+use Rattle.cojp.specs.Writing.{usageItems, additionalInfoItems, groupItems, groupsItems, keysPairs, ratePairs}
 use Rattle.cojp.specs.Writing.{octetsInRange, jrcInRange, keysInRange, missing}
 use Rattle.cojp.specs.declared.address.AddressParameter.{AddressParameter}
 use Rattle.cojp.specs.declared.key_set.KeysParameter.{KeysParameter}
@@ -96,7 +98,8 @@ eight-most false n h = omega arith
 
 -- ---- single values
 fine-item : (i : Item) (m : ℕ) → length (encode i) ≤ m → depth i ≤ 1 → Fit i → FineItems (more i none) 1 m
-fine-item i m h l f = record { few = omega arith; small = omega (arith, ap length (append-nil (encode i))); level = omega arith; fit = (f, tt) }
+fine-item i m h l f =
+    record { few = omega arith; small = omega (arith, ap length (append-nil (encode i))); level = omega arith; fit = (f, tt) }
 
 fine-missing : (m : ℕ) → FineItems none 1 m
 fine-missing m = record { few = omega arith; small = omega arith; level = omega arith; fit = tt }
@@ -145,10 +148,12 @@ module _ (heads : HeadLaws) where
     where
       go : (b : Bool) → Fine (cond b empty (labelled 1 (unsigned n))) 1 2
       go true = record { few = omega arith; small = omega arith; level = omega arith; fit = tt }
-      go false = fine-labelled 1 (unsigned n) 1 (omega arith) (omega (arith, heads .short-head 0 n (omega arith))) (omega arith) (omega arith)
+      go false =
+          fine-labelled 1 (unsigned n) 1 (omega arith) (omega (arith, heads .short-head 0 n (omega arith))) (omega arith) (omega arith)
 
   -- ---- arrays, with a head of at most j bytes
-  pub fine-array : (n : ℕ) (is : Items) (k m j : ℕ) → n ≤ 23 → k ≤ 65535 → length (shortest 4 (count is)) ≤ j → FineItems is k m → Fine (labelled n (array is)) 1 (1 + j + m)
+  pub fine-array : (n : ℕ) (is : Items) (k m j : ℕ) → n ≤ 23 → k ≤ 65535 → length (shortest 4 (count is)) ≤ j → FineItems is k m
+      → Fine (labelled n (array is)) 1 (1 + j + m)
   fine-array n is k m j h c l f = record {
     few = omega arith;
     small = omega (arith, array-length n is, length-append (shortest 0 n) (shortest 4 (count is)), heads .short-head 0 n h, f .small);
@@ -182,9 +187,11 @@ module _ (heads : HeadLaws) where
   fine-info : (b : Bool) (n : AdditionalInfo) → Fitting b n → FineItems (additionalInfoItems n) 1 (cond b 9 0)
   fine-info b info.Absent f = fine-missing (cond b 9 0)
   fine-info true (info.Four p q r t) f =
-      let s = additionalInfoBytes (info.Four p q r t) in fine-item (bytes s) 9 (omega (arith, string-length heads s (omega arith))) (omega arith) (omega arith)
+      let s = additionalInfoBytes (info.Four p q r t) in
+      fine-item (bytes s) 9 (omega (arith, string-length heads s (omega arith))) (omega arith) (omega arith)
   fine-info true (info.Eight p q r t u v w x) f =
-      let s = additionalInfoBytes (info.Eight p q r t u v w x) in fine-item (bytes s) 9 (omega (arith, string-length heads s (omega arith))) (omega arith) (omega arith)
+      let s = additionalInfoBytes (info.Eight p q r t u v w x) in
+      fine-item (bytes s) 9 (omega (arith, string-length heads s (omega arith))) (omega arith) (omega arith)
   fine-info false (info.Four p q r t) f = absurd (let z : _≡_ {A = ℕ} 0 1 = cc in omega arith)
   fine-info false (info.Eight p q r t u v w x) f = absurd (let z : _≡_ {A = ℕ} 0 1 = cc in omega arith)
 
@@ -193,15 +200,18 @@ module _ (heads : HeadLaws) where
       → Fine (ratePairs p) 1 (byVersion v 0 10)
   fine-rate Draft p h l = fine-none (p .disposition) (labelled 7 (unsigned (p .value))) h
   fine-rate Published p h l = fine-if (p .disposition) (labelled 7 (unsigned (p .value))) 10 (λ e.
-      fine-labelled 7 (unsigned (p .value)) 9 (omega arith) (omega (arith, heads .length-head 0 (p .value), heads .extra-most (p .value))) (omega arith) l)
+      fine-labelled 7 (unsigned (p .value)) 9 (omega arith) (omega (arith, heads .length-head 0 (p .value), heads .extra-most (p .value)))
+      (omega arith) l)
 
   module _ (keys : KeyLaws) (b : Bool) where
     fine-group : (k : Key) → validKey k ≡ true → Fitting b (k .info) → FineItems (groupItems k) 4 (20 + cond b 9 0)
     fine-group k h g =
         let (i, u, v) = keys .limits-fit k h in
         let head : extraOf (k .identifier) ≤ 1 = heads .byte-head (k .identifier) i in
-        let name = fine-item (unsigned (k .identifier)) 2 (omega (arith, heads .length-head 0 (k .identifier))) (omega arith) (omega arith) in
-        let value = fine-item (bytes (k .value)) 17 (omega (arith, string-length heads (k .value) (omega arith))) (omega arith) (omega arith) in
+        let name =
+        fine-item (unsigned (k .identifier)) 2 (omega (arith, heads .length-head 0 (k .identifier))) (omega arith) (omega arith) in
+        let value =
+        fine-item (bytes (k .value)) 17 (omega (arith, string-length heads (k .value) (omega arith))) (omega arith) (omega arith) in
         let f = fine-chain (fine-chain name (fine-usage (k .usage) u)) (fine-chain value (fine-info b (k .info) g)) in
         record { few = f .few; small = omega (arith, f .small); level = f .level; fit = f .fit }
 
@@ -210,11 +220,14 @@ module _ (heads : HeadLaws) where
     fine-groups [] h g = record { few = omega arith; small = omega arith; level = omega arith; fit = tt }
     fine-groups (k ∷ ks) h g =
         let first : List·Memᴰ k (k ∷ ks) = List·Memᴰ·head refl in
-        let f = fine-chain (fine-group k (h k first) (g k first)) (fine-groups ks (λ l m. h l (List·Memᴰ·tail m)) (λ l m. g l (List·Memᴰ·tail m))) in
-        let small : length (encodes (groupsItems (k ∷ ks))) ≤ groupsRoom b (suc (length ks)) = omega (arith, f .small, one-more b (length ks)) in
+        let f = fine-chain (fine-group k (h k first) (g k first))
+        (fine-groups ks (λ l m. h l (List·Memᴰ·tail m)) (λ l m. g l (List·Memᴰ·tail m))) in
+        let small : length (encodes (groupsItems (k ∷ ks))) ≤ groupsRoom b (suc (length ks)) =
+        omega (arith, f .small, one-more b (length ks)) in
         record { few = omega (arith, f .few); small = small; level = f .level; fit = f .fit }
 
-    pub fine-keys : (p : KeysParameter) → keysInRange p ≡ true → (p .disposition ≡ Taken → (k : Key) → List·Memᴰ k (keysOf (p .value)) → Fitting b (k .info))
+    pub fine-keys : (p : KeysParameter) → keysInRange p ≡ true
+        → (p .disposition ≡ Taken → (k : Key) → List·Memᴰ k (keysOf (p .value)) → Fitting b (k .info))
         → Fine (keysPairs p) 1 (3 + groupsRoom b 8)
     fine-keys p h g =
         let ks = keysOf (p .value) in
@@ -224,6 +237,11 @@ module _ (heads : HeadLaws) where
         let ok = keys .valid-set (p .value) (simp e at h) .1 in
         let f = fine-groups ks (keys .valid-each ks ok) (g e) in
         let eight = keys .valid-few ks ok in
-        let i : FineItems is 32 m = record { few = omega (arith, f .few); small = omega (arith, f .small, eight-most b (length ks) eight); level = f .level; fit = f .fit } in
+        let i : FineItems is 32 m = record {
+          few = omega (arith, f .few);
+          small = omega (arith, f .small, eight-most b (length ks) eight);
+          level = f .level;
+          fit = f .fit;
+        } in
         let head = heads .byte-head (count is) (omega (arith, i .few)) in
         fine-array 2 is 32 m 2 (omega arith) (omega arith) (omega (arith, heads .length-head 4 (count is))) i)

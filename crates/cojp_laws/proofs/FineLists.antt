@@ -14,7 +14,8 @@ use Rattle.cbor.specs.HeadLaws.{HeadLaws}
 use Rattle.cbor.specs.Item.{Item, array, count, depths, Fit, Fits}
 use Rattle.cbor.specs.Laws.{ItemLaws, Bytes, Suffix}
 use Rattle.cbor.specs.View.{Scalar, number, minus, string, other, scalarAt, andOn, scalarsAt}
-use Rattle.cojp.specs.Lists.{Picked, nothing, picked, before, scalarItem, itemsOf, stringsIn, errorReportsIn, some, isInteger, bytesIn, listAnswer, fitting, sameAs, kept, pickedItems, itemsIn}
+use Rattle.cojp.specs.Lists.{Picked, nothing, picked, before, scalarItem, itemsOf, stringsIn, errorReportsIn}
+use Rattle.cojp.specs.Lists.{some, isInteger, bytesIn, listAnswer, fitting, sameAs, kept, pickedItems, itemsIn}
 use Rattle.cojp.specs.Bytes.{membersAt}
 use Rattle.protocol_version.specs.Version.{byVersion}
 use Rattle.cojp.specs.ListLemmas.{scalar-fit}
@@ -53,7 +54,8 @@ one-fits : (p : Scalar) (q : Picked) → Fit (scalarItem p) → Fits (pickedItem
 one-fits p nothing h k = tt
 one-fits p (picked ps) h k = (h, k)
 
-three-fit : (p q : Scalar) (r : Picked) → Fit (scalarItem p) → Fit (scalarItem q) → Fits (pickedItems r) → Fits (pickedItems (before (p ∷ q ∷ other ∷ []) r))
+three-fit : (p q : Scalar) (r : Picked) → Fit (scalarItem p) → Fit (scalarItem q) → Fits (pickedItems r)
+    → Fits (pickedItems (before (p ∷ q ∷ other ∷ []) r))
 three-fit p q nothing h k l = tt
 three-fit p q (picked ps) h k l = (h, (k, (omega arith, l)))
 
@@ -72,7 +74,8 @@ faults-fit (p ∷ []) h = tt
 faults-fit (p ∷ q ∷ []) h = tt
 faults-fit (p ∷ q ∷ x ∷ r) h = go (faults-fit r (h .1 .1 .1)) (isInteger p && isInteger q)
   where
-    go : Fits (pickedItems (errorReportsIn r)) → (b : Bool) → Fits (pickedItems (cond b (before (p ∷ q ∷ other ∷ []) (errorReportsIn r)) nothing))
+    go : Fits (pickedItems (errorReportsIn r)) → (b : Bool)
+        → Fits (pickedItems (cond b (before (p ∷ q ∷ other ∷ []) (errorReportsIn r)) nothing))
     go k true = three-fit p q (errorReportsIn r) (h .0) (h .1 .0) k
     go k false = tt
 
@@ -115,7 +118,8 @@ module _ (heads : HeadLaws) where
     kept-small : (l : ItemList) → kept f l ≡ true → length (bytesIn l) ≤ 253
     unfolding kept
     kept-small l h =
-        let few = leb-true (l .len) 253 (both-left (leb (l .len) 253) (sameAs (listAnswer (fitting 253 (f (membersAt (l .count) (bytesIn l))))) l) h) in
+        let few = leb-true (l .len) 253
+        (both-left (leb (l .len) 253) (sameAs (listAnswer (fitting 253 (f (membersAt (l .count) (bytesIn l))))) l) h) in
         omega (arith, length-take (l .len) (l .bytes))
 
     fine-kept : (l : ItemList) → Bytes (l .bytes) → kept f l ≡ true → FineItems (itemsIn f l) 262 262
@@ -130,10 +134,12 @@ module _ (heads : HeadLaws) where
           few = omega (arith, small, picked-few q);
           small = small;
           level = picked-level q;
-          fit = keeps (membersAt (l .count) (bytesIn l)) (plains-fit laws 6 (l .count) (bytesIn l) (λ x m. b x (earlier (l .len) (l .bytes) x m)));
+          fit = keeps (membersAt (l .count) (bytesIn l))
+              (plains-fit laws 6 (l .count) (bytesIn l) (λ x m. b x (earlier (l .len) (l .bytes) x m)));
         }
 
-    pub fine-list : (v : Version) (n : ℕ) (p : ListParameter) → n ≤ 23 → byVersion v (missing (p .disposition)) (listInRange f p) ≡ true → Bytes (p .value .bytes)
+    pub fine-list : (v : Version) (n : ℕ) (p : ListParameter) → n ≤ 23 → byVersion v (missing (p .disposition)) (listInRange f p) ≡ true
+        → Bytes (p .value .bytes)
         → Fine (listPairs n f p) 1 (byVersion v 0 272)
     fine-list Draft n p k h b = fine-none (p .disposition) (labelled n (array (itemsIn f (p .value)))) h
     fine-list Published n p k h b =

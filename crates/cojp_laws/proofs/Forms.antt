@@ -63,16 +63,19 @@ ReportsOf v p = byVersion v (missing (p .disposition)) (listInRange (some errorR
 pub reports-of : (v : Version) (q : JoinRequest) → requestInRange v q ≡ true → ReportsOf v (q .unsupported)
 unfolding requestInRange
 reports-of v q h =
-    both-right (leb (q .role) 1 && octetsInRange (q .network)) (byVersion v (missing (q .unsupported .disposition)) (listInRange (some errorReportsIn) (q .unsupported))) h
+    both-right (leb (q .role) 1 && octetsInRange (q .network))
+    (byVersion v (missing (q .unsupported .disposition)) (listInRange (some errorReportsIn) (q .unsupported))) h
 
 -- the draft's keys have no additional information
-pub keys-fitting : KeyLaws → (v : Version) (p : KeysParameter) → byVersion v (keysWithoutAdditionalInfo p) true ≡ true → p .disposition ≡ Taken
+pub keys-fitting : KeyLaws → (v : Version) (p : KeysParameter) → byVersion v (keysWithoutAdditionalInfo p) true ≡ true
+    → p .disposition ≡ Taken
     → (k : Key) → List·Memᴰ k (keysOf (p .value)) → Fitting (allowsAdditionalInfo v) (k .info)
 keys-fitting keys Draft p h e k m = keys .plain-each (keysOf (p .value)) (simp e at h) k m
 keys-fitting keys Published p h e k m = tt
 
 -- a taken list is the published form's, and is kept
-pub list-kept : (v : Version) (f : List Scalar → Picked) (p : ListParameter) → byVersion v (missing (p .disposition)) (listInRange f p) ≡ true → p .disposition ≡ Taken
+pub list-kept : (v : Version) (f : List Scalar → Picked) (p : ListParameter)
+    → byVersion v (missing (p .disposition)) (listInRange f p) ≡ true → p .disposition ≡ Taken
     → (v ≡ Published) × (kept f (p .value) ≡ true)
 list-kept Draft f p h e = absurd (not-taken (p .disposition) h e)
 list-kept Published f p h e = (refl, simp e at h)

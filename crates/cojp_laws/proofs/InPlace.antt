@@ -15,7 +15,8 @@ use Rattle.cojp.specs.declared.configuration.Configuration.{Configuration}
 use Rattle.cojp.specs.declared.request.JoinRequest.{JoinRequest}
 use Rattle.cojp_laws.specs.RoundTrip.{RequestRoundTrip, ConfigurationRoundTrip, RequestInPlace, ConfigurationInPlace}
 
-front : (b : Bool) (p d : List ℕ) (n : ℕ) → cond b (Length (length p)) (Refused Room) ≡ Length n → p ≡ take n (cond b (p ++ drop (length p) d) d)
+front : (b : Bool) (p d : List ℕ) (n : ℕ) → cond b (Length (length p)) (Refused Room) ≡ Length n
+    → p ≡ take n (cond b (p ++ drop (length p) d) d)
 front true p d n e = let m : n ≡ length p = cc in sym (take-at p (drop (length p) d) n (sym m))
 front false p d n e = absurd (let z : _≡_ {A = ℕ} 0 1 = cc in omega arith)
 

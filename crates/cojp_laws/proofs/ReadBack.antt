@@ -23,14 +23,16 @@ use Rattle.link_key.specs.set.KeyLaws.{KeyLaws}
 use Rattle.short_address.specs.Address.{isAddress}
 use Rattle.cojp.specs.Address.{addressOf, addressParameter, noAddressParameter, addressIn, addressRead}
 use Rattle.cojp.specs.KeySet.{keySetOf, keysParameter, noKeysParameter, group, further, groups, valued, groupsOf, keysReadAs}
-use Rattle.cojp.specs.Lists.{Picked, inArray, fitting, listAnswer, listParameter, noListParameter, listTaken, kept, itemsIn, bytesIn as bytesOf}
+use Rattle.cojp.specs.Lists.{Picked, inArray, fitting, listAnswer, listParameter}
+use Rattle.cojp.specs.Lists.{noListParameter, listTaken, kept, itemsIn, bytesIn as bytesOf}
 use Rattle.cojp_laws.specs.RoundTrip.{Kept}
 use Rattle.cojp.specs.Octets.{bytesIn, padded, octetsOf, octetsParameter, noOctetsParameter, octetsJudged, octetsRead}
 use Rattle.cojp.specs.Rate.{rateParameter, noRateParameter}
 use Rattle.cojp.specs.Reading.{Reading, refused, read, bind, byVersionOf, ifTaken}
 use Rattle.cojp.specs.Same.{octetsTaken, leaseOf, addressTaken, keysTaken, listTaken as tookList, rateTaken as tookRate}
 use Rattle.cojp.specs.Walk.{Form, pairRead, pairsRead, payloadReadBy}
-use Rattle.cojp.specs.Writing.{join, chain, labelled, leaseItems, additionalInfoItems, groupsItems, octetsInRange, jrcInRange, addressInRange, keysInRange}
+use Rattle.cojp.specs.Writing.{join, chain, labelled, leaseItems, additionalInfoItems, groupsItems}
+use Rattle.cojp.specs.Writing.{octetsInRange, jrcInRange, addressInRange, keysInRange}
 use Rattle.cojp.specs.declared.address.AddressParameter.{AddressParameter}
 use Rattle.cojp.specs.declared.address.ShortAddress.{ShortAddress}
 use Rattle.cojp.specs.declared.key_set.KeysParameter.{KeysParameter}
@@ -74,7 +76,10 @@ module _ {S : Type 0} (F : Form S) where
       → payloadReadBy F (headBy b) s (encode (map ps)) ≡ pairsRead F s ps
   unfolding payloadReadBy
   payload-read laws b ps s f h n =
-      rw (le-ltb 256 (length (encode (map ps))) n, laws .payload-round-trip b (map ps) (omega (arith, f .level)) (omega (arith, f .few), f .fit))
+      rw (
+        le-ltb 256 (length (encode (map ps))) n,
+        laws .payload-round-trip b (map ps) (omega (arith, f .level)) (omega (arith, f .few), f .fit),
+      )
 
 -- what is good is taken in both forms
 pub following-good : {P : Type 0} (v : Version) (bad p : P) (r : Reading P) → r ≡ read p → byVersionOf v bad r ≡ read p
@@ -82,7 +87,8 @@ following-good Draft bad p r e = e
 following-good Published bad p r e = rw e
 
 -- ---- what a taken parameter reads back as, and that it is the same and not discarded
-pub kept-if : {P : Type 0} (report : P → Disposition) (a b : P) (r : Disposition) → report a ≡ Taken → report b ≡ Absent → Kept (report (ifTaken r a b))
+pub kept-if : {P : Type 0} (report : P → Disposition) (a b : P) (r : Disposition) → report a ≡ Taken → report b ≡ Absent
+    → Kept (report (ifTaken r a b))
 kept-if report a b Absent e f h = let z : _≡_ {A = ℕ} 0 1 = cc in omega arith
 kept-if report a b Taken e f h = let z : _≡_ {A = ℕ} 0 1 = cc in omega arith
 kept-if report a b Discarded e f h = let z : _≡_ {A = ℕ} 0 1 = cc in omega arith
@@ -100,11 +106,13 @@ octetsGood p = octetsParameter Taken (octetsOf (bytesIn (p .value)))
 abbrev pub octetsBack : OctetsParameter → OctetsParameter
 octetsBack p = ifTaken (p .disposition) (octetsGood p) (noOctetsParameter Absent)
 
-octets-read : (least : ℕ) (s : List ℕ) → least ≤ length s → length s ≤ 16 → octetsRead least (scalar (string s)) ≡ read (octetsParameter Taken (octetsOf s))
+octets-read : (least : ℕ) (s : List ℕ) → least ≤ length s → length s ≤ 16
+    → octetsRead least (scalar (string s)) ≡ read (octetsParameter Taken (octetsOf s))
 unfolding octetsJudged
 octets-read least s h l = rw (le-leb least (length s) h, le-leb (length s) 16 l)
 
-pub octets-back : (p : OctetsParameter) → octetsInRange p ≡ true → p .disposition ≡ Taken → octetsRead 0 (scalar (string (bytesIn (p .value)))) ≡ read (octetsGood p)
+pub octets-back : (p : OctetsParameter) → octetsInRange p ≡ true → p .disposition ≡ Taken
+    → octetsRead 0 (scalar (string (bytesIn (p .value)))) ≡ read (octetsGood p)
 octets-back p h e =
     octets-read 0 (bytesIn (p .value)) (omega arith) (omega (arith, octets-few p h e, length-take (p .value .len) (p .value .bytes)))
 
@@ -120,7 +128,8 @@ unfolding padded
 padded-bytes s = take-append-seam s _
 
 pub octets-same : (p : OctetsParameter) → octetsTaken (octetsBack p) ≡ octetsTaken p
-octets-same p = same-if octetsTaken (octetsGood p) (noOctetsParameter Absent) (bytesIn (p .value)) (p .disposition) (λ t. ap some (padded-bytes (bytesIn (p .value)))) refl
+octets-same p = same-if octetsTaken (octetsGood p) (noOctetsParameter Absent) (bytesIn (p .value)) (p .disposition)
+    (λ t. ap some (padded-bytes (bytesIn (p .value)))) refl
 
 -- ---- short addresses
 -- the members of its array
@@ -140,7 +149,8 @@ unfolding addressIn
 address-read s true n h = rw h
 address-read s false n h = rw h
 
-pub address-back : (p : AddressParameter) → addressInRange p ≡ true → p .disposition ≡ Taken → addressRead (viewOf (array (addressItems (p .value)))) ≡ read (addressGood p)
+pub address-back : (p : AddressParameter) → addressInRange p ≡ true → p .disposition ≡ Taken
+    → addressRead (viewOf (array (addressItems (p .value)))) ≡ read (addressGood p)
 address-back p h e = address-read (p .value .bytes) (p .value .leased) (p .value .lease) (simp e at h)
 
 lease-same : (s : List ℕ) (b : Bool) (n : ℕ) → leaseOf (addressOf s b (cond b n 0)) ≡ leaseOf (addressOf s b n)
@@ -162,7 +172,8 @@ keysBack p = ifTaken (p .disposition) (keysGood p) (noKeysParameter Absent)
 
 -- what comes after a value: its additional information, and the groups that follow
 module _ (b : Bool) (i u : ℕ) (s : List ℕ) where
-  value-last : (ks : List Key) → valued b i u s (scalarsOf (groupsItems ks)) ≡ group i u s info.Absent (groups b (scalarsOf (groupsItems ks)))
+  value-last : (ks : List Key)
+      → valued b i u s (scalarsOf (groupsItems ks)) ≡ group i u s info.Absent (groups b (scalarsOf (groupsItems ks)))
   unfolding groups
   value-last [] = refl
   value-last (k ∷ ks) = refl
@@ -179,13 +190,15 @@ module _ (b : Bool) (i u : ℕ) (s : List ℕ) where
       go false f = absurd (let z : _≡_ {A = ℕ} 0 1 = cc in omega arith)
   info-read (info.Eight p q r t w x y z) ks f = go b f
     where
-      go : (c : Bool) → Fitting c (info.Eight p q r t w x y z) → further c i u s (some (info.Eight p q r t w x y z)) (groups b (scalarsOf (groupsItems ks)))
+      go : (c : Bool) → Fitting c (info.Eight p q r t w x y z)
+          → further c i u s (some (info.Eight p q r t w x y z)) (groups b (scalarsOf (groupsItems ks)))
           ≡ group i u s (info.Eight p q r t w x y z) (groups b (scalarsOf (groupsItems ks)))
       go true f = refl
       go false f = absurd (let z : _≡_ {A = ℕ} 0 1 = cc in omega arith)
 
 module _ (b : Bool) where
-  group-read : (k : Key) (ks : List Key) (z : Bool) → eqb (k .usage) 0 ≡ z → Fitting b (k .info) → groups b (scalarsOf (groupsItems ks)) ≡ groupsOf ks
+  group-read : (k : Key) (ks : List Key) (z : Bool) → eqb (k .usage) 0 ≡ z → Fitting b (k .info)
+      → groups b (scalarsOf (groupsItems ks)) ≡ groupsOf ks
       → groups b (scalarsOf (groupsItems (k ∷ ks))) ≡ groupsOf (k ∷ ks)
   unfolding groups
   group-read k ks true e f h =
@@ -205,7 +218,8 @@ module _ (b : Bool) where
 
 pub keys-same : (p : KeysParameter) → keysTaken (keysBack p) ≡ keysTaken p
 keys-same p =
-    same-if keysTaken (keysGood p) (noKeysParameter Absent) (keysOf (p .value)) (p .disposition) (λ t. ap some (take-append-seam (keysOf (p .value)) _)) refl
+    same-if keysTaken (keysGood p) (noKeysParameter Absent) (keysOf (p .value)) (p .disposition)
+    (λ t. ap some (take-append-seam (keysOf (p .value)) _)) refl
 
 -- ---- lists that are kept
 module _ (f : List Scalar → Picked) where

@@ -17,7 +17,8 @@ use Rattle.cojp.specs.ErrorReports.{noErrorReports}
 use Rattle.cojp.specs.Lists.{errorReportsIn, some, noListParameter, unsupportedTaken, itemsIn}
 use Rattle.cojp.specs.Octets.{bytesIn, noOctetsParameter, octetsRead}
 use Rattle.cojp.specs.Reading.{read, ifTaken}
-use Rattle.cojp.specs.Request.{roleJudged, requestState, emptyRequestState, withNetwork, withUnsupported, requestLabelStatus, requestTaking, requestForm, owing, acceptRequest, readRequestBy}
+use Rattle.cojp.specs.Request.{roleJudged, requestState, emptyRequestState, withNetwork, withUnsupported}
+use Rattle.cojp.specs.Request.{requestLabelStatus, requestTaking, requestForm, owing, acceptRequest, readRequestBy}
 use Rattle.cojp.specs.Walk.{pairRead, pairsRead}
 use Rattle.cojp.specs.Writing.{join, rolePairs, octetsPairs, listPairs, fits, owingPlan, requestPairs, requestInRange, requestPlan}
 use Rattle.cojp.specs.declared.list.ListParameter.{ListParameter}
@@ -38,7 +39,8 @@ use Rattle.cojp_laws.proofs.ReadBack.{octetsGood, octetsBack, octets-ba
 use Rattle.cojp_laws.proofs.Sizes.{emits, fitted, owed-none, fine-request}
 
 abbrev requested : ℕ → OctetsParameter → ListParameter → JoinRequest
-requested role network unsupported = record { role = role; network = network; unsupported = unsupported; errors = noErrorReports; unknown = 0 }
+requested role network unsupported =
+    record { role = role; network = network; unsupported = unsupported; errors = noErrorReports; unknown = 0 }
 
 -- a role that was written was seen
 abbrev seen : ℕ → Bool
@@ -46,19 +48,22 @@ seen role = not (eqb role 0)
 
 -- ---- the parameters, each in its turn
 role-read : (v : Version) (n : ℕ) → n ≤ 1
-    → pairsRead (requestForm v) emptyRequestState (rolePairs n) ≡ read (requestState (seen n) (requested n (noOctetsParameter Absent) (noListParameter Absent)))
+    → pairsRead (requestForm v) emptyRequestState (rolePairs n)
+    ≡ read (requestState (seen n) (requested n (noOctetsParameter Absent) (noListParameter Absent)))
 unfolding roleJudged requestLabelStatus requestTaking
 role-read v zero h = refl
 role-read Draft (suc zero) h = refl
 role-read Published (suc zero) h = refl
 role-read v (suc (suc n)) h = absurd (omega arith)
 
-network-step : (v : Version) (g : RequestState) (x : View) (p : OctetsParameter) → g .request .network .disposition ≡ Absent → octetsRead 0 x ≡ read p
+network-step : (v : Version) (g : RequestState) (x : View) (p : OctetsParameter) → g .request .network .disposition ≡ Absent
+    → octetsRead 0 x ≡ read p
     → pairRead (requestForm v) g (label.Number 5) x ≡ read (withNetwork g p)
 unfolding requestLabelStatus requestTaking
 network-step v g x p a e = rw (a, following-good v (noOctetsParameter Discarded) p (octetsRead 0 x) e)
 
-unsupported-step : (v : Version) (g : RequestState) (x : View) (p : ListParameter) → v ≡ Published → g .request .unsupported .disposition ≡ Absent
+unsupported-step : (v : Version) (g : RequestState) (x : View) (p : ListParameter) → v ≡ Published
+    → g .request .unsupported .disposition ≡ Absent
     → unsupportedTaken x ≡ p → p .disposition ≡ Taken → pairRead (requestForm v) g (label.Number 8) x ≡ read (withUnsupported g p)
 unfolding requestLabelStatus requestTaking
 unsupported-step Draft g x p d a e t = absurd (let z : _≡_ {A = ℕ} 0 1 = cc in omega arith)
@@ -78,16 +83,21 @@ module _ (lists : ListLaws) (v : Version) (q : JoinRequest) (f : RequestFits q) 
       let n = octetsBack o in
       let state : OctetsParameter → ListParameter → RequestState = λ n l. requestState (seen (q .role)) (requested (q .role) n l) in
       let e1 =
-      parameter-read F (state none no-list) 5 (o .disposition) (bytes (bytesIn (o .value))) (λ p (u : Unit {0}). state p no-list) (octetsGood o) none tt tt refl
+      parameter-read F (state none no-list) 5 (o .disposition) (bytes (bytesIn (o .value))) (λ p (u : Unit {0}). state p no-list)
+      (octetsGood o) none tt tt refl
       (λ e. network-step v (state none no-list) (viewOf (bytes (bytesIn (o .value)))) (octetsGood o) refl (octets-back o (f .network) e)) in
       let e2 =
-      parameter-read F (state n no-list) 8 (l .disposition) (array (itemsIn (some errorReportsIn) (l .value))) (λ p (u : Unit {0}). state n p) (listGood (some errorReportsIn) l) no-list tt tt refl
+      parameter-read F (state n no-list) 8 (l .disposition) (array (itemsIn (some errorReportsIn) (l .value)))
+      (λ p (u : Unit {0}). state n p) (listGood (some errorReportsIn) l) no-list tt tt refl
       (λ e.
       let (p, k) = list-kept v (some errorReportsIn) l u e in
-      unsupported-step v (state n no-list) (viewOf (array (itemsIn (some errorReportsIn) (l .value)))) (listGood (some errorReportsIn) l) p refl
+      unsupported-step v (state n no-list) (viewOf (array (itemsIn (some errorReportsIn) (l .value))))
+      (listGood (some errorReportsIn) l) p refl
       (list-back (some errorReportsIn) (lists .unsupported-back) l (λ t. k) e) refl) in
-      then F (join (rolePairs (q .role)) (octetsPairs 5 o)) (listPairs 8 (some errorReportsIn) l) emptyRequestState (state n no-list) (requestState (seen (q .role)) back)
-      (then F (rolePairs (q .role)) (octetsPairs 5 o) emptyRequestState (state none no-list) (state n no-list) (role-read v (q .role) (f .role)) e1)
+      then F (join (rolePairs (q .role)) (octetsPairs 5 o)) (listPairs 8 (some errorReportsIn) l) emptyRequestState (state n no-list)
+      (requestState (seen (q .role)) back)
+      (then F (rolePairs (q .role)) (octetsPairs 5 o) emptyRequestState (state none no-list) (state n no-list)
+      (role-read v (q .role) (f .role)) e1)
       e2
 
 -- only a taken identifier serves, before and after
@@ -113,7 +123,8 @@ request-round-trip items heads lists q list v p e b =
     let back : readRequestBy v (headBy b) p ≡ acceptRequest (back lists v q within reports) =
     rw (
       ← y,
-      payload-read (requestForm v) items b (requestPairs q) emptyRequestState (fine-request heads items lists v q within reports list) (omega arith) n,
+      payload-read (requestForm v) items b (requestPairs q) emptyRequestState (fine-request heads items lists v q within reports list)
+          (omega arith) n,
       request-read lists v q within reports,
       owed,
     ) in
@@ -125,8 +136,10 @@ request-round-trip items heads lists q list v p e b =
         network = octets-same (q .network);
         unsupported = list-same (some errorReportsIn) (lists .unsupported-back) l (λ t. list-kept v (some errorReportsIn) l reports t .1);
       };
-      network-kept = kept-if (λ (o : OctetsParameter). o .disposition) (octetsGood (q .network)) (noOctetsParameter Absent) (q .network .disposition) refl refl;
-      unsupported-kept = kept-if (λ (l : ListParameter). l .disposition) (listGood (some errorReportsIn) l) (noListParameter Absent) (l .disposition) refl refl;
+      network-kept = kept-if (λ (o : OctetsParameter). o .disposition) (octetsGood (q .network)) (noOctetsParameter Absent)
+          (q .network .disposition) refl refl;
+      unsupported-kept = kept-if (λ (l : ListParameter). l .disposition) (listGood (some errorReportsIn) l) (noListParameter Absent)
+          (l .disposition) refl refl;
       unreported = refl;
       passed = refl;
     })

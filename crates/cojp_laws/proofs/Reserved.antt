@@ -1,4 +1,5 @@
--- A taken address is in range, and neither of the two is: so a reading that took one was refused or is in range, and the writer answers RANGE.
+-- A taken address is in range, and neither of the two is:
+-- so a reading that took one was refused or is in range, and the writer answers RANGE.
 use Prim.Native.Nat.{ℕ}
 use native.Mathlib.Omega.{arith}
 use mathlib.Core.Path.{_≡_, refl, sym, subst, _∙_}
@@ -60,7 +61,8 @@ module _ (A : AddressLaws) where
     ordinary-none : (v : Version) (p : List ℕ) → HoldsReserved (readConfigurationAs v p .configuration) → ⊥
     ordinary-none v p = answer-none v (readConfigurationAs v p) (R v p) (D .configuration v heading p)
 
-    loose-none : (v : Version) (p : List ℕ) (b : Bool) → HoldsReserved (cond b (refuseConfiguration Loose) (readConfigurationAs v p) .configuration) → ⊥
+    loose-none : (v : Version) (p : List ℕ) (b : Bool)
+        → HoldsReserved (cond b (refuseConfiguration Loose) (readConfigurationAs v p) .configuration) → ⊥
     loose-none v p true h = empty-none h
     loose-none v p false h = ordinary-none v p h
 

@@ -29,7 +29,8 @@ use Rattle.cojp_write.specs.octets.Fits.{RequestFits}
 use Rattle.cojp_write.proofs.octets.Limits.{Judged, configuration-fits}
 use Rattle.cojp_write.proofs.octets.Maps.{map-length}
 use Rattle.cojp_laws.specs.Largest.{LargestConfiguration, DraftWritten, PayloadsFit}
-use Rattle.cojp_laws.proofs.Fine.{Fine, fine-join, fine-role, fine-octets, fine-address, fine-keys, fine-rate, jrc-in-range, groupsRoom}
+use Rattle.cojp_laws.proofs.Fine.{Fine, fine-join, fine-role, fine-octets, fine-address}
+use Rattle.cojp_laws.proofs.Fine.{fine-keys, fine-rate, jrc-in-range, groupsRoom}
 use Rattle.cojp_laws.proofs.FineLists.{strings-fit, some-fit, fine-list}
 use Rattle.cojp_laws.proofs.Forms.{ReportsOf, of-form, keys-fitting}
 use Rattle.cojp_laws.proofs.Typed.{TypedConfiguration}
@@ -87,7 +88,8 @@ module _ (heads : HeadLaws) (items : ItemLaws) (lists : ListLaws) where
   module _ (keys : KeyLaws) (c : Configuration) (typed : TypedConfiguration c) where
     -- ---- the configuration
     pub fine-configuration : (v : Version) → Judged v c
-        → Fine (configurationPairs c) 7 (3 + groupsRoom (allowsAdditionalInfo v) 8 + 14 + 18 + 18 + 18 + byVersion v 0 272 + byVersion v 0 10)
+        → Fine (configurationPairs c) 7
+        (3 + groupsRoom (allowsAdditionalInfo v) 8 + 14 + 18 + 18 + 18 + byVersion v 0 272 + byVersion v 0 10)
     fine-configuration v f =
         let o = of-form v c (f .form) in
         let k = fine-keys heads keys (allowsAdditionalInfo v) (c .keys) (f .keys) (keys-fitting keys v (c .keys) (o .keys)) in
@@ -95,8 +97,10 @@ module _ (heads : HeadLaws) (items : ItemLaws) (lists : ListLaws) where
         let j = fine-octets heads 4 (c .jrc) (omega arith) (jrc-in-range (c .jrc) (f .jrc)) in
         let n = fine-octets heads 5 (c .network) (omega arith) (f .network) in
         let p = fine-octets heads 6 (c .prefix) (omega arith) (f .prefix) in
-        let l = fine-list heads items stringsIn strings-fit (lists .blacklist-written) v 6 (c .blacklist) (omega arith) (o .blacklist) (typed .list) in
-        fine-join (fine-join (fine-join (fine-join (fine-join (fine-join k a) j) n) p) l) (fine-rate heads v (c .rate) (o .rate) (typed .rate))
+        let l = fine-list heads items stringsIn strings-fit (lists .blacklist-written) v 6 (c .blacklist) (omega arith) (o .blacklist)
+        (typed .list) in
+        fine-join (fine-join (fine-join (fine-join (fine-join (fine-join k a) j) n) p) l)
+        (fine-rate heads v (c .rate) (o .rate) (typed .rate))
 
     -- in the draft
     draft-size : configurationInRange Draft c ≡ true → length (encode (map (configurationPairs c))) ≤ 232

@@ -37,7 +37,8 @@ none-reported f [] = refl
 none-reported f (x ∷ xs) = rw (none-named (parameterOf Published (x .label))) (none-reported f xs)
 
 pub unreported :
-    (c : Configuration) → Kept (c .keys .disposition) → Kept (c .address .disposition) → Kept (c .jrc .disposition) → Kept (c .blacklist .disposition) →
+    (c : Configuration) → Kept (c .keys .disposition) → Kept (c .address .disposition) → Kept (c .jrc .disposition) →
+    Kept (c .blacklist .disposition) →
     Kept (c .rate .disposition) → errorReportsOf c ≡ noErrorReports
 unfolding errorReportsOf
 unreported c k a j b r =

@@ -14,7 +14,8 @@ use Rattle.cbor.specs.Encode.{shortest, encode, encodePairs}
 use Rattle.cbor.specs.Item.{map}
 use Rattle.byte_io.specs.declared.WriteResult.the-variants.{Refused}
 use Rattle.cojp.specs.Request.{owing}
-use Rattle.cojp.specs.Writing.{octetsPairs, requestPairs, requestInRange, requestPlan, configurationPairs, configurationInRange, configurationPlan}
+use Rattle.cojp.specs.Writing.{octetsPairs, requestPairs, requestInRange, requestPlan}
+use Rattle.cojp.specs.Writing.{configurationPairs, configurationInRange, configurationPlan}
 use Rattle.cojp.specs.declared.configuration.Configuration.{Configuration}
 use Rattle.cojp.specs.declared.list.ListParameter.{ListParameter}
 use Rattle.cojp.specs.declared.octets.OctetsParameter.{OctetsParameter}

@@ -10,7 +10,8 @@ use Rattle.link_key.specs.Key.{keyWithAdditionalInfo}
 use Rattle.link_key.specs.declared.Key.{Key}
 use Rattle.link_key.specs.declared.additional_info.AdditionalInfo.the-variants as info
 use Rattle.cojp.specs.Address.{addressOf, addressParameter, noAddressParameter}
-use Rattle.cojp.specs.Configuration.{emptyConfiguration, withKeys, withAddress, withJrc, withPrefix, withBlacklist, withRate, withUnknownCount}
+use Rattle.cojp.specs.Configuration.{emptyConfiguration, withKeys, withAddress, withJrc}
+use Rattle.cojp.specs.Configuration.{withPrefix, withBlacklist, withRate, withUnknownCount}
 use Rattle.cojp.specs.Examples.{cafe}
 use Rattle.cojp.specs.ErrorReports.{noErrorReports}
 use Rattle.cojp.specs.KeySet.{keySetOf, keysParameter}
@@ -87,7 +88,8 @@ blacklisting l = withBlacklist emptyConfiguration l
 
 abbrev sourced : Configuration
 sourced =
-    withKeys emptyConfiguration (keysParameter Taken (keySetOf (keyWithAdditionalInfo 1 0 (replicate 16 0x50) (info.Four 0xD0 0xD1 0xD2 0xD3) ∷ [])))
+    withKeys emptyConfiguration
+    (keysParameter Taken (keySetOf (keyWithAdditionalInfo 1 0 (replicate 16 0x50) (info.Four 0xD0 0xD1 0xD2 0xD3) ∷ [])))
 
 abbrev reports : ListParameter
 reports = listed 3 (0x01 ∷ 0x06 ∷ 0xF6 ∷ [])
@@ -96,7 +98,8 @@ abbrev pub publishedExamples : List Example
 publishedExamples =
     writes (configurationPlan Published rated) (0xA1 ∷ 0x07 ∷ 0x05 ∷ [])
     ∷ refuses (configurationPlan Draft rated) 16 13
-    ∷ writes (configurationPlan Published (blacklisting (listed 1 (0x42 ∷ 0xCA ∷ 0xFE ∷ [])))) (0xA1 ∷ 0x06 ∷ 0x81 ∷ 0x42 ∷ 0xCA ∷ 0xFE ∷ [])
+    ∷ writes (configurationPlan Published (blacklisting (listed 1 (0x42 ∷ 0xCA ∷ 0xFE ∷ []))))
+    (0xA1 ∷ 0x06 ∷ 0x81 ∷ 0x42 ∷ 0xCA ∷ 0xFE ∷ [])
     ∷ writes (configurationPlan Published (blacklisting (listed 0 []))) (0xA1 ∷ 0x06 ∷ 0x80 ∷ [])
     ∷ refuses (configurationPlan Published (blacklisting (listed 2 (0x42 ∷ 0xCA ∷ 0xFE ∷ [])))) 16 13
     ∷ refuses (configurationPlan Published (withPrefix emptyConfiguration cafe)) 16 13

@@ -44,6 +44,7 @@ module _ (f : List Scalar → Picked) (l : ItemList) where
   unfolding kept
   kept-long h = rw (lt-leb (l .len) 253 h)
 
-  pub kept-again : l .len ≤ 253 → (r : ListRead) → r ≡ listAnswer (fitting 253 (f (membersAt (l .count) (drop 0 (bytesIn l))))) → (b : Bool) → b ≡ sameAs r l → b ≡ kept f l
+  pub kept-again : l .len ≤ 253 → (r : ListRead) → r ≡ listAnswer (fitting 253 (f (membersAt (l .count) (drop 0 (bytesIn l))))) → (b : Bool)
+      → b ≡ sameAs r l → b ≡ kept f l
   unfolding kept
   kept-again h r e b g = rw (le-leb (l .len) 253 h, ← e) g

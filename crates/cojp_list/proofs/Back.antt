@@ -103,7 +103,8 @@ kept-parts f l e =
           picks = g;
           small = leb-true (length (written ps)) 253 k;
           many = eqb-true (length ps) (l .count) (both-left counts same h);
-          bytes = sym (take-append-seam (written ps) _) ∙ same-equal (take (length (written ps)) (padded 253 (written ps))) (bytesIn l) (both-right counts same h);
+          bytes = sym (take-append-seam (written ps) _)
+              ∙ same-equal (take (length (written ps)) (padded 253 (written ps))) (bytesIn l) (both-right counts same h);
         }
 
     go : (q : Picked) → f (membersAt (l .count) (bytesIn l)) ≡ q → sameAs (listAnswer (fitting 253 q)) l ≡ true → Parts f l
@@ -117,10 +118,15 @@ module _ (f : List Scalar → Picked) (l : ItemList) (p : Parts f l) where
   pub list-written : encode (array (itemsIn f l)) ≡ shortest 4 (l .count) ++ bytesIn l
   list-written = rw (items-are, items-count (p .members), p .many, p .bytes)
 
-  pub list-back : Again f → listAnswer (fitting 253 (inArray f (viewOf (array (itemsIn f l))))) ≡ record { good = true; value = listOf (p .members) }
+  pub list-back : Again f
+      → listAnswer (fitting 253 (inArray f (viewOf (array (itemsIn f l))))) ≡ record { good = true; value = listOf (p .members) }
   list-back a =
-      rw
-      (items-are, plains-back (p .members), a (membersAt (l .count) (bytesIn l)) (p .members) (p .picks), le-leb (length (written (p .members))) 253 (p .small))
+      rw (
+        items-are,
+        plains-back (p .members),
+        a (membersAt (l .count) (bytesIn l)) (p .members) (p .picks),
+        le-leb (length (written (p .members))) 253 (p .small),
+      )
 
   pub list-same : (listOf (p .members) .count ≡ l .count) × (bytesIn (listOf (p .members)) ≡ bytesIn l)
   unfolding padded

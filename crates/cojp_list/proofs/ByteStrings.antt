@@ -28,7 +28,8 @@ module _ {s : List ℕ} {at left : ℕ} {v : Member} (e : MemberSpec s at left v
     pub string-inside : p + a ≤ length s
     string-inside = here .1
 
-    pub string-next : stringsIn (membersAt left (drop at s)) ≡ before (string (take a (drop p s)) ∷ []) (stringsIn (membersAt (left - 1) (drop (p + a) s)))
+    pub string-next : stringsIn (membersAt left (drop at s))
+        ≡ before (string (take a (drop p s)) ∷ []) (stringsIn (membersAt (left - 1) (drop (p + a) s)))
     unfolding stringsIn
     string-next = rw (here .2)
 

@@ -78,7 +78,8 @@ written-long H (p ∷ ps) = omega (arith, one-byte H p, written-long H ps, lengt
 
 fitting-over : (n : ℕ) (a : List Scalar) (q : Picked) → n < length (written a) → fitting n (before a q) ≡ nothing
 fitting-over n a nothing h = refl
-fitting-over n a (picked ps) h = let l : n < length (written (a ++ ps)) = omega (arith, written-length a ps) in rw (lt-leb (length (written (a ++ ps))) n l)
+fitting-over n a (picked ps) h = let l : n < length (written (a ++ ps)) = omega (arith, written-length a ps) in
+    rw (lt-leb (length (written (a ++ ps))) n l)
 
 -- ---- a loop over what is left
 -- `whole` is what is to be kept, d the destination before; `rest` is to be kept yet, and d′ is the destination now
@@ -152,12 +153,14 @@ gathering-ended f left l e h = let z : left ≡ 0 = omega arith in ap f (members
 
 -- ---- one turn: r is the answer of writing xs to the lent part, which then is q
 module _ (whole : Picked) (d : List ℕ) where
-  pub record Turn (rest : Picked) (len members : ℕ) (d′ : List ℕ) (xs : List Scalar) (next : Picked) (r : WriteResult) (q : List ℕ) : Type 0 where
+  pub record Turn (rest : Picked) (len members : ℕ) (d′ : List ℕ) (xs : List Scalar) (next : Picked) (r : WriteResult)
+      (q : List ℕ) : Type 0 where
     pub gathering : Gathering whole d rest len members d′
     pub step : rest ≡ before xs next
     pub put : Did (emit (written xs)) (take (length d′ - len) (drop len d′)) r q
 
-module _ {whole rest : Picked} {d : List ℕ} {len members : ℕ} {d′ : List ℕ} {xs : List Scalar} {next : Picked} {r : WriteResult} {q : List ℕ}
+module _ {whole rest : Picked} {d : List ℕ} {len members : ℕ} {d′ : List ℕ} {xs : List Scalar} {next : Picked}
+    {r : WriteResult} {q : List ℕ}
     (t : Turn whole d rest len members d′ xs next r q) where
   lent : length (take (length d′ - len) (drop len d′)) ≡ length d′ - len
   lent = simp (length-take, length-drop) (omega arith)

@@ -54,8 +54,10 @@ report-read : (code label : ℕ) → leb code 1 ≡ true → isReportable label 
 unfolding shortest infoOf extraOf bytesOf scalarAt decodeBy heading argument next digits majorOf
 report-read code label h k =
     each-code (λ (c : ℕ). Read c label)
-    (each-label (λ (x : ℕ). Read 0 x) (λ n l. (refl, refl)) (λ n l. (refl, refl)) (λ n l. (refl, refl)) (λ n l. (refl, refl)) (λ n l. (refl, refl)) label k)
-    (each-label (λ (x : ℕ). Read 1 x) (λ n l. (refl, refl)) (λ n l. (refl, refl)) (λ n l. (refl, refl)) (λ n l. (refl, refl)) (λ n l. (refl, refl)) label k)
+    (each-label (λ (x : ℕ). Read 0 x) (λ n l. (refl, refl)) (λ n l. (refl, refl)) (λ n l. (refl, refl)) (λ n l. (refl, refl))
+    (λ n l. (refl, refl)) label k)
+    (each-label (λ (x : ℕ). Read 1 x) (λ n l. (refl, refl)) (λ n l. (refl, refl)) (λ n l. (refl, refl)) (λ n l. (refl, refl))
+    (λ n l. (refl, refl)) label k)
     code h
 
 -- ---- all of them: three bytes each, read as they were written
@@ -65,7 +67,8 @@ bytes-of (x ∷ xs) = x .code ∷ x .label ∷ 0xf6 ∷ bytes-of xs
 
 module _ (x : ErrorReport) (h : validErrorReport x ≡ true) where
   one : Read (x .code) (x .label)
-  one = report-read (x .code) (x .label) (both-left (leb (x .code) 1) (isReportable (x .label)) h) (both-right (leb (x .code) 1) (isReportable (x .label)) h)
+  one = report-read (x .code) (x .label) (both-left (leb (x .code) 1) (isReportable (x .label)) h)
+      (both-right (leb (x .code) 1) (isReportable (x .label)) h)
 
 module _ (x : ErrorReport) (xs : List ErrorReport) (h : allOf validErrorReport (x ∷ xs) ≡ true) where
   first : validErrorReport x ≡ true
@@ -82,7 +85,8 @@ three-bytes (x ∷ xs) h =
 read-again : (xs : List ErrorReport) → allOf validErrorReport xs ≡ true → membersAt (length (membersOf xs)) (bytes-of xs) ≡ membersOf xs
 read-again [] h = refl
 read-again (x ∷ xs) h =
-    one x (first x xs h) (length (membersOf xs)) (bytes-of xs) .1 ∙ ap (λ (ps : List Scalar). membersOf (x ∷ []) ++ ps) (read-again xs (others x xs h))
+    one x (first x xs h) (length (membersOf xs)) (bytes-of xs) .1
+    ∙ ap (λ (ps : List Scalar). membersOf (x ∷ []) ++ ps) (read-again xs (others x xs h))
 
 all-kept : (xs : List ErrorReport) → errorReportsIn (membersOf xs) ≡ picked (membersOf xs)
 unfolding errorReportsIn
@@ -121,7 +125,8 @@ module _ (x : ErrorReport) (xs : List ErrorReport) (h : allOf validErrorReport (
 
 pub listed-in-range : (f : ErrorReports) → validErrorReports f ≡ true → listInRange (some errorReportsIn) (listedIn f) ≡ true
 unfolding validErrorReports listedIn
-listed-in-range f h = go (errorReportList f) (both-right (leb (f .count) 5) (allOf validErrorReport (errorReportList f)) h) (few-reports f h)
+listed-in-range f h =
+    go (errorReportList f) (both-right (leb (f .count) 5) (allOf validErrorReport (errorReportList f)) h) (few-reports f h)
   where
     go : (xs : List ErrorReport) → allOf validErrorReport xs ≡ true → length xs ≤ 5 → listInRange (some errorReportsIn) (listing xs) ≡ true
     go [] h n = refl

@@ -25,7 +25,8 @@ use Rattle.cojp_list.proofs.Gathering.{Gathering, Turn, list-bad, list-
 -- ---- the loop: the report at place i, and those after it
 module _ (xs : List ErrorReport) (n i : ℕ) where
   one-more : i < n → n ≤ length xs →
-      picked (membersOf (drop i (take n xs))) ≡ before (membersOf (getD xs i (errorReportOf 0 0) ∷ [])) (picked (membersOf (drop (i + 1) (take n xs))))
+      picked (membersOf (drop i (take n xs)))
+      ≡ before (membersOf (getD xs i (errorReportOf 0 0) ∷ [])) (picked (membersOf (drop (i + 1) (take n xs))))
   one-more h few = rw (prefix-next xs n i (errorReportOf 0 0) few h)
 
   pub none-more : n ≤ i → picked (membersOf (drop i (take n xs))) ≡ picked []
@@ -70,7 +71,8 @@ listed-none f e = go (errorReportList f) e
     go [] h = refl
     go (x ∷ xs) h = absurd (omega arith)
 
-listed-some : (f : ErrorReports) → ¬ (length (errorReportList f) ≡ 0) → listParameter Taken (listOf (membersOf (errorReportList f))) ≡ listedIn f
+listed-some : (f : ErrorReports) → ¬ (length (errorReportList f) ≡ 0)
+    → listParameter Taken (listOf (membersOf (errorReportList f))) ≡ listedIn f
 unfolding listedIn
 listed-some f e = go (errorReportList f) e
   where

@@ -40,7 +40,8 @@ refused-then s (refused k) r e j g = let z : sv.Refused k ≡ sv.Refused j = sym
 refused-then s (got i t) r e j g =
     absurd (let f : sv.Next (length s - length t) ≡ sv.Refused j = sym (e .is) ∙ g in let z : _≡_ {A = ℕ} 0 1 = cc in omega arith)
 
-next-then : (s : List ℕ) (o : Outcome Item) (r : SkipResult) → SkipSpec s o r → (p : ℕ) → r ≡ sv.Next p → (i : Item) × (o ≡ got i (drop p s))
+next-then : (s : List ℕ) (o : Outcome Item) (r : SkipResult) → SkipSpec s o r → (p : ℕ) → r ≡ sv.Next p
+    → (i : Item) × (o ≡ got i (drop p s))
 next-then s (refused k) r e p g =
     absurd (let f : sv.Refused k ≡ sv.Next p = sym (e .is) ∙ g in let z : _≡_ {A = ℕ} 0 1 = cc in omega arith)
 next-then s (got i t) r e p g = let f : t ≡ drop p s = rw g at (e .end) in (i, ap (got i) f)
@@ -81,7 +82,8 @@ module _ (s : List ℕ) (at n : ℕ) where
 
   module _ (h : 0 < n) (k : SkipResult) (e : SkipSpec s (decode 6 (drop at s)) k) where
     pub any-refused : (j : Refusal) → k ≡ sv.Refused j → AnyAt s at n (record { next = at; left = 0 })
-    any-refused j g = (other, h, members-step n (drop at s) h ∙ rw (refused-then s (decode 6 (drop at s)) k e j g, members-none 0 (drop at s) refl))
+    any-refused j g =
+        (other, h, members-step n (drop at s) h ∙ rw (refused-then s (decode 6 (drop at s)) k e j g, members-none 0 (drop at s) refl))
 
     pub any-next : (p : ℕ) → k ≡ sv.Next p → AnyAt s at n (record { next = p; left = n - 1 })
     any-next p g = (scalarAt (drop at s), omega arith, members-step n (drop at s) h ∙ rw (next-then s (decode 6 (drop at s)) k e p g .1))
@@ -131,7 +133,8 @@ module _ (s : List ℕ) (at n : ℕ) (i : Integer) (w : IntegerAt s at n i) wher
       go p (q ∷ x ∷ r) v = rw v
 
   pub fault-begun : {m : Bool} {x p : ℕ} → i ≡ iv.At m x p → (r : ErrorEntry)
-      → ErrorEntryAt s (n - 1) (errorReportsIn (integer m x ∷ membersAt (n - 1) (drop p s))) r → ErrorEntryAt s n (errorReportsIn (membersAt n (drop at s))) r
+      → ErrorEntryAt s (n - 1) (errorReportsIn (integer m x ∷ membersAt (n - 1) (drop p s))) r
+      → ErrorEntryAt s n (errorReportsIn (membersAt n (drop at s))) r
   fault-begun {m} {x} {p} g r v = let l : IntegerAt s at n (iv.At m x p) = rw g at w in go r (ap errorReportsIn (l .1)) v
     where
       go : {q t : Picked} (r : ErrorEntry) → q ≡ t → ErrorEntryAt s (n - 1) t r → ErrorEntryAt s n q r
@@ -149,7 +152,8 @@ major-most false = omega arith
 
 module _ (H : HeadLaws) where
   -- a head after what was written
-  head-next : {p d d′ q : List ℕ} {n k : ℕ} {r : WriteResult} (j x : ℕ) → length p + length (shortest j x) ≤ length d → j ≤ 7 → k ≡ extraOf x + 1
+  head-next : {p d d′ q : List ℕ} {n k : ℕ} {r : WriteResult} (j x : ℕ) → length p + length (shortest j x) ≤ length d → j ≤ 7
+      → k ≡ extraOf x + 1
       → Wrote p d n d′ → Did (headPlan j x) (take (length d′ - n) (drop n d′)) r q
       → Wrote (p ++ shortest j x) d (n + k) (take n d′ ++ (q ++ drop (length d′ - n) (drop n d′)))
   head-next {p} {d} {d′} {q} {n} {k} {r} j x h m e w v =
@@ -171,13 +175,20 @@ module _ (H : HeadLaws) where
     report-length : length (written report) ≡ n + k + 1
     report-length =
         ap length report-bytes ∙ length-append (shortest (cond b 1 0) c ++ shortest (cond m 1 0) l) (shortest 7 22)
-        ∙ omega (arith, length-append (shortest (cond b 1 0) c) (shortest (cond m 1 0) l), H .length-head (cond b 1 0) c, H .length-head (cond m 1 0) l, H .short-head 7 22 (omega arith))
+        ∙ omega (
+          arith,
+          length-append (shortest (cond b 1 0) c) (shortest (cond m 1 0) l),
+          H .length-head (cond b 1 0) c,
+          H .length-head (cond m 1 0) l,
+          H .short-head 7 22 (omega arith),
+        )
 
     pub report-room : length d < n + k + 1 → Did (emit (written report)) d (wv.Refused Room) d
     report-room h = did-room (written report) d (omega (arith, report-length))
 
     module _ (h : n + k + 1 ≤ length d) (i j : ℕ) (x : i ≡ cond b 1 0) (y : j ≡ cond m 1 0)
-        {r₁ r₂ : WriteResult} {d₁ q₂ : List ℕ} (w₁ : Did (headPlan i c) d r₁ d₁) (w₂ : Did (headPlan j l) (take (length d₁ - n) (drop n d₁)) r₂ q₂) where
+        {r₁ r₂ : WriteResult} {d₁ q₂ : List ℕ} (w₁ : Did (headPlan i c) d r₁ d₁)
+        (w₂ : Did (headPlan j l) (take (length d₁ - n) (drop n d₁)) r₂ q₂) where
       abbrev d₂ : List ℕ
       d₂ = take n d₁ ++ (q₂ ++ drop (length d₁ - n) (drop n d₁))
 
@@ -185,7 +196,8 @@ module _ (H : HeadLaws) where
       first =
           let v : Did (headPlan (cond b 1 0) c) d r₁ d₁ = rw x at w₁ in
           wrote-as n (omega (arith, H .length-head (cond b 1 0) c))
-          (did-kept (shortest (cond b 1 0) c) d r₁ d₁ (omega (arith, H .length-head (cond b 1 0) c)) (head-did (cond b 1 0) c d r₁ d₁ (major-most b) v))
+          (did-kept (shortest (cond b 1 0) c) d r₁ d₁ (omega (arith, H .length-head (cond b 1 0) c))
+          (head-did (cond b 1 0) c d r₁ d₁ (major-most b) v))
 
       second : Wrote (shortest (cond b 1 0) c ++ shortest (cond m 1 0) l) d (n + k) d₂
       second =
@@ -198,7 +210,13 @@ module _ (H : HeadLaws) where
           did-emit (omega (arith, report-length))
           (rw report-bytes
           (head-next 7 22
-          (omega (arith, length-append (shortest (cond b 1 0) c) (shortest (cond m 1 0) l), H .length-head (cond b 1 0) c, H .length-head (cond m 1 0) l, H .short-head 7 22 (omega arith)))
+          (omega (
+            arith,
+            length-append (shortest (cond b 1 0) c) (shortest (cond m 1 0) l),
+            H .length-head (cond b 1 0) c,
+            H .length-head (cond m 1 0) l,
+            H .short-head 7 22 (omega arith),
+          ))
           (omega arith)
           (omega (arith, H .length-head 7 22, H .short-head 7 22 (omega arith)))
           second

@@ -22,7 +22,8 @@ pub list-over : (l : ItemList) (d : List ℕ) → 253 < l .len → Did (listPlan
 unfolding listPlan
 list-over l d h = rw (lt-leb (l .len) 253 h) (did-refuse Range d)
 
-module _ (H : HeadLaws) (l : ItemList) (z : length (l .bytes) ≡ 253) (i : l .len ≤ 253) (d : List ℕ) {n : ℕ} (e : n ≡ extraOf (l .count) + 1) where
+module _ (H : HeadLaws) (l : ItemList) (z : length (l .bytes) ≡ 253) (i : l .len ≤ 253) (d : List ℕ) {n : ℕ}
+    (e : n ≡ extraOf (l .count) + 1) where
   abbrev c : ℕ
   c = l .count
 

@@ -37,4 +37,5 @@ AnyAt s at n r = (x : Scalar) × (r .left < n) × (membersAt n (drop at s) ≡ x
 
 abbrev pub ErrorEntryAt : List ℕ → ℕ → Picked → ErrorEntry → Type 0
 ErrorEntryAt s n q fv.Broken = q ≡ nothing
-ErrorEntryAt s n q (fv.Group b c m l p r) = (r < n) × (q ≡ before (integer b c ∷ integer m l ∷ other ∷ []) (errorReportsIn (membersAt r (drop p s))))
+ErrorEntryAt s n q (fv.Group b c m l p r) =
+    (r < n) × (q ≡ before (integer b c ∷ integer m l ∷ other ∷ []) (errorReportsIn (membersAt r (drop p s))))

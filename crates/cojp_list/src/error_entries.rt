@@ -35,7 +35,8 @@ pub(crate) fn write_entry(
     label_negative: bool,
     label: u64,
 ) -> WriteResult
-    ensures { λ r. ⌜ Did (emit (written (integer «code_negative» code ∷ integer «label_negative» label ∷ other ∷ []))) (now (dst .entry)) r (now (dst .exit)) ⌝ }
+    ensures { λ r. ⌜ Did (emit (written (integer «code_negative» code ∷ integer «label_negative» label ∷ other ∷ []))) (now (dst .entry)) r
+        (now (dst .exit)) ⌝ }
 {
     cbor::head_laws();
     let n = head_len(code);

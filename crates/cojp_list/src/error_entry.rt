@@ -79,7 +79,8 @@ fn pass_over(s: &[u8], at: usize, left: u64) -> Position
 
 // The rest of a report after its code.
 fn after_code(s: &[u8], at: usize, left: u64, negative: bool, code: u64) -> ErrorEntry
-    ensures { λ r. ⌜ ErrorEntryAt (now (s .entry)) left (errorReportsIn (integer negative code ∷ membersAt left (drop at (now (s .entry))))) r ⌝ }
+    ensures { λ r. ⌜ ErrorEntryAt (now (s .entry)) left
+        (errorReportsIn (integer negative code ∷ membersAt left (drop at (now (s .entry))))) r ⌝ }
 {
     let i = integer_at(s, at, left);
     match i {

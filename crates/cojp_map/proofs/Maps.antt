@@ -36,7 +36,8 @@ use Rattle.cojp.specs.declared.disposition.Disposition.the-variants.{Absent, Ta
 use Rattle.cojp.specs.declared.walk.LabelStatus.{LabelStatus}
 use Rattle.cojp.specs.declared.walk.LabelStatus.the-variants.{Unknown, First, Repeated}
 use Rattle.cojp.proofs.Nexts.{on-with}
-use Rattle.cojp_map.specs.Pairs.{startOf, startAnswer, mapIn, pairsIn, saysStart, StartSpec, labelledAnswer, PairLabelSpec, seen, once, walkAt}
+use Rattle.cojp_map.specs.Pairs.{startOf, startAnswer, mapIn, pairsIn, saysStart, StartSpec}
+use Rattle.cojp_map.specs.Pairs.{labelledAnswer, PairLabelSpec, seen, once, walkAt}
 use Rattle.cojp_map.specs.declared.open.PayloadResult.{PayloadResult}
 use Rattle.cojp_map.specs.declared.open.PayloadResult.the-variants as start
 use Rattle.cojp_map.specs.declared.pair.LabelResult.{LabelResult}
@@ -117,7 +118,8 @@ module _ (s : List ℕ) (at : ℕ) (r : HeadResult) (e : HeadSpec s at r) where
       inside = omega (arith, ap headPlace (sym g ∙ e .is), head-inside (length s) (heading (drop at s)));
     }
 
-    pub told-number : h .major ≡ 0 → PairLabelSpec s (drop at s) (record { verdict = verdict.Accepted; label = h .argument; value = h .next })
+    pub told-number : h .major ≡ 0
+        → PairLabelSpec s (drop at s) (record { verdict = verdict.Accepted; label = h .argument; value = h .next })
     told-number m = record { is = rw (here .number m); rest = value-after (omega arith) }
 
     pub told-negative : h .major ≡ 1 → PairLabelSpec s (drop at s) (record { verdict = verdict.Accepted; label = 0; value = h .next })
@@ -148,7 +150,8 @@ standing-seen Discarded = refl
 -- ---- the walk
 module _ {S : Type 0} (F : Form S) where
   pub known-put : {P : Type 0} (c : S) (n : ℕ) (v : View) (again : Bool) (f : P → S) (x : Reading P)
-      → F .standing c n ≡ ifAgain again → F .taking c n v ≡ mapReading f x → mapReading f (once again x) ≡ knownRead F (F .standing c n) c n v
+      → F .standing c n ≡ ifAgain again → F .taking c n v ≡ mapReading f x
+      → mapReading f (once again x) ≡ knownRead F (F .standing c n) c n v
   known-put c n v again f x g h = rw g (go again)
     where
       go : (again : Bool) → mapReading f (once again x) ≡ knownRead F (ifAgain again) c n v
@@ -226,7 +229,8 @@ module _ {S : Type 0} (F : Form S) where
       unfolding walkAt
       turn-on w d next t = ap (λ (x : Reading S). bind x (λ d. walkAt F (n - 1) d (afterValue (afterValue l)))) (t .says) ∙ step
 
-      pub turn-stops : (w : Verdict) (d : S) (next : ℕ) → Turned F c s l w d next → (k : Refusal) → w ≡ verdict.Refused k → refused k ≡ total
+      pub turn-stops : (w : Verdict) (d : S) (next : ℕ) → Turned F c s l w d next → (k : Refusal) → w ≡ verdict.Refused k
+          → refused k ≡ total
       turn-stops w d next t k g =
           ap (λ (w : Verdict). bind (resultOf w d) (λ d. walkAt F (n - 1) d (afterValue (afterValue l)))) (sym g) ∙ turn-on w d next t
 

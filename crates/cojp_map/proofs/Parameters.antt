@@ -19,7 +19,8 @@ pub octets-said : (r : OctetsRead) (x : Reading OctetsParameter) (n : ℕ) → r
 octets-said r (refused k) n e = rw e
 octets-said r (read p) n e = rw e
 
-pub address-said : (r : AddressRead) (x : Reading AddressParameter) (n : ℕ) → r ≡ addressAnswer x n → resultOf (r .verdict) (r .parameter) ≡ x
+pub address-said : (r : AddressRead) (x : Reading AddressParameter) (n : ℕ) → r ≡ addressAnswer x n
+    → resultOf (r .verdict) (r .parameter) ≡ x
 address-said r (refused k) n e = rw e
 address-said r (read p) n e = rw e
 
@@ -35,6 +36,7 @@ module _ {P : Type 0} (bad : P) (w : Verdict) (p : P) (x : Reading P) (e : resul
   pub said-bad : (k : Refusal) → w ≡ verdict.Refused k → bad ≡ malformedAs bad x
   said-bad k g = ap (λ (w : Verdict). malformedAs bad (resultOf w p)) (sym g) ∙ ap (malformedAs bad) e
 
-pub octets-kept : (r : OctetsRead) (x : Reading OctetsParameter) (bad : OctetsParameter) (n : ℕ) → r ≡ octetsAnswer x n → r .verdict ≡ verdict.Accepted
+pub octets-kept : (r : OctetsRead) (x : Reading OctetsParameter) (bad : OctetsParameter) (n : ℕ) → r ≡ octetsAnswer x n
+    → r .verdict ≡ verdict.Accepted
     → r ≡ octetsAnswer (read (malformedAs bad x)) (r .next)
 octets-kept r x bad n e g = rw (g, ← said-kept bad (r .verdict) (r .parameter) x (octets-said r x n e) g)

@@ -55,7 +55,8 @@ pub record StartSpec (b : Bool) (s : List ℕ) (r : PayloadResult) : Type 0 wher
   pub is : r ≡ startAnswer b s
   pub says : saysStart b s r
 
--- ---- a label: TYPE where it is no integer, and the place is then the payload's end; a negative one has the number 0, which no object knows
+-- ---- a label: TYPE where it is no integer, and the place is then the payload's end;
+-- a negative one has the number 0, which no object knows
 abbrev pub labelledAnswer : ℕ → Label → ℕ → LabelResult
 labelledAnswer end label.NoInteger p = record { verdict = verdict.Refused refusal.«Type»; label = 0; value = end }
 labelledAnswer end label.Negative p = record { verdict = verdict.Accepted; label = 0; value = p }

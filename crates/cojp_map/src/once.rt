@@ -27,7 +27,8 @@ pub fn is_seen(report: Disposition) -> bool
 
 // The byte string of `least` to 16 bytes at a place, in the published form: one that is bad is discarded, and the bytes go on after it.
 fn malformed_octets(s: &[u8], at: usize, least: usize) -> OctetsRead
-    ensures { λ r. ⌜ r ≡ octetsAnswer (read (malformedAs (noOctetsParameter Disposition.Discarded) (octetsRead least (valueView (drop at (now (s .entry))))))) (r .next) ⌝ }
+    ensures { λ r. ⌜ r ≡ octetsAnswer (read
+        (malformedAs (noOctetsParameter Disposition.Discarded) (octetsRead least (valueView (drop at (now (s .entry))))))) (r .next) ⌝ }
     ensures rest { λ r. ⌜ Accepting (r .verdict) (EndsAt (now (s .entry)) (r .next) (afterValue (drop at (now (s .entry))))) ⌝ }
 {
     let r = read_octets(s, at, least);
@@ -55,7 +56,9 @@ pub fn octets_once(
     least: usize,
     version: Version,
 ) -> OctetsRead
-    ensures { λ r. ⌜ r ≡ octetsAnswer (once (seen held) (byVersionOf version (noOctetsParameter Disposition.Discarded) (octetsRead least (valueView (drop at (now (s .entry))))))) (r .next) ⌝ }
+    ensures { λ r. ⌜ r ≡ octetsAnswer (once (seen held)
+        (byVersionOf version (noOctetsParameter Disposition.Discarded) (octetsRead least (valueView (drop at (now (s .entry)))))))
+        (r .next) ⌝ }
     ensures rest { λ r. ⌜ Accepting (r .verdict) (EndsAt (now (s .entry)) (r .next) (afterValue (drop at (now (s .entry))))) ⌝ }
 {
     if is_seen(held) {

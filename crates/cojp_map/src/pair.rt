@@ -21,7 +21,8 @@ pub struct LabelResult {
     pub value: usize,
 }
 
-// Where the bytes go on after the value at a place: the end where no item can be read there, which a payload that passed the scan does not have.
+// Where the bytes go on after the value at a place: the end where no item can be read there,
+// which a payload that passed the scan does not have.
 pub fn item_end(s: &[u8], at: usize) -> usize
     ensures { λ r. ⌜ EndsAt (now (s .entry)) r (afterValue (drop at (now (s .entry)))) ⌝ }
 {

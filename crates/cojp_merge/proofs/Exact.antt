@@ -100,7 +100,8 @@ octets-told : (least : ℕ) (v : View) → Gives OctetsTold (octetsRead least v)
 unfolding octetsJudged padded
 octets-told least (scalar (string s)) = by-length (leb least (length s) && leb (length s) 16)
   where
-    by-length : (b : Bool) → Gives OctetsTold (concluded (read (noOctetsParameter Discarded)) (octetsParameter Taken) (cond b (good (octetsOf s)) unfit))
+    by-length : (b : Bool)
+        → Gives OctetsTold (concluded (read (noOctetsParameter Discarded)) (octetsParameter Taken) (cond b (good (octetsOf s)) unfit))
     by-length true = ap octetsOf (sym (take-at s (replicate (16 - length s) 0) (length s) refl))
     by-length false = refl
 octets-told least (scalar (number n)) = tt
@@ -109,7 +110,8 @@ octets-told least (scalar other) = tt
 octets-told least (list ps) = tt
 
 -- ---- a configuration
-put-told : {A : Type 0} (P : A → Type 0) (f : A → Configuration) (r : Reading A) → Gives P r → ((a : A) → P a → Told (f a)) → Gives Told (mapReading f r)
+put-told : {A : Type 0} (P : A → Type 0) (f : A → Configuration) (r : Reading A) → Gives P r → ((a : A) → P a → Told (f a))
+    → Gives Told (mapReading f r)
 put-told P f (refused k) g h = tt
 put-told P f (read a) g h = h a g
 
@@ -214,7 +216,8 @@ noted-told n c h = record {
 taking-told : (c : Configuration) → Told c → (n : ℕ) (v : View) → Gives Told (configurationTaking Draft c n v)
 unfolding configurationTaking
 taking-told c h n v =
-    put-told Told (noted Draft n) (takingFor Draft c (parameterOf Draft n) v) (parameter-told c h (parameterOf Draft n) (drafts n) v) (noted-told n)
+    put-told Told (noted Draft n) (takingFor Draft c (parameterOf Draft n) v)
+    (parameter-told c h (parameterOf Draft n) (drafts n) v) (noted-told n)
 
 empty-told : Told emptyConfiguration
 unfolding leased padded
@@ -223,7 +226,8 @@ empty-told = record { keys = refl; address = refl; jrc = refl; network = refl; p
 read-told : (p : List ℕ) → Told (readConfiguration p .configuration)
 read-told p =
     go (payloadRead (configurationForm Draft) emptyConfiguration p)
-    (payload-gives (configurationForm Draft) Told (λ c h. passing-told c h (c .unknown + 1)) (λ c h n fresh. taking-told c h n) heading emptyConfiguration empty-told p)
+    (payload-gives (configurationForm Draft) Told (λ c h. passing-told c h (c .unknown + 1)) (λ c h n fresh. taking-told c h n) heading
+    emptyConfiguration empty-told p)
   where
     go : (r : Reading Configuration) → Gives Told r → Told (configurationAnswer r .configuration)
     go (refused k) h = empty-told
@@ -252,7 +256,8 @@ module _ {A B : Type 0} (means : A → B) (back : B → A) where
   seen x Taken e = ap some (sym e)
   seen x Discarded e = refl
 
-  equal : (x y : A) (r s : Disposition) → x ≡ back (means x) → y ≡ back (means y) → ifTaken r (some (means x)) none ≡ ifTaken s (some (means y)) none
+  equal : (x y : A) (r s : Disposition) → x ≡ back (means x) → y ≡ back (means y)
+      → ifTaken r (some (means x)) none ≡ ifTaken s (some (means y)) none
       → ifTaken r (some x) none ≡ ifTaken s (some y) none
   equal x y r s e f g = sym (seen x r e) ∙ ap over g ∙ seen y s f
 
@@ -272,9 +277,11 @@ both-absent x y e f = rw (e, f)
 
 exactly : (c d : Configuration) → Told c → Told d → SameConfiguration c d → TakesEqual c d
 exactly c d x y same = record {
-  keys = equal keysOf keySetOf (c .keys .value) (d .keys .value) (c .keys .disposition) (d .keys .disposition) (x .keys) (y .keys) (same .keys);
+  keys = equal keysOf keySetOf (c .keys .value) (d .keys .value) (c .keys .disposition) (d .keys .disposition) (x .keys)
+      (y .keys) (same .keys);
   address =
-      equal addressMeans addressBack (c .address .value) (d .address .value) (c .address .disposition) (d .address .disposition) (x .address) (y .address)
+      equal addressMeans addressBack (c .address .value) (d .address .value) (c .address .disposition) (d .address .disposition)
+      (x .address) (y .address)
       (same .address);
   jrc = octets-equal (c .jrc) (d .jrc) (x .jrc) (y .jrc) (same .jrc);
   network = octets-equal (c .network) (d .network) (x .network) (y .network) (same .network);
@@ -287,4 +294,5 @@ pub reads-exactly : ReadsExactly
 reads-exactly p q w same =
     let first = readConfiguration p .configuration in
     let second = readConfiguration q .configuration in
-    exactly (readConfiguration w .configuration) (merged first second) (read-told w) (merged-told first second (read-told p) (read-told q)) same
+    exactly (readConfiguration w .configuration) (merged first second) (read-told w)
+    (merged-told first second (read-told p) (read-told q)) same

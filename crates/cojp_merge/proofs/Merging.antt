@@ -15,7 +15,8 @@ use Rattle.cojp.specs.Octets.{bytesIn, noOctetsParameter}
 use Rattle.cojp.specs.Rate.{noRateParameter}
 use Rattle.cojp.specs.Reading.{ifTaken}
 use Rattle.cojp.specs.Same.{leaseOf, octetsTaken, SameConfiguration}
-use Rattle.cojp.specs.Writing.{keysInRange, addressInRange, jrcInRange, octetsInRange, keysWithoutAdditionalInfo, missing, ofVersion, configurationInRange}
+use Rattle.cojp.specs.Writing.{keysInRange, addressInRange, jrcInRange, octetsInRange}
+use Rattle.cojp.specs.Writing.{keysWithoutAdditionalInfo, missing, ofVersion, configurationInRange}
 use Rattle.cojp.specs.declared.address.AddressParameter.{AddressParameter}
 use Rattle.cojp.specs.declared.configuration.Configuration.{Configuration}
 use Rattle.cojp.specs.declared.key_set.KeysParameter.{KeysParameter}
@@ -39,7 +40,8 @@ module _ {A : Type 0} (report : A → Disposition) where
 
   -- after one that is absent, what is taken is seen as it is
   seen-after : {B : Type 0} (value : A → B) (absent x : A) (r : Disposition) → report absent ≡ Absent → report x ≡ r
-      → ifTaken (report (ifTaken (report x) x absent)) (some (value (ifTaken (report x) x absent))) none ≡ ifTaken (report x) (some (value x)) none
+      → ifTaken (report (ifTaken (report x) x absent)) (some (value (ifTaken (report x) x absent))) none
+      ≡ ifTaken (report x) (some (value x)) none
   seen-after value absent x Absent n e = rw (e, n)
   seen-after value absent x Taken n e = rw (e, e)
   seen-after value absent x Discarded n e = rw (e, n)
@@ -92,15 +94,22 @@ unfolding configurationInRange ofVersion
 merged-in-range a b e f =
     let x = configuration-fits Draft a e in
     let y = configuration-fits Draft b f in
-    let k = by-disposition (λ (p : KeysParameter). keysInRange p ≡ true) (b .keys .disposition) {x = b .keys} {y = a .keys} (y .keys) (x .keys) in
-    let l = by-disposition (λ (p : AddressParameter). addressInRange p ≡ true) (b .address .disposition) {x = b .address} {y = a .address} (y .address) (x .address) in
-    let j = by-disposition (λ (p : OctetsParameter). jrcInRange p ≡ true) (b .jrc .disposition) {x = b .jrc} {y = a .jrc} (y .jrc) (x .jrc) in
-    let n = by-disposition (λ (p : OctetsParameter). octetsInRange p ≡ true) (b .network .disposition) {x = b .network} {y = a .network} (y .network) (x .network) in
-    let p = by-disposition (λ (q : OctetsParameter). octetsInRange q ≡ true) (b .prefix .disposition) {x = b .prefix} {y = a .prefix} (y .prefix) (x .prefix) in
-    let o = by-disposition (λ (q : KeysParameter). keysWithoutAdditionalInfo q ≡ true) (b .keys .disposition) {x = b .keys} {y = a .keys} (drafted b (y .form) .keys) (drafted a (x .form) .keys) in
+    let k =
+    by-disposition (λ (p : KeysParameter). keysInRange p ≡ true) (b .keys .disposition) {x = b .keys} {y = a .keys} (y .keys) (x .keys) in
+    let l = by-disposition (λ (p : AddressParameter). addressInRange p ≡ true) (b .address .disposition) {x = b .address} {y = a .address}
+    (y .address) (x .address) in
+    let j =
+    by-disposition (λ (p : OctetsParameter). jrcInRange p ≡ true) (b .jrc .disposition) {x = b .jrc} {y = a .jrc} (y .jrc) (x .jrc) in
+    let n = by-disposition (λ (p : OctetsParameter). octetsInRange p ≡ true) (b .network .disposition) {x = b .network} {y = a .network}
+    (y .network) (x .network) in
+    let p = by-disposition (λ (q : OctetsParameter). octetsInRange q ≡ true) (b .prefix .disposition) {x = b .prefix} {y = a .prefix}
+    (y .prefix) (x .prefix) in
+    let o = by-disposition (λ (q : KeysParameter). keysWithoutAdditionalInfo q ≡ true) (b .keys .disposition) {x = b .keys} {y = a .keys}
+    (drafted b (y .form) .keys) (drafted a (x .form) .keys) in
     six k l j n p o
   where
-    six : {k l j n p o : Bool} → k ≡ true → l ≡ true → j ≡ true → n ≡ true → p ≡ true → o ≡ true → (k && l && j && n && p && (o && true && true)) ≡ true
+    six : {k l j n p o : Bool} → k ≡ true → l ≡ true → j ≡ true → n ≡ true → p ≡ true → o ≡ true
+        → (k && l && j && n && p && (o && true && true)) ≡ true
     six e f g h i o = rw (e, f, g, h, i, o)
 
 -- what is missing is seen as none
@@ -113,7 +122,8 @@ none-seen x Discarded e = refl
 abbrev pub answered : Configuration → MergeResult
 answered c = record { verdict = Accepted; configuration = c }
 
-pub merge-answered : (a b : Configuration) → configurationInRange Draft a ≡ true → configurationInRange Draft b ≡ true → answered (merged a b) ≡ mergeAnswer a b
+pub merge-answered : (a b : Configuration) → configurationInRange Draft a ≡ true → configurationInRange Draft b ≡ true
+    → answered (merged a b) ≡ mergeAnswer a b
 unfolding mergeAnswer
 merge-answered a b e f = rw (e, f)
 
@@ -121,7 +131,8 @@ pub merge-first-outside : (a b : Configuration) → configurationInRange Draft a
 unfolding mergeAnswer
 merge-first-outside a b e = rw e
 
-pub merge-second-outside : (a b : Configuration) → configurationInRange Draft a ≡ true → configurationInRange Draft b ≡ false → outsideLimits ≡ mergeAnswer a b
+pub merge-second-outside : (a b : Configuration) → configurationInRange Draft a ≡ true → configurationInRange Draft b ≡ false
+    → outsideLimits ≡ mergeAnswer a b
 unfolding mergeAnswer
 merge-second-outside a b e f = rw (e, f)
 
@@ -129,7 +140,8 @@ accepted-test : (t : Bool) (c : Configuration) → cond t (answered c) outsideLi
 accepted-test true c e = refl
 accepted-test false c e = absurd (let z : _≡_ {A = ℕ} 0 1 = cc in omega arith)
 
-accepted-in-range : (a b : Configuration) → mergeAnswer a b .verdict ≡ Accepted → (configurationInRange Draft a ≡ true) × (configurationInRange Draft b ≡ true)
+accepted-in-range : (a b : Configuration) → mergeAnswer a b .verdict ≡ Accepted
+    → (configurationInRange Draft a ≡ true) × (configurationInRange Draft b ≡ true)
 unfolding mergeAnswer
 accepted-in-range a b e =
     both-true (configurationInRange Draft a) (configurationInRange Draft b)
@@ -151,11 +163,13 @@ associative a b c e f =
 
 pub neutral-first : NeutralFirst
 neutral-first c e =
-    rw (accepted-is emptyConfiguration c e) (same (drafted c (configuration-fits Draft c (accepted-in-range emptyConfiguration c e .1) .form)))
+    rw (accepted-is emptyConfiguration c e)
+    (same (drafted c (configuration-fits Draft c (accepted-in-range emptyConfiguration c e .1) .form)))
   where
     same : Drafted c → SameConfiguration (merged emptyConfiguration c) c
     same d = record {
-      keys = seen-after (λ (x : KeysParameter). x .disposition) (λ (x : KeysParameter). keysOf (x .value)) (emptyConfiguration .keys) (c .keys) (c .keys .disposition) refl refl;
+      keys = seen-after (λ (x : KeysParameter). x .disposition) (λ (x : KeysParameter). keysOf (x .value)) (emptyConfiguration .keys)
+          (c .keys) (c .keys .disposition) refl refl;
       address =
           seen-after (λ (x : AddressParameter). x .disposition) (λ (x : AddressParameter). (x .value .bytes, leaseOf (x .value)))
           (emptyConfiguration .address) (c .address) (c .address .disposition) refl refl;
@@ -167,7 +181,8 @@ neutral-first c e =
     }
       where
         octets : (p : OctetsParameter) → octetsTaken (ifTaken (p .disposition) p (noOctetsParameter Absent)) ≡ octetsTaken p
-        octets p = seen-after (λ (x : OctetsParameter). x .disposition) (λ (x : OctetsParameter). bytesIn (x .value)) (noOctetsParameter Absent) p (p .disposition) refl refl
+        octets p = seen-after (λ (x : OctetsParameter). x .disposition) (λ (x : OctetsParameter). bytesIn (x .value))
+            (noOctetsParameter Absent) p (p .disposition) refl refl
 
 pub neutral-second : NeutralSecond
 neutral-second c e =

@@ -31,30 +31,37 @@ NeutralSecond =
     (c : Configuration) → mergeAnswer c emptyConfiguration .verdict ≡ Accepted →
     SameConfiguration (mergeAnswer c emptyConfiguration .configuration) c
 
--- ---- whoever merges two that are within their limits gets one that is, so it can be written or merged again; a refusal comes with the empty one
+-- ---- whoever merges two that are within their limits gets one that is, so it can be written or merged again;
+-- a refusal comes with the empty one
 abbrev pub StaysInRange : Type 0
 StaysInRange =
     (a b : Configuration) → configurationInRange Draft a ≡ true → configurationInRange Draft b ≡ true →
     (mergeAnswer a b .verdict ≡ Accepted) × (configurationInRange Draft (mergeAnswer a b .configuration) ≡ true)
 
 abbrev pub RefusedEmpty : Type 0
-RefusedEmpty = (a b : Configuration) (k : Refusal) → mergeAnswer a b .verdict ≡ Refused k → mergeAnswer a b .configuration ≡ emptyConfiguration
+RefusedEmpty =
+    (a b : Configuration) (k : Refusal) → mergeAnswer a b .verdict ≡ Refused k → mergeAnswer a b .configuration ≡ emptyConfiguration
 
 -- ---- what is taken is equal, also in the places that are not looked at
 pub record TakesEqual (c d : Configuration) : Type 0 where
   pub keys : ifTaken (c .keys .disposition) (some (c .keys .value)) none ≡ ifTaken (d .keys .disposition) (some (d .keys .value)) none
-  pub address : ifTaken (c .address .disposition) (some (c .address .value)) none ≡ ifTaken (d .address .disposition) (some (d .address .value)) none
+  pub address : ifTaken (c .address .disposition) (some (c .address .value)) none
+      ≡ ifTaken (d .address .disposition) (some (d .address .value)) none
   pub jrc : ifTaken (c .jrc .disposition) (some (c .jrc .value)) none ≡ ifTaken (d .jrc .disposition) (some (d .jrc .value)) none
-  pub network : ifTaken (c .network .disposition) (some (c .network .value)) none ≡ ifTaken (d .network .disposition) (some (d .network .value)) none
-  pub prefix : ifTaken (c .prefix .disposition) (some (c .prefix .value)) none ≡ ifTaken (d .prefix .disposition) (some (d .prefix .value)) none
-  pub blacklist : ifTaken (c .blacklist .disposition) (some (c .blacklist .value)) none ≡ ifTaken (d .blacklist .disposition) (some (d .blacklist .value)) none
+  pub network : ifTaken (c .network .disposition) (some (c .network .value)) none
+      ≡ ifTaken (d .network .disposition) (some (d .network .value)) none
+  pub prefix : ifTaken (c .prefix .disposition) (some (c .prefix .value)) none
+      ≡ ifTaken (d .prefix .disposition) (some (d .prefix .value)) none
+  pub blacklist : ifTaken (c .blacklist .disposition) (some (c .blacklist .value)) none
+      ≡ ifTaken (d .blacklist .disposition) (some (d .blacklist .value)) none
   pub rate : ifTaken (c .rate .disposition) (some (c .rate .value)) none ≡ ifTaken (d .rate .disposition) (some (d .rate .value)) none
 
 -- ---- readings leave nothing in those places: a payload w that says what two others say, merged, reads as exactly that
 abbrev pub ReadsExactly : Type 0
 ReadsExactly =
     (p q w : List ℕ) →
-    SameConfiguration (readConfiguration w .configuration) (merged (readConfiguration p .configuration) (readConfiguration q .configuration)) →
+    SameConfiguration (readConfiguration w .configuration)
+    (merged (readConfiguration p .configuration) (readConfiguration q .configuration)) →
     TakesEqual (readConfiguration w .configuration) (merged (readConfiguration p .configuration) (readConfiguration q .configuration))
 
 pub record MergeLaws : Type 0 where

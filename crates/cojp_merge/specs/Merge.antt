@@ -13,8 +13,8 @@ use Rattle.cojp.specs.declared.disposition.Disposition.the-variants.{Absent}
 use Rattle.protocol_version.specs.declared.Version.the-variants.{Draft}
 use Rattle.cojp_merge.specs.declared.MergeResult.{MergeResult}
 
--- each parameter with its report from the second where that is taken, else from the first; a key set whole, a lease with its address. What is
--- merged is ours to write, so no label came or was passed over, and the draft has no blacklist and no join rate
+-- each parameter with its report from the second where that is taken, else from the first; a key set whole, a lease with its address. What
+-- is merged is ours to write, so no label came or was passed over, and the draft has no blacklist and no join rate
 abbrev pub merged : Configuration → Configuration → Configuration
 merged first second = record {
   keys = ifTaken (second .keys .disposition) (second .keys) (first .keys);

@@ -1,5 +1,5 @@
-// Two configurations joined into one, so that two updates cost one frame: each parameter from the second where it is taken there, else from the
-// first. Both are of document 01's form. Nothing but values: no payload is read or written here.
+// Two configurations joined into one, so that two updates cost one frame: each parameter from the second where it is taken there, else from
+// the first. Both are of document 01's form. Nothing but values: no payload is read or written here.
 mod address;
 mod keys;
 mod octets;

@@ -26,7 +26,8 @@ use refusal::Refusal;
 use refusal::Verdict;
 ghost use mathlib.Core.Path.{_≡_};
 ghost use lib.ListN.{drop};
-ghost use Rattle.cojp.specs.Configuration.{emptyConfiguration, configurationForm, refuseConfiguration, configurationAnswer, readConfigurationBy};
+ghost use Rattle.cojp.specs.Configuration.{emptyConfiguration, configurationForm, refuseConfiguration};
+ghost use Rattle.cojp.specs.Configuration.{configurationAnswer, readConfigurationBy};
 ghost use Rattle.cbor.specs.Strict.{headBy};
 ghost use Rattle.cojp_map.specs.Pairs.{walkAt};
 

@@ -55,7 +55,8 @@ fn settled_request(request: JoinRequest, version: Version) -> RequestRead
 
 // The next pairs in payload order, up to the first refusal. The parameters are stored where they stand.
 fn take_pairs(s: &[u8], mut at: usize, mut left: u64, version: Version) -> RequestRead
-    ensures { λ r. ⌜ r ≡ requestAnswer (bind (walkAt (requestForm version) left emptyRequestState (drop at (now (s .entry)))) (settled version)) ⌝ }
+    ensures { λ r. ⌜ r
+        ≡ requestAnswer (bind (walkAt (requestForm version) left emptyRequestState (drop at (now (s .entry)))) (settled version)) ⌝ }
 {
     let mut named = false;
     let mut q = empty_request();

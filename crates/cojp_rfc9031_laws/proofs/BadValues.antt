@@ -21,7 +21,8 @@ use Rattle.cojp_rfc9031_laws.specs.BadValues.{BadValues}
 
 pub bad-values : BadValues
 unfolding payloadBy infoOf decodeBy heading argument next digits members pairs majorOf shortest extraOf bytesOf validKey validKeys isAddress
-    addressIn configurationTaking added groups identified used valued stringsIn errorReportsIn padded octetsJudged parameterOf laterParameter
+    addressIn configurationTaking added groups identified used valued stringsIn errorReportsIn padded octetsJudged
+    parameterOf laterParameter
     rateTaken errorReportsOf roleJudged requestLabelStatus requestTaking owing payloadReadBy
 bad-values = record {
   rows = (refl, (refl, (refl, (refl, (refl, (refl, (refl, (refl, tt))))))));

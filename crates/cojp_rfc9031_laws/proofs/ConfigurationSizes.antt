@@ -9,7 +9,8 @@ use Rattle.cbor.specs.Laws.{ItemLaws}
 use Rattle.cbor.specs.View.{View}
 use Rattle.cojp.proofs.Walks.{Gives}
 use Rattle.cojp.specs.Address.{noAddressParameter, addressRead}
-use Rattle.cojp.specs.Configuration.{emptyConfiguration, withKeys, withAddress, withJrc, withNetwork, withPrefix, withUnknownCount, labelStatusFor, takingFor, noted, configurationTaking}
+use Rattle.cojp.specs.Configuration.{emptyConfiguration, withKeys, withAddress, withJrc, withNetwork, withPrefix}
+use Rattle.cojp.specs.Configuration.{withUnknownCount, labelStatusFor, takingFor, noted, configurationTaking}
 use Rattle.cojp.specs.KeySet.{noKeysParameter, keysReadAs}
 use Rattle.cojp.specs.Lists.{stringsIn}
 use Rattle.cojp.specs.Octets.{noOctetsParameter, octetsRead}
@@ -28,7 +29,8 @@ use Rattle.cojp.specs.declared.walk.LabelStatus.the-variants.{First}
 use Rattle.cojp_rfc9031_laws.proofs.Items.{viewSize, ViewFits}
 use Rattle.cojp_rfc9031_laws.proofs.KeptLists.{strings-picked}
 use Rattle.cojp_rfc9031_laws.proofs.KeySizes.{keys-size}
-use Rattle.cojp_rfc9031_laws.proofs.Parameters.{put-gives, following-gives, OctetsFine, octets-bad, octets-fine, address-size, rate-size, list-fine}
+use Rattle.cojp_rfc9031_laws.proofs.Parameters.{put-gives, following-gives, OctetsFine, octets-bad}
+use Rattle.cojp_rfc9031_laws.proofs.Parameters.{octets-fine, address-size, rate-size, list-fine}
 
 -- ---- what is written of a configuration after the map's head
 abbrev pub parts : Configuration → ℕ
@@ -61,8 +63,10 @@ module _ (laws : ItemLaws) (H : HeadLaws) (v : Version) (m : ℕ) (c : Configura
   parameter-sized : (q : Parameter) (x : View) → ViewFits x → Gives (Sized (m + (1 + viewSize x))) (takingFor v c q x)
   parameter-sized name.Keys x f =
       let P : KeysParameter → Type 0 = λ p. length (encodePairs (keysPairs p)) ≤ 1 + viewSize x in
-      put-gives P (Sized (m + (1 + viewSize x))) (withKeys c) (byVersionOf v (noKeysParameter Discarded) (keysReadAs (allowsAdditionalInfo v) x))
-      (following-gives P v (noKeysParameter Discarded) (keysReadAs (allowsAdditionalInfo v) x) (omega arith) (keys-size H (allowsAdditionalInfo v) x))
+      put-gives P (Sized (m + (1 + viewSize x))) (withKeys c)
+      (byVersionOf v (noKeysParameter Discarded) (keysReadAs (allowsAdditionalInfo v) x))
+      (following-gives P v (noKeysParameter Discarded) (keysReadAs (allowsAdditionalInfo v) x) (omega arith)
+      (keys-size H (allowsAdditionalInfo v) x))
       (λ p s. record { size = omega (arith, h .size, s) })
   parameter-sized name.Address x f =
       let P : AddressParameter → Type 0 = λ p. length (encodePairs (addressPairs p)) ≤ 1 + viewSize x in
@@ -70,7 +74,8 @@ module _ (laws : ItemLaws) (H : HeadLaws) (v : Version) (m : ℕ) (c : Configura
       (following-gives P v (noAddressParameter Discarded) (addressRead x) (omega arith) (address-size H x))
       (λ p s. record { size = omega (arith, h .size, s) })
   parameter-sized name.Jrc x f =
-      put-gives (OctetsFine H 4 x) (Sized (m + (1 + viewSize x))) (withJrc c) (byVersionOf v (noOctetsParameter Discarded) (octetsRead 16 x))
+      put-gives (OctetsFine H 4 x) (Sized (m + (1 + viewSize x))) (withJrc c)
+      (byVersionOf v (noOctetsParameter Discarded) (octetsRead 16 x))
       (octets-put 4 16 (omega arith) x) (λ p s. record { size = omega (arith, h .size, s .size) })
   parameter-sized name.Network x f =
       put-gives (OctetsFine H 5 x) (Sized (m + (1 + viewSize x))) (withNetwork c) (octetsRead 0 x) (octets-fine H 5 0 (omega arith) x)

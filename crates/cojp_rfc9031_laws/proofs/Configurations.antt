@@ -10,7 +10,8 @@ use borrow.Author.Tests.{eqb-true}
 use Rattle.cbor.specs.Strict.{headBy}
 use Rattle.cbor.specs.View.{View}
 use Rattle.cojp.specs.Address.{noAddressParameter, addressJudged, addressRead}
-use Rattle.cojp.specs.Configuration.{emptyConfiguration, withKeys, withAddress, withJrc, withBlacklist, withRate, withUnknownCount, labelStatusFor, noted, configurationTaking, configurationForm}
+use Rattle.cojp.specs.Configuration.{emptyConfiguration, withKeys, withAddress, withJrc, withBlacklist, withRate}
+use Rattle.cojp.specs.Configuration.{withUnknownCount, labelStatusFor, noted, configurationTaking, configurationForm}
 use Rattle.cojp.specs.ErrorReports.{errorReportOf}
 use Rattle.cojp.specs.KeySet.{noKeysParameter, keysJudgedAs, keysReadAs}
 use Rattle.cojp.specs.Lists.{listAnswer, fitting, inArray, stringsIn, blacklistTaken}
@@ -25,7 +26,8 @@ use Rattle.cojp.specs.declared.disposition.Disposition.the-variants.{Discarded}
 use Rattle.protocol_version.specs.declared.Version.the-variants.{Published}
 use Rattle.lemmas.specs.logic.Tests.{never}
 use Rattle.cojp_rfc9031_laws.specs.InOrder.{malformed, timesIn}
-use Rattle.cojp_rfc9031_laws.specs.Labels.{configurationLabels, isIn, Known, knownOf, labelsOf, knownIn, pairsIn, labelsVerdict, payloadVerdict}
+use Rattle.cojp_rfc9031_laws.specs.Labels.{configurationLabels, isIn, Known, knownOf, labelsOf}
+use Rattle.cojp_rfc9031_laws.specs.Labels.{knownIn, pairsIn, labelsVerdict, payloadVerdict}
 use Rattle.cojp_rfc9031_laws.proofs.Labels.{in-snoc, stood, standsBy, stays, comes, flag, flag-most, each-label}
 use Rattle.cojp_rfc9031_laws.proofs.Noting.{Holds, none-held, added-held}
 use Rattle.cojp_rfc9031_laws.proofs.Values.{keys-met, address-met, octets-met, list-met, rate-met}
@@ -44,7 +46,8 @@ malformed-snoc : (ks : List Known) (k : Known) → malformed (ks ++ (k ∷ [])) 
 malformed-snoc [] k = refl
 malformed-snoc (j ∷ ks) k = ap (λ (l : List ErrorReport). errorReportOf 1 (j .label) ∷ l) (malformed-snoc ks k)
 
-times-snoc : (n : ℕ) (xs : List ErrorReport) (x : ErrorReport) → timesIn n (xs ++ (x ∷ [])) ≡ cond (eqb n (x .label)) (timesIn n xs + 1) (timesIn n xs)
+times-snoc : (n : ℕ) (xs : List ErrorReport) (x : ErrorReport)
+    → timesIn n (xs ++ (x ∷ [])) ≡ cond (eqb n (x .label)) (timesIn n xs + 1) (timesIn n xs)
 times-snoc n [] x = refl
 times-snoc n (y ∷ xs) x =
     ap (λ (m : ℕ). cond (eqb n (y .label)) (m + 1) m) (times-snoc n xs x) ∙ by (eqb n (x .label)) (eqb n (y .label)) (timesIn n xs)

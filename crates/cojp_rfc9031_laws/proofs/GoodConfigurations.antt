@@ -25,9 +25,11 @@ use Rattle.cojp.specs.declared.rate.RateParameter.{RateParameter}
 use Rattle.cojp.specs.declared.disposition.Disposition.the-variants.{Absent, Discarded}
 use Rattle.protocol_version.specs.declared.Version.the-variants.{Published}
 use Rattle.lemmas.specs.logic.Tests.{never}
-use Rattle.cojp_rfc9031_laws.specs.Good.{keysAs, KeysJudged, noAddressAs, AddressJudged, octetsAs, JrcJudged, listAs, BlacklistJudged, rateAs, RateJudged}
+use Rattle.cojp_rfc9031_laws.specs.Good.{keysAs, KeysJudged, noAddressAs, AddressJudged, octetsAs}
+use Rattle.cojp_rfc9031_laws.specs.Good.{JrcJudged, listAs, BlacklistJudged, rateAs, RateJudged}
 use Rattle.cojp_rfc9031_laws.specs.GoodValues.{CameAs, Configured}
-use Rattle.cojp_rfc9031_laws.specs.Labels.{configurationLabels, isIn, Known, knownOf, labelsOf, knownIn, pairsIn, labelsVerdict, payloadVerdict}
+use Rattle.cojp_rfc9031_laws.specs.Labels.{configurationLabels, isIn, Known, knownOf, labelsOf}
+use Rattle.cojp_rfc9031_laws.specs.Labels.{knownIn, pairsIn, labelsVerdict, payloadVerdict}
 use Rattle.cojp_rfc9031_laws.proofs.CameAs.{took-both, met-others, met-first, Small, told-so}
 use Rattle.cojp_rfc9031_laws.proofs.Configurations.{Seen, none-seen, pass-seen, stands, takes}
 use Rattle.cojp_rfc9031_laws.proofs.GoodKeys.{keys-judged}

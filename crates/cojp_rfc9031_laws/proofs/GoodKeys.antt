@@ -16,12 +16,14 @@ use Rattle.link_key.specs.declared.Key.{Key}
 use Rattle.link_key.specs.declared.additional_info.AdditionalInfo.{AdditionalInfo}
 use Rattle.link_key.specs.declared.additional_info.AdditionalInfo.the-variants as info
 use Rattle.link_key.specs.set.KeySet.{has, noneTwice, allValid, validKeys}
-use Rattle.cojp.specs.KeySet.{Groups, notGroups, groupsOf, group, further, groups, identified, used, valued, keysConcluded, keysReadAs, keySetOf, keysParameter, noKeysParameter}
+use Rattle.cojp.specs.KeySet.{Groups, notGroups, groupsOf, group, further, groups, identified, used}
+use Rattle.cojp.specs.KeySet.{valued, keysConcluded, keysReadAs, keySetOf, keysParameter, noKeysParameter}
 use Rattle.cojp.specs.Reading.{malformedAs, good, unfit}
 use Rattle.cojp.specs.declared.key_set.KeysParameter.{KeysParameter}
 use Rattle.cojp.specs.declared.disposition.Disposition.the-variants.{Taken, Discarded}
 use Rattle.lemmas.specs.logic.Tests.{both, both-left, both-right, neither-left, neither-right, first, second, third, fourth, all-four}
-use Rattle.cojp_rfc9031_laws.specs.Good.{perhaps, Group, sourceMember, setMembers, usageIn, keyIn, keysIn, GoodGroup, EachGood, NotAmong, NoneTwice, GoodKeys, keysAs, KeysJudged}
+use Rattle.cojp_rfc9031_laws.specs.Good.{perhaps, Group, sourceMember, setMembers, usageIn, keyIn, keysIn}
+use Rattle.cojp_rfc9031_laws.specs.Good.{GoodGroup, EachGood, NotAmong, NoneTwice, GoodKeys, keysAs, KeysJudged}
 
 abbrev groupWith : ℕ → Option ℕ → List ℕ → AdditionalInfo → Group
 groupWith i u v w = record { identifier = i; usage = u; value = v; source = w }

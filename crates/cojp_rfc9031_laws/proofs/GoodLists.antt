@@ -11,12 +11,14 @@ use Rattle.byte_io.specs.BigEndian.{bytesOf}
 use Rattle.cbor.specs.Encode.{encode, shortest, infoOf, extraOf}
 use Rattle.cbor.specs.HeadLaws.{HeadLaws}
 use Rattle.cbor.specs.View.{Scalar, number, minus, string, other, View, scalar, list}
-use Rattle.cojp.specs.Lists.{Picked, nothing, picked, before, scalarItem, isInteger, stringsIn, errorReportsIn, some, listAnswer, listTaken, written, blacklistTaken, unsupportedTaken}
+use Rattle.cojp.specs.Lists.{Picked, nothing, picked, before, scalarItem, isInteger, stringsIn, errorReportsIn}
+use Rattle.cojp.specs.Lists.{some, listAnswer, listTaken, written, blacklistTaken, unsupportedTaken}
 use Rattle.cojp.specs.Octets.{padded}
 use Rattle.cojp.specs.declared.list.ListParameter.{ListParameter}
 use Rattle.cojp.specs.declared.disposition.Disposition.the-variants.{Taken, Discarded}
 use Rattle.cojp_rfc9031_laws.specs.Good.{listAs, strings, stringsBytes, GoodBlacklist, BlacklistJudged}
-use Rattle.cojp_rfc9031_laws.specs.Good.{Integer, from0, below0, integer, integerBytes, Entry, entries, entriesBytes, GoodEntries, EntriesJudged}
+use Rattle.cojp_rfc9031_laws.specs.Good.{Integer, from0, below0, integer, integerBytes, Entry}
+use Rattle.cojp_rfc9031_laws.specs.Good.{entries, entriesBytes, GoodEntries, EntriesJudged}
 use Rattle.cojp_rfc9031_laws.proofs.Items.{plainsSize, viewSize, plain-least}
 use Rattle.cojp_rfc9031_laws.proofs.KeptLists.{written-size}
 

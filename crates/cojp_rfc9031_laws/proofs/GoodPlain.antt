@@ -19,7 +19,8 @@ use Rattle.cojp.specs.declared.octets.OctetsParameter.{OctetsParameter}
 use Rattle.cojp.specs.declared.disposition.Disposition.the-variants.{Taken, Discarded}
 use Rattle.lemmas.specs.logic.Tests.{both, both-left, both-right, never}
 use Rattle.short_address.specs.Address.{isReserved, isAddress}
-use Rattle.cojp_rfc9031_laws.specs.Good.{perhaps, rateAs, RateJudged, octetsAs, JrcJudged, NetworkJudged, Identifier, twoBytes, GoodAddress, addressAs, noAddressAs, AddressJudged}
+use Rattle.cojp_rfc9031_laws.specs.Good.{perhaps, rateAs, RateJudged, octetsAs, JrcJudged, NetworkJudged}
+use Rattle.cojp_rfc9031_laws.specs.Good.{Identifier, twoBytes, GoodAddress, addressAs, noAddressAs, AddressJudged}
 
 -- ---- join rates
 pub rate-judged : (x : View) → RateJudged x (rateTaken x)

@@ -11,7 +11,8 @@ use Rattle.cojp.specs.ErrorReports.{errorReportOf}
 use Rattle.cojp.specs.Lists.{unsupportedTaken}
 use Rattle.cojp.specs.Octets.{noOctetsParameter, octetsRead}
 use Rattle.cojp.specs.Reading.{malformedAs, ifTaken, Judgement, broken, unfit, good}
-use Rattle.cojp.specs.Request.{emptyRequestState, withUnsupported, withError, requestPassing, roleJudged, roleGathered, listGathered, requestTaking, requestForm}
+use Rattle.cojp.specs.Request.{emptyRequestState, withUnsupported, withError, requestPassing}
+use Rattle.cojp.specs.Request.{roleJudged, roleGathered, listGathered, requestTaking, requestForm}
 use Rattle.cojp.specs.Walk.{payloadReadBy}
 use Rattle.cojp.specs.declared.list.ListParameter.{ListParameter}
 use Rattle.cojp.specs.declared.octets.OctetsParameter.{OctetsParameter}
@@ -23,7 +24,8 @@ use Rattle.lemmas.specs.logic.Tests.{never}
 use Rattle.cojp_rfc9031_laws.specs.Good.{octetsAs, NetworkJudged, listAs, EntriesJudged}
 use Rattle.cojp_rfc9031_laws.specs.GoodValues.{CameAs, Requested}
 use Rattle.cojp_rfc9031_laws.specs.InOrder.{listReports}
-use Rattle.cojp_rfc9031_laws.specs.Labels.{requestLabels, isIn, Known, knownOf, labelsOf, knownIn, pairsIn, labelsVerdict, payloadVerdict}
+use Rattle.cojp_rfc9031_laws.specs.Labels.{requestLabels, isIn, Known, knownOf, labelsOf}
+use Rattle.cojp_rfc9031_laws.specs.Labels.{knownIn, pairsIn, labelsVerdict, payloadVerdict}
 use Rattle.cojp_rfc9031_laws.proofs.CameAs.{took-both, met-others, met-first, Small, told-so}
 use Rattle.cojp_rfc9031_laws.proofs.GoodLists.{entries-judged}
 use Rattle.cojp_rfc9031_laws.proofs.GoodPlain.{network-judged}

@@ -25,7 +25,8 @@ use Rattle.cojp.specs.declared.configuration.Configuration.{Configuration}
 use Rattle.cojp.specs.declared.request.RequestState.{RequestState}
 use Rattle.protocol_version.specs.declared.Version.the-variants.{Published}
 use Rattle.cojp_rfc9031_laws.specs.GoodValues.{Configured, Requested, GoodValues}
-use Rattle.cojp_rfc9031_laws.specs.Labels.{configurationLabels, requestLabels, Known, knownIn, labelsVerdict, payloadVerdict, mapPairs, pairsIn}
+use Rattle.cojp_rfc9031_laws.specs.Labels.{configurationLabels, requestLabels, Known, knownIn}
+use Rattle.cojp_rfc9031_laws.specs.Labels.{labelsVerdict, payloadVerdict, mapPairs, pairsIn}
 use Rattle.cojp_rfc9031_laws.specs.Verdicts.{configurationOf, requestOf}
 use Rattle.cojp_rfc9031_laws.proofs.CameAs.{Small, small-known}
 use Rattle.cojp_rfc9031_laws.proofs.GoodConfigurations as configurations

@@ -35,8 +35,10 @@ use Rattle.cojp.specs.declared.disposition.Disposition.the-variants.{Absent, Ta
 use Rattle.cojp.specs.declared.request.RequestState.{RequestState}
 use Rattle.protocol_version.specs.declared.Version.the-variants.{Published}
 use Rattle.lemmas.specs.logic.Tests.{never}
-use Rattle.cojp_rfc9031_laws.specs.InOrder.{malformed, reportAt, isDiscarded, isAbsent, badAmong, timesIn, ReportsInOrder, requestReports, roleIn, RequestInOrder}
-use Rattle.cojp_rfc9031_laws.specs.Labels.{configurationLabels, requestLabels, isIn, Known, labelsOf, knownIn, labelsVerdict, payloadVerdict, pairsIn}
+use Rattle.cojp_rfc9031_laws.specs.InOrder.{malformed, reportAt, isDiscarded, isAbsent, badAmong, timesIn}
+use Rattle.cojp_rfc9031_laws.specs.InOrder.{ReportsInOrder, requestReports, roleIn, RequestInOrder}
+use Rattle.cojp_rfc9031_laws.specs.Labels.{configurationLabels, requestLabels, isIn, Known, labelsOf}
+use Rattle.cojp_rfc9031_laws.specs.Labels.{knownIn, labelsVerdict, payloadVerdict, pairsIn}
 use Rattle.cojp_rfc9031_laws.proofs.Configurations.{Seen, five-most, malformed-long, configuration-agrees}
 use Rattle.cojp_rfc9031_laws.proofs.Labels.{stood, flag, each-label}
 use Rattle.cojp_rfc9031_laws.proofs.Noting.{Holds, none-held, added-held}
@@ -58,7 +60,8 @@ bad-at c n =
     (λ x y z u w. rw (x, y, z, u, w))
 
 -- ---- the reports of a configuration
-reports-held : (c : Configuration) (xs : List ErrorReport) (f : ErrorReports) (ys : List ErrorReport) → Holds f ys → length ys + length xs ≤ 5 →
+reports-held : (c : Configuration) (xs : List ErrorReport) (f : ErrorReports) (ys : List ErrorReport) → Holds f ys →
+    length ys + length xs ≤ 5 →
     Holds (reportsOn (badIn c) f xs) (ys ++ badAmong c xs)
 reports-held c [] f ys h few = rw (append-nil ys) h
 reports-held c (x ∷ xs) f ys h few =
@@ -74,12 +77,14 @@ reports-held c (x ∷ xs) f ys h few =
         (omega (arith, length-append ys (x ∷ []))))
     by false more = more f ys h (omega arith)
 
-reports : (c : Configuration) → length (errorReportList (c .labels)) ≤ 5 → errorReportList (errorReportsOf c) ≡ badAmong c (errorReportList (c .labels))
+reports : (c : Configuration) → length (errorReportList (c .labels)) ≤ 5
+    → errorReportList (errorReportsOf c) ≡ badAmong c (errorReportList (c .labels))
 unfolding errorReportsOf
 reports c few = reports-held c (errorReportList (c .labels)) noErrorReports [] none-held (omega arith) .reports
 
 -- ---- how often a label is reported
-times-bad : (c : Configuration) (n : ℕ) (xs : List ErrorReport) → timesIn n (badAmong c xs) ≡ cond (isDiscarded (reportAt c n)) (timesIn n xs) 0
+times-bad : (c : Configuration) (n : ℕ) (xs : List ErrorReport)
+    → timesIn n (badAmong c xs) ≡ cond (isDiscarded (reportAt c n)) (timesIn n xs) 0
 times-bad c n [] = by (isDiscarded (reportAt c n))
   where
     by : (b : Bool) → _≡_ {A = ℕ} 0 (cond b 0 0)
@@ -109,7 +114,8 @@ bad-met Discarded false d s = cc
 module _ (ks : List Known) (c : Configuration) (h : Seen ks c) where
   met-if-bad : (n : ℕ) → isDiscarded (reportAt c n) ≡ true → isIn n (labelsOf ks) ≡ true
   met-if-bad n =
-      let at : (m : ℕ) (r : Disposition) → labelStatusOf r ≡ stood (isIn m (labelsOf ks)) → isDiscarded r ≡ true → isIn m (labelsOf ks) ≡ true =
+      let at : (m : ℕ) (r : Disposition) → labelStatusOf r ≡ stood (isIn m (labelsOf ks)) → isDiscarded r ≡ true
+      → isIn m (labelsOf ks) ≡ true =
       λ m r s d. bad-met r (isIn m (labelsOf ks)) d s in
       each-label (λ (m : ℕ). isDiscarded (reportAt c m) ≡ true → isIn m (labelsOf ks) ≡ true) n (at 2 (c .keys .disposition) (h .keys))
       (at 3 (c .address .disposition) (h .address)) (at 4 (c .jrc .disposition) (h .jrc)) (at 6 (c .blacklist .disposition) (h .blacklist))
@@ -142,7 +148,8 @@ absent ks c h n =
     let at : (m : ℕ) (r : Disposition) → labelStatusOf r ≡ stood (isIn m (labelsOf ks)) → isAbsent r ≡ not (isIn m (labelsOf ks)) =
     λ m r s. absent-by r (isIn m (labelsOf ks)) s in
     each-label (λ (m : ℕ). isIn m configurationLabels ≡ true → isAbsent (reportAt c m) ≡ not (isIn m (labelsOf ks))) n
-    (λ q. at 2 (c .keys .disposition) (h .keys)) (λ q. at 3 (c .address .disposition) (h .address)) (λ q. at 4 (c .jrc .disposition) (h .jrc))
+    (λ q. at 2 (c .keys .disposition) (h .keys)) (λ q. at 3 (c .address .disposition) (h .address))
+    (λ q. at 4 (c .jrc .disposition) (h .jrc))
     (λ q. at 6 (c .blacklist .disposition) (h .blacklist)) (λ q. at 7 (c .rate .disposition) (h .rate))
     (λ x y z u w q. never (isIn n configurationLabels) q (rw (x, y, z, u, w)))
 

@@ -8,13 +8,16 @@ use lib.Dec.{leb, ltb, eqb}
 use lib.ListN.{length, take, drop, length-append, length-take, length-drop}
 use borrow.Author.Tests.{leb-true}
 use Rattle.refusal.specs.declared.Refusal.the-variants.{Cut}
-use Rattle.cbor.specs.Decode.{Outcome, refused, got, andThen, next, Heading, heading, Major, unsigneds, negatives, byteStrings, textStrings, arrays, maps, tags, others}
+use Rattle.cbor.specs.Decode.{Outcome, refused, got, andThen, next, Heading, heading, Major, unsigneds}
+use Rattle.cbor.specs.Decode.{negatives, byteStrings, textStrings, arrays, maps, tags, others}
 use Rattle.cbor.specs.Decode.{majorOf, members, pairs, special, content, decodeBy, decode, ended, payloadBy}
 use Rattle.cbor.specs.Encode.{extraOf}
 use Rattle.cbor.specs.HeadLaws.{HeadLaws}
-use Rattle.cbor.specs.Item.{half, single, double, Item, Items, Pairs, unsigned, negative, bytes, text, array, map, tag, simple, float, more, empty, pair}
+use Rattle.cbor.specs.Item.{half, single, double, Item, Items, Pairs, unsigned, negative}
+use Rattle.cbor.specs.Item.{bytes, text, array, map, tag, simple, float, more, empty, pair}
 use Rattle.cbor.specs.Laws.{Suffix, Bytes, ItemLaws}
-use Rattle.cbor.specs.View.{Scalar, number, minus, string, other, ScalarValid, View, scalar, list, scalarOf, scalarsOf, viewOf, stringOf, scalarBy, scalarHead, scalarAt}
+use Rattle.cbor.specs.View.{Scalar, number, minus, string, other, ScalarValid, View, scalar, list}
+use Rattle.cbor.specs.View.{scalarOf, scalarsOf, viewOf, stringOf, scalarBy, scalarHead, scalarAt}
 
 -- ---- how many bytes they take with shortest heads
 abbrev pub headSize : ℕ → ℕ
@@ -208,7 +211,8 @@ text-read n s b = by (leb n (length s))
 
 -- ---- what follows a head
 module _ (item : List ℕ → Outcome Item) (reads : (s : List ℕ) → Bytes s → Gets (Read s) (item s)) where
-  content-read : (m : Major) (info n : ℕ) (whole s : List ℕ) → headSize n + length s ≤ length whole → ScalarValid (scalarBy m n s) → Bytes s →
+  content-read : (m : Major) (info n : ℕ) (whole s : List ℕ) → headSize n + length s ≤ length whole → ScalarValid (scalarBy m n s) →
+      Bytes s →
       Gets (Read whole) (content item m info n s)
   content-read unsigneds info n whole s l f b =
       record { fits = f; size = l; member-fits = f; member-size = l; pairs-fit = tt; pairs-size = omega arith; left = b }

@@ -14,7 +14,8 @@ use Rattle.cbor.specs.Item.{array, count}
 use Rattle.cbor.specs.Laws.{ItemLaws}
 use Rattle.cbor.specs.View.{Scalar, number, minus, string, other}
 use Rattle.cojp.specs.Bytes.{membersAt}
-use Rattle.cojp.specs.Lists.{Picked, nothing, picked, before, scalarItem, itemsOf, written, isInteger, stringsIn, errorReportsIn, some, listOf, bytesIn, sameAs, kept, itemsIn}
+use Rattle.cojp.specs.Lists.{Picked, nothing, picked, before, scalarItem, itemsOf, written, isInteger}
+use Rattle.cojp.specs.Lists.{stringsIn, errorReportsIn, some, listOf, bytesIn, sameAs, kept, itemsIn}
 use Rattle.cojp.specs.ListLemmas.{scalar-back, scalar-depth, scalar-fit, items-count}
 use Rattle.cojp.specs.Octets.{padded}
 use Rattle.cojp_rfc9031_laws.proofs.Items.{headSize, plainSize, plainsSize, plain-least, PlainsFit}

@@ -15,7 +15,8 @@ use Rattle.cbor.specs.Item.{unsigned, bytes, array, more, count}
 use Rattle.cbor.specs.Item as item
 use Rattle.cbor.specs.View.{Scalar, number, minus, string, other, View, scalar, list}
 use Rattle.cojp.proofs.Walks.{Gives}
-use Rattle.cojp.specs.KeySet.{Groups, notGroups, groupsOf, group, further, groups, identified, used, valued, keysIn, keySetOf, keysConcluded, keysReadAs}
+use Rattle.cojp.specs.KeySet.{Groups, notGroups, groupsOf, group, further, groups, identified}
+use Rattle.cojp.specs.KeySet.{used, valued, keysIn, keySetOf, keysConcluded, keysReadAs}
 use Rattle.cojp.specs.Reading.{good, unfit}
 use Rattle.cojp.specs.Writing.{usageItems, additionalInfoItems, groupItems, groupsItems, keysPairs}
 use Rattle.cojp.specs.WritingLemmas.{chain-count, chain-length}

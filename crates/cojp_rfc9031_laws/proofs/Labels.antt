@@ -43,7 +43,8 @@ flag-most false = omega arith
 
 -- after one label more another stands as before, and itself came before
 module _ (n : ℕ) (ks : List Known) (k : Known) where
-  pub stays : (s : LabelStatus) → eqb n (k .label) ≡ false → s ≡ stood (isIn n (labelsOf ks)) → s ≡ stood (isIn n (labelsOf (ks ++ (k ∷ []))))
+  pub stays : (s : LabelStatus) → eqb n (k .label) ≡ false → s ≡ stood (isIn n (labelsOf ks))
+      → s ≡ stood (isIn n (labelsOf (ks ++ (k ∷ []))))
   stays s e h = h ∙ ap stood (sym (in-snoc n ks k ∙ ap (λ (b : Bool). (b || isIn n (labelsOf ks))) e))
 
   pub comes : (s : LabelStatus) → eqb n (k .label) ≡ true → s ≡ Repeated → s ≡ stood (isIn n (labelsOf (ks ++ (k ∷ []))))

@@ -76,7 +76,8 @@ listing-taken (x ∷ xs) = refl
 
 -- ---- the pair
 module _ (L : ListLaws) (f : ErrorReports) (valid : validErrorReports f ≡ true) where
-  pair-written : (xs : List ErrorReport) → errorReportList f ≡ xs → encodePairs (listPairs 8 (some errorReportsIn) (listing xs)) ≡ listedPair xs
+  pair-written : (xs : List ErrorReport) → errorReportList f ≡ xs
+      → encodePairs (listPairs 8 (some errorReportsIn) (listing xs)) ≡ listedPair xs
   unfolding listedIn
   pair-written [] e = refl
   pair-written (x ∷ xs) e =

@@ -19,7 +19,8 @@ use Rattle.cbor.specs.View.{View, labelOf, viewOf}
 use Rattle.cbor.specs.declared.value.Label.{Label}
 use Rattle.cbor.specs.declared.value.Label.the-variants as label
 use Rattle.cojp.specs.Address.{noAddressParameter, addressRead}
-use Rattle.cojp.specs.Configuration.{emptyConfiguration, withKeys, withAddress, withJrc, withNetwork, withPrefix, labelStatusFor, noted, takingFor}
+use Rattle.cojp.specs.Configuration.{emptyConfiguration, withKeys, withAddress, withJrc}
+use Rattle.cojp.specs.Configuration.{withNetwork, withPrefix, labelStatusFor, noted, takingFor}
 use Rattle.cojp.specs.Configuration.{configurationTaking, configurationForm, configurationAnswer}
 use Rattle.cojp.specs.ErrorReports.{added}
 use Rattle.cojp.specs.KeySet.{noKeysParameter, keysReadAs}
@@ -28,7 +29,8 @@ use Rattle.cojp.specs.Octets.{noOctetsParameter, octetsJudged, octetsRead, padd
 use Rattle.cojp.specs.Parameter.{parameterOf, laterParameter}
 use Rattle.cojp.specs.Rate.{rateTaken}
 use Rattle.cojp.specs.Reading.{Reading, refused, read, bind, mapReading, byVersionOf, Judgement, broken, unfit, good, ifTaken}
-use Rattle.cojp.specs.Request.{roleJudged, roleConcluded, emptyRequestState, withRole, withUnsupported, withError, roleLabelStatus, requestLabelStatus}
+use Rattle.cojp.specs.Request.{roleJudged, roleConcluded, emptyRequestState, withRole}
+use Rattle.cojp.specs.Request.{withUnsupported, withError, roleLabelStatus, requestLabelStatus}
 use Rattle.cojp.specs.Request.{roleGathered, listGathered, requestTaking, requestForm, owing, settled, requestAnswer}
 use Rattle.cojp.specs.Request as request
 use Rattle.protocol_version.specs.Version.{allowsAdditionalInfo}
@@ -166,7 +168,8 @@ noted-counts v m n (read d) h = h
 
 taking-counts : (v : Version) (c : Configuration) (x : View) (p : Parameter) → Counts inConfiguration (c .unknown) (takingFor v c p x)
 taking-counts v c x name.Keys =
-    put-counts inConfiguration (c .unknown) (withKeys c) (λ a. refl) (byVersionOf v (noKeysParameter Discarded) (keysReadAs (allowsAdditionalInfo v) x))
+    put-counts inConfiguration (c .unknown) (withKeys c) (λ a. refl)
+    (byVersionOf v (noKeysParameter Discarded) (keysReadAs (allowsAdditionalInfo v) x))
 taking-counts v c x name.Address =
     put-counts inConfiguration (c .unknown) (withAddress c) (λ a. refl) (byVersionOf v (noAddressParameter Discarded) (addressRead x))
 taking-counts v c x name.Jrc =
@@ -231,7 +234,8 @@ request-takes v g n x = by (eqb n 1) (eqb n 5)
         (read (listGathered g (unsupportedTaken x)))))
     by true b = role-counts v g (roleJudged x)
     by false true =
-        put-counts inRequest (inRequest g) (request.withNetwork g) (λ a. refl) (byVersionOf v (noOctetsParameter Discarded) (octetsRead 0 x))
+        put-counts inRequest (inRequest g) (request.withNetwork g) (λ a. refl)
+        (byVersionOf v (noOctetsParameter Discarded) (octetsRead 0 x))
     by false false = list-counts g (unsupportedTaken x)
 
 request-counts : (v : Version) (n : ℕ) (r : Reading RequestState) → Counts inRequest n r →

@@ -20,8 +20,10 @@ use Rattle.cojp.specs.Laws.{StrictReaders, meetsLonger}
 use Rattle.cojp.specs.Lists.{errorReportsIn, some, unsupportedTaken}
 use Rattle.cojp.specs.Octets.{noOctetsParameter, octetsRead}
 use Rattle.cojp.specs.Reading.{Reading, refused, read, mapReading, bind, byVersionOf, broken, unfit, good, ifTaken}
-use Rattle.cojp.specs.Request.{roleJudged, emptyRequestState, withRole, withNetwork, withUnsupported, withErrors, withError, roleLabelStatus, requestPassing, requestLabelStatus}
-use Rattle.cojp.specs.Request.{roleGathered, listGathered, requestTaking, requestForm, owing, settled, requestAnswer, refuseRequest, readRequestBy, readRequestAs}
+use Rattle.cojp.specs.Request.{roleJudged, emptyRequestState, withRole, withNetwork, withUnsupported}
+use Rattle.cojp.specs.Request.{withErrors, withError, roleLabelStatus, requestPassing, requestLabelStatus}
+use Rattle.cojp.specs.Request.{roleGathered, listGathered, requestTaking, requestForm, owing}
+use Rattle.cojp.specs.Request.{settled, requestAnswer, refuseRequest, readRequestBy, readRequestAs}
 use Rattle.protocol_version.specs.Version.{byVersion}
 use Rattle.cojp.specs.Walk.{labelStatusOf, payloadReadBy}
 use Rattle.cojp.specs.Writing.{rolePairs, octetsPairs, listPairs, octetsInRange, listInRange, missing, requestInRange}
@@ -39,7 +41,8 @@ use Rattle.cojp_rfc9031_laws.specs.InRange.{RequestReadsInRange}
 use Rattle.cojp_rfc9031_laws.proofs.Bounded.{Within, payload-bound}
 use Rattle.cojp_rfc9031_laws.proofs.Items.{viewSize, ViewFits}
 use Rattle.cojp_rfc9031_laws.proofs.KeptLists.{reports-picked}
-use Rattle.cojp_rfc9031_laws.proofs.Parameters.{put-gives, following-gives, role-size, OctetsFine, octets-bad, octets-fine, ListFine, list-fine}
+use Rattle.cojp_rfc9031_laws.proofs.Parameters.{put-gives, following-gives, role-size, OctetsFine}
+use Rattle.cojp_rfc9031_laws.proofs.Parameters.{octets-bad, octets-fine, ListFine, list-fine}
 
 -- ---- what is written of a request takes m bytes at most after the map's head
 abbrev pub roleBytes : JoinRequest → ℕ
@@ -54,7 +57,8 @@ listBytes q = length (encodePairs (listPairs 8 (some errorReportsIn) (q .unsuppo
 pub record Fine (v : Version) (m : ℕ) (g : RequestState) : Type 0 where
   pub role : leb (g .request .role) 1 ≡ true
   pub network : octetsInRange (g .request .network) ≡ true
-  pub unsupported : byVersion v (missing (g .request .unsupported .disposition)) (listInRange (some errorReportsIn) (g .request .unsupported)) ≡ true
+  pub unsupported : byVersion v (missing (g .request .unsupported .disposition))
+      (listInRange (some errorReportsIn) (g .request .unsupported)) ≡ true
   pub size : roleBytes (g .request) + networkBytes (g .request) + listBytes (g .request) ≤ m
 
 none-fine : (v : Version) → Fine v 0 emptyRequestState
@@ -76,11 +80,13 @@ role-put : (v : Version) (m : ℕ) (g : RequestState) → Fine v m g → (x : Vi
 role-put v m g h x n f l s =
     record { role = l; network = h .network; unsupported = h .unsupported; size = omega (arith, h .size, s) }
 
-role-bad : (v : Version) (m : ℕ) (g : RequestState) → Fine v m g → (x : View) → Gives (Fine v (m + (1 + viewSize x))) (roleGathered v g broken)
+role-bad : (v : Version) (m : ℕ) (g : RequestState) → Fine v m g → (x : View)
+    → Gives (Fine v (m + (1 + viewSize x))) (roleGathered v g broken)
 role-bad Draft m g h x = tt
 role-bad Published m g h x = role-put Published m g h x 0 _ refl (omega arith)
 
-role-unfit : (v : Version) (m : ℕ) (g : RequestState) → Fine v m g → (x : View) → Gives (Fine v (m + (1 + viewSize x))) (roleGathered v g unfit)
+role-unfit : (v : Version) (m : ℕ) (g : RequestState) → Fine v m g → (x : View)
+    → Gives (Fine v (m + (1 + viewSize x))) (roleGathered v g unfit)
 role-unfit Draft m g h x = tt
 role-unfit Published m g h x = role-put Published m g h x 0 _ refl (omega arith)
 

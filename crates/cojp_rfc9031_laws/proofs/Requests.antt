@@ -14,7 +14,8 @@ use Rattle.cojp.specs.ErrorReports.{errorReportOf, added}
 use Rattle.cojp.specs.Lists.{listAnswer, fitting, inArray, errorReportsIn, some, unsupportedTaken}
 use Rattle.cojp.specs.Octets.{noOctetsParameter, octetsParameter, octetsJudged, octetsOf, octetsRead}
 use Rattle.cojp.specs.Reading.{read, malformedAs, concluded, broken, unfit, good, ifTaken}
-use Rattle.cojp.specs.Request.{roleJudged, emptyRequestState, withRole, withNetwork, withUnsupported, withErrors, withError, roleLabelStatus, requestPassing, requestLabelStatus}
+use Rattle.cojp.specs.Request.{roleJudged, emptyRequestState, withRole, withNetwork, withUnsupported}
+use Rattle.cojp.specs.Request.{withErrors, withError, roleLabelStatus, requestPassing, requestLabelStatus}
 use Rattle.cojp.specs.Request.{roleGathered, listGathered, requestTaking, requestForm}
 use Rattle.cojp.specs.Walk.{labelStatusOf, payloadReadBy}
 use Rattle.cojp.specs.declared.error_report.ErrorReport.{ErrorReport}
@@ -27,7 +28,8 @@ use Rattle.protocol_version.specs.declared.Version.the-variants.{Published}
 use Rattle.cojp.specs.declared.walk.LabelStatus.the-variants.{First, Repeated}
 use Rattle.lemmas.specs.logic.Tests.{never, neither-left, neither-right}
 use Rattle.cojp_rfc9031_laws.specs.InOrder.{reportsOf, requestReports, roleRead, roleIn}
-use Rattle.cojp_rfc9031_laws.specs.Labels.{requestLabels, isIn, Known, knownOf, labelsOf, knownIn, pairsIn, labelsVerdict, payloadVerdict}
+use Rattle.cojp_rfc9031_laws.specs.Labels.{requestLabels, isIn, Known, knownOf, labelsOf}
+use Rattle.cojp_rfc9031_laws.specs.Labels.{knownIn, pairsIn, labelsVerdict, payloadVerdict}
 use Rattle.cojp_rfc9031_laws.specs.Verdicts.{isIdentifier, identified}
 use Rattle.cojp_rfc9031_laws.proofs.Labels.{or-swap, in-snoc, stood, standsBy, stays, comes, flag, flag-most, at-label}
 use Rattle.cojp_rfc9031_laws.proofs.Noting.{Holds, none-held, added-held}
@@ -112,7 +114,8 @@ pass-asked ks g h = record {
 pub each-of-three : (P : ℕ → Type 0) (n : ℕ) → P 1 → P 5 → P 8 → (eqb n 1 ≡ false → eqb n 5 ≡ false → eqb n 8 ≡ false → P n) → P n
 each-of-three P n a b c others = at-label P n 1 a (λ x. at-label P n 5 b (λ y. at-label P n 8 c (λ z. others x y z)))
 
-pub stands : (ks : List Known) (g : RequestState) → Asked ks g → (n : ℕ) → requestLabelStatus Published g n ≡ standsBy requestLabels (labelsOf ks) n
+pub stands : (ks : List Known) (g : RequestState) → Asked ks g → (n : ℕ)
+    → requestLabelStatus Published g n ≡ standsBy requestLabels (labelsOf ks) n
 unfolding requestLabelStatus
 stands ks g h n =
     each-of-three (λ (m : ℕ). requestLabelStatus Published g m ≡ standsBy requestLabels (labelsOf ks) m) n (h .role) (h .network)
@@ -206,7 +209,8 @@ module _ (ks : List Known) (g : RequestState) (h : Asked ks g) (v : View) where
       }
 
   -- a list of reports
-  list-asked : isIn 8 (labelsOf ks) ≡ false → (p : ListParameter) (f : ErrorReports) (x : List ErrorReport) → labelStatusOf (p .disposition) ≡ Repeated →
+  list-asked : isIn 8 (labelsOf ks) ≡ false → (p : ListParameter) (f : ErrorReports) (x : List ErrorReport) →
+      labelStatusOf (p .disposition) ≡ Repeated →
       reportsOf (knownOf 8 v) ≡ x → length x ≤ 1 → Holds f (requestReports (more 8)) → Asked (more 8) (withErrors (withUnsupported g p) f)
   list-asked e p f x s r l held =
       let k = knownOf 8 v in
@@ -249,4 +253,5 @@ pub request-agrees : (strict : Bool) (p : List ℕ) →
     Agrees (payloadVerdict (labelsVerdict requestLabels []) strict p) (Asked (knownIn requestLabels (pairsIn strict p)))
     (payloadReadBy (requestForm Published) (headBy strict) emptyRequestState p)
 request-agrees =
-    payload-agrees (requestForm Published) requestLabels Asked stands pass-asked (λ ks g h n v. takes ks g h v n) emptyRequestState none-asked
+    payload-agrees (requestForm Published) requestLabels Asked stands pass-asked (λ ks g h n v. takes ks g h v n)
+    emptyRequestState none-asked

@@ -21,7 +21,8 @@ keys-met broken = refl
 keys-met unfit = refl
 keys-met (good s) = refl
 
-pub address-met : (j : Judgement ShortAddress) → labelStatusOf (malformedAs (noAddressParameter Discarded) (addressConcluded j) .disposition) ≡ Repeated
+pub address-met : (j : Judgement ShortAddress)
+    → labelStatusOf (malformedAs (noAddressParameter Discarded) (addressConcluded j) .disposition) ≡ Repeated
 address-met broken = refl
 address-met unfit = refl
 address-met (good a) = refl

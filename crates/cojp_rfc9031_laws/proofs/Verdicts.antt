@@ -25,7 +25,8 @@ use Rattle.cojp.specs.declared.disposition.Disposition.{Disposition}
 use Rattle.cojp.specs.declared.disposition.Disposition.the-variants.{Absent, Taken, Discarded}
 use Rattle.cojp.specs.declared.request.RequestState.{RequestState}
 use Rattle.protocol_version.specs.declared.Version.the-variants.{Published}
-use Rattle.cojp_rfc9031_laws.specs.Labels.{configurationLabels, requestLabels, Known, knownIn, labelsVerdict, scanVerdict, payloadVerdict, mapPairs, pairsIn}
+use Rattle.cojp_rfc9031_laws.specs.Labels.{configurationLabels, requestLabels, Known, knownIn}
+use Rattle.cojp_rfc9031_laws.specs.Labels.{labelsVerdict, scanVerdict, payloadVerdict, mapPairs, pairsIn}
 use Rattle.cojp_rfc9031_laws.specs.Verdicts.{identified, orOwed, configurationVerdict, requestVerdict, BadNeverRefuses}
 use Rattle.cojp_rfc9031_laws.proofs.Configurations.{Seen, configuration-agrees}
 use Rattle.cojp_rfc9031_laws.proofs.Requests.{Asked, request-agrees}

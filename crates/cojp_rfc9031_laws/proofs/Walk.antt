@@ -21,7 +21,8 @@ use Rattle.cojp.specs.Reading.{Reading, refused, read, bind}
 use Rattle.cojp.specs.Walk.{Form, knownRead, pairRead, pairsRead, scannedRead, payloadReadBy}
 use Rattle.cojp.specs.declared.walk.LabelStatus.{LabelStatus}
 use Rattle.cojp.specs.declared.walk.LabelStatus.the-variants.{Unknown}
-use Rattle.cojp_rfc9031_laws.specs.Labels.{isIn, Known, knownOf, labelsOf, knownFirst, knownIn, labelVerdict, labelsVerdict, scanVerdict, payloadVerdict, mapPairs, pairsIn}
+use Rattle.cojp_rfc9031_laws.specs.Labels.{isIn, Known, knownOf, labelsOf, knownFirst, knownIn, labelVerdict}
+use Rattle.cojp_rfc9031_laws.specs.Labels.{labelsVerdict, scanVerdict, payloadVerdict, mapPairs, pairsIn}
 use Rattle.cojp_rfc9031_laws.proofs.Labels.{labels-snoc, stood, standsBy}
 
 -- P holds of what was read, and it was not refused

@@ -19,7 +19,8 @@ use Rattle.cbor.specs.Laws.{Bytes, ItemLaws}
 use Rattle.cbor.specs.Strict.{headBy}
 use Rattle.cbor.specs.View.{Scalar}
 use Rattle.cojp.proofs.Walks.{Gives}
-use Rattle.cojp.specs.Configuration.{emptyConfiguration, configurationForm, configurationAnswer, refuseConfiguration, readConfigurationBy, readConfigurationAs}
+use Rattle.cojp.specs.Configuration.{emptyConfiguration, configurationForm, configurationAnswer}
+use Rattle.cojp.specs.Configuration.{refuseConfiguration, readConfigurationBy, readConfigurationAs}
 use Rattle.cojp.specs.InRange.{InRange, ReadsInRange}
 use Rattle.cojp.specs.Laws.{StrictReaders, meetsLonger}
 use Rattle.cojp.specs.Lists.{Picked, errorReportsIn, some, stringsIn, itemsIn}
@@ -27,7 +28,8 @@ use Rattle.cojp.specs.Octets.{bytesIn, padded, octetsJudged}
 use Rattle.cojp.specs.Reading.{Reading, refused, read, ifTaken}
 use Rattle.cojp.specs.Request.{requestLabelStatus, requestTaking, owing, readRequestBy}
 use Rattle.cojp.specs.Walk.{payloadReadBy}
-use Rattle.cojp.specs.Writing.{join, labelled, leaseItems, groupsItems, rolePairs, octetsPairs, addressPairs, keysPairs, listPairs, ratePairs, requestPairs, requestPlan}
+use Rattle.cojp.specs.Writing.{join, labelled, leaseItems, groupsItems, rolePairs, octetsPairs}
+use Rattle.cojp.specs.Writing.{addressPairs, keysPairs, listPairs, ratePairs, requestPairs, requestPlan}
 use Rattle.cojp.specs.Writing.{requestInRange, configurationPairs, configurationInRange, configurationPlan}
 use Rattle.cojp.specs.WritingLemmas.{join-count, join-length}
 use Rattle.cojp.specs.declared.address.AddressParameter.{AddressParameter}
@@ -194,7 +196,8 @@ module _ (laws : ItemLaws) (H : HeadLaws) where
         (ordinary v p b (ap (λ (r : ConfigurationRead). r .verdict) (sym same) ∙ e))
 
     pub written-back : WrittenBack
-    unfolding payloadBy infoOf decodeBy heading argument next digits members pairs majorOf padded octetsJudged payloadReadBy requestLabelStatus
+    unfolding payloadBy infoOf decodeBy heading argument next digits members pairs majorOf padded octetsJudged payloadReadBy
+        requestLabelStatus
         requestTaking owing requestPlan requestInRange shortest extraOf bytesOf
     written-back = record {
       request = λ v strict p b e. request-writes H v p (readRequestBy v (headBy strict) p .request) (accepts laws H S v strict p b e);

@@ -13,7 +13,8 @@ use Rattle.cojp.specs.Reading.{ifTaken}
 use Rattle.cojp.specs.declared.configuration.Configuration.{Configuration}
 use Rattle.cojp.specs.declared.disposition.Disposition.the-variants.{Absent}
 use Rattle.cojp.specs.declared.request.JoinRequest.{JoinRequest}
-use Rattle.cojp_rfc9031_laws.specs.Good.{KeysJudged, AddressJudged, JrcJudged, NetworkJudged, BlacklistJudged, RateJudged, EntriesJudged}
+use Rattle.cojp_rfc9031_laws.specs.Good.{KeysJudged, AddressJudged, JrcJudged, NetworkJudged}
+use Rattle.cojp_rfc9031_laws.specs.Good.{BlacklistJudged, RateJudged, EntriesJudged}
 use Rattle.cojp_rfc9031_laws.specs.Good.{keysAs, noAddressAs, octetsAs, listAs, rateAs}
 use Rattle.cojp_rfc9031_laws.specs.InOrder.{listReports}
 use Rattle.cojp_rfc9031_laws.specs.Labels.{configurationLabels, requestLabels, Known, knownIn, pairsIn}

@@ -59,7 +59,8 @@ pub record ReportsInOrder : Type 0 where
       (strict : Bool) (p : List ℕ) → configurationOf strict p .verdict ≡ Accepted →
       errorReportList (configurationOf strict p .configuration .labels) ≡ malformed (knownIn configurationLabels (pairsIn strict p))
   -- the reports of any configuration: the bad ones of what came; there are five places
-  pub reports : (c : Configuration) → length (errorReportList (c .labels)) ≤ 5 → errorReportList (errorReportsOf c) ≡ badAmong c (errorReportList (c .labels))
+  pub reports : (c : Configuration) → length (errorReportList (c .labels)) ≤ 5
+      → errorReportList (errorReportsOf c) ≡ badAmong c (errorReportList (c .labels))
   -- so what was bad is reported once, and nothing else is
   pub once :
       (strict : Bool) (p : List ℕ) → configurationOf strict p .verdict ≡ Accepted → (n : ℕ) →

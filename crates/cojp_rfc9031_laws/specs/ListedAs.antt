@@ -32,8 +32,10 @@ listedPair (x ∷ xs) = 0x08 ∷ (0x80 + 3 * length (x ∷ xs)) ∷ listedBytes 
 pub record ListedAs : Type 0 where
   pub bytes : (f : ErrorReports) → validErrorReports f ≡ true → bytesIn (listedIn f .value) ≡ listedBytes (errorReportList f)
   pub taken : (f : ErrorReports) → listedIn f .disposition ≡ listedReport (errorReportList f)
-  pub written : (f : ErrorReports) → validErrorReports f ≡ true → encodePairs (listPairs 8 (some errorReportsIn) (listedIn f)) ≡ listedPair (errorReportList f)
+  pub written : (f : ErrorReports) → validErrorReports f ≡ true
+      → encodePairs (listPairs 8 (some errorReportsIn) (listedIn f)) ≡ listedPair (errorReportList f)
   -- a short identifier that was malformed
   pub example :
-      encodePairs (listPairs 8 (some errorReportsIn) (listedIn (record { count = 1; reports = errorReportOf 1 3 ∷ replicate 4 (errorReportOf 0 0) })))
+      encodePairs
+      (listPairs 8 (some errorReportsIn) (listedIn (record { count = 1; reports = errorReportOf 1 3 ∷ replicate 4 (errorReportOf 0 0) })))
       ≡ 0x08 ∷ 0x83 ∷ 0x01 ∷ 0x03 ∷ 0xF6 ∷ []

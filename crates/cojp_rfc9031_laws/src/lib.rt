@@ -10,7 +10,8 @@ ghost use Rattle.cojp_rfc9031_laws.specs.UnknownCount.{UnknownCount};
 ghost use Rattle.cojp_rfc9031_laws.specs.Verdicts.{BadNeverRefuses};
 ghost use Rattle.cojp_rfc9031_laws.specs.WrittenBack.{WrittenBack};
 
-// In the published form no bad value refuses a payload, but for one: a join request whose network identifier is bad, as one without, is OWED.
+// In the published form no bad value refuses a payload, but for one:
+// a join request whose network identifier is bad, as one without, is OWED.
 pub fn bad_never_refuses_law()
     ensures { λ r. ⌜ BadNeverRefuses ⌝ }
 {}

@@ -41,7 +41,8 @@ passing p cs h n r q w m =
     let e = sym (overrun-now (h .state) (length (h .store)) (length p) (w .store) (w .limited) (w .clear) m) in
     let over = over-part h p e (record { store = w .store; arrived = w .limited }) in
     let later = longPartIn cs (left (sending p) h) in
-    let this = ap (λ (x : PartDecision). cond (saysLong (partAnswer x (h .state) (length p) .verdict) || later) (Refused Long) (Refused Phase)) e in
+    let this =
+    ap (λ (x : PartDecision). cond (saysLong (partAnswer x (h .state) (length p) .verdict) || later) (Refused Long) (Refused Phase)) e in
     long-after cs (left (sending p) h) r q over ∙ sym this
 
 -- ---- once an end is marked

@@ -1,4 +1,5 @@
--- While no part was LONG, no overrun is marked and as many bytes have arrived as the accepted parts had: so a part is LONG exactly where it passes 256.
+-- While no part was LONG, no overrun is marked and as many bytes have arrived as the accepted parts had:
+-- so a part is LONG exactly where it passes 256.
 use Prim.Native.Nat.{ℕ, _+_, _≤_, _<_}
 use mathlib.Core.Path.{_≡_, refl, ap, sym, subst}
 use mathlib.Core.Bool.{Bool, true, false}
@@ -9,7 +10,8 @@ use lib.Dec.{ltb}
 use lib.ListN.{length, length-append}
 use Rattle.lemmas.specs.logic.Tests.{neither-left, neither-right}
 use Rattle.cojp_serial.specs.State.{placed, grown, partAnswer, partStore, endState}
-use Rattle.cojp_serial.specs.Calls.{SerialCall, resetting, sending, ending, Held, decisionOn, told, left, leftBy, answers, joined, sendings}
+use Rattle.cojp_serial.specs.Calls.{SerialCall, resetting, sending, ending, Held, decisionOn}
+use Rattle.cojp_serial.specs.Calls.{told, left, leftBy, answers, joined, sendings}
 use Rattle.cojp_serial.specs.Calls.{verdictIn, ifAccepted, takenBy, takenIn, saysLong, longPart, longPartIn}
 use Rattle.cojp_serial.specs.Laws.{NoReset, no-calls, part-next, end-next, Each, none-told, next-told, LongExactly}
 use Rattle.cojp_serial.specs.Laws.{IsAccepted, OwnBytes, LongWherePassed, FittingPartsTaken, WritesItsOwn}
@@ -48,14 +50,16 @@ part-counted h n p Overrun e w short = absurd (let z : _≡_ {A = ℕ} 0 1 = cc 
 part-counted h n p Ended e w short = unmoved h n w
 part-counted h n p Open e w short = taken-counted h n p w (open-fits (h .state) (length (h .store)) (length p) e .room)
 
-pub end-counted : (h : Held) (n : ℕ) (x : PartDecision) → Counted h n → Counted (record { state = endState x (h .state); store = h .store }) (n + 0)
+pub end-counted : (h : Held) (n : ℕ) (x : PartDecision) → Counted h n
+    → Counted (record { state = endState x (h .state); store = h .store }) (n + 0)
 end-counted h n Outside w = unmoved h n w
 end-counted h n Overrun w = unmoved h n w
 end-counted h n Ended w = unmoved h n w
 end-counted h n Open w = record { arrived = omega (arith, w .arrived); clear = w .clear; limited = w .limited; store = w .store }
 
 -- ---- many calls
-all-counted : (cs : List SerialCall) (h : Held) (n : ℕ) → NoReset cs → Counted h n → longPartIn cs h ≡ false → Counted (leftBy cs h) (n + takenIn cs h)
+all-counted : (cs : List SerialCall) (h : Held) (n : ℕ) → NoReset cs → Counted h n → longPartIn cs h ≡ false
+    → Counted (leftBy cs h) (n + takenIn cs h)
 all-counted [] h n no-calls w none = unmoved h n w
 all-counted (sending p ∷ cs) h n (part-next q) w none =
     let more = takenBy (sending p) (told (sending p) h) in
@@ -99,7 +103,8 @@ pub long-where-passed : LongWherePassed
 long-where-passed h cs p s q short = exactly (leftBy cs (left resetting h)) (takenIn cs (left resetting h)) p counted
   where
     counted : Counted (leftBy cs (left resetting h)) (takenIn cs (left resetting h))
-    counted = subst (λ (m : ℕ). Counted (leftBy cs (left resetting h)) m) (omega arith) (all-counted cs (left resetting h) 0 q (begun h s) short)
+    counted =
+        subst (λ (m : ℕ). Counted (leftBy cs (left resetting h)) m) (omega arith) (all-counted cs (left resetting h) 0 q (begun h s) short)
 
 -- ---- a payload that fits
 all-taken : (ps : List (List ℕ)) (h : Held) (n : ℕ) → Counted h n → h .state .ended ≡ false → n + length (joined ps) ≤ 256

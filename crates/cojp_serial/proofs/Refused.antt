@@ -20,13 +20,15 @@ use Rattle.cojp_serial.specs.declared.state.PartDecision.the-variants.{O
 
 -- ---- a part
 module _ (h : Held) (p : List ℕ) (k : Refusal) where
-  part-store : (x : PartDecision) → partAnswer x (h .state) (length p) .verdict ≡ Refused k → partStore x (h .state .arrived) p (h .store) ≡ h .store
+  part-store : (x : PartDecision) → partAnswer x (h .state) (length p) .verdict ≡ Refused k
+      → partStore x (h .state .arrived) p (h .store) ≡ h .store
   part-store Outside e = refl
   part-store Overrun e = refl
   part-store Ended e = refl
   part-store Open e = absurd (let z : _≡_ {A = ℕ} 0 1 = cc in omega arith)
 
-  part-left : (x : PartDecision) → partAnswer x (h .state) (length p) .verdict ≡ Refused k → Left (sending p) h k (partAnswer x (h .state) (length p) .state)
+  part-left : (x : PartDecision) → partAnswer x (h .state) (length p) .verdict ≡ Refused k
+      → Left (sending p) h k (partAnswer x (h .state) (length p) .state)
   part-left Outside e = as-before refl
   part-left Overrun e = overrun-marked {k = k} (cc) refl
   part-left Ended e = as-before refl

@@ -19,7 +19,8 @@ module _ (n : ℕ) (p s : List ℕ) (fits : n + length p ≤ length s) where
   placed-length = simp (length-append, length-take, length-drop) (omega arith)
 
   pub placed-take : take (n + length p) (placed n p s) ≡ take n s ++ p
-  placed-take = rw (← append-assoc (take n s) p (drop (n + length p) s)) (take-at (take n s ++ p) (drop (n + length p) s) (n + length p) head-length)
+  placed-take =
+      rw (← append-assoc (take n s) p (drop (n + length p) s)) (take-at (take n s ++ p) (drop (n + length p) s) (n + length p) head-length)
 
   pub placed-own : OwnBytes n p s (placed n p s)
   placed-own =
@@ -29,7 +30,8 @@ module _ (n : ℕ) (p s : List ℕ) (fits : n + length p ≤ length s) where
         ahead = take-at (take n s) (p ++ drop (n + length p) s) n ahead;
         own = rw (drop-at (take n s) (p ++ drop (n + length p) s) n ahead) (take-at p (drop (n + length p) s) (length p) refl);
         behind =
-            rw (← append-assoc (take n s) p (drop (n + length p) s)) (drop-at (take n s ++ p) (drop (n + length p) s) (n + length p) head-length);
+            rw (← append-assoc (take n s) p (drop (n + length p) s))
+            (drop-at (take n s ++ p) (drop (n + length p) s) (n + length p) head-length);
       }
 
   -- as the copy leaves it: the part of the store from place n on holds q now
@@ -43,6 +45,7 @@ module _ (n : ℕ) (p s : List ℕ) (fits : n + length p ≤ length s) where
       rw (none, copied, append-nil)
 
 -- a part's promise, where its course is known
-pub parted : (a : SerialState) (s p : List ℕ) (x : PartDecision) → decisionOf a (length s) (length p) ≡ x → (r : PartResult) → r ≡ partAnswer x a (length p)
+pub parted : (a : SerialState) (s p : List ℕ) (x : PartDecision) → decisionOf a (length s) (length p) ≡ x → (r : PartResult)
+    → r ≡ partAnswer x a (length p)
     → (t : List ℕ) → t ≡ partStore x (a .arrived) p s → Parted a s p r t
 parted a s p x e r says t holds = record { says = rw e says; holds = rw e holds }

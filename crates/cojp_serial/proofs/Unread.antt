@@ -10,7 +10,8 @@ use Rattle.cbor.specs.Strict.{headBy}
 use Rattle.cojp.specs.Configuration.{refuseConfiguration, readConfigurationBy}
 use Rattle.cojp.specs.Request.{refuseRequest, readRequestBy}
 use Rattle.cojp_serial.specs.State.{emptyState, decisionOf, partAnswer, partStore, endState, endRead}
-use Rattle.cojp_serial.specs.Calls.{request, configuration, SerialCall, resetting, sending, ending, SerialResult, joinRequest, update, Held, told, answers}
+use Rattle.cojp_serial.specs.Calls.{request, configuration, SerialCall, resetting, sending, ending}
+use Rattle.cojp_serial.specs.Calls.{SerialResult, joinRequest, update, Held, told, answers}
 use Rattle.cojp_serial.specs.Laws.{BeyondIsUnread, ResetForgets}
 use Rattle.cojp_serial.specs.declared.state.SerialState.{SerialState}
 use Rattle.cojp_serial.specs.declared.state.PartDecision.{PartDecision}
@@ -33,7 +34,8 @@ course-alike a n x y e = rw e
 room : (a : SerialState) (n lent : ℕ) → decisionOf a lent n ≡ Open → a .arrived + n ≤ lent
 room a n lent e = let f = open-fits a lent n e in omega (arith, f .room, f .store)
 
-after-part : (a : SerialState) (s t p : List ℕ) (x : PartDecision) → decisionOf a (length s) (length p) ≡ x → decisionOf a (length t) (length p) ≡ x
+after-part : (a : SerialState) (s t p : List ℕ) (x : PartDecision) → decisionOf a (length s) (length p) ≡ x
+    → decisionOf a (length t) (length p) ≡ x
     → Alike a s t → Alike (partAnswer x a (length p) .state) (partStore x (a .arrived) p s) (partStore x (a .arrived) p t)
 after-part a s t p Outside e f w = w
 after-part a s t p Overrun e f w = record { lent = w .lent; arrived = w .arrived }
@@ -55,7 +57,8 @@ after-end a s t Ended w = w
 after-end a s t Open w = record { lent = w .lent; arrived = w .arrived }
 
 end-alike : {A : Type 0} (f : A → SerialResult) (refuse : Refusal → A) (reader : List ℕ → A) (a : SerialState) (s t : List ℕ) → Alike a s t
-    → f (endRead refuse reader (decisionOf a (length s) 0) (take (a .arrived) s)) ≡ f (endRead refuse reader (decisionOf a (length t) 0) (take (a .arrived) t))
+    → f (endRead refuse reader (decisionOf a (length s) 0) (take (a .arrived) s))
+    ≡ f (endRead refuse reader (decisionOf a (length t) 0) (take (a .arrived) t))
 end-alike f refuse reader a s t w = rw (course-alike a 0 (length s) (length t) (w .lent), w .arrived)
 
 told-alike : (c : SerialCall) (a : SerialState) (s t : List ℕ) → Alike a s t → told c (hold a s) ≡ told c (hold a t)

@@ -15,8 +15,10 @@ use Rattle.cojp.specs.Request.{refuseRequest, readRequestBy}
 use Rattle.cojp.specs.declared.configuration.ConfigurationRead.{ConfigurationRead}
 use Rattle.cojp.specs.declared.request.RequestRead.{RequestRead}
 use Rattle.cojp_serial.specs.State.{partAnswer, partStore, endRead, endState}
-use Rattle.cojp_serial.specs.Calls.{Reader, request, configuration, SerialCall, sending, ending, Held, decisionOn, told, left, answers, verdictIn}
-use Rattle.cojp_serial.specs.Laws.{NoReset, no-calls, part-next, end-next, Each, none-told, next-told, IsLong, LongOrPhase, long, phase, LongUntilReset, PhaseUntilReset}
+use Rattle.cojp_serial.specs.Calls.{Reader, request, configuration, SerialCall, sending}
+use Rattle.cojp_serial.specs.Calls.{ending, Held, decisionOn, told, left, answers, verdictIn}
+use Rattle.cojp_serial.specs.Laws.{NoReset, no-calls, part-next, end-next, Each, none-told, next-told}
+use Rattle.cojp_serial.specs.Laws.{IsLong, LongOrPhase, long, phase, LongUntilReset, PhaseUntilReset}
 use Rattle.cojp_serial.specs.declared.state.PartDecision.{PartDecision}
 use Rattle.cojp_serial.specs.declared.state.PartDecision.the-variants.{Outside, Overrun, Ended, Open}
 use Rattle.cojp_serial.proofs.Courses.{Limited, Shut, by-overrun, by-end, overrun-before, open-fits, overrun-limited, ended-shut}
@@ -34,7 +36,8 @@ pub end-is-long : (r : Reader) (h : Held) → decisionOn h 0 ≡ Overrun → IsL
 end-is-long (request v strict) h e = rw e
 end-is-long (configuration v strict) h e = rw e
 
-pub over-part : (h : Held) (p : List ℕ) → decisionOn h (length p) ≡ Overrun → Limited (h .state) (length (h .store)) → Over (left (sending p) h)
+pub over-part : (h : Held) (p : List ℕ) → decisionOn h (length p) ≡ Overrun → Limited (h .state) (length (h .store))
+    → Over (left (sending p) h)
 over-part h p e w = rw e (record { limited = record { store = w .store; arrived = w .arrived }; marked = refl })
 
 pub over-end : (h : Held) (r : Reader) → Over h → Over (left (ending r) h)
@@ -79,13 +82,16 @@ shut-read refuse reader verdict p x says by-end = phase (says Phase)
 
 shut-end : (r : Reader) (h : Held) → Shut (decisionOn h 0) → LongOrPhase (verdictIn (told (ending r) h))
 shut-end (request v strict) h w =
-    shut-read refuseRequest (readRequestBy v (headBy strict)) (λ (y : RequestRead). y .verdict) (take (h .state .arrived) (h .store)) (decisionOn h 0) (λ k. refl) w
+    shut-read refuseRequest (readRequestBy v (headBy strict)) (λ (y : RequestRead). y .verdict) (take (h .state .arrived) (h .store))
+    (decisionOn h 0) (λ k. refl) w
 shut-end (configuration v strict) h w =
-    shut-read refuseConfiguration (readConfigurationBy v (headBy strict)) (λ (y : ConfigurationRead). y .verdict) (take (h .state .arrived) (h .store)) (decisionOn h 0) (λ k. refl) w
+    shut-read refuseConfiguration (readConfigurationBy v (headBy strict)) (λ (y : ConfigurationRead). y .verdict)
+    (take (h .state .arrived) (h .store)) (decisionOn h 0) (λ k. refl) w
 
 closed-part : (h : Held) (p : List ℕ) (x : PartDecision) → Shut x → Closed h
     → Closed (record { state = partAnswer x (h .state) (length p) .state; store = partStore x (h .state .arrived) p (h .store) })
-closed-part h p x by-overrun w = record { limited = record { store = w .limited .store; arrived = w .limited .arrived }; marked = w .marked }
+closed-part h p x by-overrun w =
+    record { limited = record { store = w .limited .store; arrived = w .limited .arrived }; marked = w .marked }
 closed-part h p x by-end w = w
 
 closed-end : (h : Held) (x : PartDecision) → Shut x → Closed h → Closed (record { state = endState x (h .state); store = h .store })
@@ -96,7 +102,8 @@ all-shut : (cs : List SerialCall) (h : Held) → NoReset cs → Closed h → Eac
 all-shut [] h no-calls w = none-told
 all-shut (sending p ∷ cs) h (part-next q) w =
     let s = shut h (length p) w in
-    next-told (shut-part h p (decisionOn h (length p)) s) (all-shut cs (left (sending p) h) q (closed-part h p (decisionOn h (length p)) s w))
+    next-told (shut-part h p (decisionOn h (length p)) s)
+    (all-shut cs (left (sending p) h) q (closed-part h p (decisionOn h (length p)) s w))
 all-shut (ending r ∷ cs) h (end-next q) w =
     let s = shut h 0 w in
     next-told (shut-end r h s) (all-shut cs (left (ending r) h) q (closed-end h (decisionOn h 0) s w))

@@ -16,7 +16,8 @@ use Rattle.cojp.specs.Request.{refuseRequest, readRequestBy}
 use Rattle.cojp.specs.Walk.{payloadReadBy}
 use Rattle.protocol_version.specs.declared.Version.{Version}
 use Rattle.cojp_serial.specs.State.{partAnswer, partStore}
-use Rattle.cojp_serial.specs.Calls.{Reader, request, configuration, sending, ending, resetting, Held, decisionOn, wholeRead, told, left, sent, joined}
+use Rattle.cojp_serial.specs.Calls.{Reader, request, configuration, sending, ending, resetting}
+use Rattle.cojp_serial.specs.Calls.{Held, decisionOn, wholeRead, told, left, sent, joined}
 use Rattle.cojp_serial.specs.Laws.{EndReadsTheWhole}
 use Rattle.cojp_serial.specs.declared.state.PartDecision.{PartDecision}
 use Rattle.cojp_serial.specs.declared.state.PartDecision.the-variants.{Overrun, Open}
@@ -34,7 +35,8 @@ longer : (b p : List ℕ) → 256 < length b → 256 < length (b ++ p)
 longer b p h = simp length-append (omega arith)
 
 -- one part more, by its course
-overruns : (h : Held) (b p : List ℕ) (x : PartDecision) → x ≡ Overrun → h .state .arrived ≤ 256 → 256 ≤ length (h .store) → 256 < length (b ++ p)
+overruns : (h : Held) (b p : List ℕ) (x : PartDecision) → x ≡ Overrun → h .state .arrived ≤ 256 → 256 ≤ length (h .store)
+    → 256 < length (b ++ p)
     → Holds (record { state = partAnswer x (h .state) (length p) .state; store = partStore x (h .state .arrived) p (h .store) }) (b ++ p)
 overruns h b p x e m s l = rw e (over refl m s l)
 
@@ -67,7 +69,8 @@ one-more h b p (all a t s l) = by-room (ltb 256 (length b + length p)) refl
         (sym (overrun-now (h .state) (length (h .store)) (length p) s limited clear (rw a m))) limited s (rw (length-append b p) m)
     by-room false e =
         let m = ltb-false 256 (length b + length p) e in
-        fits h b p (decisionOn h (length p)) (sym (open-to (h .state) (length (h .store)) (length p) s limited clear (rw a m) (rw a))) a t s m
+        fits h b p (decisionOn h (length p)) (sym (open-to (h .state) (length (h .store)) (length p) s limited clear (rw a m) (rw a))) a t s
+        m
 
 all-sent : (h : Held) (b : List ℕ) (ps : List (List ℕ)) → Holds h b → Holds (sent ps h) (b ++ joined ps)
 all-sent h b [] w = rw (append-nil b) w
@@ -78,11 +81,13 @@ long-request : (v : Version) (head : List ℕ → Outcome Heading) (p : List ℕ
 unfolding payloadReadBy
 long-request v head p h = rw (lt-ltb 256 (length p) h)
 
-long-configuration : (v : Version) (head : List ℕ → Outcome Heading) (p : List ℕ) → 256 < length p → readConfigurationBy v head p ≡ refuseConfiguration Long
+long-configuration : (v : Version) (head : List ℕ → Outcome Heading) (p : List ℕ) → 256 < length p
+    → readConfigurationBy v head p ≡ refuseConfiguration Long
 unfolding payloadReadBy
 long-configuration v head p h = rw (lt-ltb 256 (length p) h)
 
-end-reads : (r : Reader) (h : Held) (b : List ℕ) → decisionOn h 0 ≡ Open → take (h .state .arrived) (h .store) ≡ b → told (ending r) h ≡ wholeRead r b
+end-reads : (r : Reader) (h : Held) (b : List ℕ) → decisionOn h 0 ≡ Open → take (h .state .arrived) (h .store) ≡ b
+    → told (ending r) h ≡ wholeRead r b
 end-reads (request v strict) h b e t = rw (e, t)
 end-reads (configuration v strict) h b e t = rw (e, t)
 

@@ -1,5 +1,6 @@
--- Two boards, computed: the former one left an overrun, an end and a store full of FF. After a reset the next one's payload (01's M1) comes in
--- four parts, one of them empty; calls after its end are PHASE, and LONG where a part passes 256; after another reset nothing has arrived.
+-- Two boards, computed: the former one left an overrun, an end and a store full of FF. After a reset the next one's payload (01's M1) comes
+-- in four parts, one of them empty; calls after its end are PHASE, and LONG where a part passes 256;
+-- after another reset nothing has arrived.
 -- Then the same payload where each call is lent another length of a larger store: those that are lent too little are RANGE.
 -- Last a request with role 2, which is ROLE in the draft and accepted in the published form.
 use mathlib.Core.Path.{_≡_}
@@ -55,7 +56,8 @@ withRole2 v = resetting ∷ sending (0xA2 ∷ 0x01 ∷ 0x02 ∷ []) ∷ sending 
 pub record SerialExamples : Type 0 where
   pub before : verdictIn (told (sending []) former) ≡ Refused Long
   pub parts : verdicts (answers inParts former) ≡ replicate 5 Accepted
-  pub whole : told (ending (request Draft false)) (leftBy inParts former) ≡ joinRequest (readRequest (0xA1 ∷ 0x05 ∷ 0x42 ∷ 0xCA ∷ 0xFE ∷ []))
+  pub whole : told (ending (request Draft false)) (leftBy inParts former)
+      ≡ joinRequest (readRequest (0xA1 ∷ 0x05 ∷ 0x42 ∷ 0xCA ∷ 0xFE ∷ []))
   pub then :
       verdicts (answers afterwards (leftBy inParts former)) ≡
       Accepted ∷ Refused Phase ∷ Refused Phase ∷ Refused Long ∷ Refused Long ∷ Refused Long ∷ Accepted ∷ Refused Cut ∷ []

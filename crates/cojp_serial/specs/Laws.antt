@@ -13,7 +13,8 @@ use Rattle.refusal.specs.declared.Verdict.the-variants.{Accepted, Refused}
 use Rattle.cojp.specs.Configuration.{emptyConfiguration}
 use Rattle.cojp.specs.Request.{emptyRequest}
 use Rattle.cojp_serial.specs.State.{overran, endMarked}
-use Rattle.cojp_serial.specs.Calls.{Reader, SerialCall, resetting, sending, ending, SerialResult, begun, part, joinRequest, update, Held}
+use Rattle.cojp_serial.specs.Calls.{Reader, SerialCall, resetting, sending, ending}
+use Rattle.cojp_serial.specs.Calls.{SerialResult, begun, part, joinRequest, update, Held}
 use Rattle.cojp_serial.specs.Calls.{wholeRead, told, left, leftBy, answers, sent, joined, sendings}
 use Rattle.cojp_serial.specs.Calls.{verdictIn, verdicts, takenIn, longPartIn}
 use Rattle.cojp_serial.specs.Loans.{Loan, loanAnswers, loanLeftBy, served, RangeBetween}

@@ -32,8 +32,8 @@ fn refused_configuration(why: Refusal, arrival: SerialState) -> ConfigurationEnd
     }
 }
 
-// Reads what arrived as a configuration and marks the end, whatever the reading answers. The reading gets the bytes that arrived and no others of the
-// store.
+// Reads what arrived as a configuration and marks the end, whatever the reading answers. The reading gets the bytes that arrived and no
+// others of the store.
 pub fn end_configuration(
     arrival: SerialState,
     store: &[u8],

@@ -1,5 +1,5 @@
-// A payload that comes over a serial cable in parts, into a store that the caller lends, and is read at its end. What has come is a value beside
-// the store; no byte of the store beyond it is ever read.
+// A payload that comes over a serial cable in parts, into a store that the caller lends, and is read at its end. What has come is a value
+// beside the store; no byte of the store beyond it is ever read.
 pub mod configuration;
 pub mod parts;
 pub mod request;

@@ -21,7 +21,8 @@ fn refused_part(why: Refusal, arrival: SerialState) -> PartResult
     }
 }
 
-// Takes the bytes of a part into the store, behind those that arrived. One that would pass 256 is LONG: none of it is stored, the overrun is marked.
+// Takes the bytes of a part into the store, behind those that arrived. One that would pass 256 is LONG:
+// none of it is stored, the overrun is marked.
 pub fn part(arrival: SerialState, store: &mut [u8], sent: &[u8]) -> PartResult
     ensures { λ r. ⌜ Parted arrival (now (store .entry)) (now (sent .entry)) r (now (store .exit)) ⌝ }
 {

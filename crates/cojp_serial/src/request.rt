@@ -32,8 +32,8 @@ fn refused_request(why: Refusal, arrival: SerialState) -> RequestEnd
     }
 }
 
-// Reads what arrived as a join request and marks the end, whatever the reading answers. The reading gets the bytes that arrived and no others of the
-// store.
+// Reads what arrived as a join request and marks the end, whatever the reading answers. The reading gets the bytes that arrived and no
+// others of the store.
 pub fn end_request(arrival: SerialState, store: &[u8], version: Version, strict: bool) -> RequestEnd
     ensures { λ r. ⌜ r ≡ requestEnd (readRequestBy version (headBy strict)) arrival (now (store .entry)) ⌝ }
 {

@@ -14,7 +14,8 @@ use Rattle.byte_io.specs.BigEndian.{bigEndian, bytesOf}
 use Rattle.byte_io.specs.BigEndianLemmas.{length-bytesOf}
 use Rattle.image.specs.ByteLemmas.{dropped-bytes}
 use Rattle.image.specs.Numbers.{read-back, below, put-back}
-use Rattle.image.specs.Part.{Part, AllBytes, RoundTrips, byte, number, octets, upTo, both, viewedIf, viewed, code, puts, gets, goods, Fits, none, more, total, times, headed, isHeaded, layout}
+use Rattle.image.specs.Part.{Part, AllBytes, RoundTrips, byte, number, octets, upTo, both, viewedIf, viewed}
+use Rattle.image.specs.Part.{code, puts, gets, goods, Fits, none, more, total, times, headed, isHeaded, layout}
 
 first-byte : (s : List ℕ) → 1 ≤ length s → getD s 0 0 ∷ [] ≡ take 1 s
 first-byte [] h = absurd (omega arith)
@@ -113,7 +114,8 @@ module _ {A B : Type 0} where
     pub both-lawful : RoundTrips (both p q)
     both-lawful =
         record {
-          sized = λ x h. length-append (p .put (x .0)) (q .put (x .1)) ∙ ap₂ (λ (a b : ℕ). a + b) (l .sized (x .0) (h .0)) (m .sized (x .1) (h .1));
+          sized = λ x h.
+              length-append (p .put (x .0)) (q .put (x .1)) ∙ ap₂ (λ (a b : ℕ). a + b) (l .sized (x .0) (h .0)) (m .sized (x .1) (h .1));
           loaded = λ x r h.
               ap₂ (λ (a : A) (b : B). (a, b))
               (ap (p .get) (append-assoc (p .put (x .0)) (q .put (x .1)) r) ∙ l .loaded (x .0) (q .put (x .1) ++ r) (h .0))
@@ -135,7 +137,8 @@ module _ {A B : Type 0} where
 
 -- `case-of` undoes `number-of`, and the other way for the numbers that there are
 pub code-lawful : {A : Type 0} (number-of : A → ℕ) (case-of : ℕ → A) (most : ℕ)
-    → ((a : A) → case-of (number-of a) ≡ a) → ((n : ℕ) → leb n most ≡ true → number-of (case-of n) ≡ n) → RoundTrips (code number-of case-of most)
+    → ((a : A) → case-of (number-of a) ≡ a) → ((n : ℕ) → leb n most ≡ true → number-of (case-of n) ≡ n)
+    → RoundTrips (code number-of case-of most)
 code-lawful number-of case-of most e f =
     viewed-lawful (upTo most byte) case-of number-of e (λ n h. f n (h .1)) (upTo-lawful most byte byte-lawful)
 
@@ -168,14 +171,16 @@ module _ {A : Type 0} (p : Part A) (l : RoundTrips p) where
   gets-fit (suc n) s b h g =
       more
       (l .fits s b (omega arith) (both-left (p .good s) (goods p n (drop (p .size) s)) g))
-      (gets-fit n (drop (p .size) s) (dropped-bytes (p .size) s b) (omega (arith, length-drop (p .size) s)) (both-right (p .good s) (goods p n (drop (p .size) s)) g))
+      (gets-fit n (drop (p .size) s) (dropped-bytes (p .size) s b) (omega (arith, length-drop (p .size) s))
+      (both-right (p .good s) (goods p n (drop (p .size) s)) g))
 
   puts-back : (n : ℕ) (s : List ℕ) → AllBytes s → total p n ≤ length s → goods p n s ≡ true → puts p (gets p n s) ≡ take (total p n) s
   puts-back zero s b h g = refl
   puts-back (suc n) s b h g =
       ap₂ (λ (x y : List ℕ). x ++ y)
       (l .back s b (omega arith) (both-left (p .good s) (goods p n (drop (p .size) s)) g))
-      (puts-back n (drop (p .size) s) (dropped-bytes (p .size) s b) (omega (arith, length-drop (p .size) s)) (both-right (p .good s) (goods p n (drop (p .size) s)) g))
+      (puts-back n (drop (p .size) s) (dropped-bytes (p .size) s b) (omega (arith, length-drop (p .size) s))
+      (both-right (p .good s) (goods p n (drop (p .size) s)) g))
       ∙ sym (take-add (p .size) (total p n) s)
 
   pub times-lawful : (n : ℕ) → RoundTrips (times n p)
@@ -183,7 +188,8 @@ module _ {A : Type 0} (p : Part A) (l : RoundTrips p) where
       record { sized = puts-sized n; loaded = puts-loaded n; stored = puts-stored n; fits = gets-fit n; back = puts-back n }
 
 -- ---- images
-two-bytes : (kind : ℕ) (s t : List ℕ) (n : ℕ) → 2 ≤ length s → isHeaded kind s ≡ true → t ≡ take n (drop 2 s) → kind ∷ layout ∷ t ≡ take (suc (suc n)) s
+two-bytes : (kind : ℕ) (s t : List ℕ) (n : ℕ) → 2 ≤ length s → isHeaded kind s ≡ true → t ≡ take n (drop 2 s)
+    → kind ∷ layout ∷ t ≡ take (suc (suc n)) s
 two-bytes kind [] t n h g e = absurd (omega arith)
 two-bytes kind (x ∷ []) t n h g e = absurd (omega arith)
 two-bytes kind (x ∷ y ∷ s) t n h g e =

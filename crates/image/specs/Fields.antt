@@ -37,4 +37,11 @@ module _ (h a b : List ℕ) where
   three-fields c = append-assoc (h ++ a) b c ∙ append-assoc h a (b ++ c)
 
   pub four-fields : (c d : List ℕ) → (((h ++ a) ++ b) ++ c) ++ d ≡ h ++ (a ++ (b ++ (c ++ d)))
-  four-fields c d = rw (append-assoc h a b, append-assoc h (a ++ b) c, append-assoc a b c, append-assoc h (a ++ (b ++ c)) d, append-assoc a (b ++ c) d, append-assoc b c d)
+  four-fields c d = rw (
+    append-assoc h a b,
+    append-assoc h (a ++ b) c,
+    append-assoc a b c,
+    append-assoc h (a ++ (b ++ c)) d,
+    append-assoc a (b ++ c) d,
+    append-assoc b c d,
+  )

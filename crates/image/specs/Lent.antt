@@ -51,12 +51,14 @@ same-either Accepted x = refl
 same-either (Refused k) x = refl
 
 -- a call whose number is not 0 was refused, and leaves what stood before
-pub kept : {A : Type 0} (v : Verdict) (before after : A) {r : ℕ} {x : A} → r ≡ verdictNumber v → (r ≡ 0 → ⊥) → x ≡ onAccept v before after → x ≡ before
+pub kept : {A : Type 0} (v : Verdict) (before after : A) {r : ℕ} {x : A} → r ≡ verdictNumber v → (r ≡ 0 → ⊥) → x ≡ onAccept v before after
+    → x ≡ before
 kept Accepted before after e h f = absurd (h e)
 kept (Refused k) before after e h f = f
 
 -- its result is all zero
-pub emptied : (n : ℕ) (v : Verdict) (image s : List ℕ) {r : ℕ} {x : List ℕ} → r ≡ verdictNumber v → (r ≡ 0 → ⊥) → x ≡ resultBytes n v image s
+pub emptied : (n : ℕ) (v : Verdict) (image s : List ℕ) {r : ℕ} {x : List ℕ} → r ≡ verdictNumber v → (r ≡ 0 → ⊥)
+    → x ≡ resultBytes n v image s
     → x ≡ zeroed n s
 emptied n Accepted image s e h f = absurd (h e)
 emptied n (Refused k) image s e h f = f

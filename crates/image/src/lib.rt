@@ -1,5 +1,5 @@
-// Images: values as bytes at fixed places, for memory that a C program lends. The definitions and laws of parts stand in specs/; here are the
-// leaves: a head, a byte, a number, bytes as they are. Each is put at the front of a lent slice, and got from a place of one.
+// Images: values as bytes at fixed places, for memory that a C program lends. The definitions and laws of parts stand in specs/; here are
+// the leaves: a head, a byte, a number, bytes as they are. Each is put at the front of a lent slice, and got from a place of one.
 mod head;
 mod number;
 mod octets;

@@ -11,7 +11,8 @@ use Rattle.join_proxy.specs.Laws.{ReadsBack, ProxyLaws}
 use Rattle.join_proxy.proofs.Bodies.{number-back, length-text, length-body, reads-back}
 use Rattle.join_proxy.proofs.Judgements.{opens, refused-body}
 use Rattle.join_proxy.proofs.Histories.{sets-in-order, no-number-twice, refused-leaves}
-use Rattle.join_proxy.proofs.Forwarding.{issues-in-order, issued-returns, issued-ages, forwarded-only, forwarded-all, judges-in-order}
+use Rattle.join_proxy.proofs.Forwarding.{issues-in-order, issued-returns, issued-ages}
+use Rattle.join_proxy.proofs.Forwarding.{forwarded-only, forwarded-all, judges-in-order}
 use Rattle.join_proxy.proofs.Plans.{refused-issue}
 
 body-reads-back : CcmLaws → (key : List ℕ) (n : ℕ) (interface : List ℕ) (port : ℕ) (token : List ℕ) → length interface ≡ 8

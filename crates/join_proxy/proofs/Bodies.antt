@@ -101,7 +101,8 @@ text-bytes interface port token a b c d e f g h l pa pb pc pd pe pf pg ph =
     ap (λ (x : List ℕ). getD interface 0 0 ∷ getD interface 1 0 ∷ getD interface 2 0 ∷ getD interface 3 0 ∷ getD interface 4 0
     ∷ getD interface 5 0 ∷ getD interface 6 0 ∷ getD interface 7 0 ∷ (port / 256) ∷ (port % 256) ∷ length token ∷ x)
     (eight-eq pa pb pc pd pe pf pg ph)
-    ∙ ap (λ (x : List ℕ). x ++ two port ++ (length token ∷ eight token)) (table-self interface 0 8 (λ k. getD interface k 0) l (λ k k<8. refl))
+    ∙ ap (λ (x : List ℕ). x ++ two port ++ (length token ∷ eight token))
+    (table-self interface 0 8 (λ k. getD interface k 0) l (λ k k<8. refl))
 
 -- ---- the body as it is written: the number first, and then the part after it is lent to sealing
 -- what sealing left in the part after the number

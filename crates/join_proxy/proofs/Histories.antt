@@ -1,4 +1,5 @@
--- After any list of calls the bodies issued since the key was set have the numbers 0, 1, 2 and so on under that key, and the proxy counts them:
+-- After any list of calls the bodies issued since the key was set have the numbers 0, 1,
+-- 2 and so on under that key, and the proxy counts them:
 -- each call keeps that.
 -- Assumes nothing.
 use mathlib.Core.Path.{_≡_, refl, sym, _∙_, ap, ap₂, subst}

@@ -1,4 +1,5 @@
--- What judging answers at each of its returns, and for which bodies it forwards: the definition's tests taken one by one, and what opens was sealed.
+-- What judging answers at each of its returns, and for which bodies it forwards:
+-- the definition's tests taken one by one, and what opens was sealed.
 -- Assumes nothing.
 use mathlib.Core.Path.{_≡_, refl, sym, _∙_, ap, ap₂}
 use mathlib.Core.Bool.{Bool, true, false, cond}
@@ -67,7 +68,8 @@ pledge-bytes t a b c d e f g h pa pb pc pd pe pf pg ph = ap (pledgeWith t) (eigh
 -- ---- the seal
 opened-as : (plan : Plan) (d d′ : List ℕ) (r : WriteResult) (k : Refusal) → Did plan d r d′ → r ≡ Refused k → plan ≡ refuse k
 opened-as (refuse j) d d′ r k did e = ap refuse (let q : Refused j ≡ Refused k = sym (did .says) ∙ e in cc)
-opened-as (emit t) d d′ r k did e = absurd (let q : Length (length t) ≡ Refused k = sym (did .says) ∙ e in let z : _≡_ {A = ℕ} 0 1 = cc in omega arith)
+opened-as (emit t) d d′ r k did e =
+    absurd (let q : Length (length t) ≡ Refused k = sym (did .says) ∙ e in let z : _≡_ {A = ℕ} 0 1 = cc in omega arith)
 
 -- an accepted opening: the text, which fills the nineteen places
 pub record Opened (plan : Plan) (d d′ : List ℕ) : Type 0 where
@@ -76,7 +78,8 @@ pub record Opened (plan : Plan) (d d′ : List ℕ) : Type 0 where
   pub left : d′ ≡ text ++ drop (length text) d
 
 opened-to : (plan : Plan) (d d′ : List ℕ) (r : WriteResult) (n : ℕ) → Did plan d r d′ → r ≡ Length n → Opened plan d d′
-opened-to (refuse j) d d′ r n did e = absurd (let q : Refused j ≡ Length n = sym (did .says) ∙ e in let z : _≡_ {A = ℕ} 0 1 = cc in omega arith)
+opened-to (refuse j) d d′ r n did e =
+    absurd (let q : Refused j ≡ Length n = sym (did .says) ∙ e in let z : _≡_ {A = ℕ} 0 1 = cc in omega arith)
 opened-to (emit t) d d′ r n did e = record { text = t; so = refl; left = did .holds }
 
 front : (body : List ℕ) → 4 ≤ length body → getD body 0 0 ∷ getD body 1 0 ∷ getD body 2 0 ∷ getD body 3 0 ∷ [] ≡ take 4 body
@@ -91,7 +94,8 @@ module _ (p : Proxy) (body : List ℕ) where
   unfolding judgeBody
   not-31 h = rw (ne-eqb (length body) 31 h)
 
-  by-plan : (plan : Plan) → length body ≡ 31 → opening p body ≡ plan → judgeBody p body ≡ judgePlan (p .issued) (numberOf (take 4 body)) plan
+  by-plan : (plan : Plan) → length body ≡ 31 → opening p body ≡ plan
+      → judgeBody p body ≡ judgePlan (p .issued) (numberOf (take 4 body)) plan
   unfolding judgeBody
   by-plan plan l e = rw (eq-eqb (length body) 31 l, e)
 

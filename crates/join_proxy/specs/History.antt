@@ -1,4 +1,5 @@
--- A list of calls on a proxy, and what is told of it by the calls and their answers alone: the key that was set last, and what was issued since.
+-- A list of calls on a proxy, and what is told of it by the calls and their answers alone:
+-- the key that was set last, and what was issued since.
 use mathlib.Core.List.{List, [], _∷_, _++_}
 use Prim.Native.Nat.{ℕ}
 use lib.ListN.{getD}

@@ -1,4 +1,5 @@
--- What holds of a proxy after any list of calls: what it issues, for which bodies it forwards a response, and that no number is sealed twice.
+-- What holds of a proxy after any list of calls: what it issues, for which bodies it forwards a response,
+-- and that no number is sealed twice.
 -- Numbers, ages and the key are told from the calls and their answers (History), not from what the proxy keeps.
 use mathlib.Core.List.{List, []}
 use mathlib.Core.Path.{_≡_}
@@ -99,4 +100,5 @@ pub record ProxyLaws : Type 0 where
   pub refused-issue : (p : Proxy) (interface : List ℕ) (port : ℕ) (token d : List ℕ) (r : IssueResult) (d′ : List ℕ) (k : Refusal)
       → Issues p interface port token d r d′ → issuePlan p interface port token (length d) ≡ refuse k
       → (numberIn (r .written) ≡ refusalNumber k) × (lengthIn (r .written) ≡ 0) × (r .proxy ≡ p) × (d′ ≡ d)
-  pub refused-body : (p : Proxy) (body : List ℕ) (k : Refusal) → judgeBody p body .verdict ≡ verdict.Refused k → judgeBody p body .pledge ≡ nobody
+  pub refused-body : (p : Proxy) (body : List ℕ) (k : Refusal) → judgeBody p body .verdict ≡ verdict.Refused k
+      → judgeBody p body .pledge ≡ nobody

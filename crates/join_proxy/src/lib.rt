@@ -1,4 +1,5 @@
-// A unit as join proxy: it forwards a pledge's join traffic and keeps no state per pledge (document 004, section 10; document 02, request 7).
+// A unit as join proxy: it forwards a pledge's join traffic and keeps no state per pledge
+// (document 004, section 10; document 02, request 7).
 // What it needs to find the pledge again goes with the request as an option of 31 bytes, sealed under a key of the proxy's own.
 mod body;
 mod issuing;

@@ -22,8 +22,10 @@ use Rattle.link_key.specs.declared.additional_info.AdditionalInfo.the-variants.
 use Rattle.link_key.specs.declared.additional_info.PaddedBytes.{PaddedBytes}
 use Rattle.link_key.specs.set.Lists.{allOf}
 use Rattle.link_key.specs.declared.set.key_set.KeySet.{KeySet}
-use Rattle.key_image.specs.AdditionalInfo.{such, isZero, isPaddedBytes, additionalInfoTo, additionalInfoFrom, additionalInfoFields, additionalInfoPart}
-use Rattle.key_image.specs.Key.{keyFields, keyTo, keyFrom, keyPart, setFields, setTo, setFrom, keySetPart, countedFields, countedTo, countedFrom, countedSetPart}
+use Rattle.key_image.specs.AdditionalInfo.{such, isZero, isPaddedBytes, additionalInfoTo}
+use Rattle.key_image.specs.AdditionalInfo.{additionalInfoFrom, additionalInfoFields, additionalInfoPart}
+use Rattle.key_image.specs.Key.{keyFields, keyTo, keyFrom, keyPart, setFields, setTo, setFrom}
+use Rattle.key_image.specs.Key.{keySetPart, countedFields, countedTo, countedFrom, countedSetPart}
 use Rattle.key_image.specs.Laws.{KeyImages}
 
 -- ---- additional information
@@ -40,7 +42,8 @@ such-lawful test p l =
 all-zero : (s : List ℕ) → allOf isZero s ≡ true → s ≡ replicate (length s) 0
 all-zero [] g = refl
 all-zero (b ∷ s) g =
-    ap₂ (λ (x : ℕ) (y : List ℕ). x ∷ y) (eqb-true b 0 (both-left (isZero b) (allOf isZero s) g)) (all-zero s (both-right (isZero b) (allOf isZero s) g))
+    ap₂ (λ (x : ℕ) (y : List ℕ). x ∷ y) (eqb-true b 0 (both-left (isZero b) (allOf isZero s) g))
+    (all-zero s (both-right (isZero b) (allOf isZero s) g))
 
 info-again : (i : AdditionalInfo) → additionalInfoTo (additionalInfoFrom i) ≡ i
 info-again Absent = refl
@@ -55,7 +58,13 @@ four-first s e =
 all-eight : (s : List ℕ) → length s ≡ 8
     → getD s 0 0 ∷ getD s 1 0 ∷ getD s 2 0 ∷ getD s 3 0 ∷ getD s 4 0 ∷ getD s 5 0 ∷ getD s 6 0 ∷ getD s 7 0 ∷ [] ≡ s
 all-eight s e =
-    rw (← drop-of-length-le s {i = 8} (omega arith), ← drop-cons s 7 0 (omega arith), ← drop-cons s 6 0 (omega arith), ← drop-cons s 5 0 (omega arith), ← drop-cons s 4 0 (omega arith)) (four-first s e)
+    rw (
+      ← drop-of-length-le s {i = 8} (omega arith),
+      ← drop-cons s 7 0 (omega arith),
+      ← drop-cons s 6 0 (omega arith),
+      ← drop-cons s 5 0 (omega arith),
+      ← drop-cons s 4 0 (omega arith),
+    ) (four-first s e)
 
 zeros-after : (n : ℕ) (s : List ℕ) (k : ℕ) → n + k ≡ length s → allOf isZero (drop n s) ≡ true → replicate k 0 ≡ drop n s
 zeros-after n s k e g =
@@ -70,9 +79,11 @@ info-undone n s e true b p q =
     subst (Undone s) (sym (eqb-true n 0 p)) (λ g. ap (λ (t : List ℕ). (0, t)) (zeros-after 0 s 8 (sym e) g))
 info-undone n s e false true p q =
     subst (Undone s) (sym (eqb-true n 4 q))
-    (λ g. ap (λ (t : List ℕ). (4, t)) (ap (λ (t : List ℕ). getD s 0 0 ∷ getD s 1 0 ∷ getD s 2 0 ∷ getD s 3 0 ∷ t) (zeros-after 4 s 4 (sym e) g) ∙ four-first s e))
+    (λ g. ap (λ (t : List ℕ). (4, t))
+    (ap (λ (t : List ℕ). getD s 0 0 ∷ getD s 1 0 ∷ getD s 2 0 ∷ getD s 3 0 ∷ t) (zeros-after 4 s 4 (sym e) g) ∙ four-first s e))
 info-undone n s e false false p q = λ g.
-    let t : eqb n 8 ≡ true = ap (λ (b : Bool). b || eqb n 8) (sym q) ∙ ap (λ (b : Bool). b || eqb n 4 || eqb n 8) (sym p) ∙ both-left (eqb n 0 || eqb n 4 || eqb n 8) (allOf isZero (drop n s)) g in
+    let t : eqb n 8 ≡ true = ap (λ (b : Bool). b || eqb n 8) (sym q) ∙ ap (λ (b : Bool). b || eqb n 4 || eqb n 8) (sym p)
+    ∙ both-left (eqb n 0 || eqb n 4 || eqb n 8) (allOf isZero (drop n s)) g in
     subst (Undone s) (sym (eqb-true n 8 t)) (λ g. ap (λ (t : List ℕ). (8, t)) (all-eight s e)) g
 
 info-lawful : RoundTrips additionalInfoPart
@@ -118,9 +129,11 @@ second-four u h = ap (drop 4) (take-add 4 4 u) ∙ drop-at (take 4 u) (take 4 (d
 full : (n : ℕ) (u : List ℕ) (b : Bool) → eqb n 8 ≡ b → b ≡ (b && allOf isZero (drop n (take 8 u)))
 full n u false e = refl
 full n u true e =
-    ap (allOf isZero) (sym (ap (λ (k : ℕ). drop k (take 8 u)) (eqb-true n 8 e) ∙ drop-of-length-le (take 8 u) {i = 8} (omega (arith, length-take 8 u))))
+    ap (allOf isZero)
+    (sym (ap (λ (k : ℕ). drop k (take 8 u)) (eqb-true n 8 e) ∙ drop-of-length-le (take 8 u) {i = 8} (omega (arith, length-take 8 u))))
 
-same-key : {a b c d : ℕ} {v w : List ℕ} {i j : AdditionalInfo} → a ≡ c → b ≡ d → v ≡ w → i ≡ j → keyWithAdditionalInfo a b v i ≡ keyWithAdditionalInfo c d w j
+same-key : {a b c d : ℕ} {v w : List ℕ} {i j : AdditionalInfo} → a ≡ c → b ≡ d → v ≡ w → i ≡ j
+    → keyWithAdditionalInfo a b v i ≡ keyWithAdditionalInfo c d w j
 same-key e f g h = rw (e, f, g, h)
 
 -- ---- four elements of a list
@@ -128,9 +141,15 @@ module _ {A : Type 0} (xs : List A) (x : A) where
   drop-from : (j k : ℕ) → suc j ≡ k → j < length xs → drop j xs ≡ getD xs j x ∷ drop k xs
   drop-from j k f h = drop-cons xs j x h ∙ ap (λ (n : ℕ). getD xs j x ∷ drop n xs) f
 
-  four-taken : (i : ℕ) → i + 4 ≤ length xs → take 4 (drop i xs) ≡ getD xs i x ∷ getD xs (i + 1) x ∷ getD xs (i + 2) x ∷ getD xs (i + 3) x ∷ []
+  four-taken : (i : ℕ) → i + 4 ≤ length xs
+      → take 4 (drop i xs) ≡ getD xs i x ∷ getD xs (i + 1) x ∷ getD xs (i + 2) x ∷ getD xs (i + 3) x ∷ []
   four-taken i h =
-      rw (drop-from i (i + 1) (omega arith) (omega arith), drop-from (i + 1) (i + 2) (omega arith) (omega arith), drop-from (i + 2) (i + 3) (omega arith) (omega arith), drop-from (i + 3) (i + 4) (omega arith) (omega arith))
+      rw (
+        drop-from i (i + 1) (omega arith) (omega arith),
+        drop-from (i + 1) (i + 2) (omega arith) (omega arith),
+        drop-from (i + 2) (i + 3) (omega arith) (omega arith),
+        drop-from (i + 3) (i + 4) (omega arith) (omega arith),
+      )
 
 -- ---- what stands at a place of the code is what the fields get, one after the other
 module _ (s : List ℕ) (at : ℕ) where
@@ -158,15 +177,29 @@ module _ (s : List ℕ) (at : ℕ) where
       rw (first-byte, e, info-byte 0 (omega arith), info-byte 1 (omega arith), info-byte 2 (omega arith), info-byte 3 (omega arith))
 
   pub eight-got : ¬ (getD s at 0 ≡ 0) → ¬ (getD s at 0 ≡ 4)
-      → Eight (getD s (at + 1) 0) (getD s (at + 2) 0) (getD s (at + 3) 0) (getD s (at + 4) 0) (getD s (at + 5) 0) (getD s (at + 6) 0) (getD s (at + 7) 0) (getD s (at + 8) 0)
+      → Eight (getD s (at + 1) 0) (getD s (at + 2) 0) (getD s (at + 3) 0) (getD s (at + 4) 0) (getD s (at + 5) 0) (getD s (at + 6) 0)
+      (getD s (at + 7) 0) (getD s (at + 8) 0)
       ≡ additionalInfoPart .get (drop at s)
   eight-got e f =
-      rw (first-byte, ne-eqb (getD s at 0) 0 e, ne-eqb (getD s at 0) 4 f, info-byte 0 (omega arith), info-byte 1 (omega arith), info-byte 2 (omega arith), info-byte 3 (omega arith), info-byte 4 (omega arith), info-byte 5 (omega arith), info-byte 6 (omega arith), info-byte 7 (omega arith))
+      rw (
+        first-byte,
+        ne-eqb (getD s at 0) 0 e,
+        ne-eqb (getD s at 0) 4 f,
+        info-byte 0 (omega arith),
+        info-byte 1 (omega arith),
+        info-byte 2 (omega arith),
+        info-byte 3 (omega arith),
+        info-byte 4 (omega arith),
+        info-byte 5 (omega arith),
+        info-byte 6 (omega arith),
+        info-byte 7 (omega arith),
+      )
 
   pub absent-judged : {n : ℕ} → getD s at 0 ≡ 0 → n ≡ bigEndian (take 8 (drop (at + 1) s)) → eqb n 0 ≡ additionalInfoPart .good (drop at s)
   absent-judged e f = rw (f, first-byte, e, past 1) (zero-number (take 8 (drop 1 (drop at s))))
 
-  pub four-judged : {n : ℕ} → at + 9 ≤ length s → getD s at 0 ≡ 4 → n ≡ bigEndian (take 4 (drop (at + 5) s)) → eqb n 0 ≡ additionalInfoPart .good (drop at s)
+  pub four-judged : {n : ℕ} → at + 9 ≤ length s → getD s at 0 ≡ 4 → n ≡ bigEndian (take 4 (drop (at + 5) s))
+      → eqb n 0 ≡ additionalInfoPart .good (drop at s)
   four-judged h e f =
       let u = drop 1 (drop at s) in
       let g : 4 ≤ length u = omega (arith, length-drop 1 (drop at s), length-drop at s) in
@@ -174,7 +207,8 @@ module _ (s : List ℕ) (at : ℕ) where
 
   pub eight-judged : ¬ (getD s at 0 ≡ 0) → ¬ (getD s at 0 ≡ 4) → eqb (getD s at 0) 8 ≡ additionalInfoPart .good (drop at s)
   eight-judged e f =
-      rw (first-byte, ne-eqb (getD s at 0) 0 e, ne-eqb (getD s at 0) 4 f) (full (getD s at 0) (drop 1 (drop at s)) (eqb (getD s at 0) 8) refl)
+      rw (first-byte, ne-eqb (getD s at 0) 0 e, ne-eqb (getD s at 0) 4 f)
+      (full (getD s at 0) (drop 1 (drop at s)) (eqb (getD s at 0) 8) refl)
 
   key-info : drop (at + 18) s ≡ drop 16 (drop 1 (drop 1 (drop at s)))
   key-info = past 18 ∙ sym (ap (drop 16) (drop-drop 1 1 (drop at s)) ∙ drop-drop 16 2 (drop at s))
@@ -182,7 +216,8 @@ module _ (s : List ℕ) (at : ℕ) where
   pub key-got : {v : List ℕ} {i : AdditionalInfo} → v ≡ take 16 (drop (at + 2) s) → i ≡ additionalInfoPart .get (drop (at + 18) s)
       → keyWithAdditionalInfo (getD s at 0) (getD s (at + 1) 0) v i ≡ keyPart .get (drop at s)
   key-got e f =
-      same-key (sym first-byte) (byte-got 1 ∙ sym (getD-drop 1 (drop at s) 0 0)) (e ∙ ap (take 16) (past 2 ∙ sym (drop-drop 1 1 (drop at s)))) (f ∙ ap (additionalInfoPart .get) key-info)
+      same-key (sym first-byte) (byte-got 1 ∙ sym (getD-drop 1 (drop at s) 0 0))
+      (e ∙ ap (take 16) (past 2 ∙ sym (drop-drop 1 1 (drop at s)))) (f ∙ ap (additionalInfoPart .get) key-info)
 
   pub key-judged : {b : Bool} → b ≡ additionalInfoPart .good (drop (at + 18) s) → b ≡ keyPart .good (drop at s)
   key-judged e = e ∙ ap (additionalInfoPart .good) key-info
@@ -232,7 +267,8 @@ module _ {A : Type 0} (p : Part A) where
   halves : (xs : List A) → length xs ≡ 8 → puts p (take 4 xs) ++ puts p (take 4 (drop 4 xs)) ≡ puts p xs
   halves xs e =
       let f : length (drop 4 xs) ≤ 4 = omega (arith, length-drop 4 xs) in
-      sym (puts-append (take 4 xs) (take 4 (drop 4 xs))) ∙ ap (puts p) (ap (λ (ys : List A). take 4 xs ++ ys) (take-all 4 (drop 4 xs) f) ∙ take-append-drop 4 xs)
+      sym (puts-append (take 4 xs) (take 4 (drop 4 xs)))
+      ∙ ap (puts p) (ap (λ (ys : List A). take 4 xs ++ ys) (take-all 4 (drop 4 xs) f) ∙ take-append-drop 4 xs)
 
   -- four elements of eight, and the others
   pub half-wrote : (xs : List A) (i : ℕ) (x : A) {a b c d : A} {t t′ : List ℕ} {n : ℕ} → i + 4 ≤ length xs
@@ -248,7 +284,8 @@ module _ {A : Type 0} (p : Part A) where
       (append-assoc q (puts p (take 4 xs)) (puts p (take 4 (drop 4 xs))) ∙ ap (λ (r : List ℕ). q ++ r) (halves xs e)) w
 
 -- the places of four, written one after the other
-pub four-wrote : (a b c d : List ℕ) {t t′ : List ℕ} {n : ℕ} → Wrote (((a ++ b) ++ c) ++ d) t n t′ → Wrote (a ++ (b ++ (c ++ (d ++ [])))) t n t′
+pub four-wrote : (a b c d : List ℕ) {t t′ : List ℕ} {n : ℕ} → Wrote (((a ++ b) ++ c) ++ d) t n t′
+    → Wrote (a ++ (b ++ (c ++ (d ++ [])))) t n t′
 four-wrote a b c d {t} {t′} {n} w =
     subst (λ (r : List ℕ). Wrote r t n t′)
     (rw (append-nil d, append-assoc (a ++ b) c d, append-assoc a b (c ++ d))) w
@@ -292,8 +329,10 @@ module _ (s : List ℕ) (at : ℕ) where
 
   module _ {a b c d e f g h : ℕ} where
     pub eight-counters : a ≡ bigEndian (take 4 (drop (at + 217) s)) → b ≡ bigEndian (take 4 (drop (at + 221) s))
-        → c ≡ bigEndian (take 4 (drop (at + 225) s)) → d ≡ bigEndian (take 4 (drop (at + 229) s)) → e ≡ bigEndian (take 4 (drop (at + 233) s))
-        → f ≡ bigEndian (take 4 (drop (at + 237) s)) → g ≡ bigEndian (take 4 (drop (at + 241) s)) → h ≡ bigEndian (take 4 (drop (at + 245) s))
+        → c ≡ bigEndian (take 4 (drop (at + 225) s)) → d ≡ bigEndian (take 4 (drop (at + 229) s))
+        → e ≡ bigEndian (take 4 (drop (at + 233) s))
+        → f ≡ bigEndian (take 4 (drop (at + 237) s)) → g ≡ bigEndian (take 4 (drop (at + 241) s))
+        → h ≡ bigEndian (take 4 (drop (at + 245) s))
         → a ∷ b ∷ c ∷ d ∷ e ∷ f ∷ g ∷ h ∷ [] ≡ gets (number 4) 8 (drop (at + 217) s)
     eight-counters e1 e2 e3 e4 e5 e6 e7 e8 =
         one-read (number 4) s 7 (at + 217) (at + 221) (omega arith) e1
@@ -305,7 +344,8 @@ module _ (s : List ℕ) (at : ℕ) where
         (one-read (number 4) s 1 (at + 241) (at + 245) (omega arith) e7
         (one-read (number 4) s 0 (at + 245) (at + 249) (omega arith) e8 refl)))))))
 
-pub info-wrote : (i : AdditionalInfo) {x : PaddedBytes} {t t′ : List ℕ} → x ≡ paddedBytes i → Wrote ((x .len ∷ []) ++ x .bytes) t 9 t′ → Wrote (additionalInfoPart .put i) t 9 t′
+pub info-wrote : (i : AdditionalInfo) {x : PaddedBytes} {t t′ : List ℕ} → x ≡ paddedBytes i → Wrote ((x .len ∷ []) ++ x .bytes) t 9 t′
+    → Wrote (additionalInfoPart .put i) t 9 t′
 info-wrote i e w = rw e at w
 
 pub info-short : (i : AdditionalInfo) {x : PaddedBytes} → x ≡ paddedBytes i → x .len < 256

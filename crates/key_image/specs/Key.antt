@@ -1,5 +1,5 @@
--- Keys as bytes. A key, 27: identifier 1, usage 1, value 16, additional information 9. A key set, 217: count 1, eight keys; a count over 255
--- does not fit. A key set with counters, 249: the key set, and eight counters of 4.
+-- Keys as bytes. A key, 27: identifier 1, usage 1, value 16, additional information 9. A key set, 217: count 1, eight keys; a count over
+-- 255 does not fit. A key set with counters, 249: the key set, and eight counters of 4.
 use Prim.Native.Nat.{ℕ}
 use mathlib.Core.List.{List}
 use Rattle.image.specs.Part.{Part, byte, number, octets, both, viewed, times}

@@ -1,5 +1,5 @@
-// Keys as parts of images: a key with its additional information, a key set, a key set with counters. Each is read and judged from a place of
-// a lent slice on, and put at the front of one.
+// Keys as parts of images: a key with its additional information, a key set, a key set with counters. Each is read and judged from a place
+// of a lent slice on, and put at the front of one.
 mod additional_info;
 mod counted_set;
 mod key;

@@ -13,7 +13,8 @@ use Rattle.image.specs.Effects.{onAccept}
 module _ (d : AddressAnswer) (before after : List ℕ) where
   -- the number, the image, and the address
   abbrev Told : ℕ → List ℕ → ℕ → Type 0
-  Told r x a = (r ≡ verdictNumber (addressVerdict d)) × ((x ≡ onAccept (addressVerdict d) before after) × (a ≡ onAccept (addressVerdict d) 0 (addressValue d)))
+  Told r x a = (r ≡ verdictNumber (addressVerdict d))
+      × ((x ≡ onAccept (addressVerdict d) before after) × (a ≡ onAccept (addressVerdict d) 0 (addressValue d)))
 
   pub address-told : (a : ℕ) {x : List ℕ} → d ≡ address.Address a → x ≡ after → Told 0 x a
   address-told a e h = rw e (refl, (h, refl))

@@ -59,7 +59,8 @@ module _ (c : LedgerCall) (s m : List ℕ) where
   unfit e = record { number = rw e; ledger = rw e; memory = rw e; value = rw e }
 
   pub told : Demand1 → (p : Performed) {r v : ℕ} {s′ : List ℕ} → (boardFits c && isImage ledgerImage s) ≡ true → performedIn c s m ≡ p
-      → r ≡ verdictNumber (p .verdict) → s′ ≡ onAccept (p .verdict) s (ledgerImage .put (p .ledger)) → v ≡ onAccept (p .verdict) 0 (p .value)
+      → r ≡ verdictNumber (p .verdict) → s′ ≡ onAccept (p .verdict) s (ledgerImage .put (p .ledger))
+      → v ≡ onAccept (p .verdict) 0 (p .value)
       → LedgerDid c s m r s′ (p .memory) v
   told d p f e x y z =
       record {

@@ -25,7 +25,8 @@ pub fn ledger_open(first: u16, size: u16, memory: &[u8], ledger: &mut [u8]) -> u
 
 // Grants the board the lowest free address, or the one that it holds.
 pub fn ledger_grant(ledger: &mut [u8], memory: &mut [u8], board: &[u8], address: &mut u16) -> u32
-    ensures { λ r. ⌜ LedgerDid (asking (now (board .entry))) (now (ledger .entry)) (now (memory .entry)) r (now (ledger .exit)) (now (memory .exit)) (now (address .exit)) ⌝ }
+    ensures { λ r. ⌜ LedgerDid (asking (now (board .entry))) (now (ledger .entry)) (now (memory .entry)) r (now (ledger .exit))
+        (now (memory .exit)) (now (address .exit)) ⌝ }
 {
     address_ledger_laws::demand1();
     if board.len() != 8 {
@@ -49,7 +50,8 @@ pub fn ledger_give_back(
     board: &[u8],
     address: &mut u16,
 ) -> u32
-    ensures { λ r. ⌜ LedgerDid (returning (now (board .entry))) (now (ledger .entry)) (now (memory .entry)) r (now (ledger .exit)) (now (memory .exit)) (now (address .exit)) ⌝ }
+    ensures { λ r. ⌜ LedgerDid (returning (now (board .entry))) (now (ledger .entry)) (now (memory .entry)) r (now (ledger .exit))
+        (now (memory .exit)) (now (address .exit)) ⌝ }
 {
     address_ledger_laws::demand1();
     if board.len() != 8 {

@@ -1,5 +1,5 @@
-// The ledger of short addresses, for C: the ledger is an image in lent bytes, the places stand in lent memory. RANGE comes first where what was
-// lent is not of its size or no image; then each call is the ledger's own.
+// The ledger of short addresses, for C: the ledger is an image in lent bytes, the places stand in lent memory. RANGE comes first where what
+// was lent is not of its size or no image; then each call is the ledger's own.
 mod ledger;
 mod store;
 

@@ -26,10 +26,16 @@ use Rattle.link_key.proofs.Infos.{info-equal}
 pub same-key-self : (k : Key) → sameKey k k ≡ true
 unfolding sameKey
 same-key-self k =
-    rw (eq-eqb (k .identifier) (k .identifier) refl, eq-eqb (k .usage) (k .usage) refl, same-refl (k .value), same-refl (additionalInfoBytes (k .info)))
+    rw (
+      eq-eqb (k .identifier) (k .identifier) refl,
+      eq-eqb (k .usage) (k .usage) refl,
+      same-refl (k .value),
+      same-refl (additionalInfoBytes (k .info)),
+    )
 
 alike :
-    {i j t u : ℕ} {v w : List ℕ} {m n : AdditionalInfo} → i ≡ j → t ≡ u → v ≡ w → m ≡ n → keyWithAdditionalInfo i t v m ≡ keyWithAdditionalInfo j u w n
+    {i j t u : ℕ} {v w : List ℕ} {m n : AdditionalInfo} → i ≡ j → t ≡ u → v ≡ w → m ≡ n
+    → keyWithAdditionalInfo i t v m ≡ keyWithAdditionalInfo j u w n
 alike p q r s = rw (p, q, r, s)
 
 pub same-key-equal : (k l : Key) → sameKey k l ≡ true → k ≡ l
@@ -44,7 +50,8 @@ same-key-equal k l e =
     let i : k .identifier ≡ l .identifier = eqb-true _ _ (both-left names usages front) in
     let u : k .usage ≡ l .usage = eqb-true _ _ (both-right names usages front) in
     let v : k .value ≡ l .value = same-equal (k .value) (l .value) (both-right (names && usages) values three) in
-    let bytes = same-equal (additionalInfoBytes (k .info)) (additionalInfoBytes (l .info)) (both-right (names && usages && values) infos e) in
+    let bytes =
+    same-equal (additionalInfoBytes (k .info)) (additionalInfoBytes (l .info)) (both-right (names && usages && values) infos e) in
     alike i u v (info-equal (k .info) (l .info) bytes)
 
 pub same-secret-says : (k l : Key) → sameSecret k l ≡ true → (k .identifier ≡ l .identifier) × (k .value ≡ l .value)
@@ -71,8 +78,11 @@ limits-fit k e =
     let most = leb (k .identifier) 255 in
     let usage = listed (k .usage) in
     let value = eqb (length (k .value)) 16 in
-    let front = both-left (least && most && usage) value e in
-    (leb-true _ _ (both-right least most (both-left (least && most) usage front)), leb-true _ _ (both-right (least && most) usage front), eqb-true _ _ (both-right (least && most && usage) value e))
+    let front = both-left (least && most && usage) value e in (
+      leb-true _ _ (both-right least most (both-left (least && most) usage front)),
+      leb-true _ _ (both-right (least && most) usage front),
+      eqb-true _ _ (both-right (least && most && usage) value e),
+    )
 
 known-type : (f : Family) (type : ℕ) → familyCovers f type ≡ true → type ≤ 1
 known-type K1K2Encrypted type e = leb-true type 1 e
@@ -108,6 +118,7 @@ choose-coverage true c = refl
 choose-coverage false c = refl
 
 pub coverage-says :
-    (k : Key) (type : ℕ) → coverageSays (coverageOf k type) ≡ cond (knownType type && listed (k .usage)) (0, some (covers k type)) (13, none)
+    (k : Key) (type : ℕ)
+    → coverageSays (coverageOf k type) ≡ cond (knownType type && listed (k .usage)) (0, some (covers k type)) (13, none)
 unfolding coverageOf
 coverage-says k type = choose-coverage (knownType type && listed (k .usage)) (covers k type)

@@ -16,7 +16,8 @@ additionalInfoBytes (info.Eight a b c d e f g h) = a ∷ b ∷ c ∷ d ∷ e ∷
 
 -- the bytes as code has them: so many of eight, zeros after them
 abbrev pub paddedBytes : AdditionalInfo → PaddedBytes
-paddedBytes i = record { len = length (additionalInfoBytes i); bytes = additionalInfoBytes i ++ replicate (8 - length (additionalInfoBytes i)) 0 }
+paddedBytes i =
+    record { len = length (additionalInfoBytes i); bytes = additionalInfoBytes i ++ replicate (8 - length (additionalInfoBytes i)) 0 }
 
 -- the information that a byte string is: 4 bytes or 8, and every other length is none
 abbrev pub additionalInfoIn : List ℕ → Option AdditionalInfo

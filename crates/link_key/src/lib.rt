@@ -13,7 +13,8 @@ pub(crate) use additional_info::same_additional_info;
 use byte_io::same_bytes;
 use refusal::Refusal;
 ghost use mathlib.Core.Path.{_≡_};
-ghost use Rattle.link_key.specs.Key.{keyWithAdditionalInfo, keyOf, noKey, validKey, hasNoAdditionalInfo, sameKey, sameSecret, covers, coverageOf};
+ghost use Rattle.link_key.specs.Key.{keyWithAdditionalInfo, keyOf, noKey, validKey};
+ghost use Rattle.link_key.specs.Key.{hasNoAdditionalInfo, sameKey, sameSecret, covers, coverageOf};
 ghost use Rattle.link_key.specs.Laws.{SameKeyLaws};
 
 pub struct Key {

@@ -12,7 +12,8 @@ use Rattle.lemmas.specs.logic.Tests.{both-left}
 use Rattle.link_key.specs.set.KeySet.{keysOf}
 use Rattle.link_key.specs.declared.set.key_set.KeySet.{KeySet}
 use Rattle.link_key.proofs.set.Lists.{any-one, first-is, first-finds}
-use Rattle.link_key_counters.specs.Counters.{Slot, slot, slotsFrom, slotsOf, countedSet, isUsedUp, serves, firstServing, takenCounterOn, takeCounter}
+use Rattle.link_key_counters.specs.Counters.{Slot, slot, slotsFrom, slotsOf, countedSet, isUsedUp}
+use Rattle.link_key_counters.specs.Counters.{serves, firstServing, takenCounterOn, takeCounter}
 use Rattle.link_key_counters.specs.Counters.{keptCounters, inheritCounters}
 use Rattle.link_key_counters.specs.CounterLaws.{SlotOf, CounterLaws}
 use Rattle.link_key_counters.specs.declared.CountedSet.{CountedSet}

@@ -8,7 +8,8 @@ use Rattle.link_key.specs.Key.{covers}
 use Rattle.link_key.specs.declared.Key.{Key}
 use Rattle.link_key.specs.set.KeySet.{keysOf}
 use Rattle.link_key.specs.declared.set.key_set.KeySet.{KeySet}
-use Rattle.link_key_counters.specs.Counters.{Slot, slotsOf, countedSet, serves, firstServing, takenCounterOn, takeCounter, keptCounters, inheritCounters}
+use Rattle.link_key_counters.specs.Counters.{Slot, slotsOf, countedSet, serves, firstServing}
+use Rattle.link_key_counters.specs.Counters.{takenCounterOn, takeCounter, keptCounters, inheritCounters}
 use Rattle.link_key_counters.specs.declared.CountedSet.{CountedSet}
 
 -- a key of the set with its counter

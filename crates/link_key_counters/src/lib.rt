@@ -6,7 +6,8 @@ use link_key::no_key;
 use link_key::set::KeySet;
 use link_key::set::key_set::no_keys;
 ghost use mathlib.Core.Path.{_≡_};
-ghost use Rattle.link_key_counters.specs.Counters.{withZeroCounters, noCounted, firstServing, placeOf, takeCounter, keptCounter, inheritCounters};
+ghost use Rattle.link_key_counters.specs.Counters.{withZeroCounters, noCounted, firstServing, placeOf};
+ghost use Rattle.link_key_counters.specs.Counters.{takeCounter, keptCounter, inheritCounters};
 ghost use Rattle.link_key_counters.specs.CounterLaws.{CounterLaws};
 
 pub struct CountedSet {

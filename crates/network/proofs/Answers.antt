@@ -1,4 +1,5 @@
--- Each clause of a turn goes by the answers of its sender and its receiver; the receiver's answer to the report is what `AnswersSay` says of it.
+-- Each clause of a turn goes by the answers of its sender and its receiver;
+-- the receiver's answer to the report is what `AnswersSay` says of it.
 use Prim.Native.Nat.{ℕ}
 use mathlib.Core.Path.{_≡_, refl, sym, _∙_, ap}
 use mathlib.Core.Bool.{Bool, true, false, cond, not, _&&_}
@@ -57,7 +58,8 @@ module _ (A : AnswersSay) (a b : Node) (type : ℕ) (e : send a type .verdict �
       (x : Bool) →
       (answerNumber (cond x (told (afterSend a type) b (verified b type id)) (turned (afterSend a type) b Failed) .answer) ≡ 0)
       × (wasVerified (cond x (told (afterSend a type) b (verified b type id)) (turned (afterSend a type) b Failed) .answer) ≡ x)
-      × (hasSwitched (cond x (told (afterSend a type) b (verified b type id)) (turned (afterSend a type) b Failed) .answer) ≡ (x && not active))
+      × (hasSwitched (cond x (told (afterSend a type) b (verified b type id)) (turned (afterSend a type) b Failed) .answer)
+      ≡ (x && not active))
   by-keys false = (refl, refl, refl)
   by-keys true =
       let n = none-refused told-change active has-switched has-kept in

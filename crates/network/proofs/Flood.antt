@@ -1,5 +1,5 @@
--- How the kinds of a network's nodes move by its events: only a waiting receiver of a switched sender changes. So nothing moves where no node
--- has switched, and rounds carry the set as many hops as they are many. Nothing here speaks of the nodes.
+-- How the kinds of a network's nodes move by its events: only a waiting receiver of a switched sender changes. So nothing moves where no
+-- node has switched, and rounds carry the set as many hops as they are many. Nothing here speaks of the nodes.
 use Prim.Native.Nat.{ℕ}
 use mathlib.Core.Path.{_≡_, refl, sym, _∙_, ap}
 use mathlib.Core.Bool.{Bool, true, false, cond}

@@ -64,8 +64,10 @@ unfoldable pub computing : Unit {0}
 unfolding payloadBy decodeBy heading argument next digits members pairs majorOf bytesOf infoOf extraOf shortest
     validKey hasNoAdditionalInfo sameKey same covers validKeys validSet
     padded octetsJudged addressIn groups identified used valued owing payloadReadBy
-    laterParameter parameterOf configurationTaking validErrorReports errorReportsValid added errorReportsOf listedIn requestInRange requestPlan
-    takeCounter sameSecret inheritCounters sets.valid sets.validAs install frames.sending receivingKey verifiedIn attempt.valid mayStart stepped polling.poll
+    laterParameter parameterOf configurationTaking validErrorReports errorReportsValid added errorReportsOf listedIn
+    requestInRange requestPlan
+    takeCounter sameSecret inheritCounters sets.valid sets.validAs install frames.sending receivingKey verifiedIn attempt.valid mayStart
+    stepped polling.poll
     versionValid valid requestOf startVerdict startPlan start poll dispositionsOf fitted configured apply mayCome deliverVerdict deliver
     sending send sendCounter afterSend receive verified perform
     nodeAt withNode judged turn step run Admissible AdmissibleEvent
@@ -264,5 +266,6 @@ witness claim =
       two-rounds-pending = refl;
       none-sends = said .0;
       rekeyed =
-          said .1 unspent-before Update 20000 RekeyExample.payload takes lineLinks 2 twice after linked-twice rounds unspent-after 2 (lit< tt) hops;
+          said .1 unspent-before Update 20000 RekeyExample.payload takes lineLinks 2 twice after linked-twice rounds unspent-after
+          2 (lit< tt) hops;
     }

@@ -19,7 +19,8 @@ use Rattle.network.specs.Demand3.{NoneUsedUp}
 use Rattle.network.specs.PartialRekey.{Lacks, SupposedSome, RekeyUnder, PartialRekey}
 use Rattle.network.specs.RekeyExample
 use Rattle.network.specs.RekeyExample.{newKeys}
-use Rattle.network.specs.PartialRekeyExample.{thirdKeys, hadPending, building, buildingLinks, beforehand, takenIn, around, aroundTwice}
+use Rattle.network.specs.PartialRekeyExample.{thirdKeys, hadPending, building, buildingLinks}
+use Rattle.network.specs.PartialRekeyExample.{beforehand, takenIn, around, aroundTwice}
 use Rattle.network.specs.PartialRekeyExample.{PartialRekeyExample}
 use Rattle.network.proofs.Receiving.{none-apart}
 use Rattle.network.proofs.Rekey.{where-all-had}
@@ -55,7 +56,8 @@ supposed =
           (λ _. refl) (λ _. refl);
       covering = record { key = _; member = at refl; covering = refl };
       pending =
-          seven (λ i. nodeAt building i .role ≡ 0 → hadPending i ≡ true → pendingOf (nodeAt building i) ≡ newKeys) (λ e. absurd (omega arith))
+          seven (λ i. nodeAt building i .role ≡ 0 → hadPending i ≡ true → pendingOf (nodeAt building i) ≡ newKeys)
+          (λ e. absurd (omega arith))
           (λ _ _. refl) (λ _ e. never false e refl) (λ _ _. refl) (λ _ e. never false e refl) (λ _ e. never false e refl) (λ _ _. refl);
       lacking =
           seven (λ i. nodeAt building i .role ≡ 0 → hadPending i ≡ false → Lacks newKeys (nodeAt building i)) (λ e. absurd (omega arith))

@@ -93,7 +93,8 @@ module _ (L : NodeLaws) (ks : List Key) where
   step-are kinds net (turning i j type) h f a =
       let t = turn (nodeAt net i) (nodeAt net j) type in
       let s = stays-is ks (kinds i) (sender-stays L (nodeAt net i) (nodeAt net j) type) (a i (h .0)) in
-      are-with ks kinds (withNode net i (t .sender)) j (t .receiver) (are-still ks kinds net i (t .sender) a s) (becomes (kinds i) (kinds j))
+      are-with ks kinds (withNode net i (t .sender)) j (t .receiver) (are-still ks kinds net i (t .sender) a s)
+      (becomes (kinds i) (kinds j))
       (turn-becomes L ks (nodeAt net i) (nodeAt net j) type (kinds i) (kinds j) f (a i (h .0)) (a j (h .1)))
   step-are kinds net (calling i c) h f a =
       are-still ks kinds net i (perform c (nodeAt net i) .node) a
@@ -117,14 +118,17 @@ module _ (L : NodeLaws) (ks : List Key) where
   -- with turns of a type for which each node that has the set active has a key left, the kinds flow
   module _ (links : Links) (type : ℕ) where
     ready :
-        (kinds : Kinds) (net : Network) (e : Event) → AdmissibleEvent net e → Linked links type e → SomeKeyUsable ks type net → Are ks kinds net →
+        (kinds : Kinds) (net : Network) (e : Event) → AdmissibleEvent net e → Linked links type e → SomeKeyUsable ks type net →
+        Are ks kinds net →
         Ready kinds net e
     unfolding AdmissibleEvent
-    ready kinds net (turning i j u) h l left a = λ w. let is : IsNew ks (nodeAt net i) = rw w at (a i (h .0)) in rw (l .1) (left i (h .0) (is .active))
+    ready kinds net (turning i j u) h l left a = λ w. let is : IsNew ks (nodeAt net i) = rw w at (a i (h .0)) in
+        rw (l .1) (left i (h .0) (is .active))
     ready kinds net (calling i c) h l left a = tt
 
     pub run-flows :
-        (kinds : Kinds) (net : Network) (es : List Event) → Admissible net es → AllLinked links type es → Throughout (SomeKeyUsable ks type) net es →
+        (kinds : Kinds) (net : Network) (es : List Event) → Admissible net es → AllLinked links type es →
+        Throughout (SomeKeyUsable ks type) net es →
         Are ks kinds net → Are ks (flows kinds es) (run net es)
     unfolding run Admissible Throughout
     run-flows kinds net [] h l u a = a
@@ -134,7 +138,8 @@ module _ (L : NodeLaws) (ks : List Key) where
 
 -- ---- what holds at every moment holds at the end, and so does what follows from it
 pub throughout-map :
-    (P Q : Network → Type 0) → ((net : Network) → P net → Q net) → (net : Network) (es : List Event) → Throughout P net es → Throughout Q net es
+    (P Q : Network → Type 0) → ((net : Network) → P net → Q net) → (net : Network) (es : List Event) → Throughout P net es
+    → Throughout Q net es
 unfolding Throughout
 throughout-map P Q f net [] u = f net u
 throughout-map P Q f net (e ∷ es) u = (f net (u .0), throughout-map P Q f (step net e) es (u .1))
@@ -199,13 +204,15 @@ module _ (L : NodeLaws) where
     step-unmoved net (turning i j type) h a =
         let t = turn (nodeAt net i) (nodeAt net j) type in
         all-still (UnmovedFrom start) (withNode net i (t .sender)) j (t .receiver)
-        (all-still (UnmovedFrom start) net i (t .sender) a (λ e. unmoved-stays (sender-stays L (nodeAt net i) (nodeAt net j) type) (a i (h .0) e)))
+        (all-still (UnmovedFrom start) net i (t .sender) a
+        (λ e. unmoved-stays (sender-stays L (nodeAt net i) (nodeAt net j) type) (a i (h .0) e)))
         (λ e. unmoved-receives (nodeAt net i) (nodeAt net j) type (a j (h .1) e))
     step-unmoved net (calling i c) h a =
         all-still (UnmovedFrom start) net i (perform c (nodeAt net i) .node) a
         (λ e. unmoved-stays (call-stays L (nodeAt net i) c (h .1)) (a i (h .0) e))
 
-    pub run-unmoved : (net : Network) (es : List Event) → Admissible net es → All (UnmovedFrom start) net → All (UnmovedFrom start) (run net es)
+    pub run-unmoved : (net : Network) (es : List Event) → Admissible net es → All (UnmovedFrom start) net
+        → All (UnmovedFrom start) (run net es)
     unfolding run Admissible
     run-unmoved net [] h a = a
     run-unmoved net (e ∷ es) h a = run-unmoved (step net e) es (h .1) (step-unmoved net e (h .0) a)

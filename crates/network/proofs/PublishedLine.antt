@@ -13,7 +13,8 @@ use Rattle.network.specs.Network.{nodeAt}
 use Rattle.network.specs.Events.{run, Admissible, Throughout}
 use Rattle.network.specs.Demand3.{Supposed, NoneUsedUp, Demand3}
 use Rattle.network.specs.RekeyExample.{oldKeys, lineLinks, twice}
-use Rattle.network.specs.PublishedRekeyExample.{keysWithInfo, publishedLine, badJrcBeside, firstPublished, takenPublished, PublishedRekeyExample}
+use Rattle.network.specs.PublishedRekeyExample.{keysWithInfo, publishedLine, badJrcBeside}
+use Rattle.network.specs.PublishedRekeyExample.{firstPublished, takenPublished, PublishedRekeyExample}
 use Rattle.network.proofs.Line.{computing, three, ones-apart, ones-differ, linked-twice, rounds, hops, turns-come}
 use Rattle.network.proofs.Line.{unspentAt, unspentThrough, unspent-through}
 

@@ -97,7 +97,8 @@ module _ (L : NodeLaws) (ks : List Key) (a b : Node) (type : ℕ) where
   old-receives-other other w = ⊎-elim (λ q. stays-is ks old q w) moved (receiver-either L a b type)
     where
       moved : Moved a b type (turn a b type .receiver) → IsOld ks (turn a b type .receiver)
-      moved d = absurd (other (send a type .key) (d .by .key) (d .sends .member) (rw (w .pending) at (d .by .member)) (sym (d .by .identified)))
+      moved d =
+          absurd (other (send a type .key) (d .by .key) (d .sends .member) (rw (w .pending) at (d .by .member)) (sym (d .by .identified)))
 
   -- and it switches when one sends that has it
   old-receives-new : CanSend a type → IsNew ks a → IsOld ks b → IsNew ks (turn a b type .receiver)

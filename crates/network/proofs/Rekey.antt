@@ -1,6 +1,6 @@
 -- Demand 3, where some nodes may lack the new set. Before the border router accepts it, the border router and the nodes that lack it are
--- apart from it and all others wait with it pending: nothing moves, and nobody sends under it. Then the border router has switched, and each
--- round carries the set one hop further along nodes that wait for it. Where every node had it, that is demand 3.
+-- apart from it and all others wait with it pending: nothing moves, and nobody sends under it. Then the border router has switched, and
+-- each round carries the set one hop further along nodes that wait for it. Where every node had it, that is demand 3.
 use Prim.Native.Nat.{ℕ, _<_}
 use native.Mathlib.Decide.{ℕ-discrete}
 use native.Mathlib.Omega.{arith}
@@ -29,7 +29,8 @@ use Rattle.network.specs.Demand3.{Supposed, NoneUsedUp, NoneSendsUnder, 
 use Rattle.network.specs.PartialRekey.{SomeKeyUsable, SupposedSome, Followed, RekeyUnder, PartialRekey, all, FullCase}
 use Rattle.network.proofs.Receiving.{apart, old, new, Quiet, Carries, IsNew, Is, none-apart, kind-valid, quiet-sends}
 use Rattle.network.proofs.Flood.{Kinds, with, flows, far}
-use Rattle.network.proofs.Places.{All, at-other, Are, are-with, size-with, size-run, throughout-map, at-end, run-role, step-quiet, run-quiet, run-flows}
+use Rattle.network.proofs.Places.{All, at-other, Are, are-with, size-with, size-run, throughout-map}
+use Rattle.network.proofs.Places.{at-end, run-role, step-quiet, run-quiet, run-flows}
 use Rattle.network.proofs.Places.{UnmovedFrom, run-unmoved}
 
 -- the kinds at the start, and after the step
@@ -140,7 +141,8 @@ module _ (L : NodeLaws) where
           where
             switched : flows (atStep had border) es i ≡ new
             switched =
-                far links type (Towards links had) (λ x y n. n .0) (atStep had border) rounds hops (λ x y n. step-carries had border y (n .1))
+                far links type (Towards links had) (λ x y n. n .0) (atStep had border) rounds hops
+                (λ x y n. step-carries had border y (n .1))
                 (rw (eq-eqb border border refl))
 
         -- a node that lacked the set is not the border router: the step leaves it, and the lists leave its active set
@@ -150,7 +152,8 @@ module _ (L : NodeLaws) where
         lacked i l o f e =
             let first = unmoved i (rw same l) e in
             let inside : i < length (run next es) = rw (size-run next es ∙ size) l in
-            let second = run-unmoved L next next es come (λ k _ p. record { active = refl; pending = p }) i inside (ap pendingOf stayed ∙ first .pending) in
+            let second = run-unmoved L next next es come (λ k _ p. record { active = refl; pending = p }) i inside
+            (ap pendingOf stayed ∙ first .pending) in
             second .active ∙ ap activeOf stayed ∙ first .active
           where
             other : i ≡ border → ⊥

@@ -1,4 +1,5 @@
--- A turn that is refused or fails leaves the receiver, since a refused report of a verified frame does; refused by the sender, it leaves both.
+-- A turn that is refused or fails leaves the receiver, since a refused report of a verified frame does;
+-- refused by the sender, it leaves both.
 use Prim.Native.Nat.{ℕ}
 use native.Mathlib.Omega.{arith}
 use mathlib.Core.Path.{_≡_, refl, ap}

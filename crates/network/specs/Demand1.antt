@@ -1,5 +1,5 @@
--- Demand 1 for a turn: refused by the sender, both nodes are as they were; refused by the receiver or failed, the receiver is. The sender is
--- in every turn the node that sending left: its counter stays raised, whatever becomes of the frame (document 02, request 9).
+-- Demand 1 for a turn: refused by the sender, both nodes are as they were; refused by the receiver or failed, the receiver is. The sender
+-- is in every turn the node that sending left: its counter stays raised, whatever becomes of the frame (document 02, request 9).
 use Prim.Native.Nat.{ℕ}
 use mathlib.Core.Path.{_≡_}
 use Rattle.refusal.specs.Refusal.{numberOf}

@@ -38,7 +38,8 @@ pub record SupposedSome (had : ℕ → Bool) (net : Network) (border : ℕ) (new
   pub former-apart : Apart (activeOf (nodeAt net border)) new
 
 -- what the two lists leave, where the nodes were as in the network `start`
-pub record Followed (had : ℕ → Bool) (start : Network) (border : ℕ) (new : List Key) (type : ℕ) (links : Links) (h : ℕ) (net : Network) : Type 0 where
+pub record Followed (had : ℕ → Bool) (start : Network) (border : ℕ) (new : List Key) (type : ℕ) (links : Links) (h : ℕ)
+    (net : Network) : Type 0 where
   -- "count hops only along paths whose nodes after the border router all had it pending at the start. then after h rounds each node
   -- within h such hops is as demand 3 says"
   pub reached : (i : ℕ) → i < length start → Hops (Towards links had) h border i → Rekeyed new type (nodeAt net i)

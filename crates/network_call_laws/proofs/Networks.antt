@@ -15,7 +15,8 @@ use Rattle.network.specs.Events.{Event, step, run}
 use Rattle.network.specs.Network.{Network, nodeAt, withNode}
 use Rattle.pothatch_laws.specs.Node.{NodeRuns}
 use Rattle.pothatch_laws.specs.Runs.{Runs, none-made, next-made, answers}
-use Rattle.network_call_laws.specs.Network.{Structs, structAt, Images, loaded, stored, Answer, of-turn, of-call, Did, turned, called, tells, after, NetworkRuns}
+use Rattle.network_call_laws.specs.Network.{Structs, structAt, Images, loaded, stored, Answer, of-turn}
+use Rattle.network_call_laws.specs.Network.{of-call, Did, turned, called, tells, after, NetworkRuns}
 use Rattle.network_call_laws.proofs.Boards.{Holds, makes, image, from-image, load}
 use Rattle.network_call_laws.proofs.Keys.{identifier-in, same-bytes, same-key}
 use Rattle.network_call_laws.proofs.Turns.{plays}

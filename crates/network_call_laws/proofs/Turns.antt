@@ -136,7 +136,8 @@ module _ (numbers : Numbered) (images : KeyImages) (same : SameKeyLaws) (law : N
       in
       record {
         accepted = e;
-        struct = ap (λ (t : NodeOutput). t .struct) (p .told) ∙ ap (λ (v : Verdict). onAccept v (replicate 33 0) (frameKeyImage .put (found, 0))) e;
+        struct = ap (λ (t : NodeOutput). t .struct) (p .told)
+            ∙ ap (λ (v : Verdict). onAccept v (replicate 33 0) (frameKeyImage .put (found, 0))) e;
         fits = fit .answer-fits c m (d .called .callable) (h .fits);
       }
 
@@ -146,7 +147,8 @@ module _ (numbers : Numbered) (images : KeyImages) (same : SameKeyLaws) (law : N
   unfolding turn
   turn-sent x = ap (λ (v : Verdict). sent (afterSend n type) m type v key) (x .accepted)
 
-  turn-received : {a b : NodeOutput} {s′ : List ℕ} → Sent n type a s′ → Received b → turn n m type ≡ judged (afterSend n type) m type key found
+  turn-received : {a b : NodeOutput} {s′ : List ℕ} → Sent n type a s′ → Received b
+      → turn n m type ≡ judged (afterSend n type) m type key found
   turn-received x y = turn-sent x ∙ ap (λ (v : Verdict). received (afterSend n type) m type key v found) (y .accepted)
 
   same-structs : {a b : NodeOutput} {s′ : List ℕ} → Sent n type a s′ → Received b → keyIn (a .struct) ≡ keyIn (b .struct)
@@ -155,7 +157,8 @@ module _ (numbers : Numbered) (images : KeyImages) (same : SameKeyLaws) (law : N
       same-bytes images same key found (sendCounter n type) 0 (x .fits) (y .fits)
       (ap keyIn (sym (x .struct)) ∙ e ∙ ap keyIn (y .struct))
 
-  same-keys : {a b : NodeOutput} {s′ : List ℕ} → Sent n type a s′ → Received b → sameKey key found ≡ true → keyIn (a .struct) ≡ keyIn (b .struct)
+  same-keys : {a b : NodeOutput} {s′ : List ℕ} → Sent n type a s′ → Received b → sameKey key found ≡ true
+      → keyIn (a .struct) ≡ keyIn (b .struct)
   same-keys x y e =
       ap keyIn (x .struct)
       ∙ same-key images same key found (sendCounter n type) 0 (x .fits) (y .fits) e
@@ -173,7 +176,8 @@ module _ (numbers : Numbered) (images : KeyImages) (same : SameKeyLaws) (law : N
         (send-number numbers law fit n type s a s′ sender (d .called))
         (d .refused)
 
-    to-refused : (a b : NodeOutput) (s′ : List ℕ) → Sent n type a s′ → Refused (receiving type (key .identifier)) w b w → Turned (b .number) 0 s′ w
+    to-refused : (a b : NodeOutput) (s′ : List ℕ) → Sent n type a s′ → Refused (receiving type (key .identifier)) w b w
+        → Turned (b .number) 0 s′ w
     unfolding perform
     to-refused a b s′ x d =
         let p = makes law fit (receiving type (key .identifier)) m w b w receiver (d .called) in
@@ -181,7 +185,8 @@ module _ (numbers : Numbered) (images : KeyImages) (same : SameKeyLaws) (law : N
         (receive-refused (afterSend n type) m type (x .holds) receiver (receive m type (key .identifier) .verdict) key found
         (ap (λ (t : NodeOutput). t .number) (p .told)) (d .refused))
 
-    to-other : (a b : NodeOutput) (s′ : List ℕ) → Sent n type a s′ → Received b → (keyIn (a .struct) ≡ keyIn (b .struct) → ⊥) → Turned 0 0 s′ w
+    to-other : (a b : NodeOutput) (s′ : List ℕ) → Sent n type a s′ → Received b → (keyIn (a .struct) ≡ keyIn (b .struct) → ⊥)
+        → Turned 0 0 s′ w
     to-other a b s′ x y f =
         subst (λ (t : TurnResult). Came t 0 0 s′ w) (sym (turn-received x y))
         (judged-failed (afterSend n type) m type (x .holds) receiver key found (sameKey key found) refl (λ e. f (same-keys x y e)))

@@ -51,7 +51,8 @@ pub data Did : Event → Structs → Answer → Structs → Type 0 where
       → Played type (structAt structs i) (structAt structs j) r c s′ w′
       → Did (turning i j type) structs (of-turn r c) (set (set structs i s′) j w′)
   -- a call at a node
-  called : {i : ℕ} {c : NodeCall} {structs : Structs} {t : NodeOutput} {s′ : List ℕ} → i < length structs → Called c (structAt structs i) t s′
+  called : {i : ℕ} {c : NodeCall} {structs : Structs} {t : NodeOutput} {s′ : List ℕ} → i < length structs
+      → Called c (structAt structs i) t s′
       → Did (calling i c) structs (of-call t) (set structs i s′)
 
 -- ---- the same events in the network

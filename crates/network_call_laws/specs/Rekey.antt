@@ -26,7 +26,8 @@ HandsOneOf new a = List·Memᴰ (frameKeyImage .get (a .struct) .0) new
 -- no board does, whatever the frame type
 abbrev pub NoneSends : List Key → Structs → Type 0
 NoneSends new structs =
-    (i type : ℕ) (a : NodeOutput) (s′ : List ℕ) → i < length structs → Accepted (sending type) (structAt structs i) a s′ → HandsOneOf new a → ⊥
+    (i type : ℕ) (a : NodeOutput) (s′ : List ℕ) → i < length structs → Accepted (sending type) (structAt structs i) a s′ → HandsOneOf new a
+    → ⊥
 
 -- a board that followed the rekey: so did the node in its struct s, and asked for the key to send the type with, it hands back one of the
 -- set

@@ -32,12 +32,14 @@ pub data Played (type : ℕ) (s w : List ℕ) : ℕ → ℕ → List ℕ → Lis
   -- the sender refuses: the receiver is not asked
   not-sent : {a : NodeOutput} {s′ : List ℕ} → Refused (sending type) s a s′ → Played type s w (a .number) 0 s′ w
   -- the receiver refuses
-  not-received : {a b : NodeOutput} {s′ : List ℕ} → Accepted (sending type) s a s′ → Refused (receiving type (identifierIn (a .struct))) w b w
+  not-received : {a b : NodeOutput} {s′ : List ℕ} → Accepted (sending type) s a s′
+      → Refused (receiving type (identifierIn (a .struct))) w b w
       → Played type s w (b .number) 0 s′ w
   -- the receiver has another key: the frame fails, which is no call
   failed : {a b : NodeOutput} {s′ : List ℕ} → Accepted (sending type) s a s′ → Accepted (receiving type (identifierIn (a .struct))) w b w
       → (keyIn (a .struct) ≡ keyIn (b .struct) → ⊥) → Played type s w 0 0 s′ w
   -- the receiver has the same key: the frame is verified, and reported
-  verified : {a b d : NodeOutput} {s′ w′ : List ℕ} → Accepted (sending type) s a s′ → Accepted (receiving type (identifierIn (a .struct))) w b w
+  verified : {a b d : NodeOutput} {s′ w′ : List ℕ} → Accepted (sending type) s a s′
+      → Accepted (receiving type (identifierIn (a .struct))) w b w
       → keyIn (a .struct) ≡ keyIn (b .struct) → Called (reporting type (identifierIn (a .struct))) w d w′
       → Played type s w (d .number) (d .value) s′ w′

@@ -27,7 +27,8 @@ use Rattle.protocol_version.specs.declared.Version.{Version}
 use Rattle.protocol_version.specs.declared.Version.the-variants.{Draft, Published}
 use Rattle.node_parameters.specs.Dispositions.{dispositionsOf}
 use Rattle.node_parameters.proofs.Taken.{taken-is, taken-not}
-use Rattle.node.specs.Delivery.{placementOf, fittedBy, fitted, configured, undelivered, delivered, owesIdentifier, placedBy, apply, deliverVerdict, deliver}
+use Rattle.node.specs.Delivery.{placementOf, fittedBy, fitted, configured, undelivered, delivered}
+use Rattle.node.specs.Delivery.{owesIdentifier, placedBy, apply, deliverVerdict, deliver}
 use Rattle.node.specs.Node.{isBorder, keyed}
 use Rattle.node.specs.Range.{valid}
 use Rattle.node.specs.declared.node.Node.{Node}
@@ -85,7 +86,8 @@ module _ (n : Node) (c : Configuration) where
 
 -- ---- applying
 module _ (delivery : Delivery) (n : Node) (time : ℕ) (c : Configuration) where
-  pub apply-owed : owesIdentifier delivery n (c .network .disposition) ≡ true → undelivered refusal.Owed n ≡ apply delivery n time (fitted n c)
+  pub apply-owed : owesIdentifier delivery n (c .network .disposition) ≡ true
+      → undelivered refusal.Owed n ≡ apply delivery n time (fitted n c)
   unfolding apply
   apply-owed e = rw (fitted-network n c, e)
 
@@ -95,7 +97,8 @@ module _ (delivery : Delivery) (n : Node) (time : ℕ) (c : Configuration) where
     pub does : placedBy verdict.Accepted delivery n time left (m .sets) ≡ apply delivery n time (fitted n c)
 
   module _ (owes : owesIdentifier delivery n (c .network .disposition) ≡ false) where
-    apply-placed : {s : KeySets} → placementOf n (c .keys) ≡ placed s → placedBy verdict.Accepted delivery n time c s ≡ apply delivery n time (fitted n c)
+    apply-placed : {s : KeySets} → placementOf n (c .keys) ≡ placed s
+        → placedBy verdict.Accepted delivery n time c s ≡ apply delivery n time (fitted n c)
     unfolding apply
     apply-placed e = rw (fitted-placed n c (ap (λ (p : InstallResult). p .verdict) e), owes, e)
 
@@ -103,7 +106,8 @@ module _ (delivery : Delivery) (n : Node) (time : ℕ) (c : Configuration) where
       pub none-placed : t ≡ false → Placed n c
       none-placed e = record { held = refl; does = apply-placed (not-placed n c asked e) }
 
-      module _ (took : t ≡ true) {p : InstallDecision} (told : install (isBorder n) (n .sets) (c .keys .value) ≡ placing p (n .sets) (c .keys .value)) where
+      module _ (took : t ≡ true) {p : InstallDecision}
+          (told : install (isBorder n) (n .sets) (c .keys .value) ≡ placing p (n .sets) (c .keys .value)) where
         goes : {q : InstallDecision} → p ≡ q → placementOf n (c .keys) ≡ placing q (n .sets) (c .keys .value)
         goes e = rw (← e) (placed-at n c asked p took told)
 
@@ -121,6 +125,7 @@ module _ (delivery : Delivery) (n : Node) (time : ℕ) (c : Configuration) where
   -- the answer, from the node with its key sets placed
   pub apply-changed :
       (m : Node) (left : Configuration) → Placed m left →
-      delivered (dispositionsOf (isBorder m) left) (configured delivery m time left (m .sets) (dispositionsOf (isBorder m) left)) ≡ apply delivery n time (fitted n c)
+      delivered (dispositionsOf (isBorder m) left) (configured delivery m time left (m .sets) (dispositionsOf (isBorder m) left))
+      ≡ apply delivery n time (fitted n c)
   unfolding configured
   apply-changed m left h = rw (h .held) (h .does)

@@ -17,7 +17,8 @@ module _ (n : Node) (time timeout : ℕ) (d : List ℕ) (v : Verdict) (e : v ≡
   unfolding start startAfter startPlan
   start-refused r = let f = sym e ∙ r in record { says = rw f; holds = rw f }
 
-  module _ (a : v ≡ verdict.Accepted) (q : JoinRequest) (w : WriteResult) (d′ : List ℕ) (f : q ≡ requestOf n) (did : Did (requestPlan (n .version) q) d w d′) where
+  module _ (a : v ≡ verdict.Accepted) (q : JoinRequest) (w : WriteResult) (d′ : List ℕ) (f : q ≡ requestOf n)
+      (did : Did (requestPlan (n .version) q) d w d′) where
     pub start-written : StartDid n time timeout d (startedBy w n (startedFrom n time timeout)) d′
     unfolding start startAfter startPlan
     start-written =

@@ -16,7 +16,8 @@ use Rattle.node.specs.declared.node.Node.{Node}
 -- RANGE: the node; CLOCK; the question changes nothing
 unfoldable pub holds : Node → ℕ → LeaseStatus
 holds n time =
-    cond (valid n) (cond (leb (clockOf n) time) (cond (holdsAt (n .version) (n .address) time) Valid Expired) (Refused refusal.Clock)) (Refused refusal.Range)
+    cond (valid n) (cond (leb (clockOf n) time) (cond (holdsAt (n .version) (n .address) time) Valid Expired) (Refused refusal.Clock))
+    (Refused refusal.Range)
 
 -- the answer in document 01's terms
 abbrev pub holdingVerdict : LeaseStatus → Verdict

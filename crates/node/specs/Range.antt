@@ -29,7 +29,8 @@ othersValid n = (validRole (n .role) && validJrc (n .jrc) && validOctets (n .net
 -- the key sets may stand together, the join attempt's times and counter too, the address was received not after the clock
 unfoldable pub valid : Node → Bool
 valid n =
-    (sets.validAs (allowsAdditionalInfo (n .version)) (isBorder n) (n .sets) && attempt.valid (n .attempt) && validAddress (clockOf n) (n .address)
+    (sets.validAs (allowsAdditionalInfo (n .version)) (isBorder n) (n .sets) && attempt.valid (n .attempt)
+    && validAddress (clockOf n) (n .address)
     && othersValid n)
 
 abbrev pub Valid : Node → Type 0

@@ -78,8 +78,8 @@ impl Node {
 
     pub const RETRANSMISSIONS: u8 = Attempt::RETRANSMISSIONS;
 
-    // An idle node of this version and role, perhaps with a network identifier. RANGE: role over 1, identifier over 16 bytes. Beside a refusal is
-    // the empty node of the draft.
+    // An idle node of this version and role, perhaps with a network identifier. RANGE: role over 1, identifier over 16 bytes. Beside a
+    // refusal is the empty node of the draft.
     pub fn new(version: Version, role: u8, network: HeldOctets) -> MakeResult
         ensures { λ r. ⌜ r ≡ made version role network ⌝ }
     {

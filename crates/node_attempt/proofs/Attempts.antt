@@ -98,13 +98,15 @@ small (suc (suc (suc (suc (suc count))))) t h e = absurd (omega arith)
 
 pub timeout-small : (a : Attempt) → valid a ≡ true → isWaiting (a .phase) ≡ true → a .timeout ≤ 240000
 timeout-small a e w =
-    small (a .count) (a .timeout) (count-valid a e) (then-so (isWaiting (a .phase)) (timeoutAfter (a .count) (a .timeout)) (timeout-valid a e) w)
+    small (a .count) (a .timeout) (count-valid a e)
+    (then-so (isWaiting (a .phase)) (timeoutAfter (a .count) (a .timeout)) (timeout-valid a e) w)
 
 -- ---- polling: what holds of each step that is answered holds of a poll
 module _ (a : Attempt) (time : ℕ) (P : AttemptResult → Type 0)
     (refused : (k : Refusal) → P (step (Refused k) a))
     (still : a .clock ≤ time → P (step NotYet (attempt (a .phase) time (a .sent) (a .timeout) (a .count))))
-    (again : a .clock ≤ time → isWaiting (a .phase) ≡ true → a .count < 4 → P (step SendAgain (attempt (a .phase) time time (2 * a .timeout) (a .count + 1))))
+    (again : a .clock ≤ time → isWaiting (a .phase) ≡ true → a .count < 4
+    → P (step SendAgain (attempt (a .phase) time time (2 * a .timeout) (a .count + 1))))
     (over : a .clock ≤ time → P (step GaveUp (attempt phase.GaveUp time (a .sent) (a .timeout) (a .count)))) where
   stepped-cases : (b : Bool) → ltb (a .count) 4 ≡ b → a .clock ≤ time → isWaiting (a .phase) ≡ true → P (stepped a time)
   unfolding stepped
@@ -144,16 +146,19 @@ again-valid a time w h e =
 module _ (a : Attempt) (time : ℕ) where
   pub poll-valid : valid a ≡ true → valid (poll a time .attempt) ≡ true
   poll-valid e =
-      poll-cases a time (λ (s : AttemptResult). valid (s .attempt) ≡ true) (λ k. e) (λ c. moved-valid a time c e) (λ c w h. again-valid a time w h e)
+      poll-cases a time (λ (s : AttemptResult). valid (s .attempt) ≡ true) (λ k. e) (λ c. moved-valid a time c e)
+      (λ c w h. again-valid a time w h e)
       (λ c. valid-by (attempt phase.GaveUp time (a .sent) (a .timeout) (a .count)) (count-valid a e) (sent-before a time c e) refl)
 
   pub poll-later : a .clock ≤ poll a time .attempt .clock
   poll-later = poll-cases a time (λ (s : AttemptResult). a .clock ≤ s .attempt .clock) (λ k. omega arith) (λ c. c) (λ c w h. c) (λ c. c)
 
   -- a refused poll leaves the attempt
-  pub poll-untouched : (k : Refusal) → dueVerdict (poll a time .due) ≡ verdict.Refused k → (poll a time .attempt ≡ a) × (poll a time .due ≡ Refused k)
+  pub poll-untouched : (k : Refusal) → dueVerdict (poll a time .due) ≡ verdict.Refused k
+      → (poll a time .attempt ≡ a) × (poll a time .due ≡ Refused k)
   poll-untouched =
-      poll-cases a time (λ (s : AttemptResult). (k : Refusal) → dueVerdict (s .due) ≡ verdict.Refused k → (s .attempt ≡ a) × (s .due ≡ Refused k))
+      poll-cases a time
+      (λ (s : AttemptResult). (k : Refusal) → dueVerdict (s .due) ≡ verdict.Refused k → (s .attempt ≡ a) × (s .due ≡ Refused k))
       (λ l k e. (refl, same l k e)) (λ c k e. accepted-not k e) (λ c w h k e. accepted-not k e) (λ c k e. accepted-not k e)
     where
       same : (l k : Refusal) → verdict.Refused l ≡ verdict.Refused k → Refused l ≡ Refused k

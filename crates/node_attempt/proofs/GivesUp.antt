@@ -1,4 +1,5 @@
--- Each step that is taken when due falls one timeout after the last and doubles it, so the fifth comes t + 2t + 4t + 8t + 16t after the start.
+-- Each step that is taken when due falls one timeout after the last and doubles it,
+-- so the fifth comes t + 2t + 4t + 8t + 16t after the start.
 use Prim.Native.Nat.{ℕ, _+_, _-_, _*_, _<_}
 use native.Mathlib.Omega.{arith}
 use mathlib.Core.Path.{_≡_, refl, _∙_}
@@ -58,7 +59,8 @@ module _ (a : Attempt) (s t count : ℕ) (h : Waits a s t count) where
       )
 
   due-over :
-      count ≡ 4 → (poll a (dueAt a) .due ≡ GaveUp) × (poll a (dueAt a) .attempt .phase ≡ phase.GaveUp) × (poll a (dueAt a) .attempt .clock ≡ s + t)
+      count ≡ 4
+      → (poll a (dueAt a) .due ≡ GaveUp) × (poll a (dueAt a) .attempt .phase ≡ phase.GaveUp) × (poll a (dueAt a) .attempt .clock ≡ s + t)
   due-over c =
       let e = poll-due ∙ over-is c in
       (rw e, rw e, rw e (omega (arith, h .sent, h .timeout)))

@@ -10,7 +10,9 @@ use Rattle.image.specs.Part.{AllBytes}
 use Rattle.link_key.specs.set.KeyLaws.{KeyLaws}
 use Rattle.cbor.specs.Strict.{headBy}
 use Rattle.cbor.specs.View.{View}
-use Rattle.cojp.specs.Configuration.{emptyConfiguration, withKeys, withAddress, withJrc, withNetwork, withPrefix, labelStatusFor, configurationPassing, takingFor, noted, configurationTaking, configurationForm, configurationAnswer, readConfigurationBy}
+use Rattle.cojp.specs.Configuration.{emptyConfiguration, withKeys, withAddress, withJrc, withNetwork, withPrefix}
+use Rattle.cojp.specs.Configuration.{labelStatusFor, configurationPassing, takingFor, noted, configurationTaking}
+use Rattle.cojp.specs.Configuration.{configurationForm, configurationAnswer, readConfigurationBy}
 use Rattle.cojp.specs.ErrorReports.{added}
 use Rattle.cojp.specs.KeySet.{noKeysParameter, keysReadAs}
 use Rattle.cojp.specs.Address.{noAddressParameter, addressRead}
@@ -33,7 +35,8 @@ use Rattle.object_image.specs.ErrorReports.{errorReportsPart}
 use Rattle.object_image.specs.Octets.{octetsParameterPart}
 use Rattle.node_call_laws.proofs.Items.{Always, ViewOk}
 use Rattle.node_call_laws.proofs.Lists.{by-cond}
-use Rattle.node_call_laws.proofs.Parameters.{ReadOk, keys-read, address-read, octets-read, rate-taken, blacklist-taken, no-octets-fit, no-address-fits, no-list-fits}
+use Rattle.node_call_laws.proofs.Parameters.{ReadOk, keys-read, address-read, octets-read, rate-taken}
+use Rattle.node_call_laws.proofs.Parameters.{blacklist-taken, no-octets-fit, no-address-fits, no-list-fits}
 use Rattle.node_call_laws.proofs.Values.{report-fits, no-keys-fit, no-faults-fit, added-fits}
 use Rattle.node_call_laws.proofs.Walks.{put-ok, following-ok, Fitting, payload-read}
 
@@ -58,10 +61,12 @@ later-small : (v : Version) (n : ℕ) → Known (laterParameter v n) → n < 256
 unfolding laterParameter
 later-small Draft n =
     let P : Parameter → Type 0 = λ q. Known q → n < 256 in
-    by-cond P (eqb n 5) (λ e _. omega (arith, eqb-true n 5 e)) (λ _. by-cond P (eqb n 6) (λ e _. omega (arith, eqb-true n 6 e)) (λ _ h. absurd h))
+    by-cond P (eqb n 5) (λ e _. omega (arith, eqb-true n 5 e))
+    (λ _. by-cond P (eqb n 6) (λ e _. omega (arith, eqb-true n 6 e)) (λ _ h. absurd h))
 later-small Published n =
     let P : Parameter → Type 0 = λ q. Known q → n < 256 in
-    by-cond P (eqb n 6) (λ e _. omega (arith, eqb-true n 6 e)) (λ _. by-cond P (eqb n 7) (λ e _. omega (arith, eqb-true n 7 e)) (λ _ h. absurd h))
+    by-cond P (eqb n 6) (λ e _. omega (arith, eqb-true n 6 e))
+    (λ _. by-cond P (eqb n 7) (λ e _. omega (arith, eqb-true n 7 e)) (λ _ h. absurd h))
 
 small-label : (v : Version) (n : ℕ) → Known (parameterOf v n) → n < 256
 unfolding parameterOf
@@ -75,17 +80,21 @@ module _ (laws : KeyLaws) (v : Version) where
   module _ (c : Configuration) (m : ℕ) (f : Reads m c) where
     taking-for : (q : Parameter) (x : View) → ViewOk x → ReadOk (Reads m) (takingFor v c q x)
     taking-for name.Keys x h =
-        put-ok (keysParameterPart .Fit) (Reads m) (withKeys c) (byVersionOf v (noKeysParameter Discarded) (keysReadAs (allowsAdditionalInfo v) x))
-        (following-ok (keysParameterPart .Fit) v (noKeysParameter Discarded) (keysReadAs (allowsAdditionalInfo v) x) (report-fits Discarded, no-keys-fit)
+        put-ok (keysParameterPart .Fit) (Reads m) (withKeys c)
+        (byVersionOf v (noKeysParameter Discarded) (keysReadAs (allowsAdditionalInfo v) x))
+        (following-ok (keysParameterPart .Fit) v (noKeysParameter Discarded) (keysReadAs (allowsAdditionalInfo v) x)
+        (report-fits Discarded, no-keys-fit)
         (keys-read laws (allowsAdditionalInfo v) x h))
         (λ p g. (((g, f .0 .0 .1), f .0 .1), f .1))
     taking-for name.Address x h =
         put-ok (addressParameterPart .Fit) (Reads m) (withAddress c) (byVersionOf v (noAddressParameter Discarded) (addressRead x))
-        (following-ok (addressParameterPart .Fit) v (noAddressParameter Discarded) (addressRead x) (no-address-fits Discarded) (address-read x h))
+        (following-ok (addressParameterPart .Fit) v (noAddressParameter Discarded) (addressRead x) (no-address-fits Discarded)
+        (address-read x h))
         (λ p g. (((f .0 .0 .0, (g, f .0 .0 .1 .1)), f .0 .1), f .1))
     taking-for name.Jrc x h =
         put-ok (octetsParameterPart .Fit) (Reads m) (withJrc c) (byVersionOf v (noOctetsParameter Discarded) (octetsRead 16 x))
-        (following-ok (octetsParameterPart .Fit) v (noOctetsParameter Discarded) (octetsRead 16 x) (no-octets-fit Discarded) (octets-read 16 x h))
+        (following-ok (octetsParameterPart .Fit) v (noOctetsParameter Discarded) (octetsRead 16 x) (no-octets-fit Discarded)
+        (octets-read 16 x h))
         (λ p g. (((f .0 .0 .0, (f .0 .0 .1 .0, (g, f .0 .0 .1 .1 .1))), f .0 .1), f .1))
     taking-for name.Network x h =
         put-ok (octetsParameterPart .Fit) (Reads m) (withNetwork c) (octetsRead 0 x) (octets-read 0 x h)
@@ -146,7 +155,8 @@ module _ (laws : KeyLaws) (v : Version) where
   answer-ok (refused k) h = empty-fits
   answer-ok (read c) h = h
 
-  pub configuration-fits : (strict : Bool) (p : List ℕ) → AllBytes p → ConfigurationFits (readConfigurationBy v (headBy strict) p .configuration)
+  pub configuration-fits : (strict : Bool) (p : List ℕ) → AllBytes p
+      → ConfigurationFits (readConfigurationBy v (headBy strict) p .configuration)
   configuration-fits strict p b =
       answer-ok (payloadReadBy (configurationForm v) (headBy strict) emptyConfiguration p)
       (payload-read (configurationForm v) ConfigurationFits (λ (c : Configuration). c .unknown) passed-over known

@@ -74,7 +74,8 @@ copied-fits x b h =
     (λ _. subst (λ (y : List ℕ). octets 16 .Fit (padded 16 y)) (sym (take-length x)) (padded-fits 16 x b h))
     (λ _. (refl, under-zeros 256 16 (omega arith)))
 
-network-fits : (b : Bool) (x : List ℕ) (h : HeldOctets) → h ≡ cond b absentOctets (record { held = true; value = record { len = length x; bytes = copiedFrom x 0 (length x) } })
+network-fits : (b : Bool) (x : List ℕ) (h : HeldOctets)
+    → h ≡ cond b absentOctets (record { held = true; value = record { len = length x; bytes = copiedFrom x 0 (length x) } })
     → AllBytes x → validOctets h ≡ true → heldOctetsPart .Fit (knownOctets h)
 network-fits true x h e b v = rw e absent-fits
 network-fits false x h e b v =
@@ -89,7 +90,8 @@ made-fits form role has x b =
     let empty = fresh-fits Draft 0 absentOctets (omega arith) absent-fits in
     by-cond P (validRole role)
     (λ r. by-cond P (validOctets h)
-    (λ v. let low = leb-true role 1 r in fresh-fits (versionOf form) role (knownOctets h) (omega arith) (network-fits (eqb has 0) x h refl b v))
+    (λ v. let low = leb-true role 1 r in
+    fresh-fits (versionOf form) role (knownOctets h) (omega arith) (network-fits (eqb has 0) x h refl b v))
     (λ _. empty))
     (λ _. empty)
 

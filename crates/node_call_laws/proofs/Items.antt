@@ -11,7 +11,8 @@ use lib.ListN.{length, take, drop}
 use Rattle.image.specs.Numbers.{below}
 use Rattle.image.specs.Part.{AllBytes}
 use Rattle.byte_io.specs.BigEndian.{bigEndian}
-use Rattle.cbor.specs.Decode.{Outcome, refused, got, andThen, next, argument, Heading, heading, Major, unsigneds, negatives, byteStrings, textStrings, arrays, maps, tags, others, majorOf, members, pairs, content, decodeBy, ended, payloadBy}
+use Rattle.cbor.specs.Decode.{Outcome, refused, got, andThen, next, argument, Heading, heading, Major, unsigneds, negatives, byteStrings}
+use Rattle.cbor.specs.Decode.{textStrings, arrays, maps, tags, others, majorOf, members, pairs, content, decodeBy, ended, payloadBy}
 use Rattle.cbor.specs.Strict.{short, strictHeading, headBy}
 use Rattle.cbor.specs.Item.{Item, Items, Pairs, unsigned, negative, bytes, text, array, map, tag, simple, float, empty, pair}
 use Rattle.cbor.specs.View.{Scalar, number, minus, string, other, View, scalar, list, scalarOf, scalarsOf, viewOf}
@@ -150,7 +151,8 @@ module _ (read : List ℕ → Outcome Item) (ok : (s : List ℕ) → AllBytes s 
   content-ok tags info n s h b = then-ok Ok Ok (read s) _ (ok s b) (λ i t f g. ((refl, (refl, refl)), g))
   content-ok others info n s h b = (
     by-cond Ok (ltb info 25) (λ _. (refl, (refl, refl)))
-        (λ _. by-cond Ok (eqb info 25) (λ _. (refl, (refl, refl))) (λ _. by-cond Ok (eqb info 26) (λ _. (refl, (refl, refl))) (λ _. (refl, (refl, refl))))),
+        (λ _. by-cond Ok (eqb info 25) (λ _. (refl, (refl, refl)))
+        (λ _. by-cond Ok (eqb info 26) (λ _. (refl, (refl, refl))) (λ _. (refl, (refl, refl))))),
     b,
   )
 
@@ -164,7 +166,8 @@ module _ (strict : Bool) where
   decode-ok zero s b = refl
   decode-ok (suc d) s b =
       then-ok HeadingOk Ok (headBy strict s) _ (head-ok strict s b)
-      (λ h t f g. content-ok (λ u. decodeBy (headBy strict) d u) (λ u c. decode-ok d u c) (majorOf (h .major)) (h .info) (h .argument) t f g)
+      (λ h t f g.
+      content-ok (λ u. decodeBy (headBy strict) d u) (λ u c. decode-ok d u c) (majorOf (h .major)) (h .info) (h .argument) t f g)
 
   pub payload-ok : (s : List ℕ) → AllBytes s → OutOk Ok (payloadBy (headBy strict) s)
   unfolding payloadBy

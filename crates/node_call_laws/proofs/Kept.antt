@@ -27,7 +27,8 @@ use Rattle.link_key.specs.usage.Usage.{knownType}
 use Rattle.link_key_counters.specs.Counters.{takeCounter}
 use Rattle.link_key.specs.set.KeyLaws.{KeyLaws}
 use Rattle.link_key.specs.set.KeySet.{has}
-use Rattle.node.specs.Delivery.{placementOf, fittedBy, fitted, configured, undelivered, owesIdentifier, placedBy, apply, deliverVerdict, applyRead, deliverBy, readFor, deliver}
+use Rattle.node.specs.Delivery.{placementOf, fittedBy, fitted, configured, undelivered, owesIdentifier}
+use Rattle.node.specs.Delivery.{placedBy, apply, deliverVerdict, applyRead, deliverBy, readFor, deliver}
 use Rattle.node.specs.Frames as frames
 use Rattle.node.specs.Lease.{holds}
 use Rattle.node.specs.Node.{isBorder, attempting, keyed}
@@ -61,7 +62,8 @@ use Rattle.node_key_sets.specs.declared.frames.KeyAnswer.{KeyAnswer}
 use Rattle.node_key_sets.specs.declared.frames.SendKeyResult.{SendKeyResult}
 use Rattle.node_key_sets.specs.declared.sets.KeySets.{KeySets}
 use Rattle.node_key_sets.specs.declared.sets.InstallResult.{InstallResult}
-use Rattle.node_laws.specs.Calls.{NodeCall, starting, polling, delivering, asking, sending, receiving, reporting, dueObject, holdingObject, changeObject, Performed, perform}
+use Rattle.node_laws.specs.Calls.{NodeCall, starting, polling, delivering, asking, sending, receiving}
+use Rattle.node_laws.specs.Calls.{reporting, dueObject, holdingObject, changeObject, Performed, perform}
 use Rattle.node_parameters.specs.Dispositions.{noDispositions, dispositionsOf}
 use Rattle.node_parameters.specs.declared.dispositions.Dispositions.{Dispositions}
 use Rattle.object_image.specs.Configuration.{configurationImage}
@@ -69,7 +71,8 @@ use Rattle.object_image.specs.ErrorReports.{errorReportPart}
 use Rattle.node_call_laws.specs.Fits.{Time, Callable, AnswerFits}
 use Rattle.node_call_laws.proofs.Lists.{by-cond, each-taken}
 use Rattle.node_call_laws.proofs.Configurations.{configuration-fits}
-use Rattle.node_call_laws.proofs.Values.{by-report, bool-fits, report-fits, no-key-fits, no-keys-fit, none-counted-fits, spend-fits, spend-key, receiving-key, install-fits, attempt-fits, poll-fits, no-faults-fit, reports-fit}
+use Rattle.node_call_laws.proofs.Values.{by-report, bool-fits, report-fits, no-key-fits, no-keys-fit, none-counted-fits, spend-fits}
+use Rattle.node_call_laws.proofs.Values.{spend-key, receiving-key, install-fits, attempt-fits, poll-fits, no-faults-fit, reports-fit}
 
 abbrev NodeFits : Node → Type 0
 NodeFits n = nodeImage .Fit n
@@ -208,7 +211,8 @@ configured-fits d n time c s r t f g h =
                       by-report (heldListPart .Fit) (c .blacklist .disposition) (bool-fits true, late .0 .1) (held .1 .1 .1 .1 .1 .0),
                       (
                         by-report (heldRatePart .Fit) (c .rate .disposition) (bool-fits true, late .1 .0 .1) (held .1 .1 .1 .1 .1 .1 .0),
-                        reports-fit c noErrorReports (errorReportList (c .labels)) (each-taken errorReportPart (c .labels .count) 5 (c .labels .reports) (late .1 .1 .0 .1)) no-faults-fit,
+                        reports-fit c noErrorReports (errorReportList (c .labels))
+                            (each-taken errorReportPart (c .labels .count) 5 (c .labels .reports) (late .1 .1 .0 .1)) no-faults-fit,
                       ),
                     ),
                   ),
@@ -227,14 +231,16 @@ DeliveredFits x = NodeFits (x .node) × dispositionsImage .Fit (x .dispositions)
 undelivered-fits : (k : Refusal) (n : Node) → NodeFits n → DeliveredFits (undelivered k n)
 undelivered-fits k n f = (f, reports-so noDispositions (omega arith))
 
-placed-fits : (v : Verdict) (d : Delivery) (n : Node) (time : ℕ) (c : Configuration) (s : KeySets) → Time time → NodeFits n → ConfigurationFits c
+placed-fits : (v : Verdict) (d : Delivery) (n : Node) (time : ℕ) (c : Configuration) (s : KeySets) → Time time → NodeFits n
+    → ConfigurationFits c
     → setsPart .Fit s → DeliveredFits (placedBy v d n time c s)
 unfolding dispositionsOf
 placed-fits (Refused k) d n time c s t f g h = undelivered-fits k n f
 placed-fits Accepted d n time c s t f g h =
     let r = dispositionsOf (isBorder n) c in (configured-fits d n time c s r t f g h, reports-so r (g .1 .1 .1 .1))
 
-apply-fits : (d : Delivery) (n : Node) (time : ℕ) (c : Configuration) → Time time → NodeFits n → ConfigurationFits c → DeliveredFits (apply d n time c)
+apply-fits : (d : Delivery) (n : Node) (time : ℕ) (c : Configuration) → Time time → NodeFits n → ConfigurationFits c
+    → DeliveredFits (apply d n time c)
 unfolding apply
 apply-fits d n time c t f g =
     by-cond DeliveredFits (owesIdentifier d n (c .network .disposition))
@@ -254,7 +260,8 @@ deliver-by : (v : Verdict) (d : Delivery) (n : Node) (time : ℕ) (r : Configura
 deliver-by (Refused k) d n time r t f g = undelivered-fits k n f
 deliver-by Accepted d n time r t f g = read-fits (r .verdict) d n time (r .configuration) t f g
 
-deliver-fits : (d : Delivery) (n : Node) (time : ℕ) (payload : List ℕ) → Time time → ConfigurationFits (readFor n payload .configuration) → NodeFits n
+deliver-fits : (d : Delivery) (n : Node) (time : ℕ) (payload : List ℕ) → Time time → ConfigurationFits (readFor n payload .configuration)
+    → NodeFits n
     → DeliveredFits (deliver d n time payload)
 unfolding deliver
 deliver-fits d n time payload t r f = deliver-by (deliverVerdict d n time (length payload)) d n time (readFor n payload) t f r

@@ -101,13 +101,16 @@ kept-fit f h count keys e =
     let few : length ks ≤ 8 = omega (arith, length-take count keys) in
     fits-made (number 4) 8 (map f ks ++ replicate (8 - length ks) 0) 0
     (omega (arith, length-append (map f ks) (replicate (8 - length ks) 0), length-map ks f, length-replicate {A = ℕ} (8 - length ks) 0))
-    (under-append (256 ^ 4) (map f ks) (replicate (8 - length ks) 0) (under-map f h ks) (under-zeros (256 ^ 4) (8 - length ks) (omega arith)))
+    (under-append (256 ^ 4) (map f ks) (replicate (8 - length ks) 0) (under-map f h ks)
+    (under-zeros (256 ^ 4) (8 - length ks) (omega arith)))
 
 -- the counter of a key that is looked for
-pub kept-under : (cs : List ℕ) → Counters cs → (test : Slot → Bool) (place : ℕ) (ks : List Key) → counterIn (firstOf test (slotsFrom place cs ks)) < 256 ^ 4
+pub kept-under : (cs : List ℕ) → Counters cs → (test : Slot → Bool) (place : ℕ) (ks : List Key)
+    → counterIn (firstOf test (slotsFrom place cs ks)) < 256 ^ 4
 kept-under cs u test place [] = omega arith
 kept-under cs u test place (k ∷ ks) =
-    by-cond (λ (o : Option Slot). counterIn o < 256 ^ 4) (test (slot place k (getD cs place 0))) (λ e. u place) (λ e. kept-under cs u test (place + 1) ks)
+    by-cond (λ (o : Option Slot). counterIn o < 256 ^ 4) (test (slot place k (getD cs place 0))) (λ e. u place)
+    (λ e. kept-under cs u test (place + 1) ks)
 
 -- and the key itself, with it
 abbrev pub SlotFits : Slot → Type 0
@@ -125,10 +128,12 @@ CanRise o = Found (λ (x : Slot). x .counter + 1 < 256 ^ 4) o
 
 rises : (k : Key) (type n : ℕ) → n < 256 ^ 4 → (covers k type && not (eqb n 4294967295)) ≡ true → n + 1 < 256 ^ 4
 rises k type n h e =
-    let f : ¬ (n ≡ 4294967295) = eqb-false n 4294967295 (not-true (eqb n 4294967295) (both-right (covers k type) (not (eqb n 4294967295)) e)) in
+    let f : ¬ (n ≡ 4294967295) =
+    eqb-false n 4294967295 (not-true (eqb n 4294967295) (both-right (covers k type) (not (eqb n 4294967295)) e)) in
     omega arith
 
 pub first-rises : (cs : List ℕ) → Counters cs → (type place : ℕ) (ks : List Key) → CanRise (firstOf (serves type) (slotsFrom place cs ks))
 first-rises cs u type place [] = refl
 first-rises cs u type place (k ∷ ks) =
-    by-cond CanRise (serves type (slot place k (getD cs place 0))) (λ e. rises k type (getD cs place 0) (u place) e) (λ e. first-rises cs u type (place + 1) ks)
+    by-cond CanRise (serves type (slot place k (getD cs place 0))) (λ e. rises k type (getD cs place 0) (u place) e)
+    (λ e. first-rises cs u type (place + 1) ks)

@@ -25,8 +25,10 @@ use Rattle.byte_io.specs.BigEndian.{bytesOf}
 use Rattle.cbor.specs.Encode.{infoOf, extraOf, shortest, encode}
 use Rattle.cbor.specs.View.{Scalar, number, minus, string, other, View, scalar, list}
 use Rattle.cojp.specs.Address.{addressBy, addressIn, addressJudged, addressParameter, noAddressParameter, addressRead}
-use Rattle.cojp.specs.KeySet.{keySetOf, Groups, notGroups, groupsOf, group, further, groups, identified, used, valued, keysIn, keysJudgedAs, keysParameter, keysReadAs}
-use Rattle.cojp.specs.Lists.{scalarItem, written, Picked, nothing, picked, before, stringsIn, isInteger, errorReportsIn, some, inArray, fitting, listAnswer, noListParameter, listTaken, blacklistTaken, unsupportedTaken}
+use Rattle.cojp.specs.KeySet.{keySetOf, Groups, notGroups, groupsOf, group, further, groups, identified}
+use Rattle.cojp.specs.KeySet.{used, valued, keysIn, keysJudgedAs, keysParameter, keysReadAs}
+use Rattle.cojp.specs.Lists.{scalarItem, written, Picked, nothing, picked, before, stringsIn, isInteger, errorReportsIn, some}
+use Rattle.cojp.specs.Lists.{inArray, fitting, listAnswer, noListParameter, listTaken, blacklistTaken, unsupportedTaken}
 use Rattle.cojp.specs.Octets.{padded, octetsParameter, noOctetsParameter, octetsJudged, octetsRead}
 use Rattle.cojp.specs.Rate.{rateTaken}
 use Rattle.cojp.specs.Reading.{Reading, refused, read, Judgement, broken, unfit, good, concluded}
@@ -51,7 +53,8 @@ JudgedOk P broken = Always
 JudgedOk P unfit = Always
 JudgedOk P (good a) = P a
 
-pub concluded-ok : {A B : Type 0} (P : B → Type 0) (Q : A → Type 0) (outside : Reading B) (take : A → B) (j : Judgement A) → ReadOk P outside
+pub concluded-ok : {A B : Type 0} (P : B → Type 0) (Q : A → Type 0) (outside : Reading B) (take : A → B) (j : Judgement A)
+    → ReadOk P outside
     → ((a : A) → Q a → P (take a)) → JudgedOk Q j → ReadOk P (concluded outside take j)
 concluded-ok P Q outside take broken o f h = refl
 concluded-ok P Q outside take unfit o f h = o
@@ -60,8 +63,10 @@ concluded-ok P Q outside take (good a) o f h = f a h
 pub padded-fits : (n : ℕ) (s : List ℕ) → AllBytes s → length s ≤ n → octets n .Fit (padded n s)
 unfolding padded
 padded-fits n s b h =
-    let zeros = replicate {A = ℕ} (n - length s) 0 in
-    (omega (arith, length-append s zeros, length-replicate {A = ℕ} (n - length s) 0), under-append 256 s zeros b (under-zeros 256 (n - length s) (omega arith)))
+    let zeros = replicate {A = ℕ} (n - length s) 0 in (
+      omega (arith, length-append s zeros, length-replicate {A = ℕ} (n - length s) 0),
+      under-append 256 s zeros b (under-zeros 256 (n - length s) (omega arith)),
+    )
 
 -- ---- byte strings
 pub no-octets-fit : (r : Disposition) → octetsParameterPart .Fit (noOctetsParameter r)
@@ -71,7 +76,8 @@ octets-judged : (least : ℕ) (v : View) → ViewOk v → JudgedOk (octetsPart .
 unfolding octetsJudged
 octets-judged least (scalar (string s)) h =
     by-cond (JudgedOk (octetsPart .Fit)) (leb least (length s) && leb (length s) 16)
-    (λ e. let short = leb-true (length s) 16 (both-right (leb least (length s)) (leb (length s) 16) e) in (omega arith, padded-fits 16 s h short))
+    (λ e. let short = leb-true (length s) 16 (both-right (leb least (length s)) (leb (length s) 16) e) in
+    (omega arith, padded-fits 16 s h short))
     (λ _. refl)
 octets-judged least (scalar (number n)) h = refl
 octets-judged least (scalar (minus n)) h = refl
@@ -80,14 +86,16 @@ octets-judged least (list ps) h = refl
 
 pub octets-read : (least : ℕ) (v : View) → ViewOk v → ReadOk (octetsParameterPart .Fit) (octetsRead least v)
 octets-read least v h =
-    concluded-ok (octetsParameterPart .Fit) (octetsPart .Fit) (read (noOctetsParameter Discarded)) (octetsParameter Taken) (octetsJudged least v)
+    concluded-ok (octetsParameterPart .Fit) (octetsPart .Fit) (read (noOctetsParameter Discarded)) (octetsParameter Taken)
+    (octetsJudged least v)
     (no-octets-fit Discarded) (λ o f. (report-fits Taken, f)) (octets-judged least v h)
 
 -- ---- short addresses
 pub no-address-fits : (r : Disposition) → addressParameterPart .Fit (noAddressParameter r)
 no-address-fits r = (report-fits r, ((refl, under-zeros 256 2 (omega arith)), (bool-fits false, omega arith)))
 
-address-by : (s : List ℕ) (leased : Bool) (lease : ℕ) → AllBytes s → Word lease → JudgedOk (shortAddressPart .Fit) (addressBy s leased lease)
+address-by : (s : List ℕ) (leased : Bool) (lease : ℕ) → AllBytes s → Word lease
+    → JudgedOk (shortAddressPart .Fit) (addressBy s leased lease)
 unfolding isAddress
 address-by s leased lease b w =
     by-cond (JudgedOk (shortAddressPart .Fit)) (isAddress s)
@@ -113,7 +121,8 @@ address-judged (list ps) h = address-in ps h
 
 pub address-read : (v : View) → ViewOk v → ReadOk (addressParameterPart .Fit) (addressRead v)
 address-read v h =
-    concluded-ok (addressParameterPart .Fit) (shortAddressPart .Fit) (read (noAddressParameter Discarded)) (addressParameter Taken) (addressJudged v)
+    concluded-ok (addressParameterPart .Fit) (shortAddressPart .Fit) (read (noAddressParameter Discarded)) (addressParameter Taken)
+    (addressJudged v)
     (no-address-fits Discarded) (λ a f. (report-fits Taken, f)) (address-judged v h)
 
 -- ---- join rates
@@ -163,7 +172,8 @@ some-ok : (ps : List Scalar) → PlainsOk ps → PickedOk (some errorReportsIn p
 some-ok [] h = refl
 some-ok (p ∷ ps) h = faults-ok (p ∷ ps) h
 
-array-ok : (f : List Scalar → Picked) → ((ps : List Scalar) → PlainsOk ps → PickedOk (f ps)) → (v : View) → ViewOk v → PickedOk (inArray f v)
+array-ok : (f : List Scalar → Picked) → ((ps : List Scalar) → PlainsOk ps → PickedOk (f ps)) → (v : View) → ViewOk v
+    → PickedOk (inArray f v)
 array-ok f g (scalar p) h = refl
 array-ok f g (list ps) h = g ps h
 
@@ -261,7 +271,8 @@ info-ok (x ∷ y ∷ z ∷ u ∷ v ∷ w ∷ p ∷ []) b = refl
 info-ok (x ∷ y ∷ z ∷ u ∷ v ∷ w ∷ p ∷ q ∷ []) b = ((omega arith, (refl, b)), refl)
 info-ok (x ∷ y ∷ z ∷ u ∷ v ∷ w ∷ p ∷ q ∷ t ∷ r) b = refl
 
-group-ok : (i u : ℕ) (v : List ℕ) (w : AdditionalInfo) (gs : Groups) → AllBytes v → additionalInfoPart .Fit w → GroupsOk gs → GroupsOk (group i u v w gs)
+group-ok : (i u : ℕ) (v : List ℕ) (w : AdditionalInfo) (gs : Groups) → AllBytes v → additionalInfoPart .Fit w → GroupsOk gs
+    → GroupsOk (group i u v w gs)
 group-ok i u v w notGroups b f g = refl
 group-ok i u v w (groupsOf ks) b f g = ((b, f), g)
 
@@ -297,7 +308,8 @@ mutual
 
   valued-ok : (ps : List Scalar) (allowed : Bool) (i u : ℕ) (v : List ℕ) → AllBytes v → PlainsOk ps → GroupsOk (valued allowed i u v ps)
   valued-ok [] allowed i u v b h = ((b, absent-info), refl)
-  valued-ok (number n ∷ r) allowed i u v b h = group-ok i u v info.Absent (identified allowed n r) b absent-info (identified-ok r allowed n (h .1))
+  valued-ok (number n ∷ r) allowed i u v b h =
+      group-ok i u v info.Absent (identified allowed n r) b absent-info (identified-ok r allowed n (h .1))
   valued-ok (minus n ∷ r) allowed i u v b h = refl
   valued-ok (string w ∷ r) allowed i u v b h =
       further-ok allowed i u v (additionalInfoIn w) (groups allowed r) b (info-ok w (h .0)) (groups-ok r allowed (h .1))

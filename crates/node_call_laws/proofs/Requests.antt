@@ -13,7 +13,9 @@ use Rattle.cbor.specs.View.{number, minus, string, other, View, scalar, list}
 use Rattle.cojp.specs.Lists.{unsupportedTaken}
 use Rattle.cojp.specs.Octets.{noOctetsParameter, octetsRead}
 use Rattle.cojp.specs.Reading.{Reading, refused, read, bind, Judgement, broken, unfit, good, byVersionOf}
-use Rattle.cojp.specs.Request.{emptyRequest, roleJudged, roleConcluded, emptyRequestState, withRole, withNetwork, withUnsupported, withError, requestPassing, requestLabelStatus, roleGathered, listGathered, requestTaking, requestForm, owing, settled, requestAnswer, readRequestBy}
+use Rattle.cojp.specs.Request.{emptyRequest, roleJudged, roleConcluded, emptyRequestState, withRole, withNetwork}
+use Rattle.cojp.specs.Request.{withUnsupported, withError, requestPassing, requestLabelStatus, roleGathered}
+use Rattle.cojp.specs.Request.{listGathered, requestTaking, requestForm, owing, settled, requestAnswer, readRequestBy}
 use Rattle.cojp.specs.Walk.{knownRead, payloadReadBy}
 use Rattle.cojp.specs.declared.list.ListParameter.{ListParameter}
 use Rattle.cojp.specs.declared.disposition.Disposition.the-variants.{Absent, Discarded}
@@ -28,7 +30,8 @@ use Rattle.object_image.specs.Octets.{octetsParameterPart}
 use Rattle.object_image.specs.Request.{requestImage}
 use Rattle.node_call_laws.proofs.Items.{ViewOk}
 use Rattle.node_call_laws.proofs.Lists.{by-cond}
-use Rattle.node_call_laws.proofs.Parameters.{ReadOk, JudgedOk, concluded-ok, octets-read, unsupported-taken, no-octets-fit, no-list-fits}
+use Rattle.node_call_laws.proofs.Parameters.{ReadOk, JudgedOk, concluded-ok, octets-read}
+use Rattle.node_call_laws.proofs.Parameters.{unsupported-taken, no-octets-fit, no-list-fits}
 use Rattle.node_call_laws.proofs.Values.{by-report, no-faults-fit, added-fits}
 use Rattle.node_call_laws.proofs.Walks.{put-ok, onward-ok, following-ok, Fitting, payload-read}
 
@@ -59,8 +62,10 @@ module _ (g : RequestState) (m : ℕ) (f : Reads m g) where
   with-role n h = ((h, f .0 .1), f .1)
 
   with-fault : (code label : ℕ) → Small code → Small label → Reads m (withError g code label)
-  with-fault code label a b =
-      ((f .0 .0, (f .0 .1 .0, (f .0 .1 .1 .0, (added-fits (g .request .errors) code label a b (f .0 .1 .1 .1 .0), f .0 .1 .1 .1 .1)))), f .1)
+  with-fault code label a b = (
+    (f .0 .0, (f .0 .1 .0, (f .0 .1 .1 .0, (added-fits (g .request .errors) code label a b (f .0 .1 .1 .1 .0), f .0 .1 .1 .1 .1)))),
+    f .1,
+  )
 
   with-unsupported : (p : ListParameter) → listParameterPart .Fit p → Reads m (withUnsupported g p)
   with-unsupported p h = ((f .0 .0, (f .0 .1 .0, (h, f .0 .1 .1 .1))), f .1)
@@ -87,7 +92,8 @@ module _ (v : Version) where
         by-cond (ReadOk (Reads m)) (eqb n 1) (λ _. role-taken v (roleJudged x) (role-judged x))
         (λ _. by-cond (ReadOk (Reads m)) (eqb n 5)
         (λ _. put-ok (octetsParameterPart .Fit) (Reads m) (withNetwork g) (byVersionOf v (noOctetsParameter Discarded) (octetsRead 0 x))
-        (following-ok (octetsParameterPart .Fit) v (noOctetsParameter Discarded) (octetsRead 0 x) (no-octets-fit Discarded) (octets-read 0 x h))
+        (following-ok (octetsParameterPart .Fit) v (noOctetsParameter Discarded) (octetsRead 0 x) (no-octets-fit Discarded)
+        (octets-read 0 x h))
         (λ p e. ((f .0 .0, (e, f .0 .1 .1)), f .1)))
         (λ _. list-taken (unsupportedTaken x) (unsupported-taken x h)))
 

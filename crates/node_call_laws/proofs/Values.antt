@@ -18,7 +18,8 @@ use Rattle.link_key.specs.declared.additional_info.AdditionalInfo.the-variants.
 use Rattle.link_key.specs.set.KeySet.{noKeys, keysOf, named, findKey, validSet, sameKeys, shares}
 use Rattle.link_key.specs.declared.set.key_set.KeySet.{KeySet}
 use Rattle.link_key.specs.usage.Usage.{knownType}
-use Rattle.link_key_counters.specs.Counters.{Slot, withZeroCounters, noCounted, keptCounter, inheritCounters, takenCounterOn, firstServing, serves, takeCounter}
+use Rattle.link_key_counters.specs.Counters.{Slot, withZeroCounters, noCounted, keptCounter, inheritCounters}
+use Rattle.link_key_counters.specs.Counters.{takenCounterOn, firstServing, serves, takeCounter}
 use Rattle.link_key_counters.specs.declared.CountedSet.{CountedSet}
 use Rattle.cojp.specs.ErrorReports.{noErrorReports, errorReportOf, added}
 use Rattle.cojp.specs.Reading.{ifTaken}
@@ -45,7 +46,9 @@ use Rattle.node_key_sets.specs.declared.sets.InstallResult.{InstallResult}
 use Rattle.object_image.specs.Codes.{boolPart, dispositionPart}
 use Rattle.object_image.specs.ErrorReports.{errorReportPart, errorReportsPart}
 use Rattle.node_call_laws.specs.Fits.{Time}
-use Rattle.node_call_laws.proofs.Lists.{by-cond, Each, nobody, one-more, each-taken, Found, first-fits, SlotFits, slot-fits, fits-length, fits-set, fits-replicate, under-zeros, fits-under, kept-fit, kept-under, CanRise, first-rises}
+use Rattle.node_call_laws.proofs.Lists.{by-cond, Each, nobody, one-more, each-taken, Found, first-fits}
+use Rattle.node_call_laws.proofs.Lists.{SlotFits, slot-fits, fits-length, fits-set, fits-replicate}
+use Rattle.node_call_laws.proofs.Lists.{under-zeros, fits-under, kept-fit, kept-under, CanRise, first-rises}
 
 pub by-report : {A : Type 0} (P : A → Type 0) (r : Disposition) {x y : A} → P x → P y → P (ifTaken r x y)
 by-report P report.Absent f g = g
@@ -69,7 +72,8 @@ phase-fits phase.GaveUp = (omega arith, refl)
 
 -- ---- keys
 pub no-key-fits : keyPart .Fit noKey
-no-key-fits = (omega arith, (omega arith, ((refl, under-zeros 256 16 (omega arith)), ((omega arith, (refl, under-zeros 256 8 (omega arith))), refl))))
+no-key-fits =
+    (omega arith, (omega arith, ((refl, under-zeros 256 16 (omega arith)), ((omega arith, (refl, under-zeros 256 8 (omega arith))), refl))))
 
 pub no-keys-fit : keySetPart .Fit noKeys
 no-keys-fit = (omega arith, fits-replicate keyPart 8 noKey no-key-fits)
@@ -99,17 +103,20 @@ spend-fits type s f =
     spent-fits s (firstServing type s) f (first-rises (s .counters) (fits-under (s .counters) (f .1)) type 0 (keysOf (s .set)))
 
 -- the key that a frame is sent with, and its counter
-spent-key : (s : CountedSet) (o : Option Slot) → Found SlotFits o → frameKeyImage .Fit (takenCounterOn s o .key, takenCounterOn s o .counter)
+spent-key : (s : CountedSet) (o : Option Slot) → Found SlotFits o
+    → frameKeyImage .Fit (takenCounterOn s o .key, takenCounterOn s o .counter)
 spent-key s none h = (no-key-fits, omega arith)
 spent-key s (some x) h = h
 
 set-keys : (s : CountedSet) → countedSetPart .Fit s → Each keyPart (keysOf (s .set))
 set-keys s f = each-taken keyPart (s .set .count) 8 (s .set .keys) (f .0 .1)
 
-pub spend-key : (type : ℕ) (s : CountedSet) → countedSetPart .Fit s → frameKeyImage .Fit (takeCounter type s .key, takeCounter type s .counter)
+pub spend-key : (type : ℕ) (s : CountedSet) → countedSetPart .Fit s
+    → frameKeyImage .Fit (takeCounter type s .key, takeCounter type s .counter)
 unfolding takeCounter
 spend-key type s f =
-    spent-key s (firstServing type s) (slot-fits (s .counters) (fits-under (s .counters) (f .1)) (serves type) 0 (keysOf (s .set)) (set-keys s f))
+    spent-key s (firstServing type s)
+    (slot-fits (s .counters) (fits-under (s .counters) (f .1)) (serves type) 0 (keysOf (s .set)) (set-keys s f))
 
 -- the key that one is received with
 answer-key : (type : ℕ) (o : Option Key) → Found (keyPart .Fit) o → keyPart .Fit (ifCovers type o .key)
@@ -130,7 +137,8 @@ receiving-key s type identifier f =
     (first-fits keyPart (named identifier) (pendingIn s) (set-keys (s .pending) (f .1)))))
     (λ _. no-key-fits)
 
-pub install-fits : (border : Bool) (s : KeySets) (set : KeySet) → setsPart .Fit s → keySetPart .Fit set → setsPart .Fit (install border s set .sets)
+pub install-fits : (border : Bool) (s : KeySets) (set : KeySet) → setsPart .Fit s → keySetPart .Fit set
+    → setsPart .Fit (install border s set .sets)
 unfolding install
 install-fits border s set f h =
     let P : InstallResult → Type 0 = λ p. setsPart .Fit (p .sets) in
@@ -185,14 +193,17 @@ no-fault-fits = (omega arith, omega arith)
 pub no-faults-fit : errorReportsPart .Fit noErrorReports
 no-faults-fit = (omega arith, fits-replicate errorReportPart 5 (errorReportOf 0 0) no-fault-fits)
 
-pub added-fits : (f : ErrorReports) (code label : ℕ) → code < 256 → label < 256 → errorReportsPart .Fit f → errorReportsPart .Fit (added f code label)
+pub added-fits : (f : ErrorReports) (code label : ℕ) → code < 256 → label < 256 → errorReportsPart .Fit f
+    → errorReportsPart .Fit (added f code label)
 unfolding added
 added-fits f code label a b h =
     by-cond (errorReportsPart .Fit) (ltb (f .count) 5)
-    (λ e. let less = ltb-true (f .count) 5 e in (omega arith, fits-set errorReportPart 5 (f .reports) (f .count) (errorReportOf code label) (a, b) (h .1)))
+    (λ e. let less = ltb-true (f .count) 5 e in
+    (omega arith, fits-set errorReportPart 5 (f .reports) (f .count) (errorReportOf code label) (a, b) (h .1)))
     (λ _. h)
 
-pub reports-fit : (c : Configuration) (f : ErrorReports) (xs : List ErrorReport) → Each errorReportPart xs → errorReportsPart .Fit f → errorReportsPart .Fit (reportsOn (badIn c) f xs)
+pub reports-fit : (c : Configuration) (f : ErrorReports) (xs : List ErrorReport) → Each errorReportPart xs → errorReportsPart .Fit f
+    → errorReportsPart .Fit (reportsOn (badIn c) f xs)
 reports-fit c f xs nobody h = h
 reports-fit c f xs (one-more {x = x} {xs = ys} g e) h =
     reports-fit c (cond (badAt (badIn c) (x .label)) (added f (x .code) (x .label)) f) ys e

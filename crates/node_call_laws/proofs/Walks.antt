@@ -1,5 +1,5 @@
--- What is gathered of a payload's bytes fits, for configurations and join requests alike: each pair of the map leaves what fits, or is counted
--- as passed over, and there are fewer pairs than eight bytes count.
+-- What is gathered of a payload's bytes fits, for configurations and join requests alike: each pair of the map leaves what fits, or is
+-- counted as passed over, and there are fewer pairs than eight bytes count.
 use Prim.Native.Nat.{ℕ, suc, _+_, _^_, _<_}
 use mathlib.Core.Path.{refl}
 use mathlib.Core.Bool.{Bool}
@@ -22,16 +22,19 @@ use Rattle.node_call_laws.proofs.Items.{Word, ViewOk, PairsOk, no-pairs
 use Rattle.node_call_laws.proofs.Lists.{by-cond}
 use Rattle.node_call_laws.proofs.Parameters.{ReadOk}
 
-pub put-ok : {A B : Type 0} (P : A → Type 0) (Q : B → Type 0) (f : A → B) (r : Reading A) → ReadOk P r → ((a : A) → P a → Q (f a)) → ReadOk Q (mapReading f r)
+pub put-ok : {A B : Type 0} (P : A → Type 0) (Q : B → Type 0) (f : A → B) (r : Reading A) → ReadOk P r → ((a : A) → P a → Q (f a))
+    → ReadOk Q (mapReading f r)
 put-ok P Q f (refused k) h g = refl
 put-ok P Q f (read a) h g = g a h
 
-pub onward-ok : {A B : Type 0} (P : A → Type 0) (Q : B → Type 0) (r : Reading A) (f : A → Reading B) → ReadOk P r → ((a : A) → P a → ReadOk Q (f a))
+pub onward-ok : {A B : Type 0} (P : A → Type 0) (Q : B → Type 0) (r : Reading A) (f : A → Reading B) → ReadOk P r
+    → ((a : A) → P a → ReadOk Q (f a))
     → ReadOk Q (bind r f)
 onward-ok P Q (refused k) f h g = refl
 onward-ok P Q (read a) f h g = g a h
 
-pub following-ok : {A : Type 0} (P : A → Type 0) (v : Version) (bad : A) (r : Reading A) → P bad → ReadOk P r → ReadOk P (byVersionOf v bad r)
+pub following-ok : {A : Type 0} (P : A → Type 0) (v : Version) (bad : A) (r : Reading A) → P bad → ReadOk P r
+    → ReadOk P (byVersionOf v bad r)
 following-ok P Draft bad r b h = h
 following-ok P Published bad (refused k) b h = b
 following-ok P Published bad (read a) b h = h
@@ -42,9 +45,11 @@ Fitting Fits passed m s = Fits s × (passed s + m < 256 ^ 8)
 
 module _ {S : Type 0} (F : Form S) (Fits : S → Type 0) (passed : S → ℕ)
     (passes : (s : S) (m : ℕ) → Fitting Fits passed (suc m) s → Fitting Fits passed m (F .passing s))
-    (known : (s : S) (n m : ℕ) (x : View) → ViewOk x → Fitting Fits passed (suc m) s → ReadOk (Fitting Fits passed m) (knownRead F (F .standing s n) s n x))
+    (known : (s : S) (n m : ℕ) (x : View) → ViewOk x → Fitting Fits passed (suc m) s
+    → ReadOk (Fitting Fits passed m) (knownRead F (F .standing s n) s n x))
   where
-    pair-ok : (s : S) (m : ℕ) (k : Label) (x : View) → ViewOk x → Fitting Fits passed (suc m) s → ReadOk (Fitting Fits passed m) (pairRead F s k x)
+    pair-ok : (s : S) (m : ℕ) (k : Label) (x : View) → ViewOk x → Fitting Fits passed (suc m) s
+        → ReadOk (Fitting Fits passed m) (pairRead F s k x)
     pair-ok s m label.NoInteger x h f = refl
     pair-ok s m label.Negative x h f = passes s m f
     pair-ok s m (label.Number n) x h f = known s n m x h f

@@ -14,7 +14,8 @@ use Rattle.image.specs.Lent.{hands-unfit, hands-none, hands-told}
 use Rattle.image.specs.Part.{isImage}
 use Rattle.node.specs.declared.node.Node.{Node}
 use Rattle.node_image.specs.Node.{nodeImage}
-use Rattle.node_laws.specs.Calls.{NodeCall, starting, polling, delivering, asking, sending, receiving, reporting, emptyObject, perform, Demand1}
+use Rattle.node_laws.specs.Calls.{NodeCall, starting, polling, delivering, asking, sending}
+use Rattle.node_laws.specs.Calls.{receiving, reporting, emptyObject, perform, Demand1}
 use Rattle.node_calls.specs.Calls.{performedIn, Tells, Does, Starts, Gives, Changes}
 use Rattle.node_calls.specs.Results.{valueOf, structOf}
 
@@ -48,10 +49,12 @@ module _ (c : NodeCall) (s : List ℕ) where
 
   module _ (demand1 : Demand1) (image : isImage nodeImage s ≡ true) where
     pub tells : {r v : ℕ} → r ≡ verdictNumber (performedIn c s .verdict) → v ≡ valueOf (performedIn c s .object) → Tells c s r v
-    tells e f = record { number = rw image e; value = rw image (f ∙ value-left demand1 c (nodeImage .get s) (performedIn c s .verdict) refl) }
+    tells e f =
+        record { number = rw image e; value = rw image (f ∙ value-left demand1 c (nodeImage .get s) (performedIn c s .verdict) refl) }
 
     pub does : {r v : ℕ} {s′ : List ℕ} → r ≡ verdictNumber (performedIn c s .verdict)
-        → s′ ≡ onAccept (performedIn c s .verdict) s (nodeImage .put (performedIn c s .node)) → v ≡ valueOf (performedIn c s .object) → Does c s r s′ v
+        → s′ ≡ onAccept (performedIn c s .verdict) s (nodeImage .put (performedIn c s .node)) → v ≡ valueOf (performedIn c s .object)
+        → Does c s r s′ v
     does e g f = record { tells = tells e f; node = rw image g }
 
 module _ (time timeout : ℕ) (s d : List ℕ) where
@@ -70,7 +73,10 @@ module _ (time timeout : ℕ) (s d : List ℕ) where
 module _ (n : ℕ) (c : NodeCall) (s w : List ℕ) where
   pub changes-unfit : ¬ (length w ≡ n) → Changes n c s w 13 s w
   changes-unfit h =
-      record { gives = hands-unfit n (isImage nodeImage s) (performedIn c s .verdict) (structOf (performedIn c s .object)) w h; node = rw (ne-eqb (length w) n h) }
+      record {
+        gives = hands-unfit n (isImage nodeImage s) (performedIn c s .verdict) (structOf (performedIn c s .object)) w h;
+        node = rw (ne-eqb (length w) n h);
+      }
 
   pub changes-none : {w′ : List ℕ} → length w ≡ n → isImage nodeImage s ≡ false → w′ ≡ replicate (length w) 0 → Changes n c s w 13 s w′
   changes-none h e f =

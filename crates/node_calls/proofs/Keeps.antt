@@ -13,7 +13,8 @@ pub refusals-keep : NodeRefusals
 refusals-keep =
     record {
       make = λ form role has x s r s′ d h.
-          hands-emptied 878 (leb form 1 && leb has 1) (madeOf form role has x .verdict) (nodeImage .put (madeOf form role has x .node)) s r s′ d h;
+          hands-emptied 878 (leb form 1 && leb has 1) (madeOf form role has x .verdict)
+          (nodeImage .put (madeOf form role has x .node)) s r s′ d h;
       question = λ c s r v d h. kept (callVerdict c s) 0 (valueOf (performedIn c s .object)) (d .number) h (d .value);
       call = λ c s r s′ v d h. (
         kept (callVerdict c s) s (nodeImage .put (performedIn c s .node)) (d .tells .number) h (d .node),

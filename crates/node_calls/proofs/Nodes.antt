@@ -71,7 +71,8 @@ change-value (change.Refused k) = refl
 change-value change.Switched = refl
 change-value change.Kept = refl
 
-pub holding-refused : (h : LeaseStatus) (k : Refusal) {r : ℕ} → h ≡ holding.Refused k → r ≡ numberOf k → (r ≡ holdingNumber h) × (0 ≡ leaseStatusCode h)
+pub holding-refused : (h : LeaseStatus) (k : Refusal) {r : ℕ} → h ≡ holding.Refused k → r ≡ numberOf k
+    → (r ≡ holdingNumber h) × (0 ≡ leaseStatusCode h)
 holding-refused h k e f = rw e (f, refl)
 
 -- ---- a node is made
@@ -111,7 +112,8 @@ node-made form role has x s m long h k says e f =
     (f ∙ ap (λ (y : MakeResult). onAccept (y .verdict) (replicate 878 0) (nodeImage .put (y .node))) says)
 
 -- ---- the node that was loaded is the one in the image
-pub start-as : {n m : Node} {time timeout : ℕ} {d d′ : List ℕ} {r : StartResult} → n ≡ m → StartDid n time timeout d r d′ → StartDid m time timeout d r d′
+pub start-as : {n m : Node} {time timeout : ℕ} {d d′ : List ℕ} {r : StartResult} → n ≡ m → StartDid n time timeout d r d′
+    → StartDid m time timeout d r d′
 start-as e did = rw e at did
 
 module _ (s : List ℕ) (image : isImage nodeImage s ≡ true) where
@@ -120,7 +122,8 @@ module _ (s : List ℕ) (image : isImage nodeImage s ≡ true) where
 
   module _ (demand1 : Demand1) where
     pub started : (time timeout : ℕ) (d d′ : List ℕ) (x : StartResult) {r : ℕ} {s′ : List ℕ} → StartDid In time timeout d x d′
-        → r ≡ verdictNumber (x .verdict) → s′ ≡ onAccept (x .verdict) s (nodeImage .put (x .node)) → Starts time timeout s d r s′ d′ (x .length)
+        → r ≡ verdictNumber (x .verdict) → s′ ≡ onAccept (x .verdict) s (nodeImage .put (x .node))
+        → Starts time timeout s d r s′ d′ (x .length)
     unfolding perform
     started time timeout d d′ x did e f =
         let c = calls.starting time timeout d in
@@ -154,7 +157,8 @@ module _ (s : List ℕ) (image : isImage nodeImage s ≡ true) where
         ∙ ap (λ (y : VerifyResult). onAccept (changeVerdict (verified In type identifier .change)) s (nodeImage .put (y .node))) says)
         (g ∙ ap (λ (y : VerifyResult). changeCode (y .change)) says ∙ change-value (verified In type identifier .change))
 
-    pub asked : (time : ℕ) (x : LeaseStatus) {r w : ℕ} → x ≡ holds In time → r ≡ holdingNumber x → w ≡ leaseStatusCode x → Tells (calls.asking time) s r w
+    pub asked : (time : ℕ) (x : LeaseStatus) {r w : ℕ} → x ≡ holds In time → r ≡ holdingNumber x → w ≡ leaseStatusCode x
+        → Tells (calls.asking time) s r w
     unfolding perform
     asked time x says f g =
         tells (calls.asking time) s demand1 image
@@ -164,7 +168,8 @@ module _ (s : List ℕ) (image : isImage nodeImage s ≡ true) where
   module _ (w : List ℕ) where
     pub delivered : (d : Delivery) (time : ℕ) (payload : List ℕ) (x : DeliveryResult) {r : ℕ} {s′ w′ : List ℕ} → length w ≡ 17
         → x ≡ deliver d In time payload → r ≡ verdictNumber (x .verdict) → s′ ≡ onAccept (x .verdict) s (nodeImage .put (x .node))
-        → w′ ≡ onAccept (x .verdict) (replicate 17 0) (dispositionsImage .put (x .dispositions)) → Changes 17 (calls.delivering d time payload) s w r s′ w′
+        → w′ ≡ onAccept (x .verdict) (replicate 17 0) (dispositionsImage .put (x .dispositions))
+        → Changes 17 (calls.delivering d time payload) s w r s′ w′
     unfolding perform
     delivered d time payload x long says e f g =
         changes 17 (calls.delivering d time payload) s w long image

@@ -22,7 +22,8 @@ use Rattle.node_calls.specs.Results.{valueOf, structOf}
 
 -- ---- making: form 0 is the draft, 1 the published one; a network identifier is there or not
 abbrev pub networkOf : ℕ → List ℕ → HeldOctets
-networkOf has x = cond (eqb has 0) absentOctets (record { held = true; value = record { len = length x; bytes = copiedFrom x 0 (length x) } })
+networkOf has x =
+    cond (eqb has 0) absentOctets (record { held = true; value = record { len = length x; bytes = copiedFrom x 0 (length x) } })
 
 abbrev pub madeOf : ℕ → ℕ → ℕ → List ℕ → MakeResult
 madeOf form role has x = made (versionOf form) role (networkOf has x)

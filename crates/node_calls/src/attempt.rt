@@ -11,7 +11,8 @@ ghost use Rattle.node_calls.specs.Results.{dueCode};
 
 // Starts a join attempt: the join request goes to `dst`.
 pub fn node_start(node: &mut [u8], time: u64, timeout: u64, dst: &mut [u8], length: &mut u64) -> u32
-    ensures { λ r. ⌜ Starts time timeout (now (node .entry)) (now (dst .entry)) r (now (node .exit)) (now (dst .exit)) (now (length .exit)) ⌝ }
+    ensures { λ r. ⌜ Starts time timeout (now (node .entry)) (now (dst .entry)) r (now (node .exit)) (now (dst .exit))
+        (now (length .exit)) ⌝ }
 {
     node_laws::demand1();
     node_image::partial_store_law();

@@ -21,7 +21,8 @@ fn store_delivery(done: DeliveryResult, node: &mut [u8], reports: &mut [u8]) -> 
     requires { ⌜ (length (now node) ≡ 878) × (length (now reports) ≡ 17) ⌝ }
     ensures number { λ r. ⌜ r ≡ verdictNumber (done .verdict) ⌝ }
     ensures node { λ _. ⌜ now (node .exit) ≡ onAccept (done .verdict) (now (node .entry)) (nodeImage .put (done .node)) ⌝ }
-    ensures reports { λ _. ⌜ now (reports .exit) ≡ onAccept (done .verdict) (replicate 17 0) (dispositionsImage .put (done .dispositions)) ⌝ }
+    ensures reports { λ _. ⌜ now (reports .exit)
+        ≡ onAccept (done .verdict) (replicate 17 0) (dispositionsImage .put (done .dispositions)) ⌝ }
 {
     let verdict = done.verdict;
     let told = done.dispositions;
@@ -32,7 +33,8 @@ fn store_delivery(done: DeliveryResult, node: &mut [u8], reports: &mut [u8]) -> 
 
 // A join answer.
 pub fn node_answer(node: &mut [u8], time: u64, payload: &[u8], reports: &mut [u8]) -> u32
-    ensures { λ r. ⌜ Changes 17 (delivering delivery.JoinAnswer time (now (payload .entry))) (now (node .entry)) (now (reports .entry)) r (now (node .exit)) (now (reports .exit)) ⌝ }
+    ensures { λ r. ⌜ Changes 17 (delivering delivery.JoinAnswer time (now (payload .entry))) (now (node .entry)) (now (reports .entry)) r
+        (now (node .exit)) (now (reports .exit)) ⌝ }
 {
     if reports.len() != 17 {
         return RANGE;
@@ -47,7 +49,8 @@ pub fn node_answer(node: &mut [u8], time: u64, payload: &[u8], reports: &mut [u8
 
 // A parameter update.
 pub fn node_update(node: &mut [u8], time: u64, payload: &[u8], reports: &mut [u8]) -> u32
-    ensures { λ r. ⌜ Changes 17 (delivering delivery.Update time (now (payload .entry))) (now (node .entry)) (now (reports .entry)) r (now (node .exit)) (now (reports .exit)) ⌝ }
+    ensures { λ r. ⌜ Changes 17 (delivering delivery.Update time (now (payload .entry))) (now (node .entry)) (now (reports .entry)) r
+        (now (node .exit)) (now (reports .exit)) ⌝ }
 {
     if reports.len() != 17 {
         return RANGE;

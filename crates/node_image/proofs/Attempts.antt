@@ -76,4 +76,5 @@ attempt-stored a {n} e w =
 pub attempt-lawful : RoundTrips attemptPart
 attempt-lawful =
     viewed-lawful attemptFields attemptTo attemptFrom (λ a. refl) (λ x h. refl)
-    (both-lawful _ _ phase-lawful (both-lawful _ _ (number-lawful 8) (both-lawful _ _ (number-lawful 8) (both-lawful _ _ (number-lawful 8) byte-lawful))))
+    (both-lawful _ _ phase-lawful
+    (both-lawful _ _ (number-lawful 8) (both-lawful _ _ (number-lawful 8) (both-lawful _ _ (number-lawful 8) byte-lawful))))

@@ -11,7 +11,8 @@ use Rattle.object_image.specs.Laws.{ObjectImages}
 use Rattle.node_image.proofs.Attempts.{attempt-lawful}
 use Rattle.node_image.proofs.Versions.{version-lawful}
 use Rattle.node_image.specs.Answers.{dispositionsFields, dispositionsTo, dispositionsFrom, dispositionsImage, frameKeyImage}
-use Rattle.node_image.specs.Held.{heldOctetsTo, heldOctetsFrom, heldOctetsPart, heldAddressFields, heldAddressTo, heldAddressFrom, heldAddressPart, heldListTo, heldListFrom, heldListPart, heldRateTo, heldRateFrom, heldRatePart}
+use Rattle.node_image.specs.Held.{heldOctetsTo, heldOctetsFrom, heldOctetsPart, heldAddressFields, heldAddressTo, heldAddressFrom}
+use Rattle.node_image.specs.Held.{heldAddressPart, heldListTo, heldListFrom, heldListPart, heldRateTo, heldRateFrom, heldRatePart}
 use Rattle.node_image.specs.Laws.{NodeImages}
 use Rattle.node_image.specs.Node.{setsTo, setsFrom, setsPart, formFields, heldFields, nodeFields, nodeTo, nodeFrom, nodeImage}
 

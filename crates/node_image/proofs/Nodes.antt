@@ -25,7 +25,8 @@ use Rattle.object_image.specs.ErrorReports.{errorReportsPart}
 use Rattle.node_image.proofs.Places.{first-at, next-got, next-good, not-good, held-good, then-good, then-not, pair-good, pair-not}
 use Rattle.node_image.specs.Attempt.{attemptPart}
 use Rattle.node_image.specs.Held.{heldAddressPart, heldOctetsPart, heldListPart, heldRatePart}
-use Rattle.node_image.specs.Node.{FormFields, HeldFields, setsPart, formFields, heldFields, nodeFields, nodeOf, nodeTo, heldOf, nodeImage}
+use Rattle.node_image.specs.Node.{FormFields, HeldFields, setsPart, formFields, heldFields}
+use Rattle.node_image.specs.Node.{nodeFields, nodeOf, nodeTo, heldOf, nodeImage}
 use Rattle.node_image.specs.Version.{versionPart}
 
 -- ---- what stands after a field
@@ -142,7 +143,8 @@ module _ (s : List ℕ) where
 
 -- ---- written
 pub node-stored : (n : Node) {d d′ : List ℕ} → length d ≡ 878
-    → Wrote (((((0x4e ∷ 1 ∷ []) ++ (n .role ∷ [])) ++ attemptPart .put (n .attempt)) ++ setsPart .put (n .sets)) ++ heldFields .put (heldOf n)) d 878 d′
+    → Wrote (((((0x4e ∷ 1 ∷ []) ++ (n .role ∷ [])) ++ attemptPart .put (n .attempt)) ++ setsPart .put (n .sets))
+    ++ heldFields .put (heldOf n)) d 878 d′
     → d′ ≡ nodeImage .put n
 node-stored n e w =
     whole-struct e w

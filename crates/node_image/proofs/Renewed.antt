@@ -162,7 +162,8 @@ pub send-changes : (n : Node) (type : ℕ) → Recounted n (frames.sending n typ
 unfolding frames.sending sets.sending takeCounter
 send-changes n type =
     by-send n (valid n) (sets.sending (n .sets) type)
-    (by-type n (knownType type) (sets.sentWith (n .sets) (takeCounter type (n .sets .active))) Range (by-spend n (firstServing type (n .sets .active))))
+    (by-type n (knownType type) (sets.sentWith (n .sets) (takeCounter type (n .sets .active))) Range
+    (by-spend n (firstServing type (n .sets .active))))
 
 pub node-changes : NodeChanges
 node-changes = record { started = start-changes; polled = poll-changes; sent = send-changes }

@@ -13,7 +13,8 @@ DispositionsFields = Disposition × (Disposition × (Disposition × (Disposition
 
 abbrev pub dispositionsFields : Part DispositionsFields
 dispositionsFields =
-    both dispositionPart (both dispositionPart (both dispositionPart (both dispositionPart (both dispositionPart (both dispositionPart (both dispositionPart (number 8)))))))
+    both dispositionPart (both dispositionPart
+    (both dispositionPart (both dispositionPart (both dispositionPart (both dispositionPart (both dispositionPart (number 8)))))))
 
 abbrev pub dispositionsTo : DispositionsFields → Dispositions
 dispositionsTo x = record {

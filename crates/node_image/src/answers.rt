@@ -28,7 +28,8 @@ fn put_later(
     passed: u64,
 )
     requires { ⌜ 11 ≤ length (now dst) ⌝ }
-    ensures { λ _. ⌜ Wrote (((dispositionPart .put prefix ++ dispositionPart .put blacklist) ++ dispositionPart .put rate) ++ bytesOf 8 passed)
+    ensures { λ _. ⌜ Wrote
+        (((dispositionPart .put prefix ++ dispositionPart .put blacklist) ++ dispositionPart .put rate) ++ bytesOf 8 passed)
         (now (dst .entry)) 11 (now (dst .exit)) ⌝ }
 {
     put_disposition(dst, prefix);
@@ -46,7 +47,8 @@ fn put_first(
     network: Disposition,
 )
     requires { ⌜ 4 ≤ length (now dst) ⌝ }
-    ensures { λ _. ⌜ Wrote (((dispositionPart .put keys ++ dispositionPart .put address) ++ dispositionPart .put jrc) ++ dispositionPart .put network)
+    ensures { λ _. ⌜ Wrote
+        (((dispositionPart .put keys ++ dispositionPart .put address) ++ dispositionPart .put jrc) ++ dispositionPart .put network)
         (now (dst .entry)) 4 (now (dst .exit)) ⌝ }
 {
     put_disposition(dst, keys);

@@ -62,7 +62,8 @@ sent-on : (s : KeySets) (o : Option Slot) → sentFrom s (takenCounterOn (s .act
 sent-on s none = refl
 sent-on s (some x) = refl
 
-pub sent-spent : (s : KeySets) (type : ℕ) → knownType type ≡ true → (x : TakenCounter) → x ≡ takeCounter type (s .active) → sentFrom s x ≡ sending s type
+pub sent-spent : (s : KeySets) (type : ℕ) → knownType type ≡ true → (x : TakenCounter) → x ≡ takeCounter type (s .active)
+    → sentFrom s x ≡ sending s type
 unfolding sending takeCounter
 sent-spent s type known x e = rw (known, e) (sent-on s (firstServing type (s .active)))
 
@@ -77,6 +78,7 @@ module _ (s : KeySets) (type identifier : ℕ) (x : KeyAnswer) (e : x ≡ receiv
   report-kept r h = rw (← e, r, h)
 
   pub report-switched :
-      x .verdict ≡ verdict.Accepted → has identifier (activeIn s) ≡ false → verifiedIn s type identifier ≡ effect change.Switched (switched s)
+      x .verdict ≡ verdict.Accepted → has identifier (activeIn s) ≡ false
+      → verifiedIn s type identifier ≡ effect change.Switched (switched s)
   unfolding verifiedIn
   report-switched r h = rw (← e, r, h)

@@ -1,4 +1,5 @@
--- Keys for frames: what is sent comes from the active set, what is received from either, and a verified frame switches by a pending key alone.
+-- Keys for frames: what is sent comes from the active set, what is received from either,
+-- and a verified frame switches by a pending key alone.
 use Prim.Native.Nat.{ℕ}
 use native.Mathlib.Omega.{arith}
 use mathlib.Core.Path.{_≡_, refl, ap, subst}
@@ -19,9 +20,11 @@ use Rattle.link_key.specs.declared.Key.{Key}
 use Rattle.link_key.specs.set.KeyLaws.{KeyLaws}
 use Rattle.link_key_counters.specs.CounterLaws.{CounterLaws}
 use Rattle.link_key_counters.specs.declared.TakenCounter.{TakenCounter}
-use Rattle.link_key_counters.specs.Counters.{Slot, slotsOf, lastCounter, isUsedUp, serves, firstServing, raised, takenCounterOn, takeCounter}
+use Rattle.link_key_counters.specs.Counters.{Slot, slotsOf, lastCounter, isUsedUp, serves}
+use Rattle.link_key_counters.specs.Counters.{firstServing, raised, takenCounterOn, takeCounter}
 use Rattle.node_key_sets.specs.Sets.{activeIn, pendingIn, twoSets, valid}
-use Rattle.node_key_sets.specs.Frames.{withKey, withoutKey, unsent, sentWith, sending, orElse, ifCovers, receivingKey, switched, effectBy, verifiedIn}
+use Rattle.node_key_sets.specs.Frames.{withKey, withoutKey, unsent, sentWith, sending, orElse}
+use Rattle.node_key_sets.specs.Frames.{ifCovers, receivingKey, switched, effectBy, verifiedIn}
 use Rattle.node_key_sets.specs.declared.frames.Change.the-variants as change
 use Rattle.node_key_sets.specs.declared.frames.KeyAnswer.{KeyAnswer}
 use Rattle.node_key_sets.specs.declared.frames.SendKeyResult.{SendKeyResult}
@@ -91,7 +94,8 @@ module _ (C : CounterLaws) where
     sent known found =
         let x = takeCounter type (s .active) in
         cond known
-        (cond found (record { answer = withKey (x .key); counter = x .counter; sets = twoSets (x .set) (s .pending) }) (unsent refusal.Silent s))
+        (cond found (record { answer = withKey (x .key); counter = x .counter; sets = twoSets (x .set) (s .pending) })
+        (unsent refusal.Silent s))
         (unsent refusal.Range s)
 
     sent-by :
@@ -115,7 +119,8 @@ module _ (C : CounterLaws) where
     counted-by true none f a = refused-not refusal.Silent a
     counted-by false o f a = refused-not refusal.Range a
 
-    sent-first : sending s type ≡ cond (knownType type) (sentWith s (takenCounterOn (s .active) (firstServing type (s .active)))) (unsent refusal.Range s)
+    sent-first : sending s type
+        ≡ cond (knownType type) (sentWith s (takenCounterOn (s .active) (firstServing type (s .active)))) (unsent refusal.Range s)
     unfolding sending
     sent-first = ap (λ (x : TakenCounter). cond (knownType type) (sentWith s x) (unsent refusal.Range s)) (C .spend-first type (s .active))
 
@@ -195,7 +200,8 @@ module _ (K : KeyLaws) where
   -- ---- the verified report
   -- the key of an accepted frame is pending where no active key has its identifier
   switching-by :
-      (s : KeySets) (type identifier : ℕ) (k : Key) → Received s type identifier k → has identifier (activeIn s) ≡ false → Switching s type identifier
+      (s : KeySets) (type identifier : ℕ) (k : Key) → Received s type identifier k → has identifier (activeIn s) ≡ false
+      → Switching s type identifier
   switching-by s type identifier k r e =
       record {
         key = k;
@@ -206,7 +212,8 @@ module _ (K : KeyLaws) where
       }
 
   either-by :
-      (s : KeySets) (type identifier : ℕ) (w : Verdict) (b : Bool) → receivingKey s type identifier .verdict ≡ w → has identifier (activeIn s) ≡ b →
+      (s : KeySets) (type identifier : ℕ) (w : Verdict) (b : Bool) → receivingKey s type identifier .verdict ≡ w →
+      has identifier (activeIn s) ≡ b →
       (effectBy w b s .sets ≡ s) ⊎ (Switching s type identifier × (effectBy w b s .sets ≡ switched s))
   either-by s type identifier (verdict.Refused k) b e f = inl refl
   either-by s type identifier verdict.Accepted true e f = inl refl
@@ -217,7 +224,8 @@ module _ (K : KeyLaws) where
       (s : KeySets) (type identifier : ℕ) →
       (verifiedIn s type identifier .sets ≡ s) ⊎ (Switching s type identifier × (verifiedIn s type identifier .sets ≡ switched s))
   unfolding verifiedIn
-  verified-either s type identifier = either-by s type identifier (receivingKey s type identifier .verdict) (has identifier (activeIn s)) refl refl
+  verified-either s type identifier =
+      either-by s type identifier (receivingKey s type identifier .verdict) (has identifier (activeIn s)) refl refl
 
   pub verified-switches :
       (border : Bool) (s : KeySets) (type identifier : ℕ) → valid border s ≡ true → Switching s type identifier →

@@ -17,7 +17,8 @@ use Rattle.link_key.specs.declared.Key.{Key}
 use Rattle.link_key_counters.specs.Counters.{takeCounter}
 use Rattle.link_key_counters.specs.declared.TakenCounter.{TakenCounter}
 use Rattle.node_key_sets.specs.Sets.{activeIn, install}
-use Rattle.node_key_sets.specs.Frames.{withKey, withoutKey, unsent, sentWith, sending, heldKey, ifCovers, receivingKey, effectBy, verifiedIn, changeVerdict}
+use Rattle.node_key_sets.specs.Frames.{withKey, withoutKey, unsent, sentWith, sending, heldKey}
+use Rattle.node_key_sets.specs.Frames.{ifCovers, receivingKey, effectBy, verifiedIn, changeVerdict}
 use Rattle.node_key_sets.specs.declared.frames.Change.the-variants as change
 use Rattle.node_key_sets.specs.declared.frames.KeyAnswer.{KeyAnswer}
 use Rattle.node_key_sets.specs.declared.sets.KeySets.{KeySets}
@@ -43,17 +44,20 @@ if-covers type none = without-key refusal.Silent
 if-covers type (some l) = cond-unanswered (covers l type) _ _ (with-key l) (without-key refusal.Silent)
 
 -- a refused sending: no key, counter 0, and the sets as they were
-unsent-by : (s : KeySets) (y : TakenCounter) (b : Bool) (k : Refusal) → y .found ≡ b → sentWith s y .answer .verdict ≡ verdict.Refused k → Unsent s (sentWith s y)
+unsent-by : (s : KeySets) (y : TakenCounter) (b : Bool) (k : Refusal) → y .found ≡ b → sentWith s y .answer .verdict ≡ verdict.Refused k
+    → Unsent s (sentWith s y)
 unsent-by s y true k f e = accepted-not k (rw f at e)
 unsent-by s y false k f e = rw f (record { key = refl; counter = refl; sets = refl })
 
 send-by :
-    (s : KeySets) (y : TakenCounter) (t : Bool) (k : Refusal) → cond t (sentWith s y) (unsent refusal.Range s) .answer .verdict ≡ verdict.Refused k →
+    (s : KeySets) (y : TakenCounter) (t : Bool) (k : Refusal) →
+    cond t (sentWith s y) (unsent refusal.Range s) .answer .verdict ≡ verdict.Refused k →
     Unsent s (cond t (sentWith s y) (unsent refusal.Range s))
 send-by s y true k e = unsent-by s y (y .found) k refl e
 send-by s y false k e = record { key = refl; counter = refl; sets = refl }
 
-pub send-untouched : (s : KeySets) (type : ℕ) (k : Refusal) → sending s type .answer .verdict ≡ verdict.Refused k → Unsent s (sending s type)
+pub send-untouched : (s : KeySets) (type : ℕ) (k : Refusal) → sending s type .answer .verdict ≡ verdict.Refused k
+    → Unsent s (sending s type)
 unfolding sending
 send-untouched s type k e = send-by s (takeCounter type (s .active)) (knownType type) k e
 
@@ -73,7 +77,8 @@ install-untouched-by s set true false false true k e = refl
 install-untouched-by s set true false false false k e = accepted-not k e
 
 pub install-untouched :
-    (border : Bool) (s : KeySets) (set : KeySet) (k : Refusal) → install border s set .verdict ≡ verdict.Refused k → install border s set .sets ≡ s
+    (border : Bool) (s : KeySets) (set : KeySet) (k : Refusal) → install border s set .verdict ≡ verdict.Refused k
+    → install border s set .sets ≡ s
 unfolding install
 install-untouched border s set k e =
     install-untouched-by s set (validSet set) border (sameKeys (keysOf set) (activeIn s)) (shares (keysOf set) (activeIn s)) k e

@@ -13,7 +13,8 @@ use Rattle.link_key.specs.set.KeyLaws.{KeyLaws}
 use Rattle.link_key_counters.specs.CounterLaws.{CounterLaws}
 use Rattle.link_key_counters.specs.Counters.{withZeroCounters, noCounted, inheritCounters}
 use Rattle.link_key_counters.specs.declared.CountedSet.{CountedSet}
-use Rattle.node_key_sets.specs.Sets.{activeIn, pendingIn, twoSets, isNone, noneOrValid, valid, plainIn, validAs, unplaced, decideInstall, install}
+use Rattle.node_key_sets.specs.Sets.{activeIn, pendingIn, twoSets, isNone, noneOrValid, valid}
+use Rattle.node_key_sets.specs.Sets.{plainIn, validAs, unplaced, decideInstall, install}
 use Rattle.node_key_sets.specs.Frames.{switched}
 use Rattle.node_key_sets.specs.declared.sets.KeySets.{KeySets}
 use Rattle.node_key_sets.specs.declared.sets.InstallResult.{InstallResult}
@@ -48,7 +49,8 @@ module _ (border : Bool) (s : KeySets) where
 
     pub sets-apart : shares (activeIn s) (pendingIn s) ≡ false
     unfolding valid
-    sets-apart = not-true (shares (activeIn s) (pendingIn s)) (third (noneOrValid (s .active .set)) (noneOrValid (s .pending .set)) apart alone e)
+    sets-apart =
+        not-true (shares (activeIn s) (pendingIn s)) (third (noneOrValid (s .active .set)) (noneOrValid (s .pending .set)) apart alone e)
 
     border-alone : border ≡ true → isNone (s .pending .set) ≡ true
     unfolding valid
@@ -63,7 +65,8 @@ module _ (border : Bool) (s : KeySets) where
 
 -- sending: only a counter rises, and counters are not looked at
 pub same-valid :
-    (border : Bool) (s t : KeySets) → t .active .set ≡ s .active .set → t .pending ≡ s .pending → valid border s ≡ true → valid border t ≡ true
+    (border : Bool) (s t : KeySets) → t .active .set ≡ s .active .set → t .pending ≡ s .pending → valid border s ≡ true
+    → valid border t ≡ true
 unfolding valid
 same-valid border s t a p e = rw (a, p) e
 
@@ -129,7 +132,8 @@ module _ (K : KeyLaws) where
     place-valid true false true shared e ok h = alone-valid false (s .active) (active-valid false s e)
     place-valid true false false true e ok h = e
     place-valid true false false false e ok h =
-        valid-by false (twoSets (s .active) (withZeroCounters set)) (active-valid false s e) (set-valid ok) (K .shares-turned (activeIn s) (keysOf set) ∙ h) refl
+        valid-by false (twoSets (s .active) (withZeroCounters set)) (active-valid false s e) (set-valid ok)
+        (K .shares-turned (activeIn s) (keysOf set) ∙ h) refl
 
   pub install-valid :
       CounterLaws → (border : Bool) (s : KeySets) (set : KeySet) → valid border s ≡ true → valid border (install border s set .sets) ≡ true
@@ -175,10 +179,12 @@ module _ (allowed : Bool) (s : KeySets) (e : (allowed || plainIn s) ≡ true) wh
     place-plain : (ok border equals shared : Bool) → (allowed || plainIn (placeBy s set ok border equals shared .sets)) ≡ true
     place-plain false border equals shared = e
     place-plain true true equals shared =
-        rw (C .succeeded-is (s .active) set) (first-plain allowed (noAdditionalInfos (keysOf set)) true (rw (and-true (noAdditionalInfos (keysOf set))) f))
+        rw (C .succeeded-is (s .active) set)
+        (first-plain allowed (noAdditionalInfos (keysOf set)) true (rw (and-true (noAdditionalInfos (keysOf set))) f))
     place-plain true false true shared = first-plain allowed (noAdditionalInfos (activeIn s)) (noAdditionalInfos (pendingIn s)) e
     place-plain true false false true = e
-    place-plain true false false false = new-plain allowed (noAdditionalInfos (activeIn s)) (noAdditionalInfos (pendingIn s)) (noAdditionalInfos (keysOf set)) e f
+    place-plain true false false false =
+        new-plain allowed (noAdditionalInfos (activeIn s)) (noAdditionalInfos (pendingIn s)) (noAdditionalInfos (keysOf set)) e f
 
     pub install-plain : (border : Bool) → (allowed || plainIn (install border s set .sets)) ≡ true
     unfolding install

@@ -1,5 +1,5 @@
--- Demand 1 for the two key sets: a refusal leaves them and stands beside the key that is all zero and counter 0; a set outside its limits, an unknown
--- frame type and identifier 0 are RANGE (13).
+-- Demand 1 for the two key sets: a refusal leaves them and stands beside the key that is all zero and counter 0; a set outside its limits,
+-- an unknown frame type and identifier 0 are RANGE (13).
 use Prim.Native.Nat.{ℕ}
 use mathlib.Core.Path.{_≡_}
 use mathlib.Core.Bool.{Bool, false, not, _&&_}

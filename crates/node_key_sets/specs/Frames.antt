@@ -33,7 +33,8 @@ unsent k s = record { answer = withoutKey k; counter = 0; sets = s }
 
 abbrev pub sentWith : KeySets → TakenCounter → SendKeyResult
 sentWith s x =
-    cond (x .found) (record { answer = withKey (x .key); counter = x .counter; sets = twoSets (x .set) (s .pending) }) (unsent refusal.Silent s)
+    cond (x .found) (record { answer = withKey (x .key); counter = x .counter; sets = twoSets (x .set) (s .pending) })
+    (unsent refusal.Silent s)
 
 unfoldable pub sending : KeySets → ℕ → SendKeyResult
 sending s type = cond (knownType type) (sentWith s (takeCounter type (s .active))) (unsent refusal.Range s)

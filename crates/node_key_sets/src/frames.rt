@@ -72,7 +72,8 @@ pub fn without_key(why: Refusal) -> KeyAnswer
 // The answer to a frame of this type and key identifier, from what was found under the identifier. RANGE: the type, identifier 0; SILENT.
 fn received(held: FoundKey, frame_type: u8, identifier: u8) -> KeyAnswer
     ensures { λ r. ⌜ r ≡ cond (knownType «frame_type» && not (eqb identifier 0))
-        (cond (held .found && covers (held .key) «frame_type») (withKey (held .key)) (withoutKey refusal.Silent)) (withoutKey refusal.Range) ⌝ }
+        (cond (held .found && covers (held .key) «frame_type») (withKey (held .key)) (withoutKey refusal.Silent))
+        (withoutKey refusal.Range) ⌝ }
 {
     if 1 < frame_type || identifier == 0 {
         return without_key(Refusal::Range);

@@ -91,11 +91,13 @@ discarded-keeps Taken x k = refl
 discarded-keeps Discarded x k = refl
 
 border-same :
-    (border : Bool) (r s : Disposition) (o p : Octets) (old : HeldOctets) → ifTaken r (some (bytesIn o)) none ≡ ifTaken s (some (bytesIn p)) none →
+    (border : Bool) (r s : Disposition) (o p : Octets) (old : HeldOctets) →
+    ifTaken r (some (bytesIn o)) none ≡ ifTaken s (some (bytesIn p)) none →
     octetsHeld (octetsAfter (cond border r (discarded r)) o old) ≡ octetsHeld (octetsAfter (cond border s (discarded s)) p old)
 border-same true r s o p old e = octets-same r s o p old e
 border-same false r s o p old e =
-    ap octetsHeld (discarded-keeps r (record { held = true; value = o }) old ∙ sym (discarded-keeps s (record { held = true; value = p }) old))
+    ap octetsHeld
+    (discarded-keeps r (record { held = true; value = o }) old ∙ sym (discarded-keeps s (record { held = true; value = p }) old))
 
 abbrev meant : ShortAddress → List ℕ × Option ℕ
 meant a = (a .bytes, leaseOf a)
@@ -154,7 +156,8 @@ module _ (C : CounterLaws) (delivery : Delivery) (n : Node) (time : ℕ) (c d : 
 
   owing : ifTaken (c .network .disposition) true false ≡ ifTaken (d .network .disposition) true false
   owing =
-      alike (λ (x y : Bool). x ≡ y) (c .network .disposition) (d .network .disposition) (bytesIn (c .network .value)) (bytesIn (d .network .value))
+      alike (λ (x y : Bool). x ≡ y) (c .network .disposition) (d .network .disposition) (bytesIn (c .network .value))
+      (bytesIn (d .network .value))
       true true false (h .network) (λ p q f. refl) refl
 
   owes-same : owesIdentifier delivery n (c .network .disposition) ≡ owesIdentifier delivery n (d .network .disposition)
@@ -171,8 +174,10 @@ module _ (C : CounterLaws) (delivery : Delivery) (n : Node) (time : ℕ) (c d : 
     pending = places .pending;
     address = address-same time (c .address) (d .address) (n .address) (h .address);
     jrc = octets-same (c .jrc .disposition) (d .jrc .disposition) (c .jrc .value) (d .jrc .value) (n .jrc) (h .jrc);
-    network = border-same (isBorder n) (c .network .disposition) (d .network .disposition) (c .network .value) (d .network .value) (n .network) (h .network);
-    prefix = border-same (isBorder n) (c .prefix .disposition) (d .prefix .disposition) (c .prefix .value) (d .prefix .value) (n .prefix) (h .prefix);
+    network = border-same (isBorder n) (c .network .disposition) (d .network .disposition) (c .network .value) (d .network .value)
+        (n .network) (h .network);
+    prefix = border-same (isBorder n) (c .prefix .disposition) (d .prefix .disposition) (c .prefix .value) (d .prefix .value)
+        (n .prefix) (h .prefix);
     version = refl;
     blacklist = list-same (c .blacklist) (d .blacklist) (n .blacklist) (h .blacklist);
     rate = rate-same (c .rate) (d .rate) (n .rate) (h .rate);
@@ -217,4 +222,5 @@ module _ (C : CounterLaws) (delivery : Delivery) (n : Node) (time : ℕ) (c d : 
 
 pub applies-alike : CounterLaws → AppliesAlike
 applies-alike C delivery n time c d p q h =
-    applied-alike C delivery n time (fitted n c) (fitted n d) (fitted-keys n c p) (fitted-keys n d q) (fitted-same C delivery n time c d p q h)
+    applied-alike C delivery n time (fitted n c) (fitted n d) (fitted-keys n c p) (fitted-keys n d q)
+    (fitted-same C delivery n time c d p q h)

@@ -1,5 +1,5 @@
--- Numbers and values go by the tests of a call, in the order of its definition; of a valid node the attempt is valid too, and a key set that was
--- read is within its limits.
+-- Numbers and values go by the tests of a call, in the order of its definition; of a valid node the attempt is valid too, and a key set
+-- that was read is within its limits.
 use Prim.Native.Nat.{ℕ, _+_, _*_, _≤_}
 use native.Mathlib.Omega.{arith}
 use mathlib.Core.Path.{_≡_, refl, sym, _∙_, ap}
@@ -57,7 +57,8 @@ use Rattle.node_parameters.specs.Octets.{validOctets}
 use Rattle.node_parameters.specs.Dispositions.{dispositionsOf}
 use Rattle.node_parameters.specs.declared.octets.HeldOctets.{HeldOctets}
 use Rattle.node_parameters.specs.declared.dispositions.Dispositions.{Dispositions}
-use Rattle.node.specs.Delivery.{placementOf, fittedBy, fitted, placedBy, owesIdentifier, undelivered, apply, applyRead, deliverVerdict, deliverBy, readFor, deliver}
+use Rattle.node.specs.Delivery.{placementOf, fittedBy, fitted, placedBy, owesIdentifier, undelivered}
+use Rattle.node.specs.Delivery.{apply, applyRead, deliverVerdict, deliverBy, readFor, deliver}
 use Rattle.node.specs.Frames as frames
 use Rattle.node.specs.Frames.{unsent, sentBy, send, receive, reported, reportedBy, verified}
 use Rattle.node.specs.Lease.{holds, holdingNumber, holdsNow}
@@ -114,7 +115,8 @@ written-by (written.Length l) n m = refl
 module _ (n m : Node) (p : Plan) (d : List ℕ) where
   abbrev startBy : Bool → Bool → Bool → Verdict
   startBy l w f =
-      cond l (cond w (verdict.Refused refusal.Phase) (cond f verdict.Accepted (verdict.Refused refusal.Range))) (verdict.Refused refusal.Clock)
+      cond l (cond w (verdict.Refused refusal.Phase) (cond f verdict.Accepted (verdict.Refused refusal.Range)))
+      (verdict.Refused refusal.Clock)
 
   start-by :
       (l w f : Bool) →
@@ -149,13 +151,15 @@ start-number n time timeout d = go (valid n) refl
     go :
         (v : Bool) → valid n ≡ v →
         verdictNumber
-        (startedBy (answer (planBy (cond v (mayStart (n .attempt) time timeout) (verdict.Refused refusal.Range)) (requestPlan (n .version) (requestOf n))) d) n
+        (startedBy (answer
+        (planBy (cond v (mayStart (n .attempt) time timeout) (verdict.Refused refusal.Range)) (requestPlan (n .version) (requestOf n))) d) n
         (startedFrom n time timeout) .verdict)
         ≡ inOrder (refusedIf (not v) 13 ∷ tests)
     go false e = refl
     go true e =
         rw (attempt-valid n e)
-        (start-by n (startedFrom n time timeout) (requestPlan (n .version) (requestOf n)) d (leb (clockOf n) time) (waits n) (firstTimeout timeout))
+        (start-by n (startedFrom n time timeout) (requestPlan (n .version) (requestOf n)) d (leb (clockOf n) time) (waits n)
+        (firstTimeout timeout))
 
 start-wrote :
     (w : WriteResult) (n m : Node) → startedBy w n m .verdict ≡ verdict.Accepted → w ≡ written.Length (startedBy w n m .length)
@@ -169,7 +173,8 @@ unfolding start startPlan
 start-length n time timeout d = go (startVerdict n time timeout)
   where
     go :
-        (v : Verdict) → startedBy (answer (planBy v (requestPlan (n .version) (requestOf n))) d) n (startedFrom n time timeout) .verdict ≡ verdict.Accepted →
+        (v : Verdict) → startedBy (answer (planBy v (requestPlan (n .version) (requestOf n))) d) n (startedFrom n time timeout) .verdict
+        ≡ verdict.Accepted →
         answer (requestPlan (n .version) (requestOf n)) d
         ≡ written.Length (startedBy (answer (planBy v (requestPlan (n .version) (requestOf n))) d) n (startedFrom n time timeout) .length)
     go (verdict.Refused k) e = refused-not k e
@@ -204,7 +209,8 @@ poll-tests n time =
         (polledBy n
         (cond f
         (cond l
-        (cond w (cond t (cond c (step due.SendAgain again) (step due.GaveUp over)) (step due.NotYet still)) (step (due.Refused refusal.Phase) (n .attempt)))
+        (cond w (cond t (cond c (step due.SendAgain again) (step due.GaveUp over)) (step due.NotYet still))
+        (step (due.Refused refusal.Phase) (n .attempt)))
         (step (due.Refused refusal.Clock) (n .attempt)))
         (step (due.Refused refusal.Range) (n .attempt))))
         (polled (due.Refused refusal.Range) n) .due
@@ -218,7 +224,8 @@ poll-tests n time =
     go again over still true true true true true true = refl
 
 -- a valid node's attempt is valid, and its counter at most 4
-poll-by : (n : Node) (time : ℕ) → poll n time .due ≡ dueBy (valid n) true (leb (clockOf n) time) (waits n) (reached n time) (ltb (n .attempt .count) 4)
+poll-by : (n : Node) (time : ℕ)
+    → poll n time .due ≡ dueBy (valid n) true (leb (clockOf n) time) (waits n) (reached n time) (ltb (n .attempt .count) 4)
 poll-by n time = poll-tests n time ∙ go (valid n) (joinable.valid (n .attempt)) (attempt-valid n)
   where
     go :
@@ -236,7 +243,8 @@ at-four count h = go (ltb count 4) refl
     go true e = sym (ne-eqb count 4 (λ q. absurd (omega (arith, ltb-true count 4 e, q))))
     go false e = sym (eq-eqb count 4 (omega (arith, ltb-false count 4 e)))
 
-number-by : (v l w t c : Bool) → dueNumber (dueBy v true l w t c) ≡ inOrder (refusedIf (not v) 13 ∷ refusedIf (not l) 11 ∷ refusedIf (not w) 16 ∷ [])
+number-by : (v l w t c : Bool)
+    → dueNumber (dueBy v true l w t c) ≡ inOrder (refusedIf (not v) 13 ∷ refusedIf (not l) 11 ∷ refusedIf (not w) 16 ∷ [])
 number-by false l w t c = refl
 number-by true false w t c = refl
 number-by true true false t c = refl
@@ -275,7 +283,8 @@ module _ (n : Node) (time : ℕ) where
   abbrev c : Bool
   c = ltb (n .attempt .count) 4
 
-  poll-number : dueNumber (poll n time .due) ≡ inOrder (refusedIf (not (valid n)) 13 ∷ refusedIf (early n time) 11 ∷ refusedIf (not (waits n)) 16 ∷ [])
+  poll-number : dueNumber (poll n time .due)
+      ≡ inOrder (refusedIf (not (valid n)) 13 ∷ refusedIf (early n time) 11 ∷ refusedIf (not (waits n)) 16 ∷ [])
   poll-number = ap dueNumber (poll-by n time) ∙ number-by (valid n) l (waits n) (reached n time) c
 
   not-yet : notYet (poll n time .due) ≡ (isPolled n time && not (reached n time))
@@ -326,7 +335,8 @@ module _ (delivery : Delivery) (n : Node) (time : ℕ) where
       go :
           (o : Bool) →
           verdictNumber
-          (cond o (undelivered refusal.Owed n) (placedBy (placementOf n (c .keys) .verdict) delivery n time c (placementOf n (c .keys) .sets)) .verdict)
+          (cond o (undelivered refusal.Owed n)
+          (placedBy (placementOf n (c .keys) .verdict) delivery n time c (placementOf n (c .keys) .sets)) .verdict)
           ≡ inOrder (refusedIf o 9 ∷ refusedIf (clashes n (c .keys)) 10 ∷ [])
       go true = refl
       go false = place
@@ -343,7 +353,8 @@ module _ (delivery : Delivery) (n : Node) (time : ℕ) where
       go Published true e = refl
       go Published false e = e
 
-  fitted-number : (c : Configuration) → keysInRange (c .keys) ≡ true → verdictNumber (apply delivery n time (fitted n c) .verdict) ≡ inOrder (last c)
+  fitted-number : (c : Configuration) → keysInRange (c .keys) ≡ true
+      → verdictNumber (apply delivery n time (fitted n c) .verdict) ≡ inOrder (last c)
   fitted-number c h = apply-number (fitted n c) (fitted-keys n c h) ∙ rw (fitted-network n c, fitted-clashes c h)
 
   read-number :
@@ -356,7 +367,8 @@ module _ (delivery : Delivery) (n : Node) (time : ℕ) where
       (l t b : Bool) (r : ConfigurationRead) → (r .verdict ≡ verdict.Accepted → keysInRange (r .configuration .keys) ≡ true) →
       verdictNumber
       (deliverBy
-      (cond l (cond t (cond b verdict.Accepted (verdict.Refused refusal.Phase)) (verdict.Refused refusal.Clock)) (verdict.Refused refusal.Long))
+      (cond l (cond t (cond b verdict.Accepted (verdict.Refused refusal.Phase)) (verdict.Refused refusal.Clock))
+      (verdict.Refused refusal.Long))
       delivery n time r .verdict)
       ≡ inOrder (refusedIf (not l) 15 ∷ refusedIf (not t) 11 ∷ refusedIf (not b) 16 ∷ verdictNumber (r .verdict) ∷ last (r .configuration))
   come-by false t b r h = refl
@@ -447,13 +459,16 @@ passed true true x e = (refl, e)
 -- sending, by the answers to its tests: is the node valid, is the type known, which key serves first
 abbrev sentAs : Node → Bool → Bool → Option Slot → SendResult
 sentAs n v t o =
-    cond v (sentBy n (cond t (sets.sentWith (n .sets) (takenCounterOn (n .sets .active) o)) (sets.unsent refusal.Range (n .sets)))) (unsent n)
+    cond v (sentBy n (cond t (sets.sentWith (n .sets) (takenCounterOn (n .sets .active) o)) (sets.unsent refusal.Range (n .sets))))
+    (unsent n)
 
-sent-is : CounterLaws → (n : Node) (type : ℕ) → frames.sending n type ≡ sentAs n (valid n) (knownType type) (firstServing type (n .sets .active))
+sent-is : CounterLaws → (n : Node) (type : ℕ)
+    → frames.sending n type ≡ sentAs n (valid n) (knownType type) (firstServing type (n .sets .active))
 unfolding frames.sending sets.sending
 sent-is C n type =
     ap
-    (λ (x : TakenCounter). cond (valid n) (sentBy n (cond (knownType type) (sets.sentWith (n .sets) x) (sets.unsent refusal.Range (n .sets)))) (unsent n))
+    (λ (x : TakenCounter). cond (valid n)
+    (sentBy n (cond (knownType type) (sets.sentWith (n .sets) x) (sets.unsent refusal.Range (n .sets)))) (unsent n))
     (C .spend-first type (n .sets .active))
 
 sent-number :
@@ -469,7 +484,8 @@ send-number :
     CounterLaws → (n : Node) (type : ℕ) →
     verdictNumber (send n type .verdict)
     ≡ inOrder
-    (refusedIf (not (valid n)) 13 ∷ refusedIf (not (knownType type)) 13 ∷ refusedIf (isMissing (firstServing type (n .sets .active))) 14 ∷ [])
+    (refusedIf (not (valid n)) 13 ∷ refusedIf (not (knownType type)) 13
+    ∷ refusedIf (isMissing (firstServing type (n .sets .active))) 14 ∷ [])
 unfolding send
 send-number C n type =
     ap (λ (x : SendResult). verdictNumber (x .answer .verdict)) (sent-is C n type)
@@ -549,7 +565,8 @@ module _ (n : Node) (type identifier : ℕ) where
       go false = refl
 
   has-switched :
-      hasSwitched (verified n type identifier .change) ≡ (isAccepted (receive n type identifier .verdict) && not (has identifier (activeOf n)))
+      hasSwitched (verified n type identifier .change)
+      ≡ (isAccepted (receive n type identifier .verdict) && not (has identifier (activeOf n)))
   unfolding verified verifiedIn receive
   has-switched = go (valid n)
     where

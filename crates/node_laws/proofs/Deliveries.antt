@@ -44,7 +44,8 @@ use Rattle.node_parameters.specs.Octets.{validOctets, validJrc, octetsAfter}
 use Rattle.node_parameters.specs.Dispositions.{noDispositions, dispositionsOf}
 use Rattle.node.specs.Node.{isBorder, clockOf, validRole}
 use Rattle.node.specs.Range.{versionValid, othersValid, valid, Valid}
-use Rattle.node.specs.Delivery.{placementOf, fitted, configured, undelivered, delivered, owesIdentifier, placedBy, apply, deliverVerdict, applyRead, deliverBy, readFor, deliver}
+use Rattle.node.specs.Delivery.{placementOf, fitted, configured, undelivered, delivered, owesIdentifier}
+use Rattle.node.specs.Delivery.{placedBy, apply, deliverVerdict, applyRead, deliverBy, readFor, deliver}
 use Rattle.node_attempt.specs.delivery.Delivery.{attemptAfter, belongs, mayCome}
 use Rattle.node_laws.specs.Laws.{configurationIn, Takes, Installed}
 use Rattle.node_attempt.specs.declared.delivery.Delivery.{Delivery}
@@ -73,9 +74,11 @@ module _ (n : Node) where
   cond-leaves true x y p q = p
   cond-leaves false x y p q = q
 
-  placed-leaves : (v : Verdict) (delivery : Delivery) (time : ℕ) (c : Configuration) (s : KeySets) → Leaves n (placedBy v delivery n time c s)
+  placed-leaves : (v : Verdict) (delivery : Delivery) (time : ℕ) (c : Configuration) (s : KeySets)
+      → Leaves n (placedBy v delivery n time c s)
   placed-leaves (verdict.Refused k) delivery time c s = no-leaves k
-  placed-leaves verdict.Accepted delivery time c s = yes-leaves (dispositionsOf (isBorder n) c) (configured delivery n time c s (dispositionsOf (isBorder n) c))
+  placed-leaves verdict.Accepted delivery time c s =
+      yes-leaves (dispositionsOf (isBorder n) c) (configured delivery n time c s (dispositionsOf (isBorder n) c))
 
   apply-leaves : (delivery : Delivery) (time : ℕ) (c : Configuration) → Leaves n (apply delivery n time c)
   unfolding apply
@@ -130,15 +133,18 @@ accepted-by :
 accepted-by (verdict.Refused k) delivery n time r e = refused-not k e
 accepted-by verdict.Accepted delivery n time r e = refl
 
-not-early : (delivery : Delivery) (n : Node) (time len : ℕ) → deliverVerdict delivery n time len ≡ verdict.Accepted → leb (clockOf n) time ≡ true
+not-early : (delivery : Delivery) (n : Node) (time len : ℕ) → deliverVerdict delivery n time len ≡ verdict.Accepted
+    → leb (clockOf n) time ≡ true
 unfolding deliverVerdict mayCome
-not-early delivery n time len = go (valid n) (attempt.valid (n .attempt)) (leb len 256) (leb (clockOf n) time) (belongs delivery (n .attempt .phase))
+not-early delivery n time len =
+    go (valid n) (attempt.valid (n .attempt)) (leb len 256) (leb (clockOf n) time) (belongs delivery (n .attempt .phase))
   where
     go :
         (v f l t b : Bool) →
         cond v
         (cond f
-        (cond l (cond t (cond b verdict.Accepted (verdict.Refused refusal.Phase)) (verdict.Refused refusal.Clock)) (verdict.Refused refusal.Long))
+        (cond l (cond t (cond b verdict.Accepted (verdict.Refused refusal.Phase)) (verdict.Refused refusal.Clock))
+        (verdict.Refused refusal.Long))
         (verdict.Refused refusal.Range))
         (verdict.Refused refusal.Range)
         ≡ verdict.Accepted → t ≡ true
@@ -162,7 +168,12 @@ module _ (delivery : Delivery) (n : Node) (time : ℕ) (payload : List ℕ) wher
       let o = failed (owesIdentifier delivery n (c .network .disposition)) _ refusal.Owed n e2 in
       let e3 = rw o at e2 in
       let p = accepted-placed (placementOf n (c .keys) .verdict) delivery n time c (placementOf n (c .keys) .sets) e3 in
-      record { later = leb-true (clockOf n) time (not-early delivery n time (length payload) v); read = r; placed = p; is = rw (v, r, o, p) }
+      record {
+        later = leb-true (clockOf n) time (not-early delivery n time (length payload) v);
+        read = r;
+        placed = p;
+        is = rw (v, r, o, p);
+      }
 
 pub accepted-is :
     (delivery : Delivery) (n : Node) (time : ℕ) (payload : List ℕ) → deliver delivery n time payload .verdict ≡ verdict.Accepted →
@@ -184,7 +195,8 @@ accepted-reading delivery n time payload e = accepted-passed delivery n time pay
 
 -- ---- the other parameters
 address-after :
-    (clock time : ℕ) (r : Disposition) (value : ShortAddress) (old : HeldAddress) → clock ≤ time → ifTaken r (isAddress (value .bytes)) true ≡ true →
+    (clock time : ℕ) (r : Disposition) (value : ShortAddress) (old : HeldAddress) → clock ≤ time →
+    ifTaken r (isAddress (value .bytes)) true ≡ true →
     validAddress clock old ≡ true →
     validAddress time (ifTaken r (record { held = true; value = value; received = time }) old) ≡ true
 address-after clock time Absent value old h e f = later clock time old h f
@@ -198,7 +210,8 @@ jrc-after Absent o old e f = f
 jrc-after Discarded o old e f = f
 jrc-after Taken o old e f = e
 
-attempt-after : (delivery : Delivery) (a : Attempt) (time : ℕ) → a .clock ≤ time → attempt.valid a ≡ true → attempt.valid (attemptAfter delivery a time) ≡ true
+attempt-after : (delivery : Delivery) (a : Attempt) (time : ℕ) → a .clock ≤ time → attempt.valid a ≡ true
+    → attempt.valid (attemptAfter delivery a time) ≡ true
 attempt-after JoinAnswer a time h e = joined-valid a time h e
 attempt-after Update a time h e = moved-valid a time h e
 
@@ -263,14 +276,16 @@ module _ (K : KeyLaws) (C : CounterLaws) (R : ReadsInRange) (F : ErrorReportsVal
   placement-valid n Taken set v = install-valid K C (isBorder n) (n .sets) set v
 
   placement-plain :
-      (n : Node) (r : Disposition) (set : KeySet) → ifTaken r (additionalInfoAllowed (allowsAdditionalInfo (n .version)) (keysOf set)) true ≡ true → Plain n →
+      (n : Node) (r : Disposition) (set : KeySet) →
+      ifTaken r (additionalInfoAllowed (allowsAdditionalInfo (n .version)) (keysOf set)) true ≡ true → Plain n →
       (allowsAdditionalInfo (n .version) || plainIn (ifTaken r (install (isBorder n) (n .sets) set) (placed (n .sets)) .sets)) ≡ true
   placement-plain n Absent set e v = v
   placement-plain n Discarded set e v = v
   placement-plain n Taken set e v = install-plain (allowsAdditionalInfo (n .version)) (n .sets) v C set e (isBorder n)
 
   -- ---- the node stays valid
-  module _ (delivery : Delivery) (n : Node) (time : ℕ) (c : Configuration) (v : Valid n) (h : clockOf n ≤ time) (r : InRange (n .version) c) where
+  module _ (delivery : Delivery) (n : Node) (time : ℕ) (c : Configuration) (v : Valid n) (h : clockOf n ≤ time)
+      (r : InRange (n .version) c) where
     abbrev after : Node
     after = configured delivery n time c (placementOf n (c .keys) .sets) (dispositionsOf (isBorder n) c)
 
@@ -285,19 +300,23 @@ module _ (K : KeyLaws) (C : CounterLaws) (R : ReadsInRange) (F : ErrorReportsVal
         all-four (validRole (n .role)) (validJrc (after .jrc)) (validOctets (after .network)) (versionValid after)
         (first part1 part2 part3 part4 o)
         (jrc-after (c .jrc .disposition) (c .jrc .value) (n .jrc) (r .jrc) (second part1 part2 part3 part4 o))
-        (octets-after (isBorder n) (c .network .disposition) (c .network .value) (n .network) (r .network) (third part1 part2 part3 part4 o))
+        (octets-after (isBorder n) (c .network .disposition) (c .network .value) (n .network) (r .network)
+        (third part1 part2 part3 part4 o))
         (form-after delivery n time c (placementOf n (c .keys) .sets) r (fourth part1 part2 part3 part4 o) F)
 
     configured-valid : Valid after
     configured-valid =
         valid-by after
         (unfold configured in placement-valid n (c .keys .disposition) (c .keys .value) (keys-valid n v))
-        (unfold configured in placement-plain n (c .keys .disposition) (c .keys .value) (may-inform (n .version) c (r .form)) (keys-plain n v))
+        (unfold configured in
+        placement-plain n (c .keys .disposition) (c .keys .value) (may-inform (n .version) c (r .form)) (keys-plain n v))
         (unfold configured in attempt-after delivery (n .attempt) time h (attempt-valid n v))
-        (unfold configured in address-after (clockOf n) time (c .address .disposition) (c .address .value) (n .address) h (r .address) (address-valid n v))
+        (unfold configured in
+        address-after (clockOf n) time (c .address .disposition) (c .address .value) (n .address) h (r .address) (address-valid n v))
         others-after
 
-  pub deliver-valid : (delivery : Delivery) (n : Node) (time : ℕ) (payload : List ℕ) → Valid n → Valid (deliver delivery n time payload .node)
+  pub deliver-valid : (delivery : Delivery) (n : Node) (time : ℕ) (payload : List ℕ) → Valid n
+      → Valid (deliver delivery n time payload .node)
   deliver-valid delivery n time payload v = go (deliver delivery n time payload .verdict) refl
     where
       go : (w : Verdict) → deliver delivery n time payload .verdict ≡ w → Valid (deliver delivery n time payload .node)
@@ -309,7 +328,8 @@ module _ (K : KeyLaws) (C : CounterLaws) (R : ReadsInRange) (F : ErrorReportsVal
           (fitted-range n (readFor n payload .configuration) (R (n .version) payload (p .read))))
 
   pub border-takes :
-      (delivery : Delivery) (n : Node) (time : ℕ) (payload : List ℕ) (ks : List Key) → Valid n → n .role ≡ 1 → Takes delivery n time payload ks →
+      (delivery : Delivery) (n : Node) (time : ℕ) (payload : List ℕ) (ks : List Key) → Valid n → n .role ≡ 1 →
+      Takes delivery n time payload ks →
       Installed ks n (deliver delivery n time payload .node)
   unfolding configured dispositionsOf
   border-takes delivery n time payload ks v b h =
@@ -319,7 +339,8 @@ module _ (K : KeyLaws) (C : CounterLaws) (R : ReadsInRange) (F : ErrorReportsVal
       let same = fitted-taken n (readFor n payload .configuration) taken in
       let place = border-place n (c .keys .disposition) (c .keys .value) b taken (p .placed) in
       record {
-        active = rw (p .is) (rw (place, C .succeeded-is (n .sets .active) (c .keys .value)) (ap (λ (k : KeysParameter). keysOf (k .value)) same ∙ h .set));
+        active = rw (p .is)
+            (rw (place, C .succeeded-is (n .sets .active) (c .keys .value)) (ap (λ (k : KeysParameter). keysOf (k .value)) same ∙ h .set));
         pending = rw (p .is) (rw place);
         role = deliver-role delivery n time payload;
         valid = deliver-valid delivery n time payload v;

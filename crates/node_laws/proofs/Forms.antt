@@ -58,7 +58,8 @@ module _ (n : Node) (c : Configuration) where
   unfolding fitted
   fitted-taken = go (n .version) place
     where
-      go : (v : Version) (w : Verdict) → byVersion v c (fittedBy w c) .keys .disposition ≡ Taken → byVersion v c (fittedBy w c) .keys ≡ c .keys
+      go : (v : Version) (w : Verdict) → byVersion v c (fittedBy w c) .keys .disposition ≡ Taken
+          → byVersion v c (fittedBy w c) .keys ≡ c .keys
       go Draft w e = refl
       go Published verdict.Accepted e = refl
       go Published (verdict.Refused k) e = never (ifTaken Discarded true false) (ap (λ (r : Disposition). ifTaken r true false) e) refl
@@ -96,7 +97,8 @@ pub may-inform :
 unfolding ofVersion
 may-inform Draft c e =
     let absent = missing (c .blacklist .disposition) in
-    both-left (keysWithoutAdditionalInfo (c .keys)) absent (both-left (keysWithoutAdditionalInfo (c .keys) && absent) (missing (c .rate .disposition)) e)
+    both-left (keysWithoutAdditionalInfo (c .keys)) absent
+    (both-left (keysWithoutAdditionalInfo (c .keys) && absent) (missing (c .rate .disposition)) e)
 may-inform Published c e = go (c .keys .disposition)
   where
     go : (r : Disposition) → ifTaken r true true ≡ true
@@ -116,11 +118,13 @@ octets-after false Discarded o old e f = f
 octets-after false Taken o old e f = f
 
 -- what is missing leaves an absent one absent
-list-absent : (p : ListParameter) (old : HeldList) → missing (p .disposition) ≡ true → not (old .held) ≡ true → not (listAfter p old .held) ≡ true
+list-absent : (p : ListParameter) (old : HeldList) → missing (p .disposition) ≡ true → not (old .held) ≡ true
+    → not (listAfter p old .held) ≡ true
 list-absent p old e f =
     ap (λ (h : HeldList). not (h .held)) (missing-keeps (p .disposition) (record { held = true; value = p .value }) old e) ∙ f
 
-rate-absent : (p : RateParameter) (old : HeldRate) → missing (p .disposition) ≡ true → not (old .held) ≡ true → not (rateAfter p old .held) ≡ true
+rate-absent : (p : RateParameter) (old : HeldRate) → missing (p .disposition) ≡ true → not (old .held) ≡ true
+    → not (rateAfter p old .held) ≡ true
 rate-absent p old e f =
     ap (λ (h : HeldRate). not (h .held)) (missing-keeps (p .disposition) (record { held = true; value = p .value }) old e) ∙ f
 
@@ -205,5 +209,6 @@ module _ (delivery : Delivery) (n : Node) (time : ℕ) (c : Configuration) (sets
   pub form-after : ErrorReportsValid → versionValid after ≡ true
   unfolding configured versionValid
   form-after F =
-      form-by (n .version) (errorReportsValid (n .version) (errorReportsOf c)) (draftValid after) (publishedValid after) (F (n .version) c (r .met))
+      form-by (n .version) (errorReportsValid (n .version) (errorReportsOf c)) (draftValid after) (publishedValid after)
+      (F (n .version) c (r .met))
       draft-after published-after

@@ -44,7 +44,8 @@ answered-valid false x e = absurd (let z : _≡_ {A = ℕ} 0 1 = cc in omega ari
 
 -- whether keys have additional information goes by the keys alone
 same-plain :
-    (i : Bool) (s t : KeySets) → t .active .set ≡ s .active .set → t .pending ≡ s .pending → (i || plainIn s) ≡ true → (i || plainIn t) ≡ true
+    (i : Bool) (s t : KeySets) → t .active .set ≡ s .active .set → t .pending ≡ s .pending → (i || plainIn s) ≡ true
+    → (i || plainIn t) ≡ true
 same-plain i s t a p e = rw (a, p) e
 
 -- ---- sending, by the laws of counted sets
@@ -112,7 +113,8 @@ module _ (C : CounterLaws) (n : Node) (type : ℕ) where
         role = refl;
         valid =
             λ v. valid-by after (sets.sent-valid C (isBorder n) (n .sets) type (keys-valid n v))
-            (same-plain (allowsAdditionalInfo (n .version)) (n .sets) (after .sets) (k .0) (k .1) (keys-plain n v)) (attempt-valid n v) (address-valid n v)
+            (same-plain (allowsAdditionalInfo (n .version)) (n .sets) (after .sets) (k .0) (k .1) (keys-plain n v)) (attempt-valid n v)
+            (address-valid n v)
             (others-valid n v);
       }
 
@@ -159,7 +161,8 @@ module _ (K : KeyLaws) where
         role = refl;
         valid =
             λ v. valid-by (keyed n (switched (n .sets))) (switched-valid K (isBorder n) (n .sets) (keys-valid n v))
-            (switched-plain (allowsAdditionalInfo (n .version)) (n .sets) (keys-plain n v)) (attempt-valid n v) (address-valid n v) (others-valid n v);
+            (switched-plain (allowsAdditionalInfo (n .version)) (n .sets) (keys-plain n v)) (attempt-valid n v) (address-valid n v)
+            (others-valid n v);
       })
 
   module _ (n : Node) (type identifier : ℕ) where
@@ -182,7 +185,8 @@ module _ (K : KeyLaws) where
     abbrev reportBy : Bool → VerifyResult
     reportBy b = cond b (reportedBy n (verifiedIn (n .sets) type identifier)) (reported (change.Refused refusal.Range) n)
 
-    pub verified-either : KeysStay n (verified n type identifier .node) ⊎ (Switching n type identifier × Switched n (verified n type identifier .node))
+    pub verified-either : KeysStay n (verified n type identifier .node)
+        ⊎ (Switching n type identifier × Switched n (verified n type identifier .node))
     unfolding verified
     verified-either = go (valid n)
       where

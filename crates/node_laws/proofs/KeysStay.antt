@@ -23,7 +23,8 @@ stay-attempt n a f h =
       pending = refl;
       role = refl;
       valid =
-          λ v. valid-by (attempting n a) (keys-valid n v) (keys-plain n v) (f v) (later (clockOf n) (a .clock) (n .address) h (address-valid n v)) (others-valid n v);
+          λ v. valid-by (attempting n a) (keys-valid n v) (keys-plain n v) (f v)
+          (later (clockOf n) (a .clock) (n .address) h (address-valid n v)) (others-valid n v);
     }
 
 pub keyed-self : (n : Node) (s : KeySets) → s ≡ n .sets → keyed n s ≡ n

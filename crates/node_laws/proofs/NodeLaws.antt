@@ -23,7 +23,8 @@ use Rattle.node_laws.proofs.Timings.{start-stays, poll-stays}
 use Rattle.node_laws.proofs.Parts.{call-part}
 use Rattle.node_laws.proofs.Made.{made-valid, made-version, made-role, made-network}
 use Rattle.node_laws.proofs.Deliveries.{deliver-leaves, deliver-valid, deliver-role, deliver-version, untaken-stays, border-takes}
-use Rattle.node_laws.proofs.FrameKeys.{covers-can, can-send, send-from, send-stays, receive-pending, receive-from, verified-either, verified-switches, verified-stays, verified-says}
+use Rattle.node_laws.proofs.FrameKeys.{covers-can, can-send, send-from, send-stays, receive-pending, receive-from}
+use Rattle.node_laws.proofs.FrameKeys.{verified-either, verified-switches, verified-stays, verified-says}
 use Rattle.node_laws.proofs.Untouched.{node-demand1}
 
 send-refused : (n : Node) (type : ℕ) (k : Refusal) → send n type .verdict ≡ Refused k → afterSend n type ≡ n

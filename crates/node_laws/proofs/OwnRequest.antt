@@ -63,7 +63,8 @@ module _ (H : HeadLaws) where
     where
       go : (b : Bool) → Short 2 (cond b empty (labelled 1 (unsigned role)))
       go true = no-pair 2
-      go false = one-pair 1 (unsigned role) 1 (omega arith) (omega (arith, leb-true role 1 h, H .short-head 0 role (omega (arith, leb-true role 1 h))))
+      go false = one-pair 1 (unsigned role) 1 (omega arith)
+          (omega (arith, leb-true role 1 h, H .short-head 0 role (omega (arith, leb-true role 1 h))))
 
   octets-short : (p : OctetsParameter) → octetsInRange p ≡ true → Short 18 (octetsPairs 5 p)
   octets-short p = go (p .disposition)
@@ -91,8 +92,14 @@ module _ (H : HeadLaws) where
           let s : List ℕ = bytesIn (p .value) in
           let n : ℕ = p .value .count in
           one-pair 8 (array (itemsIn (some errorReportsIn) (p .value))) 16 (omega arith)
-          (omega
-          (arith, ap length e, H .short-head 4 n (omega (arith, m)), length-append (shortest 4 n) s, length-take (p .value .len) (p .value .bytes), l))
+          (omega (
+            arith,
+            ap length e,
+            H .short-head 4 n (omega (arith, m)),
+            length-append (shortest 4 n) s,
+            length-take (p .value .len) (p .value .bytes),
+            l,
+          ))
 
 -- ---- the node's request
 identifier-in-range : (h : HeldOctets) → validOctets h ≡ true → octetsInRange (identifierIn h) ≡ true
@@ -180,9 +187,11 @@ module _ (H : HeadLaws) (L : ListLaws) (n : Node) (v : Valid n) where
       ∷ [])
   unfolding requestPlan requestOf
   request-number d =
-      rw (in-range, le-leb (length payload) 256 (omega (arith, short))) (owed-first (owing (n .version) (n .role) (identifierIn (n .network) .disposition)))
+      rw (in-range, le-leb (length payload) 256 (omega (arith, short)))
+      (owed-first (owing (n .version) (n .role) (identifierIn (n .network) .disposition)))
     where
-      room : (b : Bool) → writtenNumber (cond b (written.Length (length payload)) (written.Refused Room)) ≡ inOrder (0 ∷ refusedIf (not b) 12 ∷ [])
+      room : (b : Bool)
+          → writtenNumber (cond b (written.Length (length payload)) (written.Refused Room)) ≡ inOrder (0 ∷ refusedIf (not b) 12 ∷ [])
       room true = refl
       room false = refl
 

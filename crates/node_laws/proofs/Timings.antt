@@ -63,7 +63,8 @@ module _ (n : Node) (time : ℕ) where
   unfolding poll
   poll-is v = rw v
 
-  poll-cases : (b : Bool) (s : AttemptResult) → KeysStay n (attempting n (s .attempt)) → KeysStay n (cond b (polledBy n s) (polled (due.Refused refusal.Range) n) .node)
+  poll-cases : (b : Bool) (s : AttemptResult) → KeysStay n (attempting n (s .attempt))
+      → KeysStay n (cond b (polledBy n s) (polled (due.Refused refusal.Range) n) .node)
   poll-cases true s k = k
   poll-cases false s k = stay-self n
 
@@ -71,4 +72,5 @@ module _ (n : Node) (time : ℕ) where
   unfolding poll
   poll-stays =
       poll-cases (valid n) (attempt.poll (n .attempt) time)
-      (stay-attempt n (attempt.poll (n .attempt) time .attempt) (λ v. poll-valid (n .attempt) time (attempt-valid n v)) (poll-later (n .attempt) time))
+      (stay-attempt n (attempt.poll (n .attempt) time .attempt) (λ v. poll-valid (n .attempt) time (attempt-valid n v))
+      (poll-later (n .attempt) time))

@@ -62,7 +62,8 @@ unfolding poll
 node-polled n time k = go (valid n)
   where
     go :
-        (b : Bool) → attempt.dueVerdict (cond b (polledBy n (attempt.poll (n .attempt) time)) (polled (due.Refused refusal.Range) n) .due) ≡ verdict.Refused k →
+        (b : Bool) → attempt.dueVerdict (cond b (polledBy n (attempt.poll (n .attempt) time)) (polled (due.Refused refusal.Range) n) .due)
+        ≡ verdict.Refused k →
         (cond b (polledBy n (attempt.poll (n .attempt) time)) (polled (due.Refused refusal.Range) n) .node ≡ n)
         × (dueObject (cond b (polledBy n (attempt.poll (n .attempt) time)) (polled (due.Refused refusal.Range) n) .due) ≡ nothing)
     go true e = let u = poll-untouched (n .attempt) time k e in (ap (attempting n) (u .0), ap dueObject (u .1))
@@ -98,7 +99,8 @@ send-untouched n type k = go (valid n)
 
 receive-untouched : (n : Node) (type identifier : ℕ) → Unanswered (receive n type identifier)
 unfolding receive
-receive-untouched n type identifier = range-or (valid n) (receivingKey (n .sets) type identifier) (sets.receive-untouched (n .sets) type identifier)
+receive-untouched n type identifier =
+    range-or (valid n) (receivingKey (n .sets) type identifier) (sets.receive-untouched (n .sets) type identifier)
 
 report-untouched :
     (n : Node) (type identifier : ℕ) (k : Refusal) → changeVerdict (verified n type identifier .change) ≡ verdict.Refused k →

@@ -1,4 +1,5 @@
--- A call's definition changes the phase in three places alone: a start that writes its request, a poll that gives up, an accepted join answer.
+-- A call's definition changes the phase in three places alone:
+-- a start that writes its request, a poll that gives up, an accepted join answer.
 use Prim.Native.Nat.{ℕ}
 use mathlib.Core.Path.{_≡_, refl, sym, _∙_, ap}
 use mathlib.Core.Bool.{Bool, true, false, cond}
@@ -30,7 +31,8 @@ use Rattle.node_parameters.specs.declared.octets.HeldOctets.{HeldOctets}
 use Rattle.node.specs.Node.{made}
 use Rattle.node.specs.Range.{valid}
 use Rattle.node.specs.Timing.{startPlan, startedFrom, startedBy, start, polled, polledBy, poll}
-use Rattle.node.specs.Delivery.{placementOf, fitted, placedBy, configured, undelivered, owesIdentifier, apply, deliverVerdict, applyRead, deliverBy, readFor, deliver}
+use Rattle.node.specs.Delivery.{placementOf, fitted, placedBy, configured, undelivered, owesIdentifier}
+use Rattle.node.specs.Delivery.{apply, deliverVerdict, applyRead, deliverBy, readFor, deliver}
 use Rattle.node.specs.Frames.{afterSend, verified}
 use Rattle.node.specs.declared.delivery.DeliveryResult.{DeliveryResult}
 use Rattle.node.specs.declared.node.MakeResult.{MakeResult}
@@ -49,7 +51,8 @@ start-refused :
 unfolding start
 start-refused n time timeout d k e = go (answer (startPlan n time timeout) d) e
   where
-    go : (w : WriteResult) → startedBy w n (startedFrom n time timeout) .verdict ≡ verdict.Refused k → waits (startedBy w n (startedFrom n time timeout) .node) ≡ waits n
+    go : (w : WriteResult) → startedBy w n (startedFrom n time timeout) .verdict ≡ verdict.Refused k
+        → waits (startedBy w n (startedFrom n time timeout) .node) ≡ waits n
     go (written.Refused j) e = refl
     go (written.Length l) e = refused-not k (sym e)
 
@@ -59,7 +62,8 @@ attempt-idle a time w = rw w (go (attempts.valid a) (leb (a .clock) time))
   where
     go :
         (f t : Bool) →
-        cond f (cond t (attempt.step (due.Refused refusal.Phase) a) (attempt.step (due.Refused refusal.Clock) a)) (attempt.step (due.Refused refusal.Range) a) .attempt
+        cond f (cond t (attempt.step (due.Refused refusal.Phase) a) (attempt.step (due.Refused refusal.Clock) a))
+        (attempt.step (due.Refused refusal.Range) a) .attempt
         ≡ a
     go true true = refl
     go true false = refl
@@ -69,7 +73,8 @@ poll-idle : (n : Node) (time : ℕ) → waits n ≡ false → waits (poll n time
 unfolding poll
 poll-idle n time w = go (valid n) (attempt.poll (n .attempt) time) (attempt-idle (n .attempt) time w)
   where
-    go : (v : Bool) (s : AttemptResult) → s .attempt ≡ n .attempt → waits (cond v (polledBy n s) (polled (due.Refused refusal.Range) n) .node) ≡ false
+    go : (v : Bool) (s : AttemptResult) → s .attempt ≡ n .attempt
+        → waits (cond v (polledBy n s) (polled (due.Refused refusal.Range) n) .node) ≡ false
     go true s e = ap (λ (a : Attempt). isWaiting (a .phase)) e ∙ w
     go false s e = w
 
@@ -125,7 +130,8 @@ module _ (call : Delivery) (n : Node) (time : ℕ) where
       go :
           (v a l t b : Bool) →
           cond v
-          (cond a (cond l (cond t (cond b verdict.Accepted (verdict.Refused refusal.Phase)) (verdict.Refused refusal.Clock)) (verdict.Refused refusal.Long)) (verdict.Refused refusal.Range))
+          (cond a (cond l (cond t (cond b verdict.Accepted (verdict.Refused refusal.Phase)) (verdict.Refused refusal.Clock))
+          (verdict.Refused refusal.Long)) (verdict.Refused refusal.Range))
           (verdict.Refused refusal.Range)
           ≡ verdict.Accepted → b ≡ true
       go false a l t b e = refused-not refusal.Range e
@@ -139,11 +145,13 @@ module _ (call : Delivery) (n : Node) (time : ℕ) where
   unfolding deliver
   belongs-then payload e = in-phase (length payload) (may-come (deliverVerdict call n time (length payload)) (readFor n payload) e)
 
-phase-after : (call : Delivery) (a : Attempt) (time : ℕ) → isWaiting (a .phase) ≡ false → isWaiting (attemptAfter call a time .phase) ≡ false
+phase-after : (call : Delivery) (a : Attempt) (time : ℕ) → isWaiting (a .phase) ≡ false
+    → isWaiting (attemptAfter call a time .phase) ≡ false
 phase-after JoinAnswer a time w = refl
 phase-after Update a time w = w
 
-deliver-idle : (call : Delivery) (n : Node) (time : ℕ) (payload : List ℕ) → waits n ≡ false → waits (deliver call n time payload .node) ≡ false
+deliver-idle : (call : Delivery) (n : Node) (time : ℕ) (payload : List ℕ) → waits n ≡ false
+    → waits (deliver call n time payload .node) ≡ false
 deliver-idle call n time payload w = go (deliver call n time payload .verdict) refl
   where
     go : (v : Verdict) → deliver call n time payload .verdict ≡ v → waits (deliver call n time payload .node) ≡ false

@@ -170,7 +170,8 @@ pub record AnswersSay : Type 0 where
       n .version ≡ Published → clashes n (readFor n payload .configuration .keys) ≡ true →
       deliver delivery n time payload .dispositions .keys ≡ Discarded
   -- yes
-  pub holds-now : (n : Node) (time : ℕ) → holdsNow (holds n time) ≡ (valid n && not (early n time) && holdsAt (n .version) (n .address) time)
+  pub holds-now : (n : Node) (time : ℕ)
+      → holdsNow (holds n time) ≡ (valid n && not (early n time) && holdsAt (n .version) (n .address) time)
   -- the key, and sending's counter: the first active one that covers the type and is not used up; the active or else pending one with
   -- the identifier
   pub send-counts : (n : Node) (type : ℕ) → send n type .verdict ≡ Accepted → Counts n type

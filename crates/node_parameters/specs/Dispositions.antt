@@ -6,7 +6,16 @@ use Rattle.cojp.specs.declared.disposition.Disposition.the-variants.{Absent, Ta
 use Rattle.node_parameters.specs.declared.dispositions.Dispositions.{Dispositions}
 
 abbrev pub noDispositions : Dispositions
-noDispositions = record { keys = Absent; address = Absent; jrc = Absent; network = Absent; prefix = Absent; blacklist = Absent; rate = Absent; unknown = 0 }
+noDispositions = record {
+  keys = Absent;
+  address = Absent;
+  jrc = Absent;
+  network = Absent;
+  prefix = Absent;
+  blacklist = Absent;
+  rate = Absent;
+  unknown = 0;
+}
 
 -- an ordinary node further discards network identifier and prefix; blacklist and join rate are for both roles
 abbrev pub discarded : Disposition → Disposition

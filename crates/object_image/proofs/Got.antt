@@ -42,7 +42,8 @@ module _ (s : List ℕ) (at : ℕ) where
 
   -- ---- fields one after the other
   -- a report, and the value after it
-  pub parameter-here : {X P : Type 0} (q : Part X) (to : Disposition × X → P) {r : Disposition} {v : X} → r ≡ dispositionPart .get (drop at s)
+  pub parameter-here : {X P : Type 0} (q : Part X) (to : Disposition × X → P) {r : Disposition} {v : X}
+      → r ≡ dispositionPart .get (drop at s)
       → v ≡ q .get (drop (at + 1) s) → to (r, v) ≡ to (dispositionPart .get (drop at s), q .get (drop 1 (drop at s)))
   parameter-here q to e f = rw (e, f, drop-drop 1 at s)
 

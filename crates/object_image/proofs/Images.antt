@@ -5,15 +5,19 @@ use mathlib.Core.Bool.{Bool, true, false}
 use native.Mathlib.Omega.{arith}
 use borrow.Author.Tests.{leb-true}
 use lib.Dec.{leb}
-use Rattle.image.specs.CodecLaws.{byte-lawful, number-lawful, octets-lawful, both-lawful, viewed-lawful, code-lawful, times-lawful, headed-lawful}
+use Rattle.image.specs.CodecLaws.{byte-lawful, number-lawful, octets-lawful, both-lawful}
+use Rattle.image.specs.CodecLaws.{viewed-lawful, code-lawful, times-lawful, headed-lawful}
 use Rattle.image.specs.Part.{RoundTrips, byte, number, octets, both, times}
 use Rattle.cojp.specs.declared.disposition.Disposition.{Disposition}
 use Rattle.cojp.specs.declared.disposition.Disposition.the-variants.{Absent, Taken, Discarded}
 use Rattle.key_image.specs.Key.{keySetPart}
-use Rattle.object_image.specs.Address.{shortAddressFields, shortAddressTo, shortAddressFrom, shortAddressPart, addressParameterTo, addressParameterFrom, addressParameterPart}
+use Rattle.object_image.specs.Address.{shortAddressFields, shortAddressTo, shortAddressFrom, shortAddressPart}
+use Rattle.object_image.specs.Address.{addressParameterTo, addressParameterFrom, addressParameterPart}
 use Rattle.object_image.specs.Codes.{dispositionNumber, dispositionOf, dispositionPart, boolNumber, boolOf, boolPart}
-use Rattle.object_image.specs.Configuration.{keysParameterTo, keysParameterFrom, keysParameterPart, earlierFields, laterFields, configurationTo, configurationFrom, configurationPart, configurationImage}
-use Rattle.object_image.specs.ErrorReports.{errorReportTo, errorReportFrom, errorReportPart, errorReportsTo, errorReportsFrom, errorReportsPart}
+use Rattle.object_image.specs.Configuration.{keysParameterTo, keysParameterFrom, keysParameterPart, earlierFields, laterFields}
+use Rattle.object_image.specs.Configuration.{configurationTo, configurationFrom, configurationPart, configurationImage}
+use Rattle.object_image.specs.ErrorReports.{errorReportTo, errorReportFrom, errorReportPart}
+use Rattle.object_image.specs.ErrorReports.{errorReportsTo, errorReportsFrom, errorReportsPart}
 use Rattle.object_image.specs.Laws.{ObjectImages}
 use Rattle.object_image.specs.Lists.{listFields, listTo, listFrom, listPart, listParameterTo, listParameterFrom, listParameterPart}
 use Rattle.object_image.specs.Octets.{octetsTo, octetsFrom, octetsPart, octetsParameterTo, octetsParameterFrom, octetsParameterPart}
@@ -82,7 +86,8 @@ rate-parameter-lawful =
     (both-lawful _ _ report-lawful (number-lawful 8))
 
 fault-lawful : RoundTrips errorReportPart
-fault-lawful = viewed-lawful (both byte byte) errorReportTo errorReportFrom (λ f. refl) (λ x h. refl) (both-lawful _ _ byte-lawful byte-lawful)
+fault-lawful =
+    viewed-lawful (both byte byte) errorReportTo errorReportFrom (λ f. refl) (λ x h. refl) (both-lawful _ _ byte-lawful byte-lawful)
 
 faults-lawful : RoundTrips errorReportsPart
 faults-lawful =

@@ -21,7 +21,8 @@ use Rattle.cojp.specs.declared.octets.OctetsParameter.{OctetsParameter}
 use Rattle.cojp.specs.declared.rate.RateParameter.{RateParameter}
 use Rattle.cojp.specs.declared.request.JoinRequest.{JoinRequest}
 use Rattle.object_image.specs.Address.{addressParameterPart}
-use Rattle.object_image.specs.Configuration.{keysParameterPart, earlierFields, earlierFrom, laterFields, laterFrom, configurationTo, configurationImage}
+use Rattle.object_image.specs.Configuration.{keysParameterPart, earlierFields, earlierFrom, laterFields}
+use Rattle.object_image.specs.Configuration.{laterFrom, configurationTo, configurationImage}
 use Rattle.object_image.specs.ErrorReports.{errorReportsPart}
 use Rattle.object_image.specs.Lists.{listParameterPart}
 use Rattle.object_image.specs.Octets.{octetsParameterPart}

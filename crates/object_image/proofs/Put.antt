@@ -43,9 +43,11 @@ all-five xs e =
     (rw (← drop-cons xs 2 z (omega arith), ← drop-cons xs 1 z (omega arith), ← drop-cons xs 0 z (omega arith)))
 
 abbrev pub fiveBytes : ErrorReport → ErrorReport → ErrorReport → ErrorReport → ErrorReport → List ℕ
-fiveBytes v w x y z = (((errorReportPart .put v ++ errorReportPart .put w) ++ errorReportPart .put x) ++ errorReportPart .put y) ++ errorReportPart .put z
+fiveBytes v w x y z =
+    (((errorReportPart .put v ++ errorReportPart .put w) ++ errorReportPart .put x) ++ errorReportPart .put y) ++ errorReportPart .put z
 
-pub five-wrote : (xs : List ErrorReport) {v w x y z : ErrorReport} {d e : List ℕ} {n : ℕ} → length xs ≡ 5 → v ≡ at xs 0 → w ≡ at xs 1 → x ≡ at xs 2
+pub five-wrote : (xs : List ErrorReport) {v w x y z : ErrorReport} {d e : List ℕ} {n : ℕ} → length xs ≡ 5 → v ≡ at xs 0 → w ≡ at xs 1
+    → x ≡ at xs 2
     → y ≡ at xs 3 → z ≡ at xs 4 → Wrote (fiveBytes v w x y z) d n e → Wrote (puts errorReportPart xs) d n e
 five-wrote xs h f g i j k u =
     let same : puts errorReportPart (at xs 0 ∷ at xs 1 ∷ at xs 2 ∷ at xs 3 ∷ at xs 4 ∷ []) ≡ puts errorReportPart xs =

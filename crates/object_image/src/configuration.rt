@@ -30,7 +30,8 @@ ghost use Prim.Native.Nat.{_+_, _≤_};
 ghost use lib.ListN.{length, drop};
 ghost use Rattle.byte_io.specs.Write.{Wrote};
 ghost use Rattle.image.specs.Part.{isImage};
-ghost use Rattle.object_image.specs.Configuration.{keysParameterPart, earlierFields, earlierFrom, laterFields, laterFrom, configurationImage};
+ghost use Rattle.object_image.specs.Configuration.{keysParameterPart, earlierFields, earlierFrom};
+ghost use Rattle.object_image.specs.Configuration.{laterFields, laterFrom, configurationImage};
 
 const KIND: u8 = b'C';
 

@@ -24,7 +24,8 @@ module _ {A : Type 0} (n : ℕ) (right : Bool) (verdict : A → Verdict) (image 
       (f ∙ ap (λ (x : A). verdictNumber (verdict x)) e)
       (g ∙ ap (λ (x : A). onAccept (verdict x) (replicate n 0) (image x)) e)
 
-pub length-refused : (w : WriteResult) (k : Refusal) {r : ℕ} → w ≡ written.Refused k → r ≡ numberOf k → (r ≡ writtenSays w .0) × (0 ≡ writtenSays w .1)
+pub length-refused : (w : WriteResult) (k : Refusal) {r : ℕ} → w ≡ written.Refused k → r ≡ numberOf k
+    → (r ≡ writtenSays w .0) × (0 ≡ writtenSays w .1)
 length-refused w k e g = rw e (g, refl)
 
 pub unfit : (right : Bool) (plan : Plan) (d : List ℕ) → right ≡ false → Writes (rangeFirst right plan) d 13 d 0
@@ -32,7 +33,8 @@ unfit right plan d e = record { number = rw e; dst = rw e; long = rw e }
 
 module _ {A B : Type 0} (right : Bool) (plan : A → B → Plan) (d d′ : List ℕ) (w : WriteResult) where
   -- the plan for x and y is the one for a and b
-  pub wrote-as : {x a : A} {y b : B} {r n : ℕ} → right ≡ true → x ≡ a → y ≡ b → Did (plan x y) d w d′ → r ≡ writtenSays w .0 → n ≡ writtenSays w .1
+  pub wrote-as : {x a : A} {y b : B} {r n : ℕ} → right ≡ true → x ≡ a → y ≡ b → Did (plan x y) d w d′ → r ≡ writtenSays w .0
+      → n ≡ writtenSays w .1
       → Writes (rangeFirst right (plan a b)) d r d′ n
   wrote-as {x} {a} {y} {b} e f g did h i =
       let own : Did (plan a b) d w d′ = rw (f, g) at did in

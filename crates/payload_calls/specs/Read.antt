@@ -14,12 +14,14 @@ abbrev pub requestAsked : ℕ → ℕ → List ℕ → RequestRead
 requestAsked form reading p = byReading reading (readRequestAs (versionOf form) p) (readStrictRequestAs (versionOf form) p)
 
 abbrev pub configurationAsked : ℕ → ℕ → List ℕ → ConfigurationRead
-configurationAsked form reading p = byReading reading (readConfigurationAs (versionOf form) p) (readStrictConfigurationAs (versionOf form) p)
+configurationAsked form reading p =
+    byReading reading (readConfigurationAs (versionOf form) p) (readStrictConfigurationAs (versionOf form) p)
 
 -- the payload p was read: the number r was answered, and the struct s holds s′ afterwards
 abbrev pub ReadsRequest : ℕ → ℕ → List ℕ → List ℕ → ℕ → List ℕ → Type 0
 ReadsRequest form reading p s r s′ =
-    ResultSpec 296 (isReading form reading) (requestAsked form reading p .verdict) (requestImage .put (requestAsked form reading p .request)) s r s′
+    ResultSpec 296 (isReading form reading) (requestAsked form reading p .verdict)
+    (requestImage .put (requestAsked form reading p .request)) s r s′
 
 abbrev pub ReadsConfiguration : ℕ → ℕ → List ℕ → List ℕ → ℕ → List ℕ → Type 0
 ReadsConfiguration form reading p s r s′ =

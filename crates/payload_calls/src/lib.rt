@@ -1,5 +1,5 @@
-// Payloads read, written and merged for C: objects are images in lent bytes, forms and readings are numbers. RANGE comes first where there is
-// no such number, or where what was lent is not of its size or no image; then each call is that of the function behind it.
+// Payloads read, written and merged for C: objects are images in lent bytes, forms and readings are numbers. RANGE comes first where there
+// is no such number, or where what was lent is not of its size or no image; then each call is that of the function behind it.
 mod asked;
 mod merge;
 mod read;

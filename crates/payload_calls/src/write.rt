@@ -29,7 +29,8 @@ pub fn request_write(form: u8, object: &[u8], dst: &mut [u8], length: &mut u64) 
 
 // Writes the configuration in an image.
 pub fn configuration_write(form: u8, object: &[u8], dst: &mut [u8], length: &mut u64) -> u32
-    ensures { λ r. ⌜ Writes (configurationWriting form (now (object .entry))) (now (dst .entry)) r (now (dst .exit)) (now (length .exit)) ⌝ }
+    ensures { λ r. ⌜ Writes (configurationWriting form (now (object .entry))) (now (dst .entry)) r (now (dst .exit))
+        (now (length .exit)) ⌝ }
 {
     if !is_version(form) {
         *length = 0;

@@ -10,11 +10,22 @@ module _ (k : ℕ) where
   pub size-known : (kind : ℕ) → k ≡ kind → sizeOf kind ≡ sizeOf k
   size-known kind e = rw e
 
-  pub size-none : ¬ (k ≡ 0x51) → ¬ (k ≡ 0x43) → ¬ (k ≡ 0x4e) → ¬ (k ≡ 0x52) → ¬ (k ≡ 0x4b) → ¬ (k ≡ 0x4c) → ¬ (k ≡ 0x50) → ¬ (k ≡ 0x47) → ¬ (k ≡ 0x53)
+  pub size-none : ¬ (k ≡ 0x51) → ¬ (k ≡ 0x43) → ¬ (k ≡ 0x4e) → ¬ (k ≡ 0x52) → ¬ (k ≡ 0x4b) → ¬ (k ≡ 0x4c) → ¬ (k ≡ 0x50) → ¬ (k ≡ 0x47)
+      → ¬ (k ≡ 0x53)
       → ¬ (k ≡ 0x54) → 0 ≡ sizeOf k
   size-none q c n r f l p g s t =
-      rw
-      (ne-eqb k 0x51 q, ne-eqb k 0x43 c, ne-eqb k 0x4e n, ne-eqb k 0x52 r, ne-eqb k 0x4b f, ne-eqb k 0x4c l, ne-eqb k 0x50 p, ne-eqb k 0x47 g, ne-eqb k 0x53 s, ne-eqb k 0x54 t)
+      rw (
+        ne-eqb k 0x51 q,
+        ne-eqb k 0x43 c,
+        ne-eqb k 0x4e n,
+        ne-eqb k 0x52 r,
+        ne-eqb k 0x4b f,
+        ne-eqb k 0x4c l,
+        ne-eqb k 0x50 p,
+        ne-eqb k 0x47 g,
+        ne-eqb k 0x53 s,
+        ne-eqb k 0x54 t,
+      )
       refl
 
 -- refused, the size is 0

@@ -1,6 +1,6 @@
--- What a caller may rely on at every call: where the number is not 0, state and destinations hold what they held, but for the two marks of a
--- payload in parts, and results are all zero, which read as the empty object and which no call takes for an image. A struct of another length
--- is not touched.
+-- What a caller may rely on at every call: where the number is not 0, state and destinations hold what they held, but for the two marks of
+-- a payload in parts, and results are all zero, which read as the empty object and which no call takes for an image. A struct of another
+-- length is not touched.
 use Prim.Native.Nat.{ℕ}
 use mathlib.Core.Bool.{false}
 use mathlib.Core.List.{List}

@@ -12,7 +12,8 @@ pub extern "C" fn pothatch_seal(
     dst: &mut [u8],
     length: &mut u64,
 ) -> u32
-    ensures { λ r. ⌜ Wrote (sealing (now (key .entry)) (now (nonce .entry)) (now (associated .entry)) (now (text .entry)) (size (now (dst .entry)))) (now (dst .entry)) r (now (dst .exit)) (now (length .exit)) ⌝ }
+    ensures { λ r. ⌜ Wrote (sealing (now (key .entry)) (now (nonce .entry)) (now (associated .entry)) (now (text .entry))
+        (size (now (dst .entry)))) (now (dst .entry)) r (now (dst .exit)) (now (length .exit)) ⌝ }
 {
     cipher_calls::seal(key, nonce, associated, text, dst, length)
 }
@@ -27,7 +28,8 @@ pub extern "C" fn pothatch_unseal(
     dst: &mut [u8],
     length: &mut u64,
 ) -> u32
-    ensures { λ r. ⌜ Wrote (unsealing (now (key .entry)) (now (nonce .entry)) (now (associated .entry)) (now (sealed .entry)) (size (now (dst .entry)))) (now (dst .entry)) r (now (dst .exit)) (now (length .exit)) ⌝ }
+    ensures { λ r. ⌜ Wrote (unsealing (now (key .entry)) (now (nonce .entry)) (now (associated .entry)) (now (sealed .entry))
+        (size (now (dst .entry)))) (now (dst .entry)) r (now (dst .exit)) (now (length .exit)) ⌝ }
 {
     cipher_calls::unseal(key, nonce, associated, sealed, dst, length)
 }

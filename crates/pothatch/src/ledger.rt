@@ -23,7 +23,8 @@ pub extern "C" fn pothatch_ledger_grant(
     board: &[u8],
     address: &mut u16,
 ) -> u32
-    ensures { λ r. ⌜ LedgerDid (asking (now (board .entry))) (now (ledger .entry)) (now (memory .entry)) r (now (ledger .exit)) (now (memory .exit)) (now (address .exit)) ⌝ }
+    ensures { λ r. ⌜ LedgerDid (asking (now (board .entry))) (now (ledger .entry)) (now (memory .entry)) r (now (ledger .exit))
+        (now (memory .exit)) (now (address .exit)) ⌝ }
 {
     ledger_calls::ledger_grant(ledger, memory, board, address)
 }
@@ -36,7 +37,8 @@ pub extern "C" fn pothatch_ledger_give_back(
     board: &[u8],
     address: &mut u16,
 ) -> u32
-    ensures { λ r. ⌜ LedgerDid (returning (now (board .entry))) (now (ledger .entry)) (now (memory .entry)) r (now (ledger .exit)) (now (memory .exit)) (now (address .exit)) ⌝ }
+    ensures { λ r. ⌜ LedgerDid (returning (now (board .entry))) (now (ledger .entry)) (now (memory .entry)) r (now (ledger .exit))
+        (now (memory .exit)) (now (address .exit)) ⌝ }
 {
     ledger_calls::ledger_give_back(ledger, memory, board, address)
 }

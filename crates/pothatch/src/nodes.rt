@@ -26,7 +26,8 @@ pub extern "C" fn pothatch_node_start(
     dst: &mut [u8],
     length: &mut u64,
 ) -> u32
-    ensures { λ r. ⌜ Starts time timeout (now (node .entry)) (now (dst .entry)) r (now (node .exit)) (now (dst .exit)) (now (length .exit)) ⌝ }
+    ensures { λ r. ⌜ Starts time timeout (now (node .entry)) (now (dst .entry)) r (now (node .exit)) (now (dst .exit))
+        (now (length .exit)) ⌝ }
 {
     node_calls::node_start(node, time, timeout, dst, length)
 }
@@ -47,7 +48,8 @@ pub extern "C" fn pothatch_node_answer(
     payload: &[u8],
     reports: &mut [u8],
 ) -> u32
-    ensures { λ r. ⌜ Changes 17 (delivering JoinAnswer time (now (payload .entry))) (now (node .entry)) (now (reports .entry)) r (now (node .exit)) (now (reports .exit)) ⌝ }
+    ensures { λ r. ⌜ Changes 17 (delivering JoinAnswer time (now (payload .entry))) (now (node .entry)) (now (reports .entry)) r
+        (now (node .exit)) (now (reports .exit)) ⌝ }
 {
     node_calls::node_answer(node, time, payload, reports)
 }
@@ -60,7 +62,8 @@ pub extern "C" fn pothatch_node_update(
     payload: &[u8],
     reports: &mut [u8],
 ) -> u32
-    ensures { λ r. ⌜ Changes 17 (delivering Update time (now (payload .entry))) (now (node .entry)) (now (reports .entry)) r (now (node .exit)) (now (reports .exit)) ⌝ }
+    ensures { λ r. ⌜ Changes 17 (delivering Update time (now (payload .entry))) (now (node .entry)) (now (reports .entry)) r
+        (now (node .exit)) (now (reports .exit)) ⌝ }
 {
     node_calls::node_update(node, time, payload, reports)
 }

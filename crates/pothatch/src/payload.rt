@@ -50,7 +50,8 @@ pub extern "C" fn pothatch_configuration_write(
     dst: &mut [u8],
     length: &mut u64,
 ) -> u32
-    ensures { λ r. ⌜ Writes (configurationWriting form (now (object .entry))) (now (dst .entry)) r (now (dst .exit)) (now (length .exit)) ⌝ }
+    ensures { λ r. ⌜ Writes (configurationWriting form (now (object .entry))) (now (dst .entry)) r (now (dst .exit))
+        (now (length .exit)) ⌝ }
 {
     payload_calls::configuration_write(form, object, dst, length)
 }

@@ -26,7 +26,8 @@ pub extern "C" fn pothatch_proxy_issue(
     token: &[u8],
     dst: &mut [u8],
 ) -> u32
-    ensures { λ r. ⌜ IssuesIn (now (proxy .entry)) (now («interface_id» .entry)) port (now (token .entry)) (now (dst .entry)) r (now (proxy .exit)) (now (dst .exit)) ⌝ }
+    ensures { λ r. ⌜ IssuesIn (now (proxy .entry)) (now («interface_id» .entry)) port (now (token .entry)) (now (dst .entry)) r
+        (now (proxy .exit)) (now (dst .exit)) ⌝ }
 {
     proxy_calls::proxy_issue(proxy, interface_id, port, token, dst)
 }

@@ -27,7 +27,8 @@ pub extern "C" fn pothatch_serial_end_request(
     reading: u8,
     out: &mut [u8],
 ) -> u32
-    ensures { λ r. ⌜ EndsRequest (now (serial .entry)) (now (store .entry)) form reading (now (out .entry)) r (now (serial .exit)) (now (out .exit)) ⌝ }
+    ensures { λ r. ⌜ EndsRequest (now (serial .entry)) (now (store .entry)) form reading (now (out .entry)) r (now (serial .exit))
+        (now (out .exit)) ⌝ }
 {
     serial_calls::serial_end_request(serial, store, form, reading, out)
 }
@@ -41,7 +42,8 @@ pub extern "C" fn pothatch_serial_end_configuration(
     reading: u8,
     out: &mut [u8],
 ) -> u32
-    ensures { λ r. ⌜ EndsConfiguration (now (serial .entry)) (now (store .entry)) form reading (now (out .entry)) r (now (serial .exit)) (now (out .exit)) ⌝ }
+    ensures { λ r. ⌜ EndsConfiguration (now (serial .entry)) (now (store .entry)) form reading (now (out .entry)) r (now (serial .exit))
+        (now (out .exit)) ⌝ }
 {
     serial_calls::serial_end_configuration(serial, store, form, reading, out)
 }

@@ -1,5 +1,5 @@
--- One call from C does to the image what the call on the arrival does to the arrival: a call leaves the count, or takes a part where no more
--- than 256 bytes come together, so an image can hold it again.
+-- One call from C does to the image what the call on the arrival does to the arrival: a call leaves the count, or takes a part where no
+-- more than 256 bytes come together, so an image can hold it again.
 use Prim.Native.Nat.{ℕ, zero, suc, _+_, _≤_}
 use mathlib.Core.Path.{_≡_, refl, ap, ap₂, sym, _∙_, subst}
 use mathlib.Core.Bool.{Bool, true, false, cond, not, _||_}
@@ -34,7 +34,9 @@ use Rattle.payload_calls.specs.Read.{requestAsked, configurationAsked}
 use Rattle.serial_calls.specs.Ends.{mayEnd, Ends, requestEnded, configurationEnded}
 use Rattle.serial_calls.specs.Serial.{serialImage}
 use Rattle.pothatch_laws.specs.Runs.{Lent, lent}
-use Rattle.pothatch_laws.specs.Serial.{Call, resetting, sending, ending-request, ending-configuration, SerialOutput, serialOutput, Begun, Sent, EndedRequest, EndedConfiguration, Did, Own, none, own, ends, toldBy, leftBy, tells, after, holding, shown, SerialRuns}
+use Rattle.pothatch_laws.specs.Serial.{Call, resetting, sending, ending-request, ending-configuration, SerialOutput}
+use Rattle.pothatch_laws.specs.Serial.{serialOutput, Begun, Sent, EndedRequest, EndedConfiguration, Did, Own, none}
+use Rattle.pothatch_laws.specs.Serial.{own, ends, toldBy, leftBy, tells, after, holding, shown, SerialRuns}
 use Rattle.pothatch_laws.proofs.Following.{Step, runs, runs-from}
 use Rattle.pothatch_laws.proofs.Handing.{right-number, right-result, wrong-number, wrong-result}
 use Rattle.pothatch_laws.proofs.Images.{put-long, put-is, put-got, got-fits, got-put}

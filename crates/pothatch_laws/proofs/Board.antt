@@ -64,7 +64,8 @@ unfolding payloadBy decodeBy heading argument next digits members pairs majorOf 
     padded octetsJudged addressIn groups identified used valued owing payloadReadBy
     laterParameter parameterOf configurationTaking errorReportsValid errorReportsOf listedIn requestInRange requestPlan
     sets.valid sets.validAs install frames.sending frames.receivingKey frames.verifiedIn attempt.valid mayStart poll.stepped poll.poll
-    holdsAt made versionValid valid requestOf startVerdict startPlan start startAfter timing.poll dispositionsOf fitted configured apply mayCome
+    holdsAt made versionValid valid requestOf startVerdict startPlan start startAfter timing.poll dispositionsOf fitted
+    configured apply mayCome
     deliverVerdict deliver holds node.sending send sendCounter afterSend receive verified perform
 computing = tt
 

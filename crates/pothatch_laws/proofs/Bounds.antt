@@ -1,5 +1,5 @@
--- Every call keeps a ledger that an image can hold: what is opened ends at FFFF at most, no more are free than there are, and there is a mark for
--- each of 64 groups.
+-- Every call keeps a ledger that an image can hold: what is opened ends at FFFF at most, no more are free than there are, and there is a
+-- mark for each of 64 groups.
 use Prim.Native.Nat.{ℕ, zero, suc, _+_, _-_, _*_, _/_, _^_, _≤_, _<_}
 use mathlib.Core.Path.{_≡_, refl, ap}
 use mathlib.Core.Bool.{Bool, true, false, cond, _&&_}
@@ -19,7 +19,8 @@ use Rattle.address_slots.specs.Slot.{Slot, slots, isFree, has, countFree, hold,
 use Rattle.address_slots.specs.declared.slot.SlotFound.{SlotFound}
 use Rattle.address_slots.specs.declared.slot.SlotFound.the-variants.{Held, Free, Nothing}
 use Rattle.address_ledger.specs.range.Range.{inLimits, judged, counted}
-use Rattle.address_ledger.specs.Ledger.{countedOf, placesOf, judgedOf, cut, opened, openedBy, granted, grantedBy, granting, givenBack, givenBackBy, givingBack}
+use Rattle.address_ledger.specs.Ledger.{countedOf, placesOf, judgedOf, cut, opened, openedBy, granted}
+use Rattle.address_ledger.specs.Ledger.{grantedBy, granting, givenBack, givenBackBy, givingBack}
 use Rattle.address_ledger.specs.declared.ledger.Ledger.{Ledger}
 use Rattle.address_ledger_laws.specs.Demand1.{asking, returning, perform}
 use Rattle.state_image.specs.Ledger.{ledgerImage}

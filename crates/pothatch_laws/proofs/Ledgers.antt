@@ -17,7 +17,8 @@ use Rattle.address_ledger.specs.declared.ledger.Ledger.{Ledger}
 use Rattle.address_ledger_laws.specs.Demand1.{LedgerCall, opening, asking, returning, counting, perform, ledgerLeft, Demand1}
 use Rattle.state_image.specs.Ledger.{ledgerImage}
 use Rattle.ledger_calls.specs.Ledger.{LedgerDid, boardFits}
-use Rattle.pothatch_laws.specs.Ledger.{LedgerOutput, ledgerOutput, Opened, Counted, Did, Held, no-ledger, ledger, Keeping, keeping, Outcome, ranged, openedWith, performOn, comesTo, tells, after, imageOf, shown, LedgerRuns}
+use Rattle.pothatch_laws.specs.Ledger.{LedgerOutput, ledgerOutput, Opened, Counted, Did, Held, no-ledger, ledger, Keeping, keeping}
+use Rattle.pothatch_laws.specs.Ledger.{Outcome, ranged, openedWith, performOn, comesTo, tells, after, imageOf, shown, LedgerRuns}
 use Rattle.pothatch_laws.specs.Runs.{Lent, lent}
 use Rattle.pothatch_laws.proofs.Bounds.{opened-fits, asked-fits, returned-fits}
 use Rattle.pothatch_laws.proofs.Following.{Step, runs, runs-from}
@@ -147,7 +148,8 @@ module _ (demand1 : Demand1) (laws : RoundTrips ledgerImage) where
       let value : t .value ≡ onAccept v 0 (perform counting l [] .value) = rw (is, got) at (d .counts .value) in
       record {
         same-told =
-            told-as t (number ∙ ap verdictNumber (count-verdict l m)) (value ∙ value-left demand1 counting l [] refl v refl ∙ count-value l m);
+            told-as t (number ∙ ap verdictNumber (count-verdict l m))
+            (value ∙ value-left demand1 counting l [] refl v refl ∙ count-value l m);
         stands = subst (λ (k : Ledger). Stands (ledger k) (y .image)) (sym (count-ledger l m)) (stored f (d .image ∙ e));
         same-memory = d .memory ∙ sym (count-memory l m);
       }
@@ -181,7 +183,8 @@ as-step c k m t y e p =
     record { same = q .same-told; stands = record { the-ledger = q .stands; the-memory = q .same-memory } }
 
 module _ (demand1 : Demand1) (laws : RoundTrips ledgerImage) where
-  step : (c : LedgerCall) (k : Keeping) (x : Lent) (t : LedgerOutput) (y : Lent) → StandsFor k x → Did c x t y → Step tells after StandsFor c k t y
+  step : (c : LedgerCall) (k : Keeping) (x : Lent) (t : LedgerOutput) (y : Lent) → StandsFor k x → Did c x t y
+      → Step tells after StandsFor c k t y
   step c k x t y a d = as-step c k (x .memory) t y (a .the-memory) (follows demand1 laws c (k .held) x t y (a .the-ledger) d)
 
   pub ledger-runs : LedgerRuns

@@ -28,11 +28,13 @@ use Rattle.node_attempt.specs.declared.poll.Due.the-variants as due
 use Rattle.node_image.specs.Node.{nodeImage}
 use Rattle.node_key_sets.specs.declared.frames.Change.{Change}
 use Rattle.node_key_sets.specs.declared.frames.Change.the-variants as change
-use Rattle.node_laws.specs.Calls.{NodeCall, starting, polling, delivering, asking, sending, receiving, reporting, dueObject, holdingObject, changeObject, emptyObject, lentTo, perform, Demand1}
+use Rattle.node_laws.specs.Calls.{NodeCall, starting, polling, delivering, asking, sending, receiving, reporting}
+use Rattle.node_laws.specs.Calls.{dueObject, holdingObject, changeObject, emptyObject, lentTo, perform, Demand1}
 use Rattle.node_calls.specs.Calls.{madeOf, performedIn, callVerdict, giveVerdict, Tells, Does, Gives}
 use Rattle.node_calls.specs.Results.{valueOf, structOf}
 use Rattle.node_call_laws.specs.Fits.{Callable, CallsFit}
-use Rattle.pothatch_laws.specs.Node.{NodeOutput, nodeOutput, NodeMade, Asked, Changed, Given, CallDid, making, calling, Call, Did, Held, no-node, node, asked, structSize, tells, after, shown, NodeRuns}
+use Rattle.pothatch_laws.specs.Node.{NodeOutput, nodeOutput, NodeMade, Asked, Changed, Given, CallDid, making, calling}
+use Rattle.pothatch_laws.specs.Node.{Call, Did, Held, no-node, node, asked, structSize, tells, after, shown, NodeRuns}
 use Rattle.pothatch_laws.proofs.Following.{Step, runs, runs-from}
 use Rattle.pothatch_laws.proofs.Handing.{right-number, right-result, wrong-number, wrong-result}
 use Rattle.pothatch_laws.proofs.Images.{put-long, put-is, put-got, got-fits, got-put}

@@ -35,7 +35,13 @@ pledge-fits t b =
       (length-table 8 (λ i. getD t i 0), tabled 8 (λ i. getD t i 0) b),
       (
         omega (arith, b 8, b 9),
-        (b 10, (length-table 8 rest, tabled 8 rest (λ i. either (λ (x : ℕ). x < 256) (ltb i (getD t 10 0)) (λ _. b (11 + i)) (λ _. omega arith)))),
+        (
+          b 10,
+          (
+            length-table 8 rest,
+            tabled 8 rest (λ i. either (λ (x : ℕ). x < 256) (ltb i (getD t 10 0)) (λ _. b (11 + i)) (λ _. omega arith)),
+          ),
+        ),
       ),
     )
 

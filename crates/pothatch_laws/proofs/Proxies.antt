@@ -33,7 +33,9 @@ use Rattle.join_proxy.specs.declared.proxy.Proxy.{Proxy}
 use Rattle.state_image.specs.Proxy as state
 use Rattle.state_image.specs.Proxy.{proxyImage, pledgeImage}
 use Rattle.proxy_calls.specs.Proxy.{keyVerdict, issueOf, Makes, JudgesIn}
-use Rattle.pothatch_laws.specs.Proxy.{OwnCall, setting, issuing, judging, Call, making, calling, ProxyOutput, proxyOutput, ProxyMade, KeySet, BodyIssued, BodyJudged, OwnDid, Did, Held, no-proxy, proxy, isKey, fit, callOf, structOf, lentAfter, ranged, tells, after, shown, callsOf, allOwn, ProxyRuns}
+use Rattle.pothatch_laws.specs.Proxy.{OwnCall, setting, issuing, judging, Call, making, calling, ProxyOutput, proxyOutput}
+use Rattle.pothatch_laws.specs.Proxy.{ProxyMade, KeySet, BodyIssued, BodyJudged, OwnDid, Did, Held, no-proxy, proxy, isKey, fit}
+use Rattle.pothatch_laws.specs.Proxy.{callOf, structOf, lentAfter, ranged, tells, after, shown, callsOf, allOwn, ProxyRuns}
 use Rattle.pothatch_laws.specs.Runs.{Runs, afterAll, answers, As}
 use Rattle.pothatch_laws.proofs.Following.{Step, runs, runs-from}
 use Rattle.pothatch_laws.proofs.Handing.{right-number, right-result, wrong-number, wrong-result}
@@ -120,7 +122,8 @@ judge-hands : {s body w : List ℕ} {r : ℕ} {w′ : List ℕ} → JudgesIn s b
     ResultSpec 21 (isImage proxyImage s) (j .verdict) (pledgeImage .put (j .pledge)) w r w′)
 judge-hands d = record { number = d .number; result = d .pledge }
 
-make-hands : {key s : List ℕ} {r : ℕ} {s′ : List ℕ} → Makes key s r s′ → ResultSpec 26 (isKey key) Accepted (proxyImage .put (fresh key)) s r s′
+make-hands : {key s : List ℕ} {r : ℕ} {s′ : List ℕ} → Makes key s r s′
+    → ResultSpec 26 (isKey key) Accepted (proxyImage .put (fresh key)) s r s′
 make-hands d = record { number = d .number; result = d .proxy }
 
 -- ---- where the call has its lengths, and where not
@@ -133,7 +136,8 @@ module _ (c : OwnCall) (h : History) {t : ProxyOutput} {s′ : List ℕ} where
   step-unfit g e a = record { same = rw g e; stands = rw g a }
 
 -- ---- a call that finds the image of a proxy
-module _ (lawful : RoundTrips proxyImage) (h : History) (s : List ℕ) (f : proxyImage .Fit (h .proxy)) (e : s ≡ proxyImage .put (h .proxy)) where
+module _ (lawful : RoundTrips proxyImage) (h : History) (s : List ℕ) (f : proxyImage .Fit (h .proxy))
+    (e : s ≡ proxyImage .put (h .proxy)) where
   is : isImage proxyImage s ≡ true
   is = ap (isImage proxyImage) e ∙ put-is proxyImage lawful (h .proxy) f
 
@@ -165,7 +169,8 @@ module _ (lawful : RoundTrips proxyImage) (h : History) (s : List ℕ) (f : prox
         ap (λ (b : Bool). checkedFirst (b && isImage proxyImage s) (setKey (proxyImage .get s) key .verdict)) g in
         step-unfit (setting key) h g (set-told d so) (stays (set-left d so))
 
-  module _ (interface : List ℕ) (port : ℕ) (token d : List ℕ) (t : ProxyOutput) (s′ : List ℕ) (w : BodyIssued interface port token d s t s′) where
+  module _ (interface : List ℕ) (port : ℕ) (token d : List ℕ) (t : ProxyOutput) (s′ : List ℕ)
+      (w : BodyIssued interface port token d s t s′) where
     issue-step : (b : Bool) → eqb (length interface) 8 ≡ b
         → Step tells after Stands (calling (issuing interface port token d)) (proxy h) t s′
     issue-step true g =
@@ -278,7 +283,8 @@ module _ (lawful : RoundTrips proxyImage) where
       runs-from Did tells after Stands shown seen step (making key) cs h s ts z (λ t s′ d. make-step key h s t s′ (isKey key) refl l d) r
 
   -- what the calls after an accepted make answered
-  answered-then : (key : List ℕ) (cs : List Call) (s : List ℕ) (t : ProxyOutput) (ts : List ProxyOutput) (z : List ℕ) → length s ≡ 26 → length key ≡ 16
+  answered-then : (key : List ℕ) (cs : List Call) (s : List ℕ) (t : ProxyOutput) (ts : List ProxyOutput) (z : List ℕ) → length s ≡ 26
+      → length key ≡ 16
       → Runs Did (making key ∷ cs) s (t ∷ ts) z → ts ≡ answers tells after cs (proxy (history.after key []))
   answered-then key cs s t ts z l k r =
       cons-tail (from-make key cs no-proxy s (t ∷ ts) z l r .answered)

@@ -1,5 +1,5 @@
--- The records of a trace of bytes hold what C could have handed in, and lie inside the trace: a record's kind fixes its fields' sizes, and it
--- is read only where it is there whole.
+-- The records of a trace of bytes hold what C could have handed in, and lie inside the trace: a record's kind fixes its fields' sizes, and
+-- it is read only where it is there whole.
 use Prim.Native.Nat.{ℕ, zero, suc, _+_, _*_, _-_, _^_, _<_, _≤_}
 use mathlib.Core.Bool.{Bool, true, false, cond}
 use mathlib.Core.List.{List, [], _∷_}
@@ -16,11 +16,13 @@ use Rattle.cojp.specs.Octets.{octetsOf}
 use Rattle.node_calls.specs.Calls.{networkOf}
 use Rattle.node_parameters.specs.Octets.{absentOctets}
 use Rattle.node_parameters.specs.declared.octets.HeldOctets.{HeldOctets}
-use Rattle.trace.specs.Trace.{Record, newNode, start, joinAnswer, update, verified, poll, sizeOf, Reading, end, bad, got, networkIn, readingOf, reading}
+use Rattle.trace.specs.Trace.{Record, newNode, start, joinAnswer, update, verified, poll}
+use Rattle.trace.specs.Trace.{sizeOf, Reading, end, bad, got, networkIn, readingOf, reading}
 use Rattle.trace.specs.Trace.{Trace, over, stop, then, recordsIn, endOf}
 use Rattle.trace.specs.Contiguous.{ContiguousFrom}
 use Rattle.trace_record.specs.Layout as layout
-use Rattle.trace_record.specs.Layout.{bigEndianOn, number, blank, bodySize, isNetworkLength, networkUsed, delivery, deliveryOf, fields, entry}
+use Rattle.trace_record.specs.Layout.{bigEndianOn, number, blank, bodySize, isNetworkLength}
+use Rattle.trace_record.specs.Layout.{networkUsed, delivery, deliveryOf, fields, entry}
 use Rattle.trace_record.specs.declared.entries.Entry.{Entry}
 use Rattle.pothatch_laws.proofs.Cases.{either}
 

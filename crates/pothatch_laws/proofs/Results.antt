@@ -69,7 +69,8 @@ by-report P Taken f g = f
 by-report P Discarded f g = g
 
 -- the later of two byte strings
-octets : (x y : OctetsParameter) → octetsParameterPart .Fit x → octetsParameterPart .Fit y → octetsParameterPart .Fit (ifTaken (y .disposition) y x)
+octets : (x y : OctetsParameter) → octetsParameterPart .Fit x → octetsParameterPart .Fit y
+    → octetsParameterPart .Fit (ifTaken (y .disposition) y x)
 octets x y f g = by-report (octetsParameterPart .Fit) (y .disposition) g f
 
 -- ---- payloads
@@ -107,12 +108,14 @@ module _ (follow : CallsFit) where
   configuration-by Ended form reading p b = empty-fits
   configuration-by Open form reading p b = configurations form reading p b
 
-  merged-fits : (c d : Configuration) → configurationImage .Fit c → configurationImage .Fit d → configurationImage .Fit (mergeAnswer c d .configuration)
+  merged-fits : (c d : Configuration) → configurationImage .Fit c → configurationImage .Fit d
+      → configurationImage .Fit (mergeAnswer c d .configuration)
   unfolding mergeAnswer
   merged-fits c d f g =
       let a = f .0 in
       let b = g .0 in
-      either (λ (m : MergeResult). configurationImage .Fit (m .configuration)) (configurationInRange Draft c && configurationInRange Draft d)
+      either (λ (m : MergeResult). configurationImage .Fit (m .configuration))
+      (configurationInRange Draft c && configurationInRange Draft d)
       (λ _. (
         (
           by-report (keysParameterPart .Fit) (d .keys .disposition) (b .0) (a .0),
@@ -120,7 +123,10 @@ module _ (follow : CallsFit) where
             by-report (addressParameterPart .Fit) (d .address .disposition) (b .1 .0) (a .1 .0),
             (
               octets (c .jrc) (d .jrc) (a .1 .1 .0) (b .1 .1 .0),
-              (octets (c .network) (d .network) (a .1 .1 .1 .0) (b .1 .1 .1 .0), octets (c .prefix) (d .prefix) (a .1 .1 .1 .1) (b .1 .1 .1 .1)),
+              (
+                octets (c .network) (d .network) (a .1 .1 .1 .0) (b .1 .1 .1 .0),
+                octets (c .prefix) (d .prefix) (a .1 .1 .1 .1) (b .1 .1 .1 .1),
+              ),
             ),
           ),
         ),
@@ -149,7 +155,9 @@ ended-fits : (s m : List ℕ) → RoundTrips serialImage → Holds serialImage s
     → serialImage .Fit (endState (decisionOf (serialImage .get s) (length m) 0) (serialImage .get s))
 ended-fits s m laws f = end-fits (decisionOf (serialImage .get s) (length m) 0) (serialImage .get s) (held-fits serialImage s laws f)
 
-module _ (follow : CallsFit) (stands : RecordsContiguous) (ccm : CcmLaws) (configurationLaws : RoundTrips configurationImage) (nodeLaws : RoundTrips nodeImage) (proxyLaws : RoundTrips proxyImage) (ledgerLaws : RoundTrips ledgerImage) (serialLaws : RoundTrips serialImage) where
+module _ (follow : CallsFit) (stands : RecordsContiguous) (ccm : CcmLaws) (configurationLaws : RoundTrips configurationImage)
+    (nodeLaws : RoundTrips nodeImage) (proxyLaws : RoundTrips proxyImage) (ledgerLaws : RoundTrips ledgerImage)
+    (serialLaws : RoundTrips serialImage) where
   pub results-fit : ResultsFit
   results-fit = record {
     request = requests follow;

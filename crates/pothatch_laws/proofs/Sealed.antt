@@ -26,7 +26,8 @@ use Rattle.join_proxy.specs.Laws.{ProxyLaws}
 use Rattle.join_proxy.specs.declared.proxy.Issued.{Issued}
 use Rattle.join_proxy.specs.declared.proxy.Issued.the-variants.{Count, All}
 use Rattle.join_proxy.specs.declared.proxy.Proxy.{Proxy}
-use Rattle.pothatch_laws.specs.Proxy.{OwnCall, setting, issuing, judging, ProxyOutput, proxyOutput, proxy, fit, callOf, structOf, lentAfter, ranged, tells, after, callsOf, allOwn, sealedBy, sealedSince}
+use Rattle.pothatch_laws.specs.Proxy.{OwnCall, setting, issuing, judging, ProxyOutput, proxyOutput, proxy, fit, callOf}
+use Rattle.pothatch_laws.specs.Proxy.{structOf, lentAfter, ranged, tells, after, callsOf, allOwn, sealedBy, sealedSince}
 use Rattle.pothatch_laws.specs.Runs.{answers}
 
 -- ---- the numbers of the bodies that were sent

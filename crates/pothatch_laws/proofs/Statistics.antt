@@ -22,7 +22,8 @@ use Rattle.replay_calls.specs.Replayed.{statisticsPart, walkOf, replayedImage}
 use Rattle.trace.specs.Calls.{room, callOf, nodeBy, Answered, answersOf}
 use Rattle.trace.specs.Trace.{Record, newNode, start, joinAnswer, update, verified, poll, parse, recordsIn, isOver}
 use Rattle.trace.specs.Replay.{replay}
-use Rattle.trace.specs.Statistics.{count, ofKind, refusedWith, didSwitch, eachFrom, startsWith, joinsWith, timeOf, waitFrom, waits, longestOf, statisticsOf}
+use Rattle.trace.specs.Statistics.{count, ofKind, refusedWith, didSwitch, eachFrom, startsWith}
+use Rattle.trace.specs.Statistics.{joinsWith, timeOf, waitFrom, waits, longestOf, statisticsOf}
 use Rattle.trace.specs.Contiguous.{RecordsContiguous}
 use Rattle.pothatch_laws.proofs.Cases.{either}
 use Rattle.pothatch_laws.proofs.Records.{RecordFits, AllFit, none-read, next-read, TraceValid, trace-fits}
@@ -32,7 +33,8 @@ module _ (follow : CallsFit) where
   call-fits : (r : Record) (n : Node) → RecordFits r → nodeImage .Fit n → nodeImage .Fit (callOf r n .node)
   unfolding callOf perform
   call-fits (newNode role network) n h f =
-      subst (λ (x : HeldOctets). nodeImage .Fit (made Draft role x .node)) (sym (h .same)) (follow .made-fits 0 role (h .has) (h .bytes) (h .are))
+      subst (λ (x : HeldOctets). nodeImage .Fit (made Draft role x .node)) (sym (h .same))
+      (follow .made-fits 0 role (h .has) (h .bytes) (h .are))
   call-fits (start time timeout) n h f = follow .keeps-fit (starting time timeout room) n h f
   call-fits (joinAnswer time payload) n h f = follow .keeps-fit (delivering JoinAnswer time payload) n h f
   call-fits (update time payload) n h f = follow .keeps-fit (delivering Update time payload) n h f
@@ -136,6 +138,7 @@ module _ (stands : RecordsContiguous) (t : List ℕ) (b : AllBytes t) where
   unfolding replay
   replayed-fits h =
       let records = recordsIn (parse t) in (
-        report-fits (answersOf records emptyNode) (omega (arith, answers-many records emptyNode, whole .few)) (timed records emptyNode (whole .records)),
+        report-fits (answersOf records emptyNode) (omega (arith, answers-many records emptyNode, whole .few))
+            (timed records emptyNode (whole .records)),
         (bool-fits (not (isOver (parse t))), omega (arith, whole .inside)),
       )

@@ -1,6 +1,6 @@
--- The ledger's calls from C: from an opening on, and from any image on, they answer what the ledger's own calls answer, and the struct holds
--- the ledger after them. A refused opening leaves no ledger: then every call is RANGE until one is opened. The range in an image may be outside
--- its limits: then too every call but an opening is RANGE, by the ledger's own answer.
+-- The ledger's calls from C: from an opening on, and from any image on, they answer what the ledger's own calls answer, and the struct
+-- holds the ledger after them. A refused opening leaves no ledger: then every call is RANGE until one is opened. The range in an image may
+-- be outside its limits: then too every call but an opening is RANGE, by the ledger's own answer.
 use Prim.Native.Nat.{ℕ}
 use mathlib.Core.Bool.{true, cond}
 use mathlib.Core.List.{List, _∷_}
@@ -110,5 +110,6 @@ pub record LedgerRuns : Type 0 where
   pub from-open : (first size : ℕ) (cs : List LedgerCall) (h : Held) (x : Lent) (ts : List LedgerOutput) (z : Lent) → length (x .image) ≡ 16
       → Runs Did (opening first size ∷ cs) x ts z → As tells after shown (opening first size ∷ cs) (keeping h (x .memory)) ts z
   -- from any image on, whoever stored it, and over any memory
-  pub from-image : (cs : List LedgerCall) (x : Lent) (ts : List LedgerOutput) (z : Lent) → AllBytes (x .image) → isImage ledgerImage (x .image) ≡ true
+  pub from-image : (cs : List LedgerCall) (x : Lent) (ts : List LedgerOutput) (z : Lent) → AllBytes (x .image)
+      → isImage ledgerImage (x .image) ≡ true
       → Runs Did cs x ts z → As tells after shown cs (keeping (ledger (ledgerImage .get (x .image))) (x .memory)) ts z

@@ -19,7 +19,8 @@ use Rattle.node.specs.declared.node.Node.{Node}
 use Rattle.node_parameters.specs.Octets.{absentOctets}
 use Rattle.node_parameters.specs.declared.octets.HeldOctets.{HeldOctets}
 use Rattle.node_image.specs.Node.{nodeImage}
-use Rattle.node_laws.specs.Calls.{NodeCall, starting, polling, delivering, asking, sending, receiving, reporting, lentTo, Performed, perform}
+use Rattle.node_laws.specs.Calls.{NodeCall, starting, polling, delivering, asking, sending}
+use Rattle.node_laws.specs.Calls.{receiving, reporting, lentTo, Performed, perform}
 use Rattle.node_calls.specs.Calls.{Makes, Tells, Does, Starts, Gives, Changes}
 use Rattle.node_calls.specs.Results.{valueOf, structOf}
 use Rattle.node_call_laws.specs.Fits.{Callable}
@@ -130,7 +131,8 @@ structSize (reporting type identifier) = 0
 -- the number of the verdict, the value or struct of the object (refused, all zero), and the lent bytes
 abbrev pub toldOf : NodeCall → Performed → NodeOutput
 toldOf c p =
-    nodeOutput (verdictNumber (p .verdict)) (valueOf (p .object)) (onAccept (p .verdict) (replicate (structSize c) 0) (structOf (p .object)))
+    nodeOutput (verdictNumber (p .verdict)) (valueOf (p .object))
+    (onAccept (p .verdict) (replicate (structSize c) 0) (structOf (p .object)))
     (p .lent)
 
 abbrev pub tells : Call → Held → NodeOutput
@@ -150,7 +152,8 @@ shown (node n) = nodeImage .put n
 
 pub record NodeRuns : Type 0 where
   -- from a make on, which goes by no earlier node, so any may stand in h
-  pub from-make : (form role has : ℕ) (x : List ℕ) (cs : List Call) (h : Held) (s : List ℕ) (ts : List NodeOutput) (z : List ℕ) → length s ≡ 878
+  pub from-make : (form role has : ℕ) (x : List ℕ) (cs : List Call) (h : Held) (s : List ℕ) (ts : List NodeOutput) (z : List ℕ)
+      → length s ≡ 878
       → Runs Did (making form role has x ∷ cs) s ts z → As tells after shown (making form role has x ∷ cs) h ts z
   -- from any image on, whoever stored it
   pub from-image : (cs : List Call) (s : List ℕ) (ts : List NodeOutput) (z : List ℕ) → AllBytes s → isImage nodeImage s ≡ true

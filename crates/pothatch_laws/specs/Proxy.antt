@@ -157,12 +157,14 @@ pub record ProxyRuns : Type 0 where
   pub from-make : (key : List ℕ) (cs : List Call) (h : Held) (s : List ℕ) (ts : List ProxyOutput) (z : List ℕ) → length s ≡ 26
       → Runs Did (making key ∷ cs) s ts z → As tells after shown (making key ∷ cs) h ts z
   -- from any image on, whatever is told of the proxy in it
-  pub from-image : (cs : List Call) (h : History) (s : List ℕ) (ts : List ProxyOutput) (z : List ℕ) → AllBytes s → isImage proxyImage s ≡ true
+  pub from-image : (cs : List Call) (h : History) (s : List ℕ) (ts : List ProxyOutput) (z : List ℕ) → AllBytes s
+      → isImage proxyImage s ≡ true
       → h .proxy ≡ proxyImage .get s → Runs Did cs s ts z → As tells after shown cs (proxy h) ts z
   -- so what holds of every history (which bodies are issued and forwarded) holds of these calls
   pub histories : (key : List ℕ) (cs : List OwnCall)
       → afterAll after (allOwn cs) (proxy (history.after key [])) ≡ proxy (history.after key (callsOf cs))
   -- and between two settings of a key no number is sealed twice, so no nonce is used twice
-  pub no-number-twice : (key : List ℕ) (cs : List OwnCall) (s : List ℕ) (t : ProxyOutput) (ts : List ProxyOutput) (z : List ℕ) → length s ≡ 26
+  pub no-number-twice : (key : List ℕ) (cs : List OwnCall) (s : List ℕ) (t : ProxyOutput) (ts : List ProxyOutput) (z : List ℕ)
+      → length s ≡ 26
       → length key ≡ 16 → Runs Did (making key ∷ allOwn cs) s (t ∷ ts) z → (i j : ℕ) → (let ns = sealedSince cs ts [] in
       i < length ns → j < length ns → getD ns i 0 ≡ getD ns j 0 → i ≡ j)

@@ -1,6 +1,6 @@
--- Whatever a call from C hands back in a struct is stored without loss: each value that a contract puts there fits its image, wherever what was
--- lent are bytes and images; and what fits is loaded as it was (`RoundTrips`). Where a call is refused, a result is zeros and a state stays; only an
--- arrival is stored then too, since an overrun and an end stay marked.
+-- Whatever a call from C hands back in a struct is stored without loss: each value that a contract puts there fits its image, wherever what
+-- was lent are bytes and images; and what fits is loaded as it was (`RoundTrips`). Where a call is refused, a result is zeros and a state
+-- stays; only an arrival is stored then too, since an overrun and an end stay marked.
 use Prim.Native.Nat.{ℕ, _^_, _<_}
 use mathlib.Core.Bool.{true}
 use mathlib.Core.List.{List}
@@ -44,7 +44,8 @@ pub record IsKey (key : List ℕ) : Type 0 where
 pub record ResultsFit : Type 0 where
   -- ---- payloads: read, in either form and by either reading, at once or at the end of its parts, which the store m holds; and merged
   pub request : (form reading : ℕ) (p : List ℕ) → AllBytes p → requestImage .Fit (requestAsked form reading p .request)
-  pub configuration : (form reading : ℕ) (p : List ℕ) → AllBytes p → configurationImage .Fit (configurationAsked form reading p .configuration)
+  pub configuration : (form reading : ℕ) (p : List ℕ) → AllBytes p
+      → configurationImage .Fit (configurationAsked form reading p .configuration)
   pub request-end : (s m : List ℕ) (form reading : ℕ) → AllBytes m → requestImage .Fit (requestEnded s m form reading .read .request)
   pub configuration-end : (s m : List ℕ) (form reading : ℕ) → AllBytes m
       → configurationImage .Fit (configurationEnded s m form reading .read .configuration)

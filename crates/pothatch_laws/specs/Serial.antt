@@ -1,6 +1,6 @@
--- The calls from C on a payload that comes in parts: from a reset on, and from any image on, they answer what the calls on an arrival answer,
--- and the struct holds the arrival after them. An image may say that more than 256 bytes came: then every call but a reset is RANGE, by the
--- arrival's own answer.
+-- The calls from C on a payload that comes in parts: from a reset on, and from any image on, they answer what the calls on an arrival
+-- answer, and the struct holds the arrival after them. An image may say that more than 256 bytes came: then every call but a reset is
+-- RANGE, by the arrival's own answer.
 use Prim.Native.Nat.{ℕ, zero, suc}
 use mathlib.Core.Bool.{Bool, true, false}
 use mathlib.Core.List.{List, [], _∷_}
@@ -127,5 +127,6 @@ pub record SerialRuns : Type 0 where
   pub from-reset : (cs : List Call) (h : Held) (x : Lent) (ts : List SerialOutput) (z : Lent) → length (x .image) ≡ 6 → x .memory ≡ h .store
       → Runs Did (resetting ∷ cs) x ts z → As tells after shown (resetting ∷ cs) h ts z
   -- from any image on, whoever stored it, and over any store
-  pub from-image : (cs : List Call) (x : Lent) (ts : List SerialOutput) (z : Lent) → AllBytes (x .image) → isImage serialImage (x .image) ≡ true
+  pub from-image : (cs : List Call) (x : Lent) (ts : List SerialOutput) (z : Lent) → AllBytes (x .image)
+      → isImage serialImage (x .image) ≡ true
       → Runs Did cs x ts z → As tells after shown cs (holding (x .image) (x .memory)) ts z

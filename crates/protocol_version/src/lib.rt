@@ -2,8 +2,8 @@
 ghost use mathlib.Core.Path.{_≡_};
 ghost use Rattle.protocol_version.specs.Version.{allowsAdditionalInfo, leaseUnit};
 
-// The version that a payload or a node uses: document 004's as document 01 fixes it, or RFC 9031's (docs/RFC9031.md). A node's is fixed when it is
-// made.
+// The version that a payload or a node uses: document 004's as document 01 fixes it, or RFC 9031's (docs/RFC9031.md). A node's is fixed
+// when it is made.
 pub enum Version {
     Draft,
     Published,

@@ -1,4 +1,5 @@
--- A call whose number is not 0 was refused, and what a refusal leaves is said by the verdict alone; the destination's part is the cipher's law.
+-- A call whose number is not 0 was refused, and what a refusal leaves is said by the verdict alone;
+-- the destination's part is the cipher's law.
 use Prim.Native.Nat.{ℕ}
 use mathlib.Core.Path.{_≡_, refl}
 use mathlib.Core.List.{List}
@@ -15,7 +16,8 @@ use Rattle.state_image.specs.Proxy.{proxyImage, pledgeImage}
 use Rattle.proxy_calls.specs.Laws.{ProxyRefusals}
 use Rattle.proxy_calls.specs.Proxy.{makeVerdict, keyVerdict, issueOf, judgeVerdict}
 
-kept-state : (plan : Plan) (image : List ℕ) {s s′ : List ℕ} {r : ℕ} → r ≡ numberIn (answer plan) → (r ≡ 0 → ⊥) → s′ ≡ onAccept (planVerdict plan) s image → s′ ≡ s
+kept-state : (plan : Plan) (image : List ℕ) {s s′ : List ℕ} {r : ℕ} → r ≡ numberIn (answer plan) → (r ≡ 0 → ⊥)
+    → s′ ≡ onAccept (planVerdict plan) s image → s′ ≡ s
 kept-state (emit p) image e h f = absurd (h e)
 kept-state (refuse k) image e h f = f
 

@@ -37,7 +37,8 @@ module _ (key s : List ℕ) where
         proxy = rw (eq-eqb (length s) 26 h, ne-eqb (length key) 16 k) (e ∙ ap (λ (n : ℕ). replicate n 0) h);
       }
 
-  pub made : {x s′ : List ℕ} (p : Proxy) → length s ≡ 26 → length key ≡ 16 → x ≡ key → p ≡ fresh x → s′ ≡ proxyImage .put p → Makes key s 0 s′
+  pub made : {x s′ : List ℕ} (p : Proxy) → length s ≡ 26 → length key ≡ 16 → x ≡ key → p ≡ fresh x → s′ ≡ proxyImage .put p
+      → Makes key s 0 s′
   made p h k e f g =
       record {
         number = rw (eq-eqb (length s) 26 h, eq-eqb (length key) 16 k);
@@ -52,13 +53,15 @@ module _ (s key : List ℕ) where
   pub key-unfit : Right ≡ false → SetsKey s key 13 s
   key-unfit e = record { number = rw e; proxy = rw e }
 
-  pub key-told : (k : SetKeyResult) {r : ℕ} {s′ : List ℕ} → Right ≡ true → k ≡ setKey (proxyImage .get s) key → r ≡ verdictNumber (k .verdict)
+  pub key-told : (k : SetKeyResult) {r : ℕ} {s′ : List ℕ} → Right ≡ true → k ≡ setKey (proxyImage .get s) key
+      → r ≡ verdictNumber (k .verdict)
       → s′ ≡ onAccept (k .verdict) s (proxyImage .put (k .proxy)) → SetsKey s key r s′
   key-told k e f a b = record { number = rw (e, ← f) a; proxy = rw (e, ← f) b }
 
 -- ---- issuing
 -- by the proxy in the image, and the interface identifier as it was lent
-pub issue-as : {p q : Proxy} {x y : List ℕ} {port : ℕ} {token d d′ : List ℕ} {i : IssueResult} → p ≡ q → x ≡ y → Issues p x port token d i d′
+pub issue-as : {p q : Proxy} {x y : List ℕ} {port : ℕ} {token d d′ : List ℕ} {i : IssueResult} → p ≡ q → x ≡ y
+    → Issues p x port token d i d′
     → Issues q y port token d i d′
 issue-as e f did = rw (e, f) at did
 
@@ -75,7 +78,8 @@ module _ (s interface : List ℕ) (port : ℕ) (token d : List ℕ) where
   by-plan plan i d′ e g h a b = record { number = rw e a; proxy = rw (e, ← g) b; dst = rw e h }
 
   module _ (i : IssueResult) (d′ : List ℕ) (e : Fits ≡ true) (did : Issues (proxyImage .get s) interface port token d i d′) where
-    here : (plan : Plan) → issuePlan (proxyImage .get s) interface port token (length d) ≡ plan → issueOf s interface port token (length d) ≡ plan
+    here : (plan : Plan) → issuePlan (proxyImage .get s) interface port token (length d) ≡ plan
+        → issueOf s interface port token (length d) ≡ plan
     here plan f = rw e f
 
     abbrev Own : Plan
@@ -88,7 +92,8 @@ module _ (s interface : List ℕ) (port : ℕ) (token d : List ℕ) where
         let h : written.Length n ≡ written.Refused k = sym f ∙ (rw q at (did .did .says)) in
         absurd (let z : _≡_ {A = ℕ} 0 1 = cc in omega arith)
 
-    pub issue-done : (n : ℕ) {s′ : List ℕ} → i .written ≡ written.Length n → s′ ≡ proxyImage .put (i .proxy) → IssuesIn s interface port token d 0 s′ d′
+    pub issue-done : (n : ℕ) {s′ : List ℕ} → i .written ≡ written.Length n → s′ ≡ proxyImage .put (i .proxy)
+        → IssuesIn s interface port token d 0 s′ d′
     issue-done n f g = done-by Own n refl f g
 
     refused-by : (plan : Plan) (k : Refusal) {r : ℕ} → Own ≡ plan → i .written ≡ written.Refused k → r ≡ numberOf k
@@ -116,7 +121,8 @@ module _ (s body w : List ℕ) where
         pledge = rw (eq-eqb (length w) 21 h, k) (e ∙ ap (λ (n : ℕ). replicate n 0) h);
       }
 
-  pub judge-told : (j : JudgeResult) {r : ℕ} {w′ : List ℕ} → length w ≡ 21 → isImage proxyImage s ≡ true → j ≡ judgeBody (proxyImage .get s) body
+  pub judge-told : (j : JudgeResult) {r : ℕ} {w′ : List ℕ} → length w ≡ 21 → isImage proxyImage s ≡ true
+      → j ≡ judgeBody (proxyImage .get s) body
       → r ≡ verdictNumber (j .verdict) → w′ ≡ onAccept (j .verdict) (replicate 21 0) (pledgeImage .put (j .pledge)) → JudgesIn s body w r w′
   judge-told j h k e a b =
       record { number = rw (eq-eqb (length w) 21 h, k, ← e) a; pledge = rw (eq-eqb (length w) 21 h, k, ← e) b }

@@ -1,5 +1,5 @@
-// The join proxy, for C: the proxy is an image in lent bytes. RANGE comes first where what was lent is not of its size or no image; then each
-// call is the proxy's own.
+// The join proxy, for C: the proxy is an image in lent bytes. RANGE comes first where what was lent is not of its size or no image; then
+// each call is the proxy's own.
 mod proxy;
 mod store;
 

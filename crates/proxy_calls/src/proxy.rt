@@ -51,7 +51,8 @@ pub fn proxy_issue(
     token: &[u8],
     dst: &mut [u8],
 ) -> u32
-    ensures { λ r. ⌜ IssuesIn (now (proxy .entry)) (now (interface .entry)) port (now (token .entry)) (now (dst .entry)) r (now (proxy .exit)) (now (dst .exit)) ⌝ }
+    ensures { λ r. ⌜ IssuesIn (now (proxy .entry)) (now (interface .entry)) port (now (token .entry)) (now (dst .entry)) r
+        (now (proxy .exit)) (now (dst .exit)) ⌝ }
 {
     if interface.len() != 8 {
         return RANGE;

@@ -10,7 +10,8 @@ use Rattle.refusal.specs.declared.Refusal.the-variants.{Cut, Form, Deep,
 use Rattle.refusal.specs.declared.Refusal.the-variants.{Range, Silent, Long, Phase, Full, Unknown, Loose, Seal, Spent, Stale}
 
 abbrev every : List Refusal
-every = Cut ∷ Form ∷ Deep ∷ Extra ∷ «Type» ∷ Twice ∷ Keys ∷ Role ∷ Owed ∷ Clash ∷ Clock ∷ Room ∷ Range ∷ Silent ∷ Long ∷ Phase ∷ Full ∷ Unknown ∷ Loose ∷ Seal ∷ Spent ∷ Stale ∷ []
+every = Cut ∷ Form ∷ Deep ∷ Extra ∷ «Type» ∷ Twice ∷ Keys ∷ Role ∷ Owed ∷ Clash ∷ Clock ∷ Room ∷ Range ∷ Silent ∷ Long ∷ Phase ∷ Full
+    ∷ Unknown ∷ Loose ∷ Seal ∷ Spent ∷ Stale ∷ []
 
 pub record Placed (r : Refusal) : Type 0 where
   pub low : 1 ≤ numberOf r

@@ -15,7 +15,8 @@ use Rattle.image.specs.Part.{Part, RoundTrips, number, puts, viewed}
 use Rattle.trace.specs.declared.state.ReplayStatistics.{ReplayStatistics}
 use Rattle.object_image.specs.Codes.{boolPart}
 use Rattle.replay_calls.specs.Laws.{ReplayedImages}
-use Rattle.replay_calls.specs.Replayed.{statisticsFields, statisticsTo, statisticsFrom, statisticsPart, walk, walkFields, walkTo, walkFrom, replayedImage}
+use Rattle.replay_calls.specs.Replayed.{statisticsFields, statisticsTo, statisticsFrom, statisticsPart}
+use Rattle.replay_calls.specs.Replayed.{walk, walkFields, walkTo, walkFrom, replayedImage}
 
 -- ---- counts
 puts-one : {A : Type 0} (p : Part A) (xs : List A) (a : A) → puts p (xs ++ (a ∷ [])) ≡ puts p xs ++ p .put a

@@ -79,6 +79,7 @@ pub replay-refusals : ReplayRefusals
 replay-refusals =
     record {
       node = λ t n out r n′ out′ d h. emptied 878 (replayVerdict n out) (nodeLeft (replay t)) n (d .number) h (d .node);
-      told = λ t n out r n′ out′ d h. emptied 251 (replayVerdict n out) (replayedImage .put (walkOf (replay t))) out (d .number) h (d .told);
+      told =
+          λ t n out r n′ out′ d h. emptied 251 (replayVerdict n out) (replayedImage .put (walkOf (replay t))) out (d .number) h (d .told);
       no-node = λ t n out r n′ out′ d h e. ap (isImage nodeImage) (zeros-there t n out n′ (replayVerdict n out) (d .node) h e);
     }

@@ -1,5 +1,5 @@
--- A replay from C hands back two structs, the node and what is told beside it: 0 also where it stopped early. RANGE where a struct is not of
--- its size; the other one is then all zero.
+-- A replay from C hands back two structs, the node and what is told beside it: 0 also where it stopped early. RANGE where a struct is not
+-- of its size; the other one is then all zero.
 use Prim.Native.Nat.{ℕ}
 use mathlib.Core.Bool.{cond, _&&_}
 use mathlib.Core.List.{List}

@@ -8,7 +8,8 @@ ghost use Rattle.image.specs.Part.{number, puts};
 // Writes them in eight bytes each.
 pub(crate) fn put_counts(dst: &mut [u8], counts: &[u64])
     requires { ⌜ 8 * length (now counts) ≤ length (now dst) ⌝ }
-    ensures { λ _. ⌜ Wrote (puts (number 8) (now (counts .entry))) (now (dst .entry)) (8 * length (now (counts .entry))) (now (dst .exit)) ⌝ }
+    ensures { λ _. ⌜ Wrote (puts (number 8) (now (counts .entry))) (now (dst .entry)) (8 * length (now (counts .entry)))
+        (now (dst .exit)) ⌝ }
 {
     let mut i: usize = 0;
     while i < counts.len() {

@@ -56,7 +56,8 @@ module _ (n : ℕ) (right : Bool) (v : Verdict) (object : List ℕ) (a : SerialS
   pub end-unfit : ¬ (length out ≡ n) → Ends n right v object a s out 13 s out
   end-unfit h = record { hands = hands-unfit n right v object out h; serial = rw (ne-eqb (length out) n h) }
 
-  pub end-none : {out′ : List ℕ} → length out ≡ n → right ≡ false → out′ ≡ replicate (length out) 0 → Ends n right v object a s out 13 s out′
+  pub end-none : {out′ : List ℕ} → length out ≡ n → right ≡ false → out′ ≡ replicate (length out) 0
+      → Ends n right v object a s out 13 s out′
   end-none h k e = record { hands = hands-none n right v object out h k e; serial = rw (eq-eqb (length out) n h, k) }
 
   pub end-told : {r : ℕ} {s′ out′ : List ℕ} → length out ≡ n → right ≡ true → r ≡ verdictNumber v → out′ ≡ onAccept v (replicate n 0) object
@@ -66,12 +67,14 @@ module _ (n : ℕ) (right : Bool) (v : Verdict) (object : List ℕ) (a : SerialS
 -- the end x was made by the arrival in the image
 module _ (s m : List ℕ) (form reading : ℕ) (out : List ℕ) {b : SerialState} {r : ℕ} {s′ out′ : List ℕ} (e : b ≡ serialImage .get s)
     (may : mayEnd s form reading ≡ true) where
-  pub request-told : (x : RequestEnd) → x ≡ requestEnd (requestAsked form reading) b m → length out ≡ 296 → r ≡ verdictNumber (x .read .verdict)
+  pub request-told : (x : RequestEnd) → x ≡ requestEnd (requestAsked form reading) b m → length out ≡ 296
+      → r ≡ verdictNumber (x .read .verdict)
       → out′ ≡ onAccept (x .read .verdict) (replicate 296 0) (requestImage .put (x .read .request)) → s′ ≡ serialImage .put (x .state)
       → EndsRequest s m form reading out r s′ out′
   request-told x f h i j k =
       subst
-      (λ (y : RequestEnd). Ends 296 (mayEnd s form reading) (y .read .verdict) (requestImage .put (y .read .request)) (y .state) s out r s′ out′)
+      (λ (y : RequestEnd). Ends 296 (mayEnd s form reading) (y .read .verdict) (requestImage .put (y .read .request)) (y .state)
+      s out r s′ out′)
       (f ∙ ap (λ (a : SerialState). requestEnd (requestAsked form reading) a m) e)
       (end-told 296 (mayEnd s form reading) (x .read .verdict) (requestImage .put (x .read .request)) (x .state) s out h may i j k)
 
@@ -84,4 +87,5 @@ module _ (s m : List ℕ) (form reading : ℕ) (out : List ℕ) {b : SerialState
       (λ (y : ConfigurationEnd).
       Ends 570 (mayEnd s form reading) (y .read .verdict) (configurationImage .put (y .read .configuration)) (y .state) s out r s′ out′)
       (f ∙ ap (λ (a : SerialState). configurationEnd (configurationAsked form reading) a m) e)
-      (end-told 570 (mayEnd s form reading) (x .read .verdict) (configurationImage .put (x .read .configuration)) (x .state) s out h may i j k)
+      (end-told 570 (mayEnd s form reading) (x .read .verdict) (configurationImage .put (x .read .configuration)) (x .state) s
+      out h may i j k)

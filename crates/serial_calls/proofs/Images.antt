@@ -33,7 +33,12 @@ module _ (s : List ℕ) where
 
   by-head : Head ≡ true → Marks ≡ isImage serialImage s
   by-head e =
-      rw (both-left (eqb (length s) 6) (isHeaded 0x53 s) e, both-right (eqb (length s) 6) (isHeaded 0x53 s) e, drop-drop 2 2 s, drop-drop 1 4 s)
+      rw (
+        both-left (eqb (length s) 6) (isHeaded 0x53 s) e,
+        both-right (eqb (length s) 6) (isHeaded 0x53 s) e,
+        drop-drop 2 2 s,
+        drop-drop 1 4 s,
+      )
 
   pub serial-long : Head ≡ true → length s ≡ 6
   serial-long e = eqb-true (length s) 6 (both-left (eqb (length s) 6) (isHeaded 0x53 s) e)

@@ -47,7 +47,8 @@ module _ (s m p : List ℕ) where
   store-by Ended true e f h = f
   store-by Open true e f h = absurd (h e)
 
-  image-by : RoundTrips boolPart → {r : ℕ} {s′ : List ℕ} (c : PartDecision) (b : Bool) → isImage serialImage s ≡ b → r ≡ number c b → s′ ≡ image c b
+  image-by : RoundTrips boolPart → {r : ℕ} {s′ : List ℕ} (c : PartDecision) (b : Bool) → isImage serialImage s ≡ b → r ≡ number c b
+      → s′ ≡ image c b
       → AllBytes s → (r ≡ 0 → ⊥)
       → (r ≡ numberOf Long → ⊥) → s′ ≡ s
   image-by w c false i e f a h k = f
@@ -65,7 +66,8 @@ module _ (s m p : List ℕ) where
   overrun-by Open true e f h = absurd (unlike 0 15 e h refl)
 
 -- ---- an end, by its course
-end-image-by : RoundTrips boolPart → (s : List ℕ) (c : PartDecision) (right b : Bool) {s′ : List ℕ} → (right ≡ true → isImage serialImage s ≡ true)
+end-image-by : RoundTrips boolPart → (s : List ℕ) (c : PartDecision) (right b : Bool) {s′ : List ℕ}
+    → (right ≡ true → isImage serialImage s ≡ true)
     → s′ ≡ cond (b && right) (serialImage .put (endState c (serialImage .get s))) s → AllBytes s → (c ≡ Open → ⊥) → s′ ≡ s
 end-image-by w s c right false i f a h = f
 end-image-by w s c false true i f a h = f
@@ -96,7 +98,8 @@ serial-refusals w =
     record {
       reset = λ s r s′ d h. kept (resetVerdict s) s (serialImage .put emptyState) (d .number) h (d .serial);
       part-store = λ s m p r s′ m′ d h. store-by s m p (partDecision s m p) (isImage serialImage s) (d .number) (d .store) h;
-      part-image = λ s m p r s′ m′ d a h k. image-by s m p w (partDecision s m p) (isImage serialImage s) refl (d .number) (d .serial) a h k;
+      part-image =
+          λ s m p r s′ m′ d a h k. image-by s m p w (partDecision s m p) (isImage serialImage s) refl (d .number) (d .serial) a h k;
       part-overrun = λ s m p r s′ m′ d h. overrun-by s m p (partDecision s m p) (isImage serialImage s) (d .number) (d .serial) h;
       request-image = λ s m form reading out r s′ out′ d a h. end-image w _ d (is-image s form reading) a h;
       request-unasked = λ s m form reading out r s′ out′ d e. end-unasked d e;

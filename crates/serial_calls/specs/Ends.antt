@@ -22,9 +22,10 @@ use Rattle.serial_calls.specs.Serial.{serialImage}
 abbrev pub mayEnd : List ℕ → ℕ → ℕ → Bool
 mayEnd s form reading = (isImage serialImage s && isReading form reading)
 
--- an object in a struct of n bytes is handed back by the verdict v. The image afterwards is that of the arrival a which the end leaves, also
--- where it is refused: an end whose reading was refused stays marked
-pub record Ends (n : ℕ) (right : Bool) (v : Verdict) (object : List ℕ) (a : SerialState) (s out : List ℕ) (r : ℕ) (s′ out′ : List ℕ) : Type 0 where
+-- an object in a struct of n bytes is handed back by the verdict v. The image afterwards is that of the arrival a which the end leaves,
+-- also where it is refused: an end whose reading was refused stays marked
+pub record Ends (n : ℕ) (right : Bool) (v : Verdict) (object : List ℕ) (a : SerialState) (s out : List ℕ) (r : ℕ)
+    (s′ out′ : List ℕ) : Type 0 where
   pub hands : ResultSpec n right v object out r out′
   pub serial : s′ ≡ cond (eqb (length out) n && right) (serialImage .put a) s
 

@@ -1,4 +1,5 @@
--- The image of an arrival, 6 bytes: kind S, layout, how many bytes arrived 2, overrun 1, ended 1. The bytes themselves stand in a lent store.
+-- The image of an arrival, 6 bytes: kind S, layout, how many bytes arrived 2, overrun 1, ended 1.
+-- The bytes themselves stand in a lent store.
 use Prim.Native.Nat.{ℕ}
 use mathlib.Core.Bool.{Bool}
 use Rattle.image.specs.Part.{Part, number, both, viewed, headed}

@@ -36,7 +36,8 @@ pub fn serial_end_request(
     reading: u8,
     out: &mut [u8],
 ) -> u32
-    ensures { λ r. ⌜ EndsRequest (now (serial .entry)) (now (store .entry)) form reading (now (out .entry)) r (now (serial .exit)) (now (out .exit)) ⌝ }
+    ensures { λ r. ⌜ EndsRequest (now (serial .entry)) (now (store .entry)) form reading (now (out .entry)) r (now (serial .exit))
+        (now (out .exit)) ⌝ }
 {
     if out.len() != 296 {
         return RANGE;
@@ -72,7 +73,8 @@ pub fn serial_end_configuration(
     reading: u8,
     out: &mut [u8],
 ) -> u32
-    ensures { λ r. ⌜ EndsConfiguration (now (serial .entry)) (now (store .entry)) form reading (now (out .entry)) r (now (serial .exit)) (now (out .exit)) ⌝ }
+    ensures { λ r. ⌜ EndsConfiguration (now (serial .entry)) (now (store .entry)) form reading (now (out .entry)) r (now (serial .exit))
+        (now (out .exit)) ⌝ }
 {
     if out.len() != 570 {
         return RANGE;

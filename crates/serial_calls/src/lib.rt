@@ -1,4 +1,5 @@
-// Payloads that come over a serial cable in parts, for C: what has come is an image in lent bytes, the payload's bytes stand in a lent store.
+// Payloads that come over a serial cable in parts, for C:
+// what has come is an image in lent bytes, the payload's bytes stand in a lent store.
 mod ends;
 mod parts;
 mod serial;

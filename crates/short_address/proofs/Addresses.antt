@@ -1,4 +1,5 @@
--- The two tests of `is_address` are those of the definition; by numbers, the high byte is FF from FF00 on, and from FFFE on the low one is at least FE.
+-- The two tests of `is_address` are those of the definition;
+-- by numbers, the high byte is FF from FF00 on, and from FFFE on the low one is at least FE.
 use Prim.Native.Nat.{ℕ, _<_, _/_, _%_}
 use mathlib.Core.Path.{_≡_, refl, sym}
 use mathlib.Core.Bool.{Bool, true, false, not}

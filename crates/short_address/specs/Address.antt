@@ -1,5 +1,5 @@
--- What a short address is. IEEE 802.15.4 keeps two of the values of two bytes for itself: FFFF is the broadcast address, and FFFE says that no short
--- address was allocated.
+-- What a short address is. IEEE 802.15.4 keeps two of the values of two bytes for itself: FFFF is the broadcast address, and FFFE says that
+-- no short address was allocated.
 use Prim.Native.Nat.{ℕ, _<_, _/_, _%_}
 use mathlib.Core.Path.{_≡_}
 use mathlib.Core.Bool.{Bool, false, not, _&&_}

@@ -12,7 +12,8 @@ use Rattle.byte_io.specs.Write.{Wrote}
 use Rattle.byte_io.specs.BigEndian.{bigEndian, bytesOf}
 use Rattle.lemmas.specs.logic.Tests.{both-left, both-right}
 use Rattle.image.specs.Fields.{and-good, whole-struct, two-fields, four-fields}
-use Rattle.image.specs.CodecLaws.{byte-lawful, number-lawful, octets-lawful, upTo-lawful, both-lawful, viewed-lawful, viewedIf-lawful, headed-lawful}
+use Rattle.image.specs.CodecLaws.{byte-lawful, number-lawful, octets-lawful, upTo-lawful}
+use Rattle.image.specs.CodecLaws.{both-lawful, viewed-lawful, viewedIf-lawful, headed-lawful}
 use Rattle.image.specs.Part.{RoundTrips, number, octets, upTo, both, viewed, isHeaded, isImage}
 use Rattle.join_proxy.specs.Keys.{countOf}
 use Rattle.join_proxy.specs.declared.judging.Pledge.{Pledge}
@@ -22,7 +23,8 @@ use Rattle.join_proxy.specs.declared.proxy.Proxy.{Proxy}
 use Rattle.address_ledger.specs.Ledger.{ledgerOf}
 use Rattle.address_ledger.specs.declared.ledger.Ledger.{Ledger}
 use Rattle.state_image.specs.Ledger.{ledgerFields, ledgerTo, ledgerFrom, ledgerImage}
-use Rattle.state_image.specs.Proxy.{numbers, issuedOf, Held, issuedPart, proxyTo, proxyFrom, proxyImage, pledgeFields, pledgeTo, pledgeFrom, pledgeImage}
+use Rattle.state_image.specs.Proxy.{numbers, issuedOf, Held, issuedPart, proxyTo, proxyFrom}
+use Rattle.state_image.specs.Proxy.{proxyImage, pledgeFields, pledgeTo, pledgeFrom, pledgeImage}
 use Rattle.state_image.specs.Laws.{StateImages}
 
 -- ---- the ledger
@@ -37,7 +39,8 @@ pub ledger-stored : (l : Ledger) {d d′ : List ℕ} → length d ≡ 16
     → Wrote (((((0x4c ∷ 1 ∷ []) ++ bytesOf 2 (l .first)) ++ bytesOf 2 (l .size)) ++ bytesOf 2 (l .free)) ++ bytesOf 8 (l .summary)) d 16 d′
     → d′ ≡ ledgerImage .put l
 ledger-stored l e w =
-    whole-struct e w ∙ four-fields (0x4c ∷ 1 ∷ []) (bytesOf 2 (l .first)) (bytesOf 2 (l .size)) (bytesOf 2 (l .free)) (bytesOf 8 (l .summary))
+    whole-struct e w
+    ∙ four-fields (0x4c ∷ 1 ∷ []) (bytesOf 2 (l .first)) (bytesOf 2 (l .size)) (bytesOf 2 (l .free)) (bytesOf 8 (l .summary))
 
 ledger-lawful : RoundTrips ledgerImage
 ledger-lawful =
@@ -92,9 +95,11 @@ module _ (s : List ℕ) where
       rw (both-left (eqb (length s) 26) (isHeaded 0x50 s) e, both-right (eqb (length s) 26) (isHeaded 0x50 s) e, f, drop-drop 16 2 s)
 
   pub proxy-not-headed : Head ≡ false → false ≡ isImage proxyImage s
-  proxy-not-headed e = sym (ap (λ (b : Bool). b && leb (bigEndian (take 8 (drop 16 (drop 2 s)))) numbers) e) ∙ and-assoc (eqb (length s) 26) (isHeaded 0x50 s) _
+  proxy-not-headed e = sym (ap (λ (b : Bool). b && leb (bigEndian (take 8 (drop 16 (drop 2 s)))) numbers) e)
+      ∙ and-assoc (eqb (length s) 26) (isHeaded 0x50 s) _
 
-  pub proxy-got : {k : List ℕ} {i : Issued} → k ≡ take 16 (drop 2 s) → i ≡ issuedOf (bigEndian (take 8 (drop 18 s))) → proxyTo (k, i) ≡ proxyImage .get s
+  pub proxy-got : {k : List ℕ} {i : Issued} → k ≡ take 16 (drop 2 s) → i ≡ issuedOf (bigEndian (take 8 (drop 18 s)))
+      → proxyTo (k, i) ≡ proxyImage .get s
   proxy-got e f = rw (e, f, drop-drop 16 2 s)
 
 pub proxy-stored : (p : Proxy) {n : ℕ} {d d′ : List ℕ} → length d ≡ 26 → n ≡ countOf (p .issued)

@@ -1,5 +1,5 @@
--- The image of a join proxy, 26 bytes: kind P, layout, key 16, numbers issued 8. And of a pledge that a body names, 21 bytes: kind G, layout,
--- interface identifier 8, port 2, token length 1, token 8.
+-- The image of a join proxy, 26 bytes: kind P, layout, key 16, numbers issued 8. And of a pledge that a body names, 21 bytes: kind G,
+-- layout, interface identifier 8, port 2, token length 1, token 8.
 use Prim.Native.Nat.{ℕ, _<_}
 use mathlib.Core.Bool.{cond}
 use mathlib.Core.List.{List}

@@ -1,4 +1,5 @@
--- Every count of the report is exact: a record adds one where the count's test holds of it and its answer, and the records are too few to fill a count.
+-- Every count of the report is exact: a record adds one where the count's test holds of it and its answer,
+-- and the records are too few to fill a count.
 use Prim.Native.Nat.{ℕ, zero, suc, _+_, _-_, _^_, _≤_, _<_}
 use mathlib.Core.Path.{_≡_, refl, sym, _∙_, ap}
 use mathlib.Core.Bool.{Bool, true, false, cond}
@@ -74,7 +75,8 @@ sized-play (then at r rest) s z = sized-play rest (walked r s) (sized-walked r s
 
 -- ---- a count, seen in the state, and the test of what it counts
 abbrev Adds : (State → ℕ) → (Answered → Bool) → Type 0
-Adds look is = (r : Record) (s : State) → Sized s → look s + 1 < 2 ^ 64 → look (walked r s) ≡ look s + cond (is (answered r (callOf r (s .node)))) 1 0
+Adds look is =
+    (r : Record) (s : State) → Sized s → look s + 1 < 2 ^ 64 → look (walked r s) ≡ look s + cond (is (answered r (callOf r (s .node)))) 1 0
 
 one : (b : Bool) → cond b 1 0 ≤ 1
 one true = omega arith
@@ -94,13 +96,15 @@ module _ (look : State → ℕ) (is : Answered → Bool) (adds : Adds look is) w
       omega arith
 
   pub exactly :
-      (n : Trace) → look nothingYet ≡ 0 → length (recordsIn n) < 2 ^ 64 → look (play n nothingYet .state) ≡ count is (answersOf (recordsIn n) (nothingYet .node))
+      (n : Trace) → look nothingYet ≡ 0 → length (recordsIn n) < 2 ^ 64
+      → look (play n nothingYet .state) ≡ count is (answersOf (recordsIn n) (nothingYet .node))
   exactly n e h = let g = counted n nothingYet sized-none (omega arith) in omega arith
 
 -- ---- the three counts
 pub kinds-add : (i : ℕ) → i < 6 → Adds (λ s. getD (s .statistics .kinds) i 0) (ofKind (i + 1))
 unfolding afterwards
-kinds-add i j r s z h = raised-one (s .statistics .kinds) (kindOf r) i (kind-least r) (omega (arith, z .kinds)) h (eqb (kindOf r) (i + 1)) refl
+kinds-add i j r s z h =
+    raised-one (s .statistics .kinds) (kindOf r) i (kind-least r) (omega (arith, z .kinds)) h (eqb (kindOf r) (i + 1)) refl
 
 refused-one :
     (numbers : Numbered) (v : Verdict) (l : List ℕ) (i : ℕ) → i < length l → getD l i 0 + 1 < 2 ^ 64 →
@@ -110,7 +114,8 @@ refused-one numbers (Refused k) l i j h = raised-one l (numberOf k) i (numbers .
 
 pub refusals-add : Numbered → (i : ℕ) → i < 22 → Adds (λ s. getD (s .statistics .refusals) i 0) (refusedWith (i + 1))
 unfolding afterwards
-refusals-add numbers i j r s z h = refused-one numbers (callOf r (s .node) .verdict) (s .statistics .refusals) i (omega (arith, z .refusals)) h
+refusals-add numbers i j r s z h =
+    refused-one numbers (callOf r (s .node) .verdict) (s .statistics .refusals) i (omega (arith, z .refusals)) h
 
 more-one : (b : Bool) (n : ℕ) → n + 1 < 2 ^ 64 → moreIf b n ≡ n + cond b 1 0
 more-one true n h = more-is n h
@@ -139,7 +144,8 @@ each-length (suc n) first f = ap suc (each-length n (suc first) f)
 each-at : (n first : ℕ) (f : ℕ → ℕ) (i : ℕ) → i < n → getD (eachFrom n first f) i 0 ≡ f (i + first)
 each-at zero first f i h = absurd (omega arith)
 each-at (suc n) first f zero h = ap f (let e : first ≡ 0 + first = omega arith in e)
-each-at (suc n) first f (suc i) h = each-at n (suc first) f i (omega arith) ∙ ap f (let e : i + suc first ≡ suc i + first = omega arith in e)
+each-at (suc n) first f (suc i) h =
+    each-at n (suc first) f i (omega arith) ∙ ap f (let e : i + suc first ≡ suc i + first = omega arith in e)
 
 pub each-is : (n : ℕ) (f : ℕ → ℕ) (l : List ℕ) → length l ≡ n → ((i : ℕ) → i < n → getD l i 0 ≡ f (i + 1)) → l ≡ eachFrom n 1 f
 each-is n f l e h =

@@ -16,7 +16,8 @@ use Rattle.node_parameters.specs.declared.octets.HeldOctets.{HeldOctets}
 use Rattle.trace_record.specs.Layout.{networkUsed, EntryAt}
 use Rattle.trace_record.specs.declared.entries.Entry.{Entry}
 use Rattle.trace_record.specs.declared.entries.Entry.the-variants.{End, Bad, New, Start, JoinAnswer, Update, Verified, Poll}
-use Rattle.trace.specs.Trace.{Record, newNode, start, joinAnswer, update, verified, poll, sizeOf, got, networkIn, readingOf, reading, isAdmissible}
+use Rattle.trace.specs.Trace.{Record, newNode, start, joinAnswer, update, verified, poll}
+use Rattle.trace.specs.Trace.{sizeOf, got, networkIn, readingOf, reading, isAdmissible}
 use Rattle.trace.specs.Calls.{callOf}
 use Rattle.trace.specs.Step.{raised, refused, afterCall, stepped, advance, step}
 use Rattle.trace.specs.declared.done.CallResult.{CallResult}
@@ -84,7 +85,8 @@ module _ (s : List ℕ) (at : ℕ) (st : State) (e : Entry) (f : EntryAt s at e)
       x ≡ advance (got (update time payload)) at st → x ≡ step s at st
   steps-update time len payload g p h = by-entry (rw (g, drop-drop 11 at s, ← p) h)
 
-  pub steps-verified : (type identifier : ℕ) → e ≡ Verified type identifier → x ≡ advance (got (verified type identifier)) at st → x ≡ step s at st
+  pub steps-verified : (type identifier : ℕ) → e ≡ Verified type identifier → x ≡ advance (got (verified type identifier)) at st
+      → x ≡ step s at st
   steps-verified type identifier g h = by-entry (rw g h)
 
   pub steps-poll : (time : ℕ) → e ≡ Poll time → x ≡ advance (got (poll time)) at st → x ≡ step s at st

@@ -1,5 +1,5 @@
--- The longest wait is exact: a node that does not wait accepts no join answer before an accepted start, and an accepted join answer ends the waiting,
--- so the start that the walk keeps is the one whose wait the join answer ends.
+-- The longest wait is exact: a node that does not wait accepts no join answer before an accepted start, and an accepted join answer ends
+-- the waiting, so the start that the walk keeps is the one whose wait the join answer ends.
 use Prim.Native.Nat.{ℕ, _+_, _-_, _≤_, _<_}
 use mathlib.Core.Path.{_≡_, refl, sym, _∙_, ap}
 use mathlib.Core.Bool.{Bool, true, false, cond}
@@ -69,11 +69,13 @@ not-both (poll time) v e f = let z : _≡_ {A = ℕ} 0 1 = cc in omega arith
 waited-by :
     (time started longest : ℕ) (rest : List Answered) (starts joins : Bool) (x : ℕ) → (starts ≡ true → joins ≡ true → ⊥) →
     (joins ≡ true → waitFrom started rest ≡ []) →
-    x ≡ greater (cond joins (greater (time - started) longest) longest) (longestOf (waitFrom (cond starts time started) rest ++ report.waits rest)) →
+    x ≡ greater (cond joins (greater (time - started) longest) longest)
+    (longestOf (waitFrom (cond starts time started) rest ++ report.waits rest)) →
     x
     ≡ greater longest
     (longestOf
-    (cond starts [] (cond joins ((time - started) ∷ []) (waitFrom started rest)) ++ (cond starts (waitFrom time rest) [] ++ report.waits rest)))
+    (cond starts [] (cond joins ((time - started) ∷ []) (waitFrom started rest))
+    ++ (cond starts (waitFrom time rest) [] ++ report.waits rest)))
 waited-by time started longest rest true true x not-two none h = absurd (not-two refl refl)
 waited-by time started longest rest true false x not-two none h = h
 waited-by time started longest rest false true x not-two none h =
@@ -106,7 +108,8 @@ module _ (laws : PhaseLaws) where
   stays-idle (newNode role network) n w e = laws .made-idle Draft role network
   stays-idle (start time timeout) n w e = go (timing.start n time timeout room .verdict) refl e
     where
-      go : (v : Verdict) → timing.start n time timeout room .verdict ≡ v → report.isAccepted v ≡ false → waits (timing.start n time timeout room .node) ≡ false
+      go : (v : Verdict) → timing.start n time timeout room .verdict ≡ v → report.isAccepted v ≡ false
+          → waits (timing.start n time timeout room .node) ≡ false
       go Accepted f e = absurd (let z : _≡_ {A = ℕ} 0 1 = cc in omega arith)
       go (Refused k) f e = laws .start-refused n time timeout room k f ∙ w
   stays-idle (joinAnswer time payload) n w e = laws .deliver-idle call.JoinAnswer n time payload w
@@ -132,7 +135,8 @@ module _ (laws : PhaseLaws) where
   abbrev Waited : Trace → State → Type 0
   Waited n s =
       play n s .state .statistics .longest
-      ≡ greater (s .statistics .longest) (longestOf (waitFrom (s .started) (answersOf (recordsIn n) (s .node)) ++ report.waits (answersOf (recordsIn n) (s .node))))
+      ≡ greater (s .statistics .longest)
+      (longestOf (waitFrom (s .started) (answersOf (recordsIn n) (s .node)) ++ report.waits (answersOf (recordsIn n) (s .node))))
 
   waited : (n : Trace) (s : State) → Waited n s
   unfolding play afterwards
@@ -140,12 +144,14 @@ module _ (laws : PhaseLaws) where
   waited (stop at) s = sym (greater-none (s .statistics .longest))
   waited (then at r rest) s =
       let did = callOf r (s .node) in
-      waited-by (timeOf r) (s .started) (s .statistics .longest) (answersOf (recordsIn rest) (did .node)) (startsWith r (did .verdict)) (joinsWith r (did .verdict)) _
+      waited-by (timeOf r) (s .started) (s .statistics .longest) (answersOf (recordsIn rest) (did .node)) (startsWith r (did .verdict))
+      (joinsWith r (did .verdict)) _
       (not-both r (did .verdict))
       (λ f. no-wait (recordsIn rest) (did .node) (s .started) (joins-waiting r (s .node) f .1))
       (waited rest (walked r s))
 
-  pub longest-is : (n : Trace) → play n nothingYet .state .statistics .longest ≡ longestOf (report.waits (answersOf (recordsIn n) (nothingYet .node)))
+  pub longest-is : (n : Trace)
+      → play n nothingYet .state .statistics .longest ≡ longestOf (report.waits (answersOf (recordsIn n) (nothingYet .node)))
   longest-is n =
       let none = no-wait (recordsIn n) (nothingYet .node) 0 refl in
       let h = rw none at (waited n nothingYet) in

@@ -1,5 +1,5 @@
--- A turn of the walk: what is left to play, at the place and in the state that the last record left, is the whole. A record that is read takes at
--- least 3 bytes and no more than there are, so the walk ends, and the records are few.
+-- A turn of the walk: what is left to play, at the place and in the state that the last record left, is the whole. A record that is read
+-- takes at least 3 bytes and no more than there are, so the walk ends, and the records are few.
 use Prim.Native.Nat.{ℕ, zero, suc, _+_, _*_, _-_, _≤_, _<_}
 use mathlib.Core.Path.{_≡_, refl, subst}
 use mathlib.Core.Bool.{Bool, true, false, cond}
@@ -46,7 +46,8 @@ few-then true at r rest n l h = omega arith
 few-then false at r rest n l h = omega arith
 
 few-by :
-    (rest : ℕ → List ℕ → Trace) → ((at : ℕ) (s : List ℕ) → 3 * length (recordsIn (rest at s)) ≤ length s) → (made : Bool) (g : Reading) (at : ℕ) (s : List ℕ) →
+    (rest : ℕ → List ℕ → Trace) → ((at : ℕ) (s : List ℕ) → 3 * length (recordsIn (rest at s)) ≤ length s) →
+    (made : Bool) (g : Reading) (at : ℕ) (s : List ℕ) →
     Taken g (length s) → 3 * length (recordsIn (parseBy rest made g at s)) ≤ length s
 few-by rest h made end at s t = omega arith
 few-by rest h made bad at s t = omega arith
@@ -86,8 +87,10 @@ module _ (s : List ℕ) (x : StepResult) where
   Turns y = Turned (y .progress) s x y
 
   by-record :
-      (f : ℕ) (r : Record) (b : Bool) → (3 ≤ sizeOf r) × (sizeOf r ≤ length (drop (x .next) s)) → x .next ≤ length s → length s < x .next + suc f →
-      play (cond b (then (x .next) r (parseFrom f true (x .next + sizeOf r) (drop (sizeOf r) (drop (x .next) s)))) (stop (x .next))) (x .state) ≡ played s →
+      (f : ℕ) (r : Record) (b : Bool) → (3 ≤ sizeOf r) × (sizeOf r ≤ length (drop (x .next) s)) → x .next ≤ length s →
+      length s < x .next + suc f →
+      play (cond b (then (x .next) r (parseFrom f true (x .next + sizeOf r) (drop (sizeOf r) (drop (x .next) s)))) (stop (x .next)))
+      (x .state) ≡ played s →
       Turns (cond b (stepped Walked (x .next + sizeOf r) (walked r (x .state))) (stepped Stopped (x .next) (x .state)))
   unfolding play afterwards
   by-record f r true t i l e = (
@@ -103,7 +106,8 @@ module _ (s : List ℕ) (x : StepResult) where
 
   by-reading :
       (f : ℕ) (g : Reading) → Taken g (length (drop (x .next) s)) → x .next ≤ length s → length s < x .next + suc f →
-      play (parseBy (parseFrom f true) (x .state .made) g (x .next) (drop (x .next) s)) (x .state) ≡ played s → Turns (advance g (x .next) (x .state))
+      play (parseBy (parseFrom f true) (x .state .made) g (x .next) (drop (x .next) s)) (x .state) ≡ played s
+      → Turns (advance g (x .next) (x .state))
   unfolding advance play
   by-reading f end t i l e = e
   by-reading f bad t i l e = e

@@ -18,7 +18,8 @@ use Rattle.trace.specs.ReplayExact.{ReplayExact}
 use Rattle.trace.specs.declared.state.ReplayStatistics.{ReplayStatistics}
 use Rattle.trace.specs.declared.state.State.{State}
 use Rattle.trace.specs.declared.state.StepResult.{StepResult}
-use Rattle.trace.proofs.Counts.{sized-none, sized-play, exactly, kinds-add, kinds-zero, refusals-add, refusals-zero, switches-add, each-is}
+use Rattle.trace.proofs.Counts.{sized-none, sized-play, exactly, kinds-add, kinds-zero}
+use Rattle.trace.proofs.Counts.{refusals-add, refusals-zero, switches-add, each-is}
 use Rattle.trace.proofs.Longest.{longest-is}
 use Rattle.trace.proofs.Turns.{few-records}
 
@@ -55,7 +56,8 @@ made-is (then at r rest) = still-made rest (walked r nothingYet) refl
 
 -- ---- the report
 report-by :
-    (r : ReplayStatistics) (kinds refusals : List ℕ) (switches longest : ℕ) → r .kinds ≡ kinds → r .refusals ≡ refusals → r .switches ≡ switches → r .longest ≡ longest →
+    (r : ReplayStatistics) (kinds refusals : List ℕ) (switches longest : ℕ) → r .kinds ≡ kinds → r .refusals ≡ refusals →
+    r .switches ≡ switches → r .longest ≡ longest →
     r ≡ record { kinds = kinds; refusals = refusals; switches = switches; longest = longest }
 report-by r kinds refusals switches longest a b c d = rw (← a, ← b, ← c, ← d)
 
@@ -85,11 +87,13 @@ module _ (numbers : Numbered) (phases : PhaseLaws) (n : Trace) (few : length (re
   report-is : last .statistics ≡ statisticsOf said
   unfolding statisticsOf
   report-is =
-      report-by (last .statistics) _ _ _ _ kinds-are refusals-are (exactly (λ s. s .statistics .switches) didSwitch switches-add n refl few) (longest-is phases n)
+      report-by (last .statistics) _ _ _ _ kinds-are refusals-are (exactly (λ s. s .statistics .switches) didSwitch switches-add n refl few)
+      (longest-is phases n)
 
   whole-is : replayedBy (play n nothingYet) ≡ replayOf n
   whole-is =
-      replayed-by (play n nothingYet) _ _ _ _ _ (complete-is n nothingYet) (place-is n nothingYet) (made-is n) (node-is n nothingYet) report-is
+      replayed-by (play n nothingYet) _ _ _ _ _ (complete-is n nothingYet) (place-is n nothingYet) (made-is n)
+      (node-is n nothingYet) report-is
 
 pub whole : Numbered → PhaseLaws → ReplayExact
 unfolding played replay

@@ -52,11 +52,13 @@ statisticsAfter place d longest p = record {
 }
 
 unfoldable pub afterwards : ℕ → CallResult → ℕ → ℕ → State → State
-afterwards place d started longest s = record { made = true; node = d .node; started = started; statistics = statisticsAfter place d longest (s .statistics) }
+afterwards place d started longest s =
+    record { made = true; node = d .node; started = started; statistics = statisticsAfter place d longest (s .statistics) }
 
 abbrev pub afterCall : Record → CallResult → State → State
 afterCall r d s =
-    afterwards (kindOf r - 1) d (startedAfter r (d .verdict) (s .started)) (longestAfter r (d .verdict) (s .started) (s .statistics .longest)) s
+    afterwards (kindOf r - 1) d (startedAfter r (d .verdict) (s .started))
+    (longestAfter r (d .verdict) (s .started) (s .statistics .longest)) s
 
 abbrev pub walked : Record → State → State
 walked r s = afterCall r (callOf r (s .node)) s

@@ -79,7 +79,8 @@ parseBy rest made end at s = over at
 parseBy rest made bad at s = stop at
 parseBy rest made (got r) at s = cond (isAdmissible made r) (then at r (rest (at + sizeOf r) (drop (sizeOf r) s))) (stop at)
 
--- at a place, s being the rest of the trace, and a node made already or not; a record takes bytes, so `most` is enough where it is over their number
+-- at a place, s being the rest of the trace, and a node made already or not;
+-- a record takes bytes, so `most` is enough where it is over their number
 unfoldable pub parseFrom : ℕ → Bool → ℕ → List ℕ → Trace
 parseFrom zero made at s = stop at
 parseFrom (suc most) made at s = parseBy (parseFrom most true) made (reading s) at s

@@ -1,5 +1,5 @@
-// The walker over a recorded trace: the lent trace and a place in it (document 01's form). The borrow checker covers no function over such a
-// struct, so each is thin and proved by hand; the work is done by `crate::walk::step`, which takes the slice and the place.
+// The walker over a recorded trace: the lent trace and a place in it (document 01's form). The borrow checker covers no function over such
+// a struct, so each is thin and proved by hand; the work is done by `crate::walk::step`, which takes the slice and the place.
 use crate::state::Progress;
 use crate::state::ReplayResult;
 use crate::state::State;

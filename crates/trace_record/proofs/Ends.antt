@@ -1,4 +1,5 @@
--- What the code answers of a record at each of its ends is what the definition says: one law for each end. s is the trace, and the body begins at `at`.
+-- What the code answers of a record at each of its ends is what the definition says: one law for each end.
+-- s is the trace, and the body begins at `at`.
 use Prim.Native.Nat.{ℕ, suc, _+_, _-_, _≤_, _<_}
 use mathlib.Core.Path.{_≡_, refl, sym, _∙_, ap}
 use mathlib.Core.Bool.{Bool, true, false}
@@ -9,7 +10,8 @@ use lib.Dec.{leb, eqb}
 use lib.ListN.{length, take, drop, getD, length-drop}
 use lib.Seq.{drop-cons, drop-drop, getD-drop}
 use borrow.Author.Tests.{le-leb, lt-leb, leb-true}
-use Rattle.trace_record.specs.Layout.{number, blank, bodySize, isNetworkLength, networkUsed, newNode, delivery, verified, fields, entry}
+use Rattle.trace_record.specs.Layout.{number, blank, bodySize, isNetworkLength, networkUsed}
+use Rattle.trace_record.specs.Layout.{newNode, delivery, verified, fields, entry}
 use Rattle.trace_record.specs.declared.entries.Entry.{Entry}
 use Rattle.trace_record.specs.declared.entries.Entry.the-variants.{End, Bad, New, Verified}
 
@@ -58,7 +60,8 @@ module _ (s : List ℕ) (at : ℕ) where
       unfolding delivery
       delivery-used h = rw (length-is, le-leb len 256 l, rest-is, h)
 
-      pub delivery-good : (time : ℕ) → time ≡ number 8 (drop at s) → b ≡ true → (r : Entry) → r ≡ kind time len → r ≡ delivery kind (drop at s)
+      pub delivery-good : (time : ℕ) → time ≡ number 8 (drop at s) → b ≡ true → (r : Entry) → r ≡ kind time len
+          → r ≡ delivery kind (drop at s)
       unfolding delivery
       delivery-good time t h r g = rw (length-is, le-leb len 256 l, rest-is, h, ← t) g
 

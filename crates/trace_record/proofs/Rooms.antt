@@ -1,4 +1,5 @@
--- A record that is read lies inside the trace, and its lengths are within its fields: its kind's body was found whole, and the lengths were tested.
+-- A record that is read lies inside the trace, and its lengths are within its fields:
+-- its kind's body was found whole, and the lengths were tested.
 use Prim.Native.Nat.{ℕ, suc, _+_, _-_, _≤_}
 use mathlib.Core.Path.{_≡_, refl}
 use mathlib.Core.Bool.{Bool, true, false, cond}
@@ -7,7 +8,8 @@ use native.Mathlib.Omega.{arith}
 use lib.Dec.{leb, eqb}
 use lib.ListN.{length, drop, getD, length-drop}
 use borrow.Author.Tests.{leb-true}
-use Rattle.trace_record.specs.Layout.{number, blank, bodySize, isNetworkLength, networkUsed, newNode, start, delivery, deliveryOf, verified, poll, fields, entry, Inside, EntryAt}
+use Rattle.trace_record.specs.Layout.{number, blank, bodySize, isNetworkLength, networkUsed, newNode, start}
+use Rattle.trace_record.specs.Layout.{delivery, deliveryOf, verified, poll, fields, entry, Inside, EntryAt}
 use Rattle.trace_record.specs.declared.entries.Entry.{Entry}
 use Rattle.trace_record.specs.declared.entries.Entry.the-variants.{End, Bad, New, Start, JoinAnswer, Update, Verified, Poll}
 use Rattle.trace_record.proofs.Ends.{used-fits}
@@ -28,7 +30,8 @@ module _ (b : List ℕ) where
       let rest = cond (blank (16 - used) (drop (2 + used) b)) (New (getD b 0 0) (getD b 1 0)) Bad in
       either In (leb (getD b 0 0) 1) (cond (isNetworkLength (getD b 1 0)) rest Bad) Bad
       (λ _. either In (isNetworkLength (getD b 1 0)) rest Bad
-      (λ l. either In (blank (16 - used) (drop (2 + used) b)) (New (getD b 0 0) (getD b 1 0)) Bad (λ _. (omega arith, used-fits (getD b 1 0) l)) (λ _. tt))
+      (λ l. either In (blank (16 - used) (drop (2 + used) b)) (New (getD b 0 0) (getD b 1 0)) Bad
+      (λ _. (omega arith, used-fits (getD b 1 0) l)) (λ _. tt))
       (λ _. tt))
       (λ _. tt)
 

@@ -30,7 +30,8 @@ blank n b = zeros (take n b)
 -- ---- bodies: how many bytes they have, and their fields; b is what follows the kind
 abbrev pub bodySize : ℕ → ℕ
 bodySize kind =
-    cond (eqb kind 1) 18 (cond (eqb kind 2) 12 (cond (eqb kind 3) 266 (cond (eqb kind 4) 266 (cond (eqb kind 5) 2 (cond (eqb kind 6) 8 0)))))
+    cond (eqb kind 1) 18
+    (cond (eqb kind 2) 12 (cond (eqb kind 3) 266 (cond (eqb kind 4) 266 (cond (eqb kind 5) 2 (cond (eqb kind 6) 8 0)))))
 
 -- kind 1, new node: role 1, network length 1 (0 to 16, 255 for none), network 16
 abbrev pub isNetworkLength : ℕ → Bool

@@ -4,7 +4,8 @@ use crate::fields::number_at;
 ghost use mathlib.Core.Path.{_≡_};
 ghost use Prim.Native.Nat.{_+_, _≤_};
 ghost use lib.ListN.{length, drop};
-ghost use Rattle.trace_record.specs.Layout.{bodySize, isNetworkLength, networkUsed, newNode, delivery, deliveryOf, verified, fields, EntryAt};
+ghost use Rattle.trace_record.specs.Layout.{bodySize, isNetworkLength, networkUsed, newNode};
+ghost use Rattle.trace_record.specs.Layout.{delivery, deliveryOf, verified, fields, EntryAt};
 
 // The end of the trace; no good record; or a record's numbers, in the order of its fields.
 pub enum Entry {

@@ -41,7 +41,8 @@ module _ (laws : AddressLaws) where
       let c = counted-number first size h in
       laws .numbers (first + k) (omega arith) ∙ lt-ltb (first + k) 0xfffe (omega arith)
 
-  pub other-is-none : (first size k : ℕ) → first + size ≤ 0x10000 → k < size → counted first size ≤ k → isAddress (bytesOf (first + k)) ≡ false
+  pub other-is-none : (first size k : ℕ) → first + size ≤ 0x10000 → k < size → counted first size ≤ k
+      → isAddress (bytesOf (first + k)) ≡ false
   other-is-none first size k h s l =
       let c = counted-number first size h in
       laws .numbers (first + k) (omega arith) ∙ le-ltb (first + k) 0xfffe (omega arith)

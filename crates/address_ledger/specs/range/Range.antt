@@ -15,8 +15,8 @@ inLimits first size = (leb 1 size && (leb size 4096 && leb (first + size) 0x1000
 unfoldable pub judged : ℕ → ℕ → ℕ → Verdict
 judged first size len = cond (inLimits first size) (cond (leb (9 * size) len) Accepted (Refused Room)) (Refused Range)
 
--- how many of so many numbers from `first` on are addresses: FFFE and FFFF, which are none, are in the limits and the memory alone. They are the
--- highest numbers, so the places that count are the lowest ones
+-- how many of so many numbers from `first` on are addresses: FFFE and FFFF, which are none, are in the limits and the memory alone. They
+-- are the highest numbers, so the places that count are the lowest ones
 unfoldable pub counted : ℕ → ℕ → ℕ
 counted first zero = 0
 counted first (suc n) = cond (isAddress (bytesOf first)) (suc (counted (suc first) n)) (counted (suc first) n)

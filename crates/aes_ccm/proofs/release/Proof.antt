@@ -19,7 +19,8 @@ slice-aggregate-put c =
 put-requires : tie.Need-put-requires
 put-requires c κs =
     let start = c .before .before .before .before .before in
-    let low = shown-low (start .args .right) (length (start .args .text .now)) (c .before .before .shown .result) (c .before .before .shown .ensures) in
+    let low = shown-low (start .args .right) (length (start .args .text .now)) (c .before .before .shown .result)
+    (c .before .before .shown .ensures) in
     simp length-take (omega arith)
 
 same-length : tie.Need-same-length
@@ -31,7 +32,8 @@ returns c =
     let at-shown = at-put .before .before .before in
     let start = at-shown .before .before .before in
     let args = start .args in
-    release-done (args .right) (args .text .now) (args .dst .now) (at-put .put .last .1 .0) _ (at-shown .shown .result) (c .if1 .taken) (at-shown .shown .ensures) refl (at-put .put .ensures)
+    release-done (args .right) (args .text .now) (args .dst .now) (at-put .put .last .1 .0) _ (at-shown .shown .result) (c .if1 .taken)
+    (at-shown .shown .ensures) refl (at-put .put .ensures)
 
 same-length-2 : tie.Need-same-length-2
 same-length-2 c = search needs
@@ -42,7 +44,8 @@ returns-2 c =
     let at-shown = at-put .before .before .before in
     let start = at-shown .before .before .before in
     let args = start .args in
-    release-refused (args .right) (args .text .now) (args .dst .now) (at-put .put .last .1 .0) _ (at-shown .shown .result) (c .if1 .left) (at-shown .shown .ensures) refl (at-put .put .ensures)
+    release-refused (args .right) (args .text .now) (args .dst .now) (at-put .put .last .1 .0) _ (at-shown .shown .result) (c .if1 .left)
+    (at-shown .shown .ensures) refl (at-put .put .ensures)
 
 pub release-spec : {M : Type 1} → statement M
 release-spec =

@@ -13,7 +13,8 @@ returns-2 : tie.Need-returns-2
 returns-2 c =
     let start = c .before .before .before .before .before in
     let args = start .args in
-    done.seal-text-long (args .key) (args .nonce) (args .associated .now) (args .text .now) (args .dst .now) (c .before .if1 .left) (c .if2 .taken)
+    done.seal-text-long (args .key) (args .nonce) (args .associated .now) (args .text .now) (args .dst .now)
+    (c .before .if1 .left) (c .if2 .taken)
 
 add-if3 : tie.Need-add-if3
 add-if3 c = search needs
@@ -22,7 +23,8 @@ returns-3 : tie.Need-returns-3
 returns-3 c =
     let start = c .before .before .before .before .before .before in
     let args = start .args in
-    done.seal-no-room (args .key) (args .nonce) (args .associated .now) (args .text .now) (args .dst .now) (c .before .before .if1 .left) (c .before .if2 .left) (c .if3 .taken)
+    done.seal-no-room (args .key) (args .nonce) (args .associated .now) (args .text .now) (args .dst .now) (c .before .before .if1 .left)
+    (c .before .if2 .left) (c .if3 .taken)
 
 round-table-requires : tie.Need-round-table-requires
 round-table-requires c κs = search needs

@@ -16,13 +16,15 @@ returns-2 : tie.Need-returns-2
 returns-2 c =
     let start = c .before .before .before .before .before in
     let args = start .args in
-    done.unseal-short (args .key) (args .nonce) (args .associated .now) (args .sealed .now) (args .dst .now) (c .before .if1 .left) (c .if2 .taken)
+    done.unseal-short (args .key) (args .nonce) (args .associated .now) (args .sealed .now) (args .dst .now)
+    (c .before .if1 .left) (c .if2 .taken)
 
 returns-3 : tie.Need-returns-3
 returns-3 c =
     let start = c .before .before .before .before .before .before in
     let args = start .args in
-    done.unseal-long (args .key) (args .nonce) (args .associated .now) (args .sealed .now) (args .dst .now) (c .before .before .if1 .left) (c .before .if2 .left) (c .if3 .taken)
+    done.unseal-long (args .key) (args .nonce) (args .associated .now) (args .sealed .now) (args .dst .now) (c .before .before .if1 .left)
+    (c .before .if2 .left) (c .if3 .taken)
 
 sub-n : tie.Need-sub-n
 sub-n c = search needs
@@ -113,7 +115,8 @@ returns-5 c =
     let right = at-same-tag .same-tag in
     let left = c .before .before .release in
     done.unseal-done (args .key) (args .nonce) (args .associated .now) (args .sealed .now) (args .dst .now)
-    (at-if1 .if1 .left) (at-if2 .if2 .left) (at-if3 .if3 .left) (keys .result) (plain .last .1 .1 .1 .1 .0) (tag .result) _ (right .result) (left .result)
+    (at-if1 .if1 .left) (at-if2 .if2 .left) (at-if3 .if3 .left) (keys .result) (plain .last .1 .1 .1 .1 .0) (tag .result) _
+    (right .result) (left .result)
     (left .last .1 .1 .0) (at-if4 .if4 .left) (keys .ensures) (plain .ensures) (tag .ensures) (right .ensures) (left .ensures)
 
 pub unseal-spec : {M : Type 1} → statement M

@@ -11,7 +11,8 @@ use Rattle.refusal.specs.declared.Refusal.{Refusal}
 use Rattle.refusal.specs.declared.Refusal.the-variants.{Cut, Deep, Extra}
 use Rattle.refusal.specs.declared.Verdict.the-variants as vv
 use Rattle.cbor.specs.Item.{Item, bytes, text, array, map, tag, more, pair}
-use Rattle.cbor.specs.Decode.{Outcome, refused, got, andThen, next, Heading, members, pairs, majorOf, content, decodeBy, payloadBy, ended}
+use Rattle.cbor.specs.Decode.{Outcome, refused, got, andThen, next, Heading, members}
+use Rattle.cbor.specs.Decode.{pairs, majorOf, content, decodeBy, payloadBy, ended}
 use Rattle.cbor.specs.Strict.{headBy}
 use Rattle.cbor.specs.Answer.{scanAnswer}
 use Rattle.cbor.specs.declared.head.Head.{Head}
@@ -89,7 +90,8 @@ module _ (item : List ℕ → Outcome Item) (i a : ℕ) (l : List ℕ) where
   array-content m e = rw e (forget-map array (members item a l))
 
   -- a map of a pairs: a members, and then a members
-  map-content : (m : ℕ) → m ≡ 5 → forget (content item (majorOf m) i a l) ≡ onward (forget (members item a l)) (λ t. forget (members item a t))
+  map-content : (m : ℕ) → m ≡ 5
+      → forget (content item (majorOf m) i a l) ≡ onward (forget (members item a l)) (λ t. forget (members item a t))
   unfolding majorOf
   map-content m e = rw e
       (forget-map map (pairs item a l) ∙ pairs-times item a l ∙ times-add item a a l
@@ -145,7 +147,8 @@ module _ (b : Bool) (s : List ℕ) (at d : ℕ) where
         let i : p ≤ length s = w .inside in
         let r′ : a ≤ length (drop p s) = rw (length-drop p s) r in
         record {
-          says = sym (ap forget decode-got ∙ string-content below (h .info) a (drop p s) m l l′ ∙ ap forget (next-got a (drop p s) r′) ∙ ap rest (drop-drop a p s));
+          says = sym (ap forget decode-got ∙ string-content below (h .info) a (drop p s) m l l′ ∙ ap forget (next-got a (drop p s) r′)
+              ∙ ap rest (drop-drop a p s));
           inside = omega arith;
         }
 
@@ -161,7 +164,8 @@ module _ (b : Bool) (s : List ℕ) (at d : ℕ) where
     item-array e r q =
         record { says = q .says ∙ sym (ap forget decode-got ∙ array-content below (h .info) a (drop p s) m e); inside = q .inside }
 
-    pub item-map-refused : m ≡ 5 → (k : Refusal) → Passed s (members below a (drop p s)) (sv.Refused k) → Passed s (itemBy b d (drop at s)) (sv.Refused k)
+    pub item-map-refused : m ≡ 5 → (k : Refusal) → Passed s (members below a (drop p s)) (sv.Refused k)
+        → Passed s (itemBy b d (drop at s)) (sv.Refused k)
     item-map-refused e k q = record {
       says = sym (ap forget decode-got ∙ map-content below (h .info) a (drop p s) m e ∙ rw (← q .says));
       inside = tt;
@@ -180,12 +184,15 @@ module _ (b : Bool) (s : List ℕ) (at d : ℕ) where
 
 -- ---- members, as the loop goes: what is left to pass over from here is what was to be passed over from the start
 module _ (b : Bool) (s : List ℕ) (at d n : ℕ) where
-  members-step : 0 < n → forget (members (itemBy b d) n (drop at s)) ≡ onward (forget (itemBy b d (drop at s))) (λ t. forget (members (itemBy b d) (n - 1) t))
+  members-step : 0 < n → forget (members (itemBy b d) n (drop at s))
+      ≡ onward (forget (itemBy b d (drop at s))) (λ t. forget (members (itemBy b d) (n - 1) t))
   members-step h =
-      ap (λ (k : ℕ). forget (members (itemBy b d) k (drop at s))) (unsuc n (omega arith)) ∙ members-times (itemBy b d) (suc (n - 1)) (drop at s)
+      ap (λ (k : ℕ). forget (members (itemBy b d) k (drop at s))) (unsuc n (omega arith))
+      ∙ members-times (itemBy b d) (suc (n - 1)) (drop at s)
       ∙ sym (simp members-times)
 
-  pub members-refused : 0 < n → (k : Refusal) → Passed s (itemBy b d (drop at s)) (sv.Refused k) → forget (members (itemBy b d) n (drop at s)) ≡ stop k
+  pub members-refused : 0 < n → (k : Refusal) → Passed s (itemBy b d (drop at s)) (sv.Refused k)
+      → forget (members (itemBy b d) n (drop at s)) ≡ stop k
   members-refused h k q = members-step h ∙ rw (← q .says)
 
   pub members-before : 0 < n → (p : ℕ) → Passed s (itemBy b d (drop at s)) (sv.Next p)

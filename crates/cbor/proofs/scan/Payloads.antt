@@ -39,7 +39,8 @@ module _ (b : Bool) (s : List ℕ) (v : Verdict) (e : v ≡ scanAnswer (payloadB
         rw (w, head-refused s 0 r f k o)
 
     module _ (h : Head) (o : r ≡ hv.Got h) where
-      opened : openAnswer (length s) (payloadBy (headBy b) s) (heading s) ≡ cond (eqb (h .major) 5) (ov.Map (h .argument) (h .next)) ov.NoMap
+      opened : openAnswer (length s) (payloadBy (headBy b) s) (heading s)
+          ≡ cond (eqb (h .major) 5) (ov.Map (h .argument) (h .next)) ov.NoMap
       opened =
           let (i, t, w) = scan-yes (payloadBy (headBy b) s) (sym g ∙ e) in
           rw (w, head-got s 0 r f h o, head-place s 0 r f h o)

@@ -36,4 +36,5 @@ module _ (s d : List ℕ) (h : ℕ) (e : h ≡ extraOf (length s) + 1) where
     pub string-done : (p : List ℕ) → p ≡ take (length s) s ++ drop (length s) (take (length l - h) (drop h l))
         → Did (emit (encode (bytes s))) d (wv.Length (h + length s)) (take h l ++ (p ++ drop (length l - h) (drop h l)))
     string-done p c =
-        did-emit (omega (arith, length-string 2 s)) (seam (omega (arith, w .many)) w (record { many = refl; holds = rw (take-length s) at c }))
+        did-emit (omega (arith, length-string 2 s))
+        (seam (omega (arith, w .many)) w (record { many = refl; holds = rw (take-length s) at c }))

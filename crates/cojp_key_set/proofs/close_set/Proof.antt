@@ -23,8 +23,10 @@ returns c =
     ⊎-elim
     (λ w. rw (w .taken))
     (λ w. rw (lt-leb (set .count) 8 (ltb-true 8 (set .count) (w .2 .taken))) (and-false (leb 1 (set .count))))
-    (c .before .if1 .came) in
-    (rw out (keys-settled (c .refused-keys .result) (refused refusal.Keys) 0 (c .refused-keys .ensures) (refused refusal.Keys) refl), rw (c .refused-keys .ensures) tt)
+    (c .before .if1 .came) in (
+      rw out (keys-settled (c .refused-keys .result) (refused refusal.Keys) 0 (c .refused-keys .ensures) (refused refusal.Keys) refl),
+      rw (c .refused-keys .ensures) tt,
+    )
 
 returns-2 : tie.Need-returns-2
 returns-2 c =

@@ -16,7 +16,8 @@ use Rattle.cojp_key_set.proofs.gather_keys.Statement.{statement}
 use Rattle.cojp_key_set.proofs.gather_keys.Tie as tie
 
 abbrev Inv-loop : tie.InvT-loop
-Inv-loop s from count allowed at₀ remaining₀ n₀ keys₀ seen₀ at remaining n keys seen = Gathering allowed s from count at remaining (record { count = n; keys = keys }) seen
+Inv-loop s from count allowed at₀ remaining₀ n₀ keys₀ seen₀ at remaining n keys seen =
+    Gathering allowed s from count at remaining (record { count = n; keys = keys }) seen
 
 abbrev μ-loop : tie.MeasureT-loop
 μ-loop s from count allowed at₀ remaining₀ n₀ keys₀ seen₀ at remaining n keys seen = remaining
@@ -116,7 +117,8 @@ group-key-requires c κs =
     let g = g-2 .g .given in
     let fit = is-true (fitting .before .is-storable .ensures) (fitting .if1 .taken) in (
       both-right (ltb (l .n) 8) (storable (g .0 .0) (g .0 .1 .0) (g .0 .1 .1 .1 .0)) fit,
-      group-within (a .allowed) (a .s .now) (a .from) (a .count) (l .at) (l .remaining) k (l .seen) (l .inv) (r .result) (r .ensures .0) (g .0 .0)
+      group-within (a .allowed) (a .s .now) (a .from) (a .count) (l .at) (l .remaining) k (l .seen) (l .inv) (r .result)
+          (r .ensures .0) (g .0 .0)
           (g .0 .1 .0) (g .0 .1 .1 .0) (g .0 .1 .1 .1 .0) (g .0 .1 .1 .1 .1 .0) (g .0 .1 .1 .1 .1 .1 .0) (g .0 .1 .1 .1 .1 .1 .1 .0) (g .1),
     )
 
@@ -165,7 +167,8 @@ add-at c =
     let r = read-group .read-group in
     let g = g-2 .g .given in
     let inside =
-    group-inside (a .allowed) (a .s .now) (a .from) (a .count) (l .at) (l .remaining) k (l .seen) (l .inv) (r .result) (r .ensures .0) (g .0 .0)
+    group-inside (a .allowed) (a .s .now) (a .from) (a .count) (l .at) (l .remaining) k (l .seen) (l .inv) (r .result)
+    (r .ensures .0) (g .0 .0)
     (g .0 .1 .0) (g .0 .1 .1 .0) (g .0 .1 .1 .1 .0) (g .0 .1 .1 .1 .1 .0) (g .0 .1 .1 .1 .1 .1 .0) (g .0 .1 .1 .1 .1 .1 .1 .0) (g .1) in
     omega (arith, inside .0, start .good)
 
@@ -181,7 +184,8 @@ loop-less c =
     let r = read-group .read-group in
     let g = g-2 .g .given in
     let inside =
-    group-inside (a .allowed) (a .s .now) (a .from) (a .count) (l .at) (l .remaining) k (l .seen) (l .inv) (r .result) (r .ensures .0) (g .0 .0)
+    group-inside (a .allowed) (a .s .now) (a .from) (a .count) (l .at) (l .remaining) k (l .seen) (l .inv) (r .result)
+    (r .ensures .0) (g .0 .0)
     (g .0 .1 .0) (g .0 .1 .1 .0) (g .0 .1 .1 .1 .0) (g .0 .1 .1 .1 .1 .0) (g .0 .1 .1 .1 .1 .1 .0) (g .0 .1 .1 .1 .1 .1 .1 .0) (g .1) in
     inside .1
 
@@ -204,12 +208,16 @@ loop-again c =
     let made = w .2 in
     let counted = w .4 in
     rw (w .5, w .6, w .7)
-    (gathering-stored (a .allowed) (a .s .now) (a .from) (a .count) (l .at) (l .remaining) k (l .seen) (l .inv) (r .result) (r .ensures .0) (g .0 .0)
-    (g .0 .1 .0) (g .0 .1 .1 .0) (g .0 .1 .1 .1 .0) (g .0 .1 .1 .1 .1 .0) (g .0 .1 .1 .1 .1 .1 .0) (g .0 .1 .1 .1 .1 .1 .1 .0) (g .1) (r .ensures .1)
+    (gathering-stored (a .allowed) (a .s .now) (a .from) (a .count) (l .at) (l .remaining) k (l .seen) (l .inv) (r .result)
+    (r .ensures .0) (g .0 .0)
+    (g .0 .1 .0) (g .0 .1 .1 .0) (g .0 .1 .1 .1 .0) (g .0 .1 .1 .1 .1 .0) (g .0 .1 .1 .1 .1 .1 .0) (g .0 .1 .1 .1 .1 .1 .1 .0)
+    (g .1) (r .ensures .1)
     (ltb-true (l .n) 8 (both-left (ltb (l .n) 8) storing (is-true told (w .0 .taken))))
     (asked .result) (asked .ensures) (made .result) (made .ensures)
     (counted .last .0) (counted .ensures .1) (counted .result) (counted .ensures .0)))
-    (λ w. rw (w .1, w .2, w .3) (gathering-nine (a .allowed) (a .s .now) (a .from) (a .count) (l .at) (l .remaining) k (l .seen) (l .inv) (r .result) (r .ensures .0) (g .0 .0) (g .0 .1 .0) (g .0 .1 .1 .0) (g .0 .1 .1 .1 .0) (g .0 .1 .1 .1 .1 .0) (g .0 .1 .1 .1 .1 .1 .0) (g .0 .1 .1 .1 .1 .1 .1 .0) (g .1) (r .ensures .1) (is-false told (w .0 .left))))
+    (λ w. rw (w .1, w .2, w .3) (gathering-nine (a .allowed) (a .s .now) (a .from) (a .count) (l .at) (l .remaining) k (l .seen) (l .inv)
+    (r .result) (r .ensures .0) (g .0 .0) (g .0 .1 .0) (g .0 .1 .1 .0) (g .0 .1 .1 .1 .0) (g .0 .1 .1 .1 .1 .0) (g .0 .1 .1 .1 .1 .1 .0)
+    (g .0 .1 .1 .1 .1 .1 .1 .0) (g .1) (r .ensures .1) (is-false told (w .0 .left))))
     (c .if1 .came)
 
 close-set-requires : tie.Need-close-set-requires Inv-loop μ-loop

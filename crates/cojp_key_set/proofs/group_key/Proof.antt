@@ -33,7 +33,8 @@ returns c =
     let a = start .args in
     let long = storable-parts (a .identifier) (a .usage) (a .len) (start .pre .0) .2 in
     c .key-with .ensures
-    ∙ ap (λ (v : List ℕ). keyWithAdditionalInfo (a .identifier) (a .usage) v (a .info)) (value-copied (a .part .now) (a .start) (a .len) _ (start .pre .1) long (c .before .copied .ensures))
+    ∙ ap (λ (v : List ℕ). keyWithAdditionalInfo (a .identifier) (a .usage) v (a .info))
+    (value-copied (a .part .now) (a .start) (a .len) _ (start .pre .1) long (c .before .copied .ensures))
 
 pub group-key-spec : {M : Type 1} → statement M
 group-key-spec = tie.close (tie.spec copied-requires cast-key-with cast-key-with-2 key-with-requires returns)

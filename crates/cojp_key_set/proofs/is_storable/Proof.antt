@@ -12,12 +12,20 @@ returns-2 c = let a = c .before .before .args in rw (lt-ltb (a .n) 8 (c .before 
 returns-3 : tie.Need-returns-3
 returns-3 c =
     let a = c .before .before .before .args in
-    rw (lt-ltb (a .n) 8 (c .before .before .if1 .left), le-leb (a .identifier) 255 (c .before .if2 .left), lt-leb (a .usage) 255 (c .if3 .taken))
+    rw (
+      lt-ltb (a .n) 8 (c .before .before .if1 .left),
+      le-leb (a .identifier) 255 (c .before .if2 .left),
+      lt-leb (a .usage) 255 (c .if3 .taken),
+    )
 
 returns-4 : tie.Need-returns-4
 returns-4 c =
     let a = c .before .before .before .args in
-    rw (lt-ltb (a .n) 8 (c .before .before .if1 .left), le-leb (a .identifier) 255 (c .before .if2 .left), le-leb (a .usage) 255 (c .if3 .left))
+    rw (
+      lt-ltb (a .n) 8 (c .before .before .if1 .left),
+      le-leb (a .identifier) 255 (c .before .if2 .left),
+      le-leb (a .usage) 255 (c .if3 .left),
+    )
 
 pub is-storable-spec : {M : Type 1} → statement M
 is-storable-spec = tie.close (tie.spec returns returns-2 returns-3 returns-4)

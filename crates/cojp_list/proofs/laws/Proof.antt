@@ -9,9 +9,16 @@ use Rattle.cojp_list.proofs.laws.Tie as tie
 returns : tie.Need-returns
 returns c = record {
   blacklist-written = λ l e. list-written stringsIn l (kept-parts stringsIn l e);
-  blacklist-back = λ l e. let p = kept-parts stringsIn l e in (_, list-back stringsIn l p strings-again, refl, list-same stringsIn l p .0, list-same stringsIn l p .1);
+  blacklist-back = λ l e. let p = kept-parts stringsIn l e in
+      (_, list-back stringsIn l p strings-again, refl, list-same stringsIn l p .0, list-same stringsIn l p .1);
   unsupported-written = λ l e. list-written (some errorReportsIn) l (kept-parts (some errorReportsIn) l e);
-  unsupported-back = λ l e. let p = kept-parts (some errorReportsIn) l e in (_, list-back (some errorReportsIn) l p some-again, refl, list-same (some errorReportsIn) l p .0, list-same (some errorReportsIn) l p .1);
+  unsupported-back = λ l e. let p = kept-parts (some errorReportsIn) l e in (
+    _,
+    list-back (some errorReportsIn) l p some-again,
+    refl,
+    list-same (some errorReportsIn) l p .0,
+    list-same (some errorReportsIn) l p .1,
+  );
   listed-in-range = listed-in-range;
   listed-long = listed-long;
   listed-members = listed-members;

@@ -17,7 +17,8 @@ returns c =
     let test = c .before in
     let judged = test .before in
     let a = judged .before .args in
-    c .outside-limits .ensures ∙ merge-first-outside (a .first) (a .second) (sym (judged .configuration-in-range .ensures) ∙ not-true _ (test .if1 .taken))
+    c .outside-limits .ensures
+    ∙ merge-first-outside (a .first) (a .second) (sym (judged .configuration-in-range .ensures) ∙ not-true _ (test .if1 .taken))
 
 configuration-in-range-requires-2 : tie.Need-configuration-in-range-requires-2
 configuration-in-range-requires-2 c κs = search needs

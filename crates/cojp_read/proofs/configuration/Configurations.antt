@@ -38,7 +38,8 @@ put-put g f (read a) = refl
 
 -- ---- one turn of the walk: what is gathered after the pair, by its label; p is the answer about the label, c₁ has the labels that came
 module _ (v : Version) (c : Configuration) (s l : List ℕ) (p : LabelResult) (t : PairLabelSpec s l p)
-    (c₁ : Configuration) (c₁-is : c₁ ≡ withLabelsSeen c (labelsSeenWith v (p .label) (c .labels))) (c′ : Configuration) (w : Verdict) (next : ℕ) where
+    (c₁ : Configuration) (c₁-is : c₁ ≡ withLabelsSeen c (labelsSeenWith v (p .label) (c .labels))) (c′ : Configuration) (w : Verdict)
+    (next : ℕ) where
   pub record Turn : Type 0 where
     pub turned : Turned (configurationForm v) c s l w c′ next
     pub few : c′ .unknown ≤ c .unknown + 1
@@ -62,7 +63,8 @@ module _ (v : Version) (c : Configuration) (s l : List ℕ) (p : LabelResult) (t
   -- what is stored, and what is asked, lies apart from the labels that came and from how many were passed over
   turn-known : {P : Type 0} (stored : Configuration → P → Configuration) (held : Configuration → Disposition) (r : Reading P)
       → isNamed names ≡ true → labelStatusFor c names ≡ labelStatusOf (held c) → takingFor v c names value ≡ mapReading (stored c) r
-      → ((f : ErrorReports) (p : P) → stored (withLabelsSeen c f) p ≡ withLabelsSeen (stored c p) f) → ((f : ErrorReports) → held (withLabelsSeen c f) ≡ held c)
+      → ((f : ErrorReports) (p : P) → stored (withLabelsSeen c f) p ≡ withLabelsSeen (stored c p) f)
+      → ((f : ErrorReports) → held (withLabelsSeen c f) ≡ held c)
       → ((p : P) → stored c p .labels ≡ c .labels) → ((p : P) → stored c p .unknown ≡ c .unknown) → Given stored held r
   unfolding configurationTaking
   turn-known {P} stored held r known standing taking noted-after held-stays met-stays passed-stays w₀ p₀ next₀ e ends n-is c-is w-is =
@@ -74,7 +76,8 @@ module _ (v : Version) (c : Configuration) (s l : List ℕ) (p : LabelResult) (t
       let held-is : held c₁ ≡ held c = ap held c₁-is ∙ held-stays met in
       let says =
       put-said keep w₀ p₀ (once (seen (held c)) r) (e ∙ ap (λ (h : Disposition). once (seen h) r) held-is)
-      ∙ known-put form c n value (seen (held c)) keep r (standing ∙ standing-seen (held c)) (ap (mapReading (noted v n)) taking ∙ put-put (noted v n) (stored c) r) in
+      ∙ known-put form c n value (seen (held c)) keep r (standing ∙ standing-seen (held c))
+      (ap (mapReading (noted v n)) taking ∙ put-put (noted v n) (stored c) r) in
       record {
         turned = rw (n-is, c-noted, w-is) (turned-known form c s l p t (named-some v n known) w₀ (keep p₀) next₀ says ends);
         few = rw c-met (omega (arith, passed-stays p₀));
@@ -83,13 +86,15 @@ module _ (v : Version) (c : Configuration) (s l : List ℕ) (p : LabelResult) (t
   pub keys-turn : names ≡ name.Keys
       → Given withKeys (λ x. x .keys .disposition) (byVersionOf v (noKeysParameter Discarded) (keysReadAs (allowsAdditionalInfo v) value))
   keys-turn h =
-      turn-known withKeys (λ x. x .keys .disposition) (byVersionOf v (noKeysParameter Discarded) (keysReadAs (allowsAdditionalInfo v) value)) (rw h) (rw h) (rw h)
+      turn-known withKeys (λ x. x .keys .disposition)
+      (byVersionOf v (noKeysParameter Discarded) (keysReadAs (allowsAdditionalInfo v) value)) (rw h) (rw h) (rw h)
       (λ f p. refl) (λ f. refl) (λ p. refl) (λ p. refl)
 
   pub address-turn : names ≡ name.Address
       → Given withAddress (λ x. x .address .disposition) (byVersionOf v (noAddressParameter Discarded) (addressRead value))
   address-turn h =
-      turn-known withAddress (λ x. x .address .disposition) (byVersionOf v (noAddressParameter Discarded) (addressRead value)) (rw h) (rw h) (rw h)
+      turn-known withAddress (λ x. x .address .disposition) (byVersionOf v (noAddressParameter Discarded) (addressRead value))
+      (rw h) (rw h) (rw h)
       (λ f p. refl) (λ f. refl) (λ p. refl) (λ p. refl)
 
   pub jrc-turn : names ≡ name.Jrc

@@ -20,7 +20,8 @@ module _ (told : KeysStep) (x : Reading KeysParameter) (set : KeySet) (e : answe
   pub told-kept : told .verdict ≡ verdict.Accepted → keysParameter (told .disposition) set ≡ malformedAs (noKeysParameter Discarded) x
   told-kept g = said-kept (noKeysParameter Discarded) (told .verdict) (keysParameter (told .disposition) set) x told-said g
 
-pub told-bad : (told : KeysStep) (x : Reading KeysParameter) (set : KeySet) → answer told set ≡ keysAnswer x (told .next) → (k : Refusal) → told .verdict ≡ verdict.Refused k
+pub told-bad : (told : KeysStep) (x : Reading KeysParameter) (set : KeySet) → answer told set ≡ keysAnswer x (told .next) → (k : Refusal)
+    → told .verdict ≡ verdict.Refused k
     → keysParameter Discarded set ≡ malformedAs (noKeysParameter Discarded) x
 told-bad told (refused j) set e k g = ap (λ (a : KeysRead). keysParameter Discarded (a .parameter .value)) e
 told-bad told (read p) set e k g = sym (ap other g) ∙ ap (λ (a : KeysRead). other (a .verdict)) e

@@ -14,7 +14,8 @@ use Rattle.cojp.specs.ErrorReports.{added}
 use Rattle.cojp.specs.Lists.{listTaken, unsupportedTaken}
 use Rattle.cojp.specs.Octets.{noOctetsParameter, octetsRead, octetsAnswer}
 use Rattle.cojp.specs.Reading.{Reading, read, bind, mapReading, resultOf, Accepting, byVersionOf}
-use Rattle.cojp.specs.Request.{roleJudged, roleGathered, listGathered, roleLabelStatus, withNetwork, requestState, requestPassing, requestLabelStatus, requestTaking, requestForm, settled, requestAnswer}
+use Rattle.cojp.specs.Request.{roleJudged, roleGathered, listGathered, roleLabelStatus, withNetwork, requestState}
+use Rattle.cojp.specs.Request.{requestPassing, requestLabelStatus, requestTaking, requestForm, settled, requestAnswer}
 use Rattle.protocol_version.specs.Version.{byVersion}
 use Rattle.cojp.specs.Walk.{labelStatusOf, knownRead}
 use Rattle.cojp.specs.declared.error_report.ErrorReports.{ErrorReports}
@@ -50,7 +51,8 @@ module _ (held : Disposition) (f : ErrorReports) (l : ListRead) (next : ℕ) (fi
   says-taken h g e = rw (first, h, ← e)
 
   pub says-reported : l .good ≡ false
-      → UnsupportedSpec held f (listTaken l) (record { verdict = verdict.Accepted; parameter = listTaken l; errors = added f 1 8; next = next })
+      → UnsupportedSpec held f (listTaken l)
+      (record { verdict = verdict.Accepted; parameter = listTaken l; errors = added f 1 8; next = next })
   says-reported h g e = rw (first, h, ← e)
 
 -- ---- what a form makes of a label goes by the parameter that it names
@@ -77,8 +79,10 @@ module _ (v : Version) (g : RequestState) (x : View) where
     standing-is = go v (eqb n 1) (eqb n 5) (eqb n 8)
       where
         go : (v : Version) (a b c : Bool)
-            → cond a (roleLabelStatus (g .named)) (cond b (labelStatusOf (g .request .network .disposition)) (byVersion v Unknown (cond c (labelStatusOf (g .request .unsupported .disposition)) Unknown)))
-            ≡ standingFor g (cond a parameter.Role (cond b parameter.Network (byVersion v parameter.Unknown (cond c parameter.Unsupported parameter.Unknown))))
+            → cond a (roleLabelStatus (g .named)) (cond b (labelStatusOf (g .request .network .disposition))
+            (byVersion v Unknown (cond c (labelStatusOf (g .request .unsupported .disposition)) Unknown)))
+            ≡ standingFor g (cond a parameter.Role
+            (cond b parameter.Network (byVersion v parameter.Unknown (cond c parameter.Unsupported parameter.Unknown))))
         go v true b c = standing-named (g .named)
         go v false true c = refl
         go Draft false false c = refl
@@ -90,8 +94,11 @@ module _ (v : Version) (g : RequestState) (x : View) where
     taking-is = go v (eqb n 1) (eqb n 5) (eqb n 8)
       where
         go : (w : Version) (a b c : Bool)
-            → cond a (roleGathered v g (roleJudged x)) (cond b (mapReading (withNetwork g) (byVersionOf v (noOctetsParameter report.Discarded) (octetsRead 0 x))) (read (listGathered g (unsupportedTaken x))))
-            ≡ takingFor (cond a parameter.Role (cond b parameter.Network (byVersion w parameter.Unknown (cond c parameter.Unsupported parameter.Unknown))))
+            → cond a (roleGathered v g (roleJudged x)) (cond b
+            (mapReading (withNetwork g) (byVersionOf v (noOctetsParameter report.Discarded) (octetsRead 0 x)))
+            (read (listGathered g (unsupportedTaken x))))
+            ≡ takingFor (cond a parameter.Role
+            (cond b parameter.Network (byVersion w parameter.Unknown (cond c parameter.Unsupported parameter.Unknown))))
         go w true b c = refl
         go w false true c = refl
         go Draft false false c = refl
@@ -158,21 +165,26 @@ module _ (v : Version) (named : Bool) (q : JoinRequest) (s l : List ℕ) (p : La
       → RoleSpec v named (q .errors) (roleJudged here) r × Accepting (r .verdict) (EndsAt s (r .next) after)
       → next ≡ r .next → named′ ≡ true → q′ ≡ roleIn old r .request → w ≡ r .verdict → Turn
   turn-role e r (says, ends) =
-      turn-known parameter.Role e refl (r .verdict) (roleIn old r) (r .next) (says old refl ∙ known-once v old here (p .label) parameter.Role e named refl) ends refl
+      turn-known parameter.Role e refl (r .verdict) (roleIn old r) (r .next)
+      (says old refl ∙ known-once v old here (p .label) parameter.Role e named refl) ends refl
 
   pub turn-network : requestParameterOf v (p .label) ≡ parameter.Network → (r : OctetsRead)
-      → (r ≡ octetsAnswer (once (seen (q .network .disposition)) (byVersionOf v (noOctetsParameter report.Discarded) (octetsRead 0 here))) (r .next))
+      → (r ≡ octetsAnswer (once (seen (q .network .disposition)) (byVersionOf v (noOctetsParameter report.Discarded) (octetsRead 0 here)))
+      (r .next))
       × Accepting (r .verdict) (EndsAt s (r .next) after)
       → next ≡ r .next → named′ ≡ named → q′ ≡ withNetwork old (r .parameter) .request → w ≡ r .verdict → Turn
   turn-network e r (says, ends) =
       let again = seen (q .network .disposition) in
       let value = byVersionOf v (noOctetsParameter report.Discarded) (octetsRead 0 here) in
-      let put-in = put-said (withNetwork old) (r .verdict) (r .parameter) (once again value) (octets-said r (once again value) (r .next) says) in
+      let put-in =
+      put-said (withNetwork old) (r .verdict) (r .parameter) (once again value) (octets-said r (once again value) (r .next) says) in
       turn-known parameter.Network e refl (r .verdict) (withNetwork old (r .parameter)) (r .next)
-      (put-in ∙ put-once (withNetwork old) again value ∙ known-once v old here (p .label) parameter.Network e again (standing-seen (q .network .disposition))) ends refl
+      (put-in ∙ put-once (withNetwork old) again value
+      ∙ known-once v old here (p .label) parameter.Network e again (standing-seen (q .network .disposition))) ends refl
 
   pub turn-unsupported : requestParameterOf v (p .label) ≡ parameter.Unsupported → (r : UnsupportedRead)
-      → UnsupportedSpec (q .unsupported .disposition) (q .errors) (unsupportedTaken here) r × Accepting (r .verdict) (EndsAt s (r .next) after)
+      → UnsupportedSpec (q .unsupported .disposition) (q .errors) (unsupportedTaken here) r
+      × Accepting (r .verdict) (EndsAt s (r .next) after)
       → next ≡ r .next → named′ ≡ named → q′ ≡ unsupportedIn old r .request → w ≡ r .verdict → Turn
   turn-unsupported e r (says, ends) =
       let held = q .unsupported .disposition in

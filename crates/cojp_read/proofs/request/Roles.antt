@@ -75,7 +75,8 @@ module _ (v : Version) (f : ErrorReports) where
   pub says-good : (named : Bool) (j : Judgement ℕ) (n next : ℕ) → named ≡ false → j ≡ good n
       → RoleSpec v named f j (record { verdict = verdict.Accepted; role = n; errors = f; next = next })
   says-good named j n next first e =
-      says-first v named f j (good n) (record { verdict = verdict.Accepted; role = n; errors = f; next = next }) first e (λ g same. go v g same)
+      says-first v named f j (good n) (record { verdict = verdict.Accepted; role = n; errors = f; next = next }) first e
+      (λ g same. go v g same)
     where
       go : (v : Version) (g : RequestState) → g .request .errors ≡ f → read (withErrors (withRole g n) f) ≡ roleGathered v g (good n)
       go Draft g same = rw (← same)

@@ -18,7 +18,8 @@ answer r set = record { verdict = r .verdict; parameter = keysParameter (r .disp
 -- whatever was read, if that was told of it, then what follows from it is told, of the same set
 abbrev pub KeysFollow : KeysStep → KeysStep → (Reading KeysParameter → Reading KeysParameter) → Type 0
 KeysFollow told r follows =
-    (x : Reading KeysParameter) (set : KeySet) → answer told set ≡ keysAnswer x (told .next) → resultOf (r .verdict) (keysParameter (r .disposition) set) ≡ follows x
+    (x : Reading KeysParameter) (set : KeySet) → answer told set ≡ keysAnswer x (told .next)
+    → resultOf (r .verdict) (keysParameter (r .disposition) set) ≡ follows x
 
 -- the bytes go on after the value at a place, if they did before
 abbrev pub RestFollows : List ℕ → ℕ → KeysStep → KeysStep → Type 0

@@ -35,7 +35,8 @@ pub(crate) struct KeysStep {
     pub next: usize,
 }
 
-// What follows in the published form from what was told of the key set at a place: nothing of a bad one is taken, and the bytes go on after it.
+// What follows in the published form from what was told of the key set at a place:
+// nothing of a bad one is taken, and the bytes go on after it.
 fn malformed_keys(s: &[u8], at: usize, told: KeysStep) -> KeysStep
     ensures { λ r. ⌜ KeysFollow told r (λ x. read (malformedAs (noKeysParameter Disposition.Discarded) x)) ⌝ }
     ensures rest { λ r. ⌜ RestFollows (now (s .entry)) at told r ⌝ }
@@ -81,7 +82,8 @@ pub(crate) fn keys_once(
 
 // The short address at a place, in the published form: nothing of a bad one is taken, and the bytes go on after it.
 fn malformed_address(s: &[u8], at: usize) -> AddressRead
-    ensures { λ r. ⌜ resultOf (r .verdict) (r .parameter) ≡ read (malformedAs (noAddressParameter Disposition.Discarded) (addressRead (valueView (drop at (now (s .entry)))))) ⌝ }
+    ensures { λ r. ⌜ resultOf (r .verdict) (r .parameter)
+        ≡ read (malformedAs (noAddressParameter Disposition.Discarded) (addressRead (valueView (drop at (now (s .entry)))))) ⌝ }
     ensures rest { λ r. ⌜ Accepting (r .verdict) (EndsAt (now (s .entry)) (r .next) (afterValue (drop at (now (s .entry))))) ⌝ }
 {
     let r = read_address(s, at);
@@ -107,7 +109,9 @@ pub(crate) fn address_once(
     held: AddressParameter,
     version: Version,
 ) -> AddressRead
-    ensures { λ r. ⌜ resultOf (r .verdict) (r .parameter) ≡ once (seen (held .disposition)) (byVersionOf version (noAddressParameter Disposition.Discarded) (addressRead (valueView (drop at (now (s .entry)))))) ⌝ }
+    ensures { λ r. ⌜ resultOf (r .verdict) (r .parameter)
+        ≡ once (seen (held .disposition))
+        (byVersionOf version (noAddressParameter Disposition.Discarded) (addressRead (valueView (drop at (now (s .entry)))))) ⌝ }
     ensures rest { λ r. ⌜ Accepting (r .verdict) (EndsAt (now (s .entry)) (r .next) (afterValue (drop at (now (s .entry))))) ⌝ }
 {
     let report = held.disposition;

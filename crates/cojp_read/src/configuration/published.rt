@@ -40,7 +40,8 @@ pub(crate) struct RateRead {
 
 // The blacklist at a place: TWICE where its label came before, with what is held.
 pub(crate) fn blacklist_once(s: &[u8], at: usize, held: ListParameter) -> BlacklistRead
-    ensures { λ r. ⌜ resultOf (r .verdict) (r .parameter) ≡ once (seen (held .disposition)) (read (blacklistTaken (valueView (drop at (now (s .entry)))))) ⌝ }
+    ensures { λ r. ⌜ resultOf (r .verdict) (r .parameter)
+        ≡ once (seen (held .disposition)) (read (blacklistTaken (valueView (drop at (now (s .entry)))))) ⌝ }
     ensures rest { λ r. ⌜ Accepting (r .verdict) (EndsAt (now (s .entry)) (r .next) (afterValue (drop at (now (s .entry))))) ⌝ }
 {
     let report = held.disposition;
@@ -64,7 +65,8 @@ pub(crate) fn blacklist_once(s: &[u8], at: usize, held: ListParameter) -> Blackl
 
 // The join rate at a place: TWICE where its label came before, with what is held.
 pub(crate) fn rate_once(s: &[u8], at: usize, held: RateParameter) -> RateRead
-    ensures { λ r. ⌜ resultOf (r .verdict) (r .parameter) ≡ once (seen (held .disposition)) (read (rateTaken (valueView (drop at (now (s .entry)))))) ⌝ }
+    ensures { λ r. ⌜ resultOf (r .verdict) (r .parameter)
+        ≡ once (seen (held .disposition)) (read (rateTaken (valueView (drop at (now (s .entry)))))) ⌝ }
     ensures rest { λ r. ⌜ Accepting (r .verdict) (EndsAt (now (s .entry)) (r .next) (afterValue (drop at (now (s .entry))))) ⌝ }
 {
     let report = held.disposition;

@@ -20,7 +20,9 @@ returns : tie.Need-returns
 returns c =
     let ranges = c .before in
     let heads = ranges .before in
-    written-back (heads .before .laws .ensures) (heads .head-laws .ensures) (ranges .reads-in-range-law .ensures) (c .strict-readers-law .ensures)
+    written-back (heads .before .laws .ensures) (heads .head-laws .ensures) (ranges .reads-in-range-law .ensures)
+    (c .strict-readers-law .ensures)
 
 pub written-back-law-spec : {M : Type 1} → statement M
-written-back-law-spec = tie.close (tie.spec laws-requires head-laws-requires reads-in-range-law-requires strict-readers-law-requires returns)
+written-back-law-spec =
+    tie.close (tie.spec laws-requires head-laws-requires reads-in-range-law-requires strict-readers-law-requires returns)

@@ -23,10 +23,12 @@ use Rattle.cojp_write.proofs.range.Taken.{taken-is}
 
 -- ---- its members: the bytes, and perhaps a lease
 module _ (a : ShortAddress) (m : ℕ) (e : m ≡ count (addressItems a)) where
-  place-bytes : encodePairs (labelled 3 (array (addressItems a))) ≡ ((shortest 0 3 ++ shortest 4 m) ++ encode (bytes (a .bytes))) ++ encodes (leaseItems (a .leased) (a .lease))
+  place-bytes : encodePairs (labelled 3 (array (addressItems a)))
+      ≡ ((shortest 0 3 ++ shortest 4 m) ++ encode (bytes (a .bytes))) ++ encodes (leaseItems (a .leased) (a .lease))
   place-bytes =
       array-bytes 3 (addressItems a)
-      ∙ rw (← e) (sym (append-assoc (shortest 0 3 ++ shortest 4 m) (encode (bytes (a .bytes))) (encodes (leaseItems (a .leased) (a .lease)))))
+      ∙ rw (← e)
+      (sym (append-assoc (shortest 0 3 ++ shortest 4 m) (encode (bytes (a .bytes))) (encodes (leaseItems (a .leased) (a .lease)))))
 
   pub place-length : length (encodePairs (labelled 3 (array (addressItems a)))) ≡ addressLength a m
   place-length = ap length place-bytes ∙ simp length-append (omega arith)
@@ -42,7 +44,8 @@ module _ (p : AddressParameter) (t : Bool) (e : t ≡ ifTaken (p .disposition) t
   pub address-taken : addressPairs p ≡ labelled 3 (array (addressItems (p .value)))
   address-taken = taken-is (p .disposition) (labelled 3 (array (addressItems (p .value)))) empty t e h
 
-  pub address-size : HeadLaws → {r : Size} → length (p .value .bytes) ≡ 2 → ItemsSize (leaseItems (p .value .leased) (p .value .lease)) 1 9 r
+  pub address-size : HeadLaws → {r : Size} → length (p .value .bytes) ≡ 2
+      → ItemsSize (leaseItems (p .value .leased) (p .value .lease)) 1 9 r
       → PairsSize (addressPairs p) 1 14 (record { members = 1; bytes = 5 + r .bytes })
   address-size heads two z =
       let m = count (addressItems (p .value)) in

@@ -52,7 +52,8 @@ module _ (c : Configuration) where
 
   pub front-length :
       length (encodePairs (frontPairs c))
-      ≡ length (encodePairs (keysPairs (c .keys))) + (length (encodePairs (addressPairs (c .address))) + stringsLength (c .jrc) (c .network) (c .prefix))
+      ≡ length (encodePairs (keysPairs (c .keys)))
+      + (length (encodePairs (addressPairs (c .address))) + stringsLength (c .jrc) (c .network) (c .prefix))
   front-length =
       let ka = join (keysPairs (c .keys)) (addressPairs (c .address)) in
       let kaj = join ka (octetsPairs 4 (c .jrc)) in
@@ -77,11 +78,13 @@ module _ (c : Configuration) where
 
   front-parts : (m : ℕ)
       → shortest 5 m ++ encodePairs (frontPairs c)
-      ≡ ((shortest 5 m ++ encodePairs (keysPairs (c .keys))) ++ encodePairs (addressPairs (c .address))) ++ stringsBytes (c .jrc) (c .network) (c .prefix)
+      ≡ ((shortest 5 m ++ encodePairs (keysPairs (c .keys))) ++ encodePairs (addressPairs (c .address)))
+      ++ stringsBytes (c .jrc) (c .network) (c .prefix)
   front-parts m = simp (join-bytes, append-assoc)
 
   pub front-wrote : (m : ℕ) {d d′ : List ℕ} {n : ℕ}
-      → Wrote (((shortest 5 m ++ encodePairs (keysPairs (c .keys))) ++ encodePairs (addressPairs (c .address))) ++ stringsBytes (c .jrc) (c .network) (c .prefix)) d n d′
+      → Wrote (((shortest 5 m ++ encodePairs (keysPairs (c .keys))) ++ encodePairs (addressPairs (c .address)))
+      ++ stringsBytes (c .jrc) (c .network) (c .prefix)) d n d′
       → Wrote (shortest 5 m ++ encodePairs (frontPairs c)) d n d′
   front-wrote m w = rw (front-parts m) w
 
@@ -95,12 +98,14 @@ module _ (c : Configuration) where
   configuration-wrote m w = rw (all-parts m) w
 
   -- ---- the size, as that of the pairs
-  module _ (law : ListWritten stringsIn) (f : ConfigurationFits c) {s : Size} (z : Sizes (configurationCount c) (configurationBytes c) 7 672 s) where
+  module _ (law : ListWritten stringsIn) (f : ConfigurationFits c) {s : Size}
+      (z : Sizes (configurationCount c) (configurationBytes c) 7 672 s) where
     pub configuration-sized : PairsSize (configurationPairs c) 7 672 s
     configuration-sized = pairs-size (configurationPairs c) count-is (bytes-are law f) z
 
     pub configuration-room : HeadLaws → (d : List ℕ) → 1 + s .bytes ≤ length d → configurationLength c (s .members) ≤ length d
-    configuration-room heads d h = omega (arith, z .bytes, configuration-length (s .members), heads .short-head 5 (s .members) (omega (arith, z .few)))
+    configuration-room heads d h =
+        omega (arith, z .bytes, configuration-length (s .members), heads .short-head 5 (s .members) (omega (arith, z .few)))
 
     pub configuration-map : {d d′ : List ℕ} {n : ℕ} → Wrote (shortest 5 (s .members) ++ configurationBytes c) d n d′
         → Wrote (encode (map (configurationPairs c))) d n d′

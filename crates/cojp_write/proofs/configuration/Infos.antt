@@ -28,7 +28,8 @@ none-is Absent e = refl
 none-is (Four a b c d) e = absurd (omega arith)
 none-is (Eight a b c d e f g h) z = absurd (omega arith)
 
-string-is : (i : AdditionalInfo) → (length (additionalInfoBytes i) ≡ 0 → ⊥) → additionalInfoItems i ≡ more (bytes (additionalInfoBytes i)) none
+string-is : (i : AdditionalInfo) → (length (additionalInfoBytes i) ≡ 0 → ⊥)
+    → additionalInfoItems i ≡ more (bytes (additionalInfoBytes i)) none
 string-is Absent f = absurd (f refl)
 string-is (Four a b c d) f = refl
 string-is (Eight a b c d e f g h) z = refl
@@ -76,5 +77,6 @@ module _ (i : AdditionalInfo) {s : PaddedBytes} (e : s ≡ paddedBytes i) where
     pub info-room : (n : ℕ) → length (encodes (additionalInfoItems i)) ≤ n → length (encode (bytes (take (s .len) (s .bytes)))) ≤ n
     info-room n l = rw given-bytes at l
 
-    pub info-wrote : {d d′ : List ℕ} {n : ℕ} → Wrote (encode (bytes (take (s .len) (s .bytes)))) d n d′ → Wrote (encodes (additionalInfoItems i)) d n d′
+    pub info-wrote : {d d′ : List ℕ} {n : ℕ} → Wrote (encode (bytes (take (s .len) (s .bytes)))) d n d′
+        → Wrote (encodes (additionalInfoItems i)) d n d′
     info-wrote w = rw given-bytes w

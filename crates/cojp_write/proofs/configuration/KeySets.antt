@@ -45,9 +45,11 @@ module _ (k : Key) where
   group-bytes =
       chain-bytes (more (unsigned (k .identifier)) (usageItems (k .usage))) (more (bytes (k .value)) (additionalInfoItems (k .info)))
       ∙ rw (usage-items (k .usage))
-      (sym (append-assoc (shortest 0 (k .identifier) ++ encodes (usedItems (k .usage))) (encode (bytes (k .value))) (encodes (additionalInfoItems (k .info)))))
+      (sym (append-assoc (shortest 0 (k .identifier) ++ encodes (usedItems (k .usage))) (encode (bytes (k .value)))
+      (encodes (additionalInfoItems (k .info)))))
 
-  front-length : length front ≡ length (shortest 0 (k .identifier)) + (length (encodes (usedItems (k .usage))) + length (encode (bytes (k .value))))
+  front-length : length front
+      ≡ length (shortest 0 (k .identifier)) + (length (encodes (usedItems (k .usage))) + length (encode (bytes (k .value))))
   front-length =
       omega (
         arith,
@@ -73,7 +75,8 @@ module _ (k : Key) where
       → ItemsSize (groupItems k) 4 37 (record { members = 2 + r .members + s .members; bytes = n + r .bytes + 17 + s .bytes })
   group-size heads e i v z y = record {
     members = omega (arith, group-count, z .members, y .members);
-    bytes = omega (arith, group-length, heads .length-head 0 (k .identifier), string-length heads (k .value) (omega arith), z .bytes, y .bytes);
+    bytes =
+        omega (arith, group-length, heads .length-head 0 (k .identifier), string-length heads (k .value) (omega arith), z .bytes, y .bytes);
     few = omega (arith, z .few, y .few);
     small = omega (arith, z .small, y .small, heads .byte-head (k .identifier) i);
   }
@@ -85,23 +88,27 @@ past = record { identifier = 0; usage = 0; value = []; info = Absent }
 
 groups-append : (ks ls : List Key) → groupsItems (ks ++ ls) ≡ chain (groupsItems ks) (groupsItems ls)
 groups-append [] ls = refl
-groups-append (k ∷ ks) ls = ap (chain (groupItems k)) (groups-append ks ls) ∙ sym (chain-assoc (groupItems k) (groupsItems ks) (groupsItems ls))
+groups-append (k ∷ ks) ls =
+    ap (chain (groupItems k)) (groups-append ks ls) ∙ sym (chain-assoc (groupItems k) (groupsItems ks) (groupsItems ls))
 
 -- those of the first keys take no more room than all
 pub groups-less : (ks : List Key) (i : ℕ) → length (encodes (groupsItems (take i ks))) ≤ length (encodes (groupsItems ks))
 groups-less ks i =
-    let e : groupsItems ks ≡ chain (groupsItems (take i ks)) (groupsItems (drop i ks)) = rw (← groups-append (take i ks) (drop i ks), take-append-drop i ks) in
+    let e : groupsItems ks ≡ chain (groupsItems (take i ks)) (groupsItems (drop i ks)) =
+    rw (← groups-append (take i ks) (drop i ks), take-append-drop i ks) in
     omega (arith, ap (λ (is : Items). length (encodes is)) e, chain-length (groupsItems (take i ks)) (groupsItems (drop i ks)))
 
 module _ (set : KeySet) (i : ℕ) (d : Key) (h : i < length (keysOf set)) where
   -- one key more
   next : groupsItems (take (i + 1) (keysOf set)) ≡ chain (groupsItems (take i (keysOf set))) (groupItems (getD (set .keys) i d))
   next =
-      let k : getD (keysOf set) i d ≡ getD (set .keys) i d = getD-take (set .count) (set .keys) i d (omega (arith, length-take (set .count) (set .keys))) in
+      let k : getD (keysOf set) i d ≡ getD (set .keys) i d =
+      getD-take (set .count) (set .keys) i d (omega (arith, length-take (set .count) (set .keys))) in
       rw (add-one i, take-suc (keysOf set) i d h, k)
       (groups-append (take i (keysOf set)) (getD (set .keys) i d ∷ []) ∙ rw (chain-none (groupItems (getD (set .keys) i d))))
 
-  pub sizes-step : {r s t : Size} → ItemsSize (groupsItems (take i (keysOf set))) (4 * i) (37 * i) r → ItemsSize (groupItems (getD (set .keys) i d)) 4 37 s → Sum r s t
+  pub sizes-step : {r s t : Size} → ItemsSize (groupsItems (take i (keysOf set))) (4 * i) (37 * i) r
+      → ItemsSize (groupItems (getD (set .keys) i d)) 4 37 s → Sum r s t
       → ItemsSize (groupsItems (take (i + 1) (keysOf set))) (4 * (i + 1)) (37 * (i + 1)) t
   sizes-step x y z =
       let w = sizes-chain (groupsItems (take i (keysOf set))) (groupItems (getD (set .keys) i d)) x y z in

@@ -19,7 +19,8 @@ module _ (v : Version) (c : Configuration) where
   unfolding configurationPlan
   configuration-range d h = simp h (did-refuse Range d)
 
-  pub configuration-emit : {d d′ : List ℕ} {r : WriteResult} → configurationInRange v c ≡ true → Did (fits (encode (map (configurationPairs c)))) d r d′
+  pub configuration-emit : {d d′ : List ℕ} {r : WriteResult} → configurationInRange v c ≡ true
+      → Did (fits (encode (map (configurationPairs c)))) d r d′
       → Did (configurationPlan v c) d r d′
   unfolding configurationPlan
   configuration-emit h w = simp h w

@@ -26,14 +26,16 @@ labelled-seam l i h w v = rw (labelled-bytes l i) (seam h w v)
 pub array-bytes : (n : ℕ) (is : Items) → encodePairs (labelled n (array is)) ≡ (shortest 0 n ++ shortest 4 (count is)) ++ encodes is
 array-bytes n is = labelled-bytes n (array is) ∙ sym (append-assoc (shortest 0 n) (shortest 4 (count is)) (encodes is))
 
-pub array-length : (n : ℕ) (is : Items) → length (encodePairs (labelled n (array is))) ≡ length (shortest 0 n ++ shortest 4 (count is)) + length (encodes is)
+pub array-length : (n : ℕ) (is : Items)
+    → length (encodePairs (labelled n (array is))) ≡ length (shortest 0 n ++ shortest 4 (count is)) + length (encodes is)
 array-length n is = ap length (array-bytes n is) ∙ length-append (shortest 0 n ++ shortest 4 (count is)) (encodes is)
 
 -- the same pairs, otherwise put
 pub wrote-same : {ps qs : Pairs} {d d′ : List ℕ} {n : ℕ} → ps ≡ qs → Wrote (encodePairs qs) d n d′ → Wrote (encodePairs ps) d n d′
 wrote-same e w = rw e w
 
-pub did-same : {ps qs : Pairs} {d d′ : List ℕ} {r : WriteResult} → ps ≡ qs → Did (emit (encodePairs qs)) d r d′ → Did (emit (encodePairs ps)) d r d′
+pub did-same : {ps qs : Pairs} {d d′ : List ℕ} {r : WriteResult} → ps ≡ qs → Did (emit (encodePairs qs)) d r d′
+    → Did (emit (encodePairs ps)) d r d′
 did-same e w = rw e w
 
 pub same-room : {ps qs : Pairs} (n : ℕ) → ps ≡ qs → length (encodePairs ps) ≤ n → length (encodePairs qs) ≤ n

@@ -7,7 +7,8 @@ use Rattle.lemmas.specs.logic.Tests.{both-left, both-right}
 use Rattle.cojp.specs.Lists.{stringsIn, errorReportsIn, some}
 use Rattle.cojp.specs.Reading.{ifTaken}
 use Rattle.protocol_version.specs.Version.{byVersion}
-use Rattle.cojp.specs.Writing.{missing, octetsInRange, jrcInRange, addressInRange, keysInRange, keysWithoutAdditionalInfo, listInRange, ofVersion, requestInRange, configurationInRange}
+use Rattle.cojp.specs.Writing.{missing, octetsInRange, jrcInRange, addressInRange, keysInRange}
+use Rattle.cojp.specs.Writing.{keysWithoutAdditionalInfo, listInRange, ofVersion, requestInRange, configurationInRange}
 use Rattle.cojp.specs.declared.configuration.Configuration.{Configuration}
 use Rattle.cojp.specs.declared.list.ListParameter.{ListParameter}
 use Rattle.cojp.specs.declared.disposition.Disposition.{Disposition}
@@ -23,7 +24,8 @@ missing-fits Absent b h = refl
 missing-fits Taken b h = absurd (false≢true h)
 missing-fits Discarded b h = refl
 
-reports-fit : (v : Version) (p : ListParameter) → byVersion v (missing (p .disposition)) (listInRange (some errorReportsIn) p) ≡ true → listInRange (some errorReportsIn) p ≡ true
+reports-fit : (v : Version) (p : ListParameter) → byVersion v (missing (p .disposition)) (listInRange (some errorReportsIn) p) ≡ true
+    → listInRange (some errorReportsIn) p ≡ true
 reports-fit Draft p h = missing-fits (p .disposition) _ h
 reports-fit Published p h = h
 
@@ -76,7 +78,8 @@ blacklist-fits Draft c h =
     let k = keysWithoutAdditionalInfo (c .keys) in
     let b = missing (c .blacklist .disposition) in
     missing-fits (c .blacklist .disposition) _ (both-right k b (both-left (k && b) (missing (c .rate .disposition)) h))
-blacklist-fits Published c h = both-right (missing (c .network .disposition) && missing (c .prefix .disposition)) (listInRange stringsIn (c .blacklist)) h
+blacklist-fits Published c h =
+    both-right (missing (c .network .disposition) && missing (c .prefix .disposition)) (listInRange stringsIn (c .blacklist)) h
 
 pub writing-fits : (v : Version) (c : Configuration) → configurationInRange v c ≡ true → ConfigurationFits c
 writing-fits v c h =

@@ -59,7 +59,8 @@ module _ (heads : HeadLaws) (label : ℕ) (l : ItemList) {n m : ℕ} (e : n ≡ 
     module _ (h : n + m + l .len ≤ length d) {r : WriteResult} {d′ : List ℕ} (w : Did (headPlan 0 label) d r d′) where
       label-wrote : Wrote (shortest 0 label) d n d′
       label-wrote =
-          let k = did-kept (shortest 0 label) d r d′ (omega (arith, heads .length-head 0 label)) (head-did 0 label d r d′ (omega arith) w) in
+          let k =
+          did-kept (shortest 0 label) d r d′ (omega (arith, heads .length-head 0 label)) (head-did 0 label d r d′ (omega arith) w) in
           wrote-as n (omega (arith, heads .length-head 0 label)) k
 
       label-kept : length d′ ≡ length d
@@ -76,7 +77,8 @@ module _ (heads : HeadLaws) (label : ℕ) (l : ItemList) {n m : ℕ} (e : n ≡ 
           let part = take (length d′ - n) (drop n d′) in
           let is = shortest 4 (l .count) ++ bytesIn l in
           let k = length-append (shortest 0 label) is in
-          let room : length is ≤ length part = simp (length-take, length-drop) (omega (arith, label-kept, whole, k, heads .length-head 0 label)) in
+          let room : length is ≤ length part =
+          simp (length-take, length-drop) (omega (arith, label-kept, whole, k, heads .length-head 0 label)) in
           let x = seam (omega (arith, whole, k)) label-wrote (did-kept is part q p room (listed v)) in
           planned (did-emit (omega (arith, whole)) (wrote-as (n + m + l .len) (sym whole) x))
 
@@ -86,7 +88,8 @@ array-range label l d h = rw (lt-leb (l .len) 253 h) (did-refuse Range d)
 
 -- ---- the parameter
 module _ (p : ListParameter) (t : Bool) (e : t ≡ ifTaken (p .disposition) true false) (h : t ≡ true) where
-  pub list-size : HeadLaws → (label : ℕ) {n m k : ℕ} → n ≡ extraOf label + 1 → m ≡ extraOf (p .value .count) + 1 → k ≡ length (bytesIn (p .value)) → k ≤ 253
+  pub list-size : HeadLaws → (label : ℕ) {n m k : ℕ} → n ≡ extraOf label + 1 → m ≡ extraOf (p .value .count) + 1
+      → k ≡ length (bytesIn (p .value)) → k ≤ 253
       → Sizes (listCount p) (listBytes label p) 1 271 (record { members = 1; bytes = n + m + k })
   list-size heads label {n} {m} {k} f g i j =
       rw (taken-is {A = ℕ} (p .disposition) 1 0 t e h, taken-is (p .disposition) (arrayBytes label (p .value)) [] t e h) (record {
@@ -99,7 +102,8 @@ module _ (p : ListParameter) (t : Bool) (e : t ≡ ifTaken (p .disposition) true
 module _ (p : ListParameter) (t : Bool) (e : t ≡ ifTaken (p .disposition) true false) (h : t ≡ false) where
   pub list-none : (label : ℕ) {s : Size} → Sizes 0 [] 0 0 s → Sizes (listCount p) (listBytes label p) 1 271 s
   list-none label z =
-      rw (taken-not {A = ℕ} (p .disposition) 1 0 t e h, taken-not (p .disposition) (arrayBytes label (p .value)) [] t e h) (sizes-most 1 271 (omega arith) (omega arith) z)
+      rw (taken-not {A = ℕ} (p .disposition) 1 0 t e h, taken-not (p .disposition) (arrayBytes label (p .value)) [] t e h)
+      (sizes-most 1 271 (omega arith) (omega arith) z)
 
 -- ---- in range, a list's pair is its label, the head of its count and its bytes
 module _ (f : List Scalar → Picked) (law : ListWritten f) (label : ℕ) (p : ListParameter) (h : listInRange f p ≡ true) where
@@ -126,7 +130,8 @@ module _ (f : List Scalar → Picked) (p : ListParameter) where
   unfolding kept
   kept-fits Absent k = refl
   kept-fits Taken k =
-      both-left (leb (p .value .len) 253) (sameAs (listAnswer (fitting 253 (f (membersAt (p .value .count) (bytesIn (p .value)))))) (p .value)) k
+      both-left (leb (p .value .len) 253)
+      (sameAs (listAnswer (fitting 253 (f (membersAt (p .value .count) (bytesIn (p .value)))))) (p .value)) k
   kept-fits Discarded k = refl
 
   pub list-fits : listInRange f p ≡ true → listFits p ≡ true

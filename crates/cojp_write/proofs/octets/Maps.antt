@@ -21,7 +21,8 @@ use Rattle.cojp_write.specs.declared.octets.size.Size.{Size}
 
 module _ (heads : HeadLaws) where
   -- a head of one byte that has room
-  pub short-wrote : (m n : ℕ) {d d′ : List ℕ} {r : WriteResult} → m ≤ 7 → n ≤ 23 → 1 ≤ length d → Did (headPlan m n) d r d′ → Wrote (shortest m n) d 1 d′
+  pub short-wrote : (m n : ℕ) {d d′ : List ℕ} {r : WriteResult} → m ≤ 7 → n ≤ 23 → 1 ≤ length d → Did (headPlan m n) d r d′
+      → Wrote (shortest m n) d 1 d′
   short-wrote m n {d} {d′} {r} h l f w =
       let one = heads .short-head m n l in
       wrote-as 1 (sym one) (did-kept (shortest m n) d r d′ (omega arith) (head-did m n d r d′ h w))
@@ -48,5 +49,6 @@ module _ (heads : HeadLaws) where
       map-emit w = did-emit (omega (arith, whole)) w
 
 -- the same with the number and the bytes of the pairs by other names
-pub map-wrote : (ps : Pairs) {m n : ℕ} {b d d′ : List ℕ} → m ≡ countPairs ps → encodePairs ps ≡ b → Wrote (shortest 5 m ++ b) d n d′ → Wrote (encode (map ps)) d n d′
+pub map-wrote : (ps : Pairs) {m n : ℕ} {b d d′ : List ℕ} → m ≡ countPairs ps → encodePairs ps ≡ b → Wrote (shortest 5 m ++ b) d n d′
+    → Wrote (encode (map ps)) d n d′
 map-wrote ps e f w = rw (← e, f) w

@@ -13,7 +13,8 @@ use Rattle.cojp_write.specs.octets.Size.{Sizes, ItemsSize, PairsSize, Su
 use Rattle.cojp_write.specs.declared.octets.size.Size.{Size}
 use Rattle.cojp.specs.WritingLemmas.{join-bytes, join-count, chain-bytes, chain-count}
 
-pub sizes-append : {a b k l m n : ℕ} {p q : List ℕ} {r s t : Size} → Sizes a p k m r → Sizes b q l n s → Sum r s t → Sizes (a + b) (p ++ q) (k + l) (m + n) t
+pub sizes-append : {a b k l m n : ℕ} {p q : List ℕ} {r s t : Size} → Sizes a p k m r → Sizes b q l n s → Sum r s t
+    → Sizes (a + b) (p ++ q) (k + l) (m + n) t
 sizes-append {p = p} {q = q} x y z = record {
   members = omega (arith, x .members, y .members, z .members);
   bytes = omega (arith, x .bytes, y .bytes, z .bytes, length-append p q);
@@ -21,14 +22,17 @@ sizes-append {p = p} {q = q} x y z = record {
   small = omega (arith, x .small, y .small, z .bytes);
 }
 
-pub sizes-join : (a b : Pairs) {k l m n : ℕ} {r s t : Size} → PairsSize a k m r → PairsSize b l n s → Sum r s t → PairsSize (join a b) (k + l) (m + n) t
+pub sizes-join : (a b : Pairs) {k l m n : ℕ} {r s t : Size} → PairsSize a k m r → PairsSize b l n s → Sum r s t
+    → PairsSize (join a b) (k + l) (m + n) t
 sizes-join a b x y z = rw (join-count a b, join-bytes a b) (sizes-append x y z)
 
-pub sizes-chain : (a b : Items) {k l m n : ℕ} {r s t : Size} → ItemsSize a k m r → ItemsSize b l n s → Sum r s t → ItemsSize (chain a b) (k + l) (m + n) t
+pub sizes-chain : (a b : Items) {k l m n : ℕ} {r s t : Size} → ItemsSize a k m r → ItemsSize b l n s → Sum r s t
+    → ItemsSize (chain a b) (k + l) (m + n) t
 sizes-chain a b x y z = rw (chain-count a b, chain-bytes a b) (sizes-append x y z)
 
 -- the size of pairs by other names of their number and bytes
-pub pairs-size : (ps : Pairs) {n k m : ℕ} {b : List ℕ} {r : Size} → countPairs ps ≡ n → encodePairs ps ≡ b → Sizes n b k m r → PairsSize ps k m r
+pub pairs-size : (ps : Pairs) {n k m : ℕ} {b : List ℕ} {r : Size} → countPairs ps ≡ n → encodePairs ps ≡ b → Sizes n b k m r
+    → PairsSize ps k m r
 pairs-size ps e f z = rw (e, f) z
 
 -- a looser bound
@@ -43,7 +47,8 @@ size-none k m e z = rw e (sizes-most k m (omega arith) (omega arith) z)
 pub optional-bytes : (t : Bool) (n : ℕ) → t ≡ true → encodes (leaseItems t n) ≡ shortest 0 n
 optional-bytes t n e = rw e (append-nil (shortest 0 n))
 
-pub optional-given : HeadLaws → (t : Bool) (n h : ℕ) → t ≡ true → h ≡ extraOf n + 1 → ItemsSize (leaseItems t n) 1 9 (record { members = 1; bytes = h })
+pub optional-given : HeadLaws → (t : Bool) (n h : ℕ) → t ≡ true → h ≡ extraOf n + 1
+    → ItemsSize (leaseItems t n) 1 9 (record { members = 1; bytes = h })
 optional-given heads t n h e f = rw e (record {
   members = refl;
   bytes = omega (arith, ap length (append-nil (shortest 0 n)), heads .length-head 0 n);

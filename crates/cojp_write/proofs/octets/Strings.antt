@@ -47,7 +47,8 @@ module _ (heads : HeadLaws) where
     module _ (g : l + h + length s ≤ length d) {r : WriteResult} {d′ : List ℕ} (w : Did (headPlan 0 label) d r d′) where
       label-wrote : Wrote (shortest 0 label) d l d′
       label-wrote =
-          let k = did-kept (shortest 0 label) d r d′ (omega (arith, heads .length-head 0 label)) (head-did 0 label d r d′ (omega arith) w) in
+          let k =
+          did-kept (shortest 0 label) d r d′ (omega (arith, heads .length-head 0 label)) (head-did 0 label d r d′ (omega arith) w) in
           wrote-as l (omega (arith, heads .length-head 0 label)) k
 
       label-kept : length d′ ≡ length d
@@ -55,11 +56,14 @@ module _ (heads : HeadLaws) where
 
       -- the byte string was written to the part after the label, which now is p
       pub string-done : (p : List ℕ) {q : WriteResult} → Did (emit (encode (bytes s))) (take (length d′ - l) (drop l d′)) q p
-          → Did (emit (encodePairs (labelled label (bytes s)))) d (wv.Length (l + h + length s)) (take l d′ ++ (p ++ drop (length d′ - l) (drop l d′)))
+          → Did (emit (encodePairs (labelled label (bytes s)))) d (wv.Length (l + h + length s))
+          (take l d′ ++ (p ++ drop (length d′ - l) (drop l d′)))
       string-done p {q} v =
           let part = take (length d′ - l) (drop l d′) in
-          let room : length (encode (bytes s)) ≤ length part = simp (length-take, length-drop) (omega (arith, label-kept, whole-string s)) in
-          let w = labelled-seam label (bytes s) (omega (arith, heads .length-head 0 label, whole-string s)) label-wrote (did-kept (encode (bytes s)) part q p room v) in
+          let room : length (encode (bytes s)) ≤ length part =
+          simp (length-take, length-drop) (omega (arith, label-kept, whole-string s)) in
+          let w = labelled-seam label (bytes s) (omega (arith, heads .length-head 0 label, whole-string s)) label-wrote
+          (did-kept (encode (bytes s)) part q p room v) in
           did-emit (omega (arith, whole)) (wrote-as (l + h + length s) (sym whole) w)
 
 -- ---- the parameter

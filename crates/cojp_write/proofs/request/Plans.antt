@@ -32,7 +32,8 @@ module _ (v : Version) (q : JoinRequest) where
   unfolding requestPlan
   request-range d h = simp h (did-refuse Range d)
 
-  pub request-emit : {owed : Bool} {d d′ : List ℕ} {r : WriteResult} → requestInRange v q ≡ true → owed ≡ owing v (q .role) (q .network .disposition)
+  pub request-emit : {owed : Bool} {d d′ : List ℕ} {r : WriteResult} → requestInRange v q ≡ true
+      → owed ≡ owing v (q .role) (q .network .disposition)
       → Did (owingPlan owed (fits (encode (map (requestPairs q))))) d r d′ → Did (requestPlan v q) d r d′
   unfolding requestPlan
   request-emit h e w = simp h (rw e at w)

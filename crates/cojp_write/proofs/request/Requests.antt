@@ -50,17 +50,20 @@ module _ (q : JoinRequest) where
   parts m = simp (join-bytes, append-assoc)
 
   pub request-wrote : (m : ℕ) {d d′ : List ℕ} {n : ℕ}
-      → Wrote (((shortest 5 m ++ encodePairs (rolePairs (q .role))) ++ encodePairs (octetsPairs 5 (q .network))) ++ listBytes 8 (q .unsupported)) d n d′
+      → Wrote (((shortest 5 m ++ encodePairs (rolePairs (q .role))) ++ encodePairs (octetsPairs 5 (q .network)))
+      ++ listBytes 8 (q .unsupported)) d n d′
       → Wrote (shortest 5 m ++ requestBytes q) d n d′
   request-wrote m w = rw (parts m) w
 
   -- ---- the size, as that of the pairs
-  module _ (law : ListWritten (some errorReportsIn)) (f : RequestFits q) {s : Size} (z : Sizes (requestCount q) (requestBytes q) 3 299 s) where
+  module _ (law : ListWritten (some errorReportsIn)) (f : RequestFits q) {s : Size}
+      (z : Sizes (requestCount q) (requestBytes q) 3 299 s) where
     pub request-sized : PairsSize (requestPairs q) 3 299 s
     request-sized = pairs-size (requestPairs q) request-count (request-bytes law f) z
 
     pub request-room : HeadLaws → (d : List ℕ) → 1 + s .bytes ≤ length d → requestLength q (s .members) ≤ length d
     request-room heads d h = omega (arith, z .bytes, request-length (s .members), heads .short-head 5 (s .members) (omega (arith, z .few)))
 
-    pub request-map : {d d′ : List ℕ} {n : ℕ} → Wrote (shortest 5 (s .members) ++ requestBytes q) d n d′ → Wrote (encode (map (requestPairs q))) d n d′
+    pub request-map : {d d′ : List ℕ} {n : ℕ} → Wrote (shortest 5 (s .members) ++ requestBytes q) d n d′
+        → Wrote (encode (map (requestPairs q))) d n d′
     request-map w = map-wrote (requestPairs q) (request-sized .members) (request-bytes law f) w

@@ -1,4 +1,5 @@
--- For the contracts of private functions alone: the room that an array or a configuration with so many members takes, as the sum of its parts.
+-- For the contracts of private functions alone: the room that an array or a configuration with so many
+-- members takes, as the sum of its parts.
 use Prim.Native.Nat.{ℕ, _+_}
 use mathlib.Core.Bool.{true, not}
 use mathlib.Core.List.{List, _++_}
@@ -59,7 +60,8 @@ abbrev pub StringsFit : OctetsParameter → OctetsParameter → OctetsParameter 
 StringsFit jrc network prefix = (jrcInRange jrc ≡ true) × (octetsInRange network ≡ true) × (octetsInRange prefix ≡ true)
 
 abbrev pub stringsBytes : OctetsParameter → OctetsParameter → OctetsParameter → List ℕ
-stringsBytes jrc network prefix = (encodePairs (octetsPairs 4 jrc) ++ encodePairs (octetsPairs 5 network)) ++ encodePairs (octetsPairs 6 prefix)
+stringsBytes jrc network prefix =
+    (encodePairs (octetsPairs 4 jrc) ++ encodePairs (octetsPairs 5 network)) ++ encodePairs (octetsPairs 6 prefix)
 
 abbrev pub stringsLength : OctetsParameter → OctetsParameter → OctetsParameter → ℕ
 stringsLength jrc network prefix =

@@ -10,7 +10,8 @@ use lib.ListN.{length, take, drop, set, getD, length-set}
 use lib.Seq.{drop-cons, drop-set-lt, getD-set-same}
 
 -- one byte further
-pub part-cons : (s : List ℕ) (i end : ℕ) → i < end → end ≤ length s → take (end - i) (drop i s) ≡ getD s i 0 ∷ take (end - (i + 1)) (drop (i + 1) s)
+pub part-cons : (s : List ℕ) (i end : ℕ) → i < end → end ≤ length s
+    → take (end - i) (drop i s) ≡ getD s i 0 ∷ take (end - (i + 1)) (drop (i + 1) s)
 part-cons s i end h l =
     let e : end - i ≡ suc (end - (i + 1)) = omega arith in
     let g : i < length s = omega arith in

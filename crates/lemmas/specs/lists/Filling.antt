@@ -24,7 +24,8 @@ prefix : {A : Type 0} (f : ℕ → A) (t : List A) (i : ℕ) (v : A)
 unfolding table
 prefix f t i v h e q = rw (add-one, take-suc-set, e, q)
 
-pub step : {A : Type 0} {n : ℕ} {f : ℕ → A} {t : List A} {i : ℕ} {v : A} → Filling n f t i → i < n → v ≡ f i → Filling n f (set t i v) (i + 1)
+pub step : {A : Type 0} {n : ℕ} {f : ℕ → A} {t : List A} {i : ℕ} {v : A} → Filling n f t i → i < n → v ≡ f i
+    → Filling n f (set t i v) (i + 1)
 step {A} {n} {f} {t} {i} {v} s h q =
     record { low = omega arith; long = length-set t i v ∙ s .long; so-far = prefix f t i v (omega arith) (s .so-far) q }
 

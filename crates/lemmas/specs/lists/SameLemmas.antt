@@ -29,7 +29,8 @@ equal-bits d a b e =
 differing : (d a b : ℕ) (e : Bool) → eqb a b ≡ e → eqb (bitOr d (bitXor a b)) 0 ≡ (eqb d 0 && e)
 differing d a b true h = let q : a ≡ b = eqb-true a b h in rw (q, xor-self b, or-zero-r d) (sym (and-true (eqb d 0)))
 differing d a b false h =
-    ne-eqb (bitOr d (bitXor a b)) 0 (λ z. let t : eqb a b ≡ true = eq-eqb a b (equal-bits d a b z) in let w : _≡_ {A = ℕ} 0 1 = cc in omega arith)
+    ne-eqb (bitOr d (bitXor a b)) 0
+    (λ z. let t : eqb a b ≡ true = eq-eqb a b (equal-bits d a b z) in let w : _≡_ {A = ℕ} 0 1 = cc in omega arith)
     ∙ sym (and-false (eqb d 0))
 
 pub compare-step : {n : ℕ} {s u : List ℕ} {d i : ℕ} → Comparing n s u d i → i < length s → i < length u → i < n
@@ -54,7 +55,8 @@ same-equal [] [] e = refl
 same-equal [] (y ∷ u) e = absurd (let w : _≡_ {A = ℕ} 0 1 = cc in omega arith)
 same-equal (x ∷ s) [] e = absurd (let w : _≡_ {A = ℕ} 0 1 = cc in omega arith)
 same-equal (x ∷ s) (y ∷ u) e =
-    ap₂ (λ (z : ℕ) (l : List ℕ). z ∷ l) (eqb-true x y (both-left (eqb x y) (same s u) e)) (same-equal s u (both-right (eqb x y) (same s u) e))
+    ap₂ (λ (z : ℕ) (l : List ℕ). z ∷ l) (eqb-true x y (both-left (eqb x y) (same s u) e))
+    (same-equal s u (both-right (eqb x y) (same s u) e))
 
 pub same-refl : (l : List ℕ) → same l l ≡ true
 unfolding same

@@ -22,7 +22,8 @@ getD-table zero f d i h = absurd (not-suc-le-zero h)
 getD-table (suc n) f d i h =
     ⊎-elim
     (λ (e : i ≡ n). getD-at (table n f) (f n) [] d i (length-table n f ∙ sym e) ∙ ap f (sym e))
-    (λ (k : i < n). List·getD-append (table n f) (f n ∷ []) d i (subst (λ (m : ℕ). i < m) (sym (length-table n f)) k) ∙ getD-table n f d i k)
+    (λ (k : i < n). List·getD-append (table n f) (f n ∷ []) d i (subst (λ (m : ℕ). i < m) (sym (length-table n f)) k)
+    ∙ getD-table n f d i k)
     (eq-or-lt-of-le (le-of-suc-le-suc h))
 
 -- a list is the table of its entries

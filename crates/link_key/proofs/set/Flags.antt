@@ -68,7 +68,8 @@ module _ (seen : List ℕ) (d i : ℕ) (room : d % 8 < length seen) where
   flag-set : flagged (flag seen d) i ≡ (flagged seen i || eqb d i)
   flag-set = go (eqb (i % 8) (d % 8)) refl (eqb (i / 8) (d / 8)) refl
     where
-      go : (p : Bool) → eqb (i % 8) (d % 8) ≡ p → (q : Bool) → eqb (i / 8) (d / 8) ≡ q → flagged (flag seen d) i ≡ (flagged seen i || eqb d i)
+      go : (p : Bool) → eqb (i % 8) (d % 8) ≡ p → (q : Bool) → eqb (i / 8) (d / 8) ≡ q
+          → flagged (flag seen d) i ≡ (flagged seen i || eqb d i)
       go false e q f =
           let apart = eqb-false (i % 8) (d % 8) e in
           rw (getD-set-other seen (d % 8) (i % 8) more 0 apart, ne-eqb d i (λ z. apart (ap (λ (n : ℕ). n % 8) (sym z))))
@@ -117,7 +118,11 @@ module _ (seen : List ℕ) (k : Key) where
       validKey k ≡ true →
       set seen (k .identifier % 8) (bitOr (getD seen (k .identifier % 8) 0) ((1 * 2 ^ (k .identifier / 8)) % 2 ^ 32)) ≡ noted seen k
   unfolding noted
-  set-in ok = rw (ok, shl-exact {a = 1} 1 (k .identifier / 8) 32 (omega (arith, byte-high k ok)) (omega (arith, byte-high k ok)), one-mul (2 ^ (k .identifier / 8)))
+  set-in ok = rw (
+    ok,
+    shl-exact {a = 1} 1 (k .identifier / 8) 32 (omega (arith, byte-high k ok)) (omega (arith, byte-high k ok)),
+    one-mul (2 ^ (k .identifier / 8)),
+  )
 
   pub outside-none : validKey k ≡ false → (joins seen k ≡ false) × (noted seen k ≡ seen)
   unfolding joins noted
@@ -130,7 +135,8 @@ module _ (seen : List ℕ) (k : Key) where
         record {
           words = length-set seen (k .identifier % 8) _ ∙ so-far .words;
           flags = λ i.
-              flag-set seen (k .identifier) i (omega (arith, so-far .words)) ∙ rw (so-far .flags i, has-append i ks (k ∷ []), or-false (eqb (k .identifier) i));
+              flag-set seen (k .identifier) i (omega (arith, so-far .words))
+              ∙ rw (so-far .flags i, has-append i ks (k ∷ []), or-false (eqb (k .identifier) i));
         }
 
     noted-exact : Exactly (noted seen k) (cond (validKey k) (ks ++ (k ∷ [])) ks)

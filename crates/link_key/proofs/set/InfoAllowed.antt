@@ -26,7 +26,10 @@ module _ (allowed : Bool) (xs : List Key) (n i : ℕ) (few : n ≤ length xs) (h
   rest = drop (i + 1) (take n xs)
 
   pub allowed-bad : (allowed || hasNoAdditionalInfo (getD xs i d)) ≡ false → additionalInfoAllowed allowed (take n xs) ≡ false
-  allowed-bad f = e ∙ turn xs (additionalInfoAllowed allowed) n i d few h ∙ one-not allowed (hasNoAdditionalInfo (getD xs i d)) (noAdditionalInfos rest) f
+  allowed-bad f = e ∙ turn xs (additionalInfoAllowed allowed) n i d few h
+      ∙ one-not allowed (hasNoAdditionalInfo (getD xs i d)) (noAdditionalInfos rest) f
 
-  pub allowed-more : (allowed || hasNoAdditionalInfo (getD xs i d)) ≡ true → additionalInfoAllowed allowed (take n xs) ≡ additionalInfoAllowed allowed rest
-  allowed-more f = e ∙ turn xs (additionalInfoAllowed allowed) n i d few h ∙ one-may allowed (hasNoAdditionalInfo (getD xs i d)) (noAdditionalInfos rest) f
+  pub allowed-more : (allowed || hasNoAdditionalInfo (getD xs i d)) ≡ true
+      → additionalInfoAllowed allowed (take n xs) ≡ additionalInfoAllowed allowed rest
+  allowed-more f = e ∙ turn xs (additionalInfoAllowed allowed) n i d few h
+      ∙ one-may allowed (hasNoAdditionalInfo (getD xs i d)) (noAdditionalInfos rest) f

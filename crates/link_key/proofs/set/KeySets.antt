@@ -9,7 +9,8 @@ use borrow.Author.Tests.{leb-true, eqb-true, eqb-false, eq-eqb, ne-eqb, le-leb, 
 use lib.Dec.{leb, eqb}
 use lib.ListN.{length, length-take}
 use Rattle.link_key.specs.Key.{validKey, hasNoAdditionalInfo, sameKey}
-use Rattle.link_key.specs.set.KeySet.{keysOf, noKeys, named, has, validKeys, validSet, allValid, noneTwice, eachOnce, noAdditionalInfos, sameKeys, shares, Apart}
+use Rattle.link_key.specs.set.KeySet.{keysOf, noKeys, named, has, validKeys, validSet, allValid}
+use Rattle.link_key.specs.set.KeySet.{noneTwice, eachOnce, noAdditionalInfos, sameKeys, shares, Apart}
 use Rattle.link_key.specs.set.KeySet.{findKey}
 use Rattle.link_key.specs.declared.Key.{Key}
 use Rattle.link_key.specs.declared.additional_info.AdditionalInfo.the-variants.{Absent}
@@ -88,18 +89,28 @@ twice-step l k ks js h below = go (eqb (l .identifier) (k .identifier)) refl
   where
     go : (b : Bool) → eqb (l .identifier) (k .identifier) ≡ b → noneTwice (l ∷ (ks ++ (k ∷ js))) ≡ false
     go true e =
-        rw (any-append (named (l .identifier)) ks (k ∷ js), same-number (k .identifier) (l .identifier), e, or-true (has (l .identifier) ks))
+        rw
+        (any-append (named (l .identifier)) ks (k ∷ js), same-number (k .identifier) (l .identifier), e, or-true (has (l .identifier) ks))
     go false e = let before = rw e at h in rw (below before) (and-false (not (has (l .identifier) (ks ++ (k ∷ js)))))
 
 some-twice : (ks : List Key) (k : Key) (js : List Key) → has (k .identifier) ks ≡ true → noneTwice (ks ++ (k ∷ js)) ≡ false
 some-twice [] k js h = never false h refl
 some-twice (l ∷ ks) k js h = twice-step l k ks js h (some-twice ks k js)
 
-pub once-more : (ks : List Key) (k : Key) → eachOnce ks ≡ true → validKey k ≡ true → has (k .identifier) ks ≡ false → eachOnce (ks ++ (k ∷ [])) ≡ true
+pub once-more : (ks : List Key) (k : Key) → eachOnce ks ≡ true → validKey k ≡ true → has (k .identifier) ks ≡ false
+    → eachOnce (ks ++ (k ∷ [])) ≡ true
 once-more ks k e ok new =
-    rw (limits-append ks (k ∷ []), none-twice-append ks k, both-left (allValid ks) (noneTwice ks) e, both-right (allValid ks) (noneTwice ks) e, ok, new)
+    rw (
+      limits-append ks (k ∷ []),
+      none-twice-append ks k,
+      both-left (allValid ks) (noneTwice ks) e,
+      both-right (allValid ks) (noneTwice ks) e,
+      ok,
+      new,
+    )
 
-pub not-once : (ks : List Key) (k : Key) (js : List Key) → (validKey k && not (has (k .identifier) ks)) ≡ false → eachOnce (ks ++ (k ∷ js)) ≡ false
+pub not-once : (ks : List Key) (k : Key) (js : List Key) → (validKey k && not (has (k .identifier) ks)) ≡ false
+    → eachOnce (ks ++ (k ∷ js)) ≡ false
 not-once ks k js e = go (validKey k) refl (has (k .identifier) ks) refl
   where
     go : (b : Bool) → validKey k ≡ b → (c : Bool) → has (k .identifier) ks ≡ c → eachOnce (ks ++ (k ∷ js)) ≡ false

@@ -84,7 +84,8 @@ gathered ks ids i d h k e =
     rw (add-one i, take-suc-set ids i (getD ks i d .identifier) k, e, take-suc ks i d h, map-append (take i ks) (getD ks i d ∷ []))
 
 pub all-gathered :
-    (ks : List Key) (ids : List ℕ) (i : ℕ) → length ks ≤ i → length ids ≤ i → take i ids ≡ map identifierOf (take i ks) → ids ≡ map identifierOf ks
+    (ks : List Key) (ids : List ℕ) (i : ℕ) → length ks ≤ i → length ids ≤ i → take i ids ≡ map identifierOf (take i ks)
+    → ids ≡ map identifierOf ks
 all-gathered ks ids i h k e = sym (take-all i ids k) ∙ e ∙ ap (map identifierOf) (take-all i ks h)
 
 pub same-keys-turn :
@@ -92,4 +93,7 @@ pub same-keys-turn :
     sameKeys (drop i (take n xs)) (drop i (take n ys)) ≡
     (sameKey (getD xs i d) (getD ys i e) && sameKeys (drop (i + 1) (take n xs)) (drop (i + 1) (take n ys)))
 same-keys-turn xs ys n i d e few many h =
-    rw (turn xs (λ (ks : List Key). sameKeys ks (drop i (take n ys))) n i d few h, turn ys (sameKeys (getD xs i d ∷ drop (i + 1) (take n xs))) n i e many h)
+    rw (
+      turn xs (λ (ks : List Key). sameKeys ks (drop i (take n ys))) n i d few h,
+      turn ys (sameKeys (getD xs i d ∷ drop (i + 1) (take n xs))) n i e many h,
+    )

@@ -7,7 +7,8 @@ use mathlib.Core.Option.{none, some}
 use lib.ListN.{length}
 use Rattle.link_key.specs.usage.Usage.{listed, knownType, usageOf, entryAt, entrySays}
 use Rattle.link_key.specs.Key.{validKey, hasNoAdditionalInfo, sameKey, covers, coverageOf, coverageSays}
-use Rattle.link_key.specs.set.KeySet.{keysOf, noKeys, has, validKeys, validSet, noneTwice, allValid, noAdditionalInfos, sameKeys, shares, Apart}
+use Rattle.link_key.specs.set.KeySet.{keysOf, noKeys, has, validKeys, validSet, noneTwice}
+use Rattle.link_key.specs.set.KeySet.{allValid, noAdditionalInfos, sameKeys, shares, Apart}
 use Rattle.link_key.specs.set.KeySet.{findKey}
 use Rattle.link_key.specs.declared.Key.{Key}
 use Rattle.link_key.specs.declared.additional_info.AdditionalInfo.the-variants.{Absent}
@@ -18,7 +19,8 @@ pub record KeyLaws : Type 0 where
   -- the usage list and what a key covers; 13 is RANGE
   pub entry-says : (usage : ℕ) → entrySays (entryAt usage) ≡ cond (listed usage) (0, some (usageOf usage)) (13, none)
   pub coverage-says :
-      (k : Key) (type : ℕ) → coverageSays (coverageOf k type) ≡ cond (knownType type && listed (k .usage)) (0, some (covers k type)) (13, none)
+      (k : Key) (type : ℕ)
+      → coverageSays (coverageOf k type) ≡ cond (knownType type && listed (k .usage)) (0, some (covers k type)) (13, none)
   pub coverage-covered : (k : Key) (type : ℕ) → type ≤ 1 → k .usage ≤ 14 → coverageOf k type ≡ Covered (covers k type)
   pub covers-known-type : (k : Key) (type : ℕ) → covers k type ≡ true → type ≤ 1
   pub covers-listed : (k : Key) (type : ℕ) → covers k type ≡ true → k .usage ≤ 14

@@ -12,7 +12,8 @@ ghost use lib.Dec.{eqb};
 ghost use mathlib.Core.List.{map};
 ghost use lib.ListN.{length, take, drop};
 ghost use Rattle.link_key.specs.set.Lists.{anyOf};
-ghost use Rattle.link_key.specs.set.KeySet.{keysOf, identifierOf, noKeys, has, eachOnce, validSet, noAdditionalInfos, additionalInfoAllowed, sameKeys, shares, findKey};
+ghost use Rattle.link_key.specs.set.KeySet.{keysOf, identifierOf, noKeys, has, eachOnce, validSet};
+ghost use Rattle.link_key.specs.set.KeySet.{noAdditionalInfos, additionalInfoAllowed, sameKeys, shares, findKey};
 ghost use Rattle.link_key.specs.Key.{hasNoAdditionalInfo, foundKey};
 
 pub struct KeySet {

@@ -18,8 +18,8 @@ pub fn flags_law()
     ensures { λ r. ⌜ SeenLaws ⌝ }
 {}
 
-// One key more of a set: whether it is in its limits and its flag was clear. A key in its limits sets its flag. Identifiers that follow each
-// other have their flags in different words, so that a key need not wait for the word that the one before it stored.
+// One key more of a set: whether it is in its limits and its flag was clear. A key in its limits sets its flag. Identifiers that follow
+// each other have their flags in different words, so that a key need not wait for the word that the one before it stored.
 pub fn join(seen: &mut [u32; 8], key: Key) -> bool
     ensures told { λ r. ⌜ r ≡ joins (now (seen .entry)) key ⌝ }
     ensures after { λ r. ⌜ now (seen .exit) ≡ noted (now (seen .entry)) key ⌝ }

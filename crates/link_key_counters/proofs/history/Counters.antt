@@ -19,7 +19,8 @@ use Rattle.link_key.specs.set.Lists.{firstOf}
 use Rattle.link_key.specs.declared.set.key_set.KeySet.{KeySet}
 use Rattle.link_key.proofs.set.Lists.{first-is}
 use Rattle.link_key.proofs.set.KeySets.{has-none, valid-set, valid-few}
-use Rattle.link_key_counters.specs.Counters.{Slot, slot, slotsFrom, slotsOf, serves, firstServing, raised, counterIn, keptCounter, keptCounters, inheritCounters}
+use Rattle.link_key_counters.specs.Counters.{Slot, slot, slotsFrom, slotsOf, serves, firstServing, raised}
+use Rattle.link_key_counters.specs.Counters.{counterIn, keptCounter, keptCounters, inheritCounters}
 use Rattle.link_key_counters.specs.declared.CountedSet.{CountedSet}
 use Rattle.link_key_counters.specs.history.Kept.{Holds, Sound, KeptLaws}
 
@@ -108,7 +109,8 @@ slot-placed i cs (k ∷ ks) x (List·Memᴰ·tail m) =
 
 -- the key that was sent with has the first such place, where no identifier comes twice
 same-step :
-    (b : Bool) (k l : Key) (i p : ℕ) (o : Option ℕ) → sameSecret l k ≡ b → (sameSecret l k ≡ true → ⊥) → o ≡ some p → cond b (some i) o ≡ some p
+    (b : Bool) (k l : Key) (i p : ℕ) (o : Option ℕ) → sameSecret l k ≡ b → (sameSecret l k ≡ true → ⊥) → o ≡ some p
+    → cond b (some i) o ≡ some p
 same-step true k l i p o t f e = absurd (f t)
 same-step false k l i p o t f e = e
 
@@ -197,7 +199,8 @@ kept-same s l k e = rw (secret-identifier l k e, secret-value l k e)
 -- where a list is written key by key by f, the place of the key holds what f says of it
 module _ (f : Key → ℕ) (k : Key) (v : ℕ) (says : (l : Key) → sameSecret l k ≡ true → f l ≡ v) (zs : List ℕ) where
   at-step :
-      (b : Bool) (i p : ℕ) (o : Option ℕ) (front rest : List ℕ) (l : Key) → length front ≡ i → sameSecret l k ≡ b → cond b (some i) o ≡ some p →
+      (b : Bool) (i p : ℕ) (o : Option ℕ) (front rest : List ℕ) (l : Key) → length front ≡ i → sameSecret l k ≡ b →
+      cond b (some i) o ≡ some p →
       (o ≡ some p → getD (front ++ (f l ∷ rest)) p 0 ≡ v) → getD (front ++ (f l ∷ rest)) p 0 ≡ v
   at-step true i p o front rest l h t e below =
       ap (λ (j : ℕ). getD (front ++ (f l ∷ rest)) j 0) (sym (some-same i p e) ∙ sym h) ∙ getD-append-seam front (f l) rest 0 ∙ says l t
@@ -225,7 +228,8 @@ place-found k i (y ∷ ks) l (List·Memᴰ·head p) e =
 place-found k i (y ∷ ks) l (List·Memᴰ·tail m) e =
     found-step (sameSecret y k) i (placeFrom k (i + 1) ks) (λ f. place-found k (i + 1) ks l m e)
 
-succeeded-keeps : (s : CountedSet) (keys : KeySet) (k : Key) → Holds k (keysOf keys) → keptCounter (inheritCounters s keys) k ≡ keptCounter s k
+succeeded-keeps : (s : CountedSet) (keys : KeySet) (k : Key) → Holds k (keysOf keys)
+    → keptCounter (inheritCounters s keys) k ≡ keptCounter s k
 unfolding inheritCounters counterAt
 succeeded-keeps s keys k h =
     let ks = keysOf keys in

@@ -26,10 +26,12 @@ returns : tie.Need-returns
 returns c =
     let images = c .before .before in
     let keys = images .before in
-    network-runs (keys .before .before .number-range-law .ensures) (keys .laws2 .ensures) (keys .before .laws .ensures) (c .node-runs-law .ensures)
+    network-runs (keys .before .before .number-range-law .ensures) (keys .laws2 .ensures) (keys .before .laws .ensures)
+    (c .node-runs-law .ensures)
     (c .before .calls-valid-law .ensures) (images .laws3 .ensures .node)
 
 pub network-runs-law-spec : {M : Type 1} → statement M
 network-runs-law-spec =
     tie.close
-    (tie.spec number-range-law-requires laws-requires laws-requires-2 laws-requires-3 calls-valid-law-requires node-runs-law-requires returns)
+    (tie.spec number-range-law-requires laws-requires laws-requires-2 laws-requires-3 calls-valid-law-requires
+    node-runs-law-requires returns)

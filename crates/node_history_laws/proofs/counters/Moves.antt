@@ -26,7 +26,8 @@ use Rattle.node_key_sets.specs.declared.sets.KeySets.{KeySets}
 use Rattle.node_attempt.specs.Poll as attempt
 use Rattle.node_attempt.specs.declared.poll.Due.the-variants as due
 use Rattle.node_attempt.specs.declared.delivery.Delivery.{Delivery}
-use Rattle.node.specs.Delivery.{placementOf, fitted, configured, undelivered, owesIdentifier, placedBy, apply, deliverVerdict, applyRead, deliverBy, readFor, deliver}
+use Rattle.node.specs.Delivery.{placementOf, fitted, configured, undelivered, owesIdentifier, placedBy}
+use Rattle.node.specs.Delivery.{apply, deliverVerdict, applyRead, deliverBy, readFor, deliver}
 use Rattle.node.specs.Frames.{send, reported, reportedBy, verified}
 use Rattle.node.specs.Node.{isBorder}
 use Rattle.node.specs.Range.{valid}
@@ -38,7 +39,8 @@ use Rattle.node_laws.specs.Laws.{NodeLaws}
 
 pub data Move (border : Bool) (s t : KeySets) : Type 0 where
   stays : t ≡ s → Move border s t
-  counts : (type : ℕ) (x : Slot) → firstServing type (s .active) ≡ some x → t ≡ twoSets (raised (s .active) x) (s .pending) → Move border s t
+  counts : (type : ℕ) (x : Slot) → firstServing type (s .active) ≡ some x → t ≡ twoSets (raised (s .active) x) (s .pending)
+      → Move border s t
   installs : (set : KeySet) → t ≡ install border s set .sets → Move border s t
   switches : t ≡ switched s → Move border s t
 
@@ -77,9 +79,11 @@ module _ (delivery : Delivery) (n : Node) (time : ℕ) where
       go :
           (b : Bool) →
           Moved
-          (cond b (undelivered refusal.Owed n) (placedBy (placementOf n (c .keys) .verdict) delivery n time c (placementOf n (c .keys) .sets)) .node .sets)
+          (cond b (undelivered refusal.Owed n)
+          (placedBy (placementOf n (c .keys) .verdict) delivery n time c (placementOf n (c .keys) .sets)) .node .sets)
       go true = stays refl
-      go false = placed-moves (placementOf n (c .keys) .verdict) c (placementOf n (c .keys) .sets) (taken-moves (c .keys .disposition) (c .keys .value))
+      go false = placed-moves (placementOf n (c .keys) .verdict) c (placementOf n (c .keys) .sets)
+          (taken-moves (c .keys .disposition) (c .keys .value))
 
   read-moves : (v : Verdict) (c : Configuration) → Moved (applyRead v delivery n time c .node .sets)
   read-moves (verdict.Refused k) c = stays refl
@@ -112,7 +116,8 @@ report-moves n type identifier = go (valid n)
 
 -- ---- every call
 module _ (L : NodeLaws) (A : AnswersSay) where
-  send-moves : (n : Node) (type : ℕ) (v : Verdict) → send n type .verdict ≡ v → Move (isBorder n) (n .sets) (perform (sending type) n .node .sets)
+  send-moves : (n : Node) (type : ℕ) (v : Verdict) → send n type .verdict ≡ v
+      → Move (isBorder n) (n .sets) (perform (sending type) n .node .sets)
   unfolding perform
   send-moves n type verdict.Accepted e =
       let c = A .send-counts n type e in counts type (c .slot) (c .first) (ap (λ (m : Node). m .sets) (c .after))

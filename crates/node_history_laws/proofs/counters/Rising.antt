@@ -44,7 +44,8 @@ keys-valid : (n : Node) → Valid n → sets.valid (isBorder n) (n .sets) ≡ tr
 unfolding valid
 keys-valid n v =
     as-valid (allowsAdditionalInfo (n .version)) (isBorder n) (n .sets)
-    (first (sets.validAs (allowsAdditionalInfo (n .version)) (isBorder n) (n .sets)) (attempt.valid (n .attempt)) (validAddress (clockOf n) (n .address))
+    (first (sets.validAs (allowsAdditionalInfo (n .version)) (isBorder n) (n .sets)) (attempt.valid (n .attempt))
+    (validAddress (clockOf n) (n .address))
     (othersValid n) v)
 
 -- ---- both sets have eight counters
@@ -58,7 +59,8 @@ made-sized version role network = go (validRole role) (validOctets network)
   where
     go :
         (r o : Bool) →
-        Sized (cond r (cond o (record { verdict = Accepted; node = freshNode version role (knownOctets network) }) unmade) unmade .node .sets)
+        Sized
+        (cond r (cond o (record { verdict = Accepted; node = freshNode version role (knownOctets network) }) unmade) unmade .node .sets)
     go true true = record { active = refl; pending = refl }
     go true false = record { active = refl; pending = refl }
     go false o = record { active = refl; pending = refl }
@@ -94,7 +96,8 @@ module _ (P : KeptLaws) where
 module _ (K : KeyLaws) (C : CounterLaws) (P : KeptLaws) (L : NodeLaws) (A : AnswersSay) where
   after-sized : (n : Node) (cs : List NodeCall) → Sized (n .sets) → Sized (after n cs .sets)
   after-sized n [] z = z
-  after-sized n (c ∷ cs) z = after-sized (perform c n .node) cs (move-sized P (isBorder n) (n .sets) (perform c n .node .sets) z (moves L A c n))
+  after-sized n (c ∷ cs) z =
+      after-sized (perform c n .node) cs (move-sized P (isBorder n) (n .sets) (perform c n .node .sets) z (moves L A c n))
 
   after-valid : (n : Node) (cs : List NodeCall) → Valid n → Valid (after n cs)
   after-valid n [] v = v
@@ -120,7 +123,8 @@ module _ (K : KeyLaws) (C : CounterLaws) (P : KeptLaws) (L : NodeLaws) (A : Answ
     place-keeps s set true false false true h = refl
     place-keeps s set true false false false h = refl
 
-    install-keeps : (border : Bool) (s : KeySets) (set : KeySet) → Holds k (activeIn (install border s set .sets)) → counterOf (install border s set .sets) ≡ counterOf s
+    install-keeps : (border : Bool) (s : KeySets) (set : KeySet) → Holds k (activeIn (install border s set .sets))
+        → counterOf (install border s set .sets) ≡ counterOf s
     unfolding install
     install-keeps border s set h =
         place-keeps s set (validSet set) border (sameKeys (keysOf set) (activeIn s)) (shares (keysOf set) (activeIn s)) h
@@ -155,7 +159,8 @@ module _ (K : KeyLaws) (C : CounterLaws) (P : KeptLaws) (L : NodeLaws) (A : Answ
     held-first n [] h = h
     held-first n (c ∷ cs) h = h .0
 
-    run-rises : (n : Node) (cs : List NodeCall) → Valid n → Sized (n .sets) → Stays k n cs → counterOf (n .sets) ≤ counterOf (after n cs .sets)
+    run-rises : (n : Node) (cs : List NodeCall) → Valid n → Sized (n .sets) → Stays k n cs
+        → counterOf (n .sets) ≤ counterOf (after n cs .sets)
     run-rises n [] v z h = omega arith
     run-rises n (c ∷ cs) v z h =
         let m = perform c n .node in
@@ -167,7 +172,8 @@ module _ (K : KeyLaws) (C : CounterLaws) (P : KeptLaws) (L : NodeLaws) (A : Answ
   -- ---- what a sending answers
   valid-by-answer : (n : Node) (type : ℕ) (b : Bool) → valid n ≡ b → perform (sending type) n .verdict ≡ Accepted → Valid n
   valid-by-answer n type true e a = e
-  valid-by-answer n type false e a = let z : _≡_ {A = ℕ} 0 13 = sym (ap verdictNumber a) ∙ A .invalid (sending type) n e in absurd (omega (arith, z))
+  valid-by-answer n type false e a = let z : _≡_ {A = ℕ} 0 13 = sym (ap verdictNumber a) ∙ A .invalid (sending type) n e in
+      absurd (omega (arith, z))
 
   -- the key and the counter are those of the first active key that serves
   record Told (n : Node) (type : ℕ) (k : Key) (counter : ℕ) : Type 0 where

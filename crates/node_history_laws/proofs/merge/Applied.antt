@@ -114,7 +114,8 @@ equal-place border p q e = record {
 abbrev ordinaryPlace : KeySets → KeySet → Bool → Bool → Bool → InstallResult
 ordinaryPlace sets set allowed same shared =
     cond allowed
-    (cond same (placed (twoSets (sets .active) noCounted)) (cond shared (unplaced refusal.Clash sets) (placed (twoSets (sets .active) (withZeroCounters set)))))
+    (cond same (placed (twoSets (sets .active) noCounted))
+    (cond shared (unplaced refusal.Clash sets) (placed (twoSets (sets .active) (withZeroCounters set)))))
     (unplaced refusal.Range sets)
 
 -- an accepted set leaves an ordinary node's active set
@@ -126,14 +127,16 @@ ordinary-stays sets set true true shared e = refl
 ordinary-stays sets set true false true e = absurd (let z : _≡_ {A = ℕ} 0 1 = cc in omega arith)
 ordinary-stays sets set true false false e = refl
 
-active-stays : (sets : KeySets) (set : KeySet) → install false sets set .verdict ≡ Accepted → install false sets set .sets .active ≡ sets .active
+active-stays : (sets : KeySets) (set : KeySet) → install false sets set .verdict ≡ Accepted
+    → install false sets set .sets .active ≡ sets .active
 unfolding install
 active-stays sets set e =
     ordinary-stays sets set (validSet set) (sameKeys (keysOf set) (activeIn sets)) (shares (keysOf set) (activeIn sets)) e
 
 -- two pairs of sets with the same active one take an accepted set alike
 alike-by :
-    (a b : KeySets) (set : KeySet) (allowed same shared : Bool) → b .active ≡ a .active → ordinaryPlace b set allowed same shared .verdict ≡ Accepted →
+    (a b : KeySets) (set : KeySet) (allowed same shared : Bool) → b .active ≡ a .active →
+    ordinaryPlace b set allowed same shared .verdict ≡ Accepted →
     ordinaryPlace a set allowed same shared ≡ ordinaryPlace b set allowed same shared
 alike-by a b set false same shared h e = absurd (let z : _≡_ {A = ℕ} 0 1 = cc in omega arith)
 alike-by a b set true true shared h e = rw h
@@ -141,7 +144,8 @@ alike-by a b set true false true h e = absurd (let z : _≡_ {A = ℕ} 0 1 = cc 
 alike-by a b set true false false h e = rw h
 
 install-alike :
-    (a b : KeySets) (set : KeySet) → b .active ≡ a .active → install false b set .verdict ≡ Accepted → install false a set ≡ install false b set
+    (a b : KeySets) (set : KeySet) → b .active ≡ a .active → install false b set .verdict ≡ Accepted
+    → install false a set ≡ install false b set
 unfolding install
 install-alike a b set h e =
     let keys : activeIn b ≡ activeIn a = ap (λ (s : CountedSet). keysOf (s .set)) h in
@@ -169,7 +173,8 @@ module _ (C : CounterLaws) where
   }
   border-by a b set false e = absurd (let z : _≡_ {A = ℕ} 0 1 = cc in omega arith)
 
-  border-alike : (a b : KeySets) (set : KeySet) → install true b set .verdict ≡ Accepted → SamePlace true (install true a set) (install true b set)
+  border-alike : (a b : KeySets) (set : KeySet) → install true b set .verdict ≡ Accepted
+      → SamePlace true (install true a set) (install true b set)
   unfolding install
   border-alike a b set e = border-by a b set (validSet set) e
 
@@ -213,11 +218,13 @@ merged-place border sets f s Taken e = rw e
 merged-place border sets f s Discarded e = rw e
 
 -- ---- the node
-placed-accepted : (v : Verdict) (n : Node) (time : ℕ) (c : Configuration) (sets : KeySets) → placedBy v Update n time c sets .verdict ≡ Accepted → v ≡ Accepted
+placed-accepted : (v : Verdict) (n : Node) (time : ℕ) (c : Configuration) (sets : KeySets)
+    → placedBy v Update n time c sets .verdict ≡ Accepted → v ≡ Accepted
 placed-accepted Accepted n time c sets e = refl
 placed-accepted (Refused k) n time c sets e = absurd (let z : _≡_ {A = ℕ} 0 1 = cc in omega arith)
 
-pub placement-accepted : (n : Node) (time : ℕ) (c : Configuration) → apply Update n time c .verdict ≡ Accepted → placementOf n (c .keys) .verdict ≡ Accepted
+pub placement-accepted : (n : Node) (time : ℕ) (c : Configuration) → apply Update n time c .verdict ≡ Accepted
+    → placementOf n (c .keys) .verdict ≡ Accepted
 unfolding apply
 placement-accepted n time c e = placed-accepted (placementOf n (c .keys) .verdict) n time c (placementOf n (c .keys) .sets) e
 
@@ -225,7 +232,8 @@ abbrev pub after : Node → ℕ → Configuration → Node
 after n time c = configured Update n time c (placementOf n (c .keys) .sets) (dispositionsOf (isBorder n) c)
 
 placed-by : (v : Verdict) (n : Node) (time : ℕ) (c : Configuration) (sets : KeySets) → v ≡ Accepted
-    → placedBy v Update n time c sets ≡ delivered (dispositionsOf (isBorder n) c) (configured Update n time c sets (dispositionsOf (isBorder n) c))
+    → placedBy v Update n time c sets
+    ≡ delivered (dispositionsOf (isBorder n) c) (configured Update n time c sets (dispositionsOf (isBorder n) c))
 placed-by v n time c sets e = rw e
 
 pub apply-is : (n : Node) (time : ℕ) (c : Configuration) → placementOf n (c .keys) .verdict ≡ Accepted
@@ -278,7 +286,8 @@ module _ (C : CounterLaws) (n : Node) (time : ℕ) (f s : Configuration) (x : Of
     -- the sets of the two nodes, seen as they are or with their counters at 0
     seen-alike :
         (seen : KeySets → KeySets) → seen (placementOf n (merged f s .keys) .sets) ≡ seen (placementOf (after n time f) (s .keys) .sets) →
-        keyed (after n time (merged f s)) (seen (after n time (merged f s) .sets)) ≡ keyed (after (after n time f) time s) (seen (after (after n time f) time s .sets))
+        keyed (after n time (merged f s)) (seen (after n time (merged f s) .sets))
+        ≡ keyed (after (after n time f) time s) (seen (after (after n time f) time s .sets))
     unfolding configured dispositionsOf
     seen-alike seen same =
         node-of (attempting n (attemptAfter Update (n .attempt) time)) same
@@ -286,12 +295,14 @@ module _ (C : CounterLaws) (n : Node) (time : ℕ) (f s : Configuration) (x : Of
         (jrc-as-one (f .jrc) (s .jrc) (n .jrc) (s .jrc .disposition) refl)
         (octets-as-one (isBorder n) (f .network) (s .network) (n .network) (s .network .disposition) refl)
         (octets-as-one (isBorder n) (f .prefix) (s .prefix) (n .prefix) (s .prefix .disposition) refl)
-        (sym (list-stays (s .blacklist) (listAfter (f .blacklist) (n .blacklist)) (y .blacklist) ∙ list-stays (f .blacklist) (n .blacklist) (x .blacklist)))
+        (sym (list-stays (s .blacklist) (listAfter (f .blacklist) (n .blacklist)) (y .blacklist)
+        ∙ list-stays (f .blacklist) (n .blacklist) (x .blacklist)))
         (sym (rate-stays (s .rate) (rateAfter (f .rate) (n .rate)) (y .rate) ∙ rate-stays (f .rate) (n .rate) (x .rate)))
         (none-reported (merged f s) refl ∙ sym (none-reported s (y .met)))
 
     same-after : uncounted (after n time (merged f s)) ≡ uncounted (after (after n time f) time s)
-    same-after = seen-alike (λ (x : KeySets). twoSets (withZeroCounters (x .active .set)) (withZeroCounters (x .pending .set))) (rw (sets .active, sets .pending))
+    same-after = seen-alike (λ (x : KeySets). twoSets (withZeroCounters (x .active .set)) (withZeroCounters (x .pending .set)))
+        (rw (sets .active, sets .pending))
 
     ordinary-after : isBorder n ≡ false → after n time (merged f s) ≡ after (after n time f) time s
     ordinary-after b = seen-alike (λ (x : KeySets). x) (sets .ordinary b)
@@ -304,7 +315,8 @@ merged-applies C n time f s x y e h =
     let place = same-place C n time f s x y first second in
     let joined = ap (λ (d : DeliveryResult). d .node) (apply-is n time (merged f s) (place .verdict ∙ second)) in
     let parted : after (after n time f) time s ≡ apply Update (apply Update n time f .node) time s .node =
-    sym (ap (λ (d : DeliveryResult). d .node) (apply-is (after n time f) time s second)) ∙ ap (λ (m : Node). apply Update m time s .node) (sym between) in
+    sym (ap (λ (d : DeliveryResult). d .node) (apply-is (after n time f) time s second))
+    ∙ ap (λ (m : Node). apply Update m time s .node) (sym between) in
     record {
       accepted = ap (λ (d : DeliveryResult). d .verdict) (apply-is n time (merged f s) (place .verdict ∙ second));
       node =

@@ -1,5 +1,5 @@
--- An accepted payload is applied as the configuration that it reads as; the merged one is written, reads back as the same configuration, and so
--- does the same to the node.
+-- An accepted payload is applied as the configuration that it reads as; the merged one is written, reads back as the same configuration,
+-- and so does the same to the node.
 use Prim.Native.Nat.{ℕ, _≤_}
 use mathlib.Core.Path.{_≡_, refl, ap, sym, _∙_, subst}
 use mathlib.Core.Bool.{Bool, true, false, cond, _&&_}
@@ -46,7 +46,8 @@ module _ (n : Node) (time : ℕ) where
   read-accepted Accepted c e = refl
   read-accepted (Refused k) c e = absurd (let z : _≡_ {A = ℕ} 0 1 = cc in omega arith)
 
-  both-accepted : (v : Verdict) (r : ConfigurationRead) → deliverBy v Update n time r .verdict ≡ Accepted → (v ≡ Accepted) × (r .verdict ≡ Accepted)
+  both-accepted : (v : Verdict) (r : ConfigurationRead) → deliverBy v Update n time r .verdict ≡ Accepted
+      → (v ≡ Accepted) × (r .verdict ≡ Accepted)
   both-accepted Accepted r e = (refl, read-accepted (r .verdict) (r .configuration) e)
   both-accepted (Refused k) r e = absurd (let z : _≡_ {A = ℕ} 0 1 = cc in omega arith)
 
@@ -80,9 +81,11 @@ module _ (n : Node) (time : ℕ) where
 
   -- another payload may come where this one may, if it is not LONG
   tests : (v a l m c b : Bool)
-      → cond v (cond a (cond l (cond c (cond b Accepted (Refused refusal.Phase)) (Refused refusal.Clock)) (Refused refusal.Long)) (Refused refusal.Range)) (Refused refusal.Range) ≡ Accepted
+      → cond v (cond a (cond l (cond c (cond b Accepted (Refused refusal.Phase)) (Refused refusal.Clock)) (Refused refusal.Long))
+      (Refused refusal.Range)) (Refused refusal.Range) ≡ Accepted
       → m ≡ true
-      → cond v (cond a (cond m (cond c (cond b Accepted (Refused refusal.Phase)) (Refused refusal.Clock)) (Refused refusal.Long)) (Refused refusal.Range)) (Refused refusal.Range) ≡ Accepted
+      → cond v (cond a (cond m (cond c (cond b Accepted (Refused refusal.Phase)) (Refused refusal.Clock)) (Refused refusal.Long))
+      (Refused refusal.Range)) (Refused refusal.Range) ≡ Accepted
   tests false a l m c b e h = absurd (let z : _≡_ {A = ℕ} 0 1 = cc in omega arith)
   tests true false l m c b e h = absurd (let z : _≡_ {A = ℕ} 0 1 = cc in omega arith)
   tests true true false m c b e h = absurd (let z : _≡_ {A = ℕ} 0 1 = cc in omega arith)
@@ -91,7 +94,8 @@ module _ (n : Node) (time : ℕ) where
   may-come-too : (k len : ℕ) → deliverVerdict Update n time k ≡ Accepted → len ≤ 256 → deliverVerdict Update n time len ≡ Accepted
   unfolding deliverVerdict mayCome
   may-come-too k len e h =
-      tests (valid n) (attempt.valid (n .attempt)) (leb k 256) (leb len 256) (leb (n .attempt .clock) time) (belongs Update (n .attempt .phase)) e
+      tests (valid n) (attempt.valid (n .attempt)) (leb k 256) (leb len 256) (leb (n .attempt .clock) time)
+      (belongs Update (n .attempt .phase)) e
       (le-leb len 256 h)
 
 -- ---- the merged one
@@ -112,12 +116,14 @@ of-draft c i =
       met = eqb-true (c .labels .count) 0 (i .met);
     }
 
-merge-is : (f s : Configuration) → configurationInRange Draft f ≡ true → configurationInRange Draft s ≡ true → mergeAnswer f s .configuration ≡ merged f s
+merge-is : (f s : Configuration) → configurationInRange Draft f ≡ true → configurationInRange Draft s ≡ true
+    → mergeAnswer f s .configuration ≡ merged f s
 unfolding mergeAnswer
 merge-is f s e h = rw (e, h)
 
 module _ (applies : MergedApplies) (laws : MergeLaws) (in-range : ReadsInRange) (first second : Configuration)
-    (largest : LargestConfiguration (mergeAnswer first second .configuration)) (planned : DraftWritten (mergeAnswer first second .configuration))
+    (largest : LargestConfiguration (mergeAnswer first second .configuration))
+    (planned : DraftWritten (mergeAnswer first second .configuration))
     (back : ConfigurationRoundTrip (mergeAnswer first second .configuration)) where
   exact : (p q w : List ℕ) (f s : Configuration) → readConfiguration p .configuration ≡ f → readConfiguration q .configuration ≡ s
       → SameConfiguration (readConfiguration w .configuration) (merged f s) → TakesEqual (readConfiguration w .configuration) (merged f s)
@@ -141,7 +147,8 @@ module _ (applies : MergedApplies) (laws : MergeLaws) (in-range : ReadsInRange) 
       let then : deliver Update m time q ≡ apply Update (apply Update n time first .node) time second =
       twice ∙ ap (λ (k : Node). apply Update k time second) between in
       let one =
-      applies n time first second (of-draft first x) (of-draft second y) (sym (ap (λ (d : DeliveryResult). d .verdict) once) ∙ e) (sym (ap (λ (d : DeliveryResult). d .verdict) then) ∙ h) in
+      applies n time first second (of-draft first x) (of-draft second y) (sym (ap (λ (d : DeliveryResult). d .verdict) once) ∙ e)
+      (sym (ap (λ (d : DeliveryResult). d .verdict) then) ∙ h) in
       let good = laws .in-range first second i j in
       let is : mergeAnswer first second .configuration ≡ merged first second = merge-is first second i j in
       let w = mergedPayload first second in
@@ -153,7 +160,8 @@ module _ (applies : MergedApplies) (laws : MergeLaws) (in-range : ReadsInRange) 
       applied n time old w (may-come-too n time (length p) (length w) (a .0) (omega (arith, short))) (read .accepted) in
       let same : SameConfiguration (readConfiguration w .configuration) (merged first second) =
       subst (λ (c : Configuration). SameConfiguration (readConfiguration w .configuration) c) is (read .same) in
-      let equal : TakesEqual (readConfiguration w .configuration) (merged first second) = exact p q w first second reads-first reads-second same in
+      let equal : TakesEqual (readConfiguration w .configuration) (merged first second) =
+      exact p q w first second reads-first reads-second same in
       let o = applies-exactly n time (readConfiguration w .configuration) (merged first second) equal
       (of-draft (readConfiguration w .configuration) (in-range Draft w (read .accepted)) .met) refl (one .accepted) in
       let comes = ap (λ (d : DeliveryResult). d .node) arrives ∙ o .1 in

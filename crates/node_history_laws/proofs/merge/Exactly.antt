@@ -42,7 +42,8 @@ module _ {A B : Type 0} (made : A → B) (old : B) where
   acts x Taken = refl
   acts x Discarded = refl
 
-  alike : (x y : A) (r s : Disposition) → ifTaken r (some x) none ≡ ifTaken s (some y) none → ifTaken r (made x) old ≡ ifTaken s (made y) old
+  alike : (x y : A) (r s : Disposition) → ifTaken r (some x) none ≡ ifTaken s (some y) none
+      → ifTaken r (made x) old ≡ ifTaken s (made y) old
   alike x y r s e = sym (acts x r) ∙ ap act e ∙ acts y s
 
 abbrev held : Octets → HeldOctets
@@ -67,7 +68,8 @@ border-alike false old p q e = leaves (p .value) old (p .disposition) ∙ sym (l
 module _ (n : Node) (time : ℕ) (c d : Configuration) (t : TakesEqual c d) (x : c .labels .count ≡ 0) (y : d .labels .count ≡ 0) where
   place-alike : placementOf n (c .keys) ≡ placementOf n (d .keys)
   place-alike =
-      alike (λ (s : KeySet). install (isBorder n) (n .sets) s) (placed (n .sets)) (c .keys .value) (d .keys .value) (c .keys .disposition) (d .keys .disposition)
+      alike (λ (s : KeySet). install (isBorder n) (n .sets) s) (placed (n .sets)) (c .keys .value) (d .keys .value) (c .keys .disposition)
+      (d .keys .disposition)
       (t .keys)
 
   after-alike : after n time c ≡ after n time d
@@ -79,7 +81,8 @@ module _ (n : Node) (time : ℕ) (c d : Configuration) (t : TakesEqual c d) (x :
       (alike held (n .jrc) (c .jrc .value) (d .jrc .value) (c .jrc .disposition) (d .jrc .disposition) (t .jrc))
       (border-alike (isBorder n) (n .network) (c .network) (d .network) (t .network))
       (border-alike (isBorder n) (n .prefix) (c .prefix) (d .prefix) (t .prefix))
-      (alike heldList (n .blacklist) (c .blacklist .value) (d .blacklist .value) (c .blacklist .disposition) (d .blacklist .disposition) (t .blacklist))
+      (alike heldList (n .blacklist) (c .blacklist .value) (d .blacklist .value) (c .blacklist .disposition)
+      (d .blacklist .disposition) (t .blacklist))
       (alike heldRate (n .rate) (c .rate .value) (d .rate .value) (c .rate .disposition) (d .rate .disposition) (t .rate))
       (none-reported c x ∙ sym (none-reported d y))
 

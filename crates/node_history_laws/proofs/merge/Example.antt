@@ -26,14 +26,16 @@ use Rattle.node_history_laws.specs.merge.Example.{AcceptedPair, RefusedP
 
 pub accepted-pair : AcceptedPair
 unfolding payloadBy decodeBy heading argument next digits members pairs majorOf bytesOf infoOf extraOf shortest
-    validKey hasNoAdditionalInfo sameKey same validKeys validSet padded octetsJudged isAddress addressIn groups identified used valued payloadReadBy
+    validKey hasNoAdditionalInfo sameKey same validKeys validSet padded octetsJudged isAddress addressIn groups identified used
+    valued payloadReadBy
     laterParameter parameterOf configurationTaking errorReportsValid errorReportsOf
     sets.valid sets.validAs install attempt.valid versionValid valid dispositionsOf fitted configured apply mayCome deliverVerdict deliver
 accepted-pair = record { first = refl; second = refl; written = refl }
 
 pub refused-pair : RefusedPair
 unfolding payloadBy decodeBy heading argument next digits members pairs majorOf bytesOf infoOf extraOf shortest
-    validKey hasNoAdditionalInfo sameKey same validKeys validSet padded octetsJudged isAddress addressIn groups identified used valued payloadReadBy
+    validKey hasNoAdditionalInfo sameKey same validKeys validSet padded octetsJudged isAddress addressIn groups identified used
+    valued payloadReadBy
     laterParameter parameterOf configurationTaking errorReportsValid errorReportsOf
     sets.valid sets.validAs install attempt.valid versionValid valid dispositionsOf fitted configured apply mayCome deliverVerdict deliver
 refused-pair = record { first = refl; merged-all-the-same = refl }

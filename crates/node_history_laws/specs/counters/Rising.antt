@@ -37,7 +37,8 @@ pub record CountersRise : Type 0 where
       Answers (after (made version role network .node) before) type k counter →
       (between : List NodeCall) → Stays k (perform (sending type) (after (made version role network .node) before) .node) between →
       (again : ℕ) (l : Key) (next : ℕ) →
-      Answers (after (perform (sending type) (after (made version role network .node) before) .node) between) again l next → sameSecret l k ≡ true →
+      Answers (after (perform (sending type) (after (made version role network .node) before) .node) between) again l next →
+      sameSecret l k ≡ true →
       counter < next
   -- "4,294,967,295 is never used"
   pub never-last : (n : Node) (type : ℕ) (k : Key) (counter : ℕ) → Answers n type k counter → counter ≡ 4294967295 → ⊥

@@ -1,5 +1,6 @@
--- Two examples at 20,000 ms, on a node that joined with the key of identifier 1. A new key and then an address are accepted: the law speaks of
--- these. A set with another key of identifier 1 is CLASH; merged with the new key it is not there any more, and the merged one is accepted:
+-- Two examples at 20,000 ms, on a node that joined with the key of identifier 1. A new key and then an address are accepted: the law speaks
+-- of these. A set with another key of identifier 1 is CLASH;
+-- merged with the new key it is not there any more, and the merged one is accepted:
 -- the law does not speak of such a pair.
 use Prim.Native.Nat.{ℕ}
 use mathlib.Core.Path.{_≡_}

@@ -1,8 +1,8 @@
--- Joining two updates (document 02, request 10), which is the draft's alone: at one time, where a node accepts the first and then the second,
--- it accepts the merged one, which leaves the same node. Only a joined node that may be handed in accepts an update. Outside this law are
--- reports and passed-over counts, which are no part of the node; a border router's frame counters, since a key that it held, that the first
--- has not and the second has, begins at 0 again after the two; a join answer, whose OWED may differ; and pairs of which one is refused: the
--- merged one may then be accepted all the same (Example).
+-- Joining two updates (document 02, request 10), which is the draft's alone: at one time, where a node accepts the first and then the
+-- second, it accepts the merged one, which leaves the same node. Only a joined node that may be handed in accepts an update. Outside this
+-- law are reports and passed-over counts, which are no part of the node; a border router's frame counters, since a key that it held, that
+-- the first has not and the second has, begins at 0 again after the two; a join answer, whose OWED may differ; and pairs of which one is
+-- refused: the merged one may then be accepted all the same (Example).
 use Prim.Native.Nat.{ℕ, _≤_}
 use mathlib.Core.Path.{_≡_}
 use mathlib.Core.Bool.{true, false}
@@ -29,7 +29,8 @@ use Rattle.node.specs.declared.node.Node.{Node}
 abbrev pub uncounted : Node → Node
 uncounted n = keyed n (twoSets (withZeroCounters (n .sets .active .set)) (withZeroCounters (n .sets .pending .set)))
 
--- two nodes that were made of n: equal in every field, the places that are never looked at among them; of a border router but for its counters
+-- two nodes that were made of n: equal in every field, the places that are never looked at among them;
+-- of a border router but for its counters
 pub record TheSame (n one two : Node) : Type 0 where
   pub but-counters : uncounted one ≡ uncounted two
   pub ordinary : isBorder n ≡ false → one ≡ two

@@ -1,5 +1,5 @@
--- The answers say what they should: proofs/Answers.antt goes by their cases and tests, by the laws of counted sets and by what the reader of
--- configurations takes.
+-- The answers say what they should: proofs/Answers.antt goes by their cases and tests, by the laws of counted sets and by what the reader
+-- of configurations takes.
 use borrow.Author.Needs.{needs}
 use Rattle.node_laws.proofs.Answers.{answers-say}
 use Rattle.node_laws.proofs.answers_law.Statement.{statement}
@@ -20,7 +20,8 @@ laws-requires-2 c κs = search needs
 returns : tie.Need-returns
 returns c =
     let at-reads = c .before .before in
-    answers-say (at-reads .before .laws .ensures) (at-reads .reads-in-range-law .ensures) (c .before .head-laws .ensures) (c .laws2 .ensures)
+    answers-say (at-reads .before .laws .ensures) (at-reads .reads-in-range-law .ensures) (c .before .head-laws .ensures)
+    (c .laws2 .ensures)
 
 pub answers-law-spec : {M : Type 1} → statement M
 answers-law-spec = tie.close (tie.spec laws-requires reads-in-range-law-requires head-laws-requires laws-requires-2 returns)

@@ -29,11 +29,13 @@ returns : tie.Need-returns
 returns c =
     let five = c .before .before .before .before .before in
     let states = c .before .laws4 .ensures in
-    results-fit (five .before .calls-valid-law .ensures) (five .records-contiguous-law .ensures) (c .before .before .before .before .laws .ensures)
+    results-fit (five .before .calls-valid-law .ensures) (five .records-contiguous-law .ensures)
+    (c .before .before .before .before .laws .ensures)
     (c .before .before .before .laws2 .ensures .configuration) (c .before .before .laws3 .ensures .node) (states .proxy) (states .ledger)
     (c .laws5 .ensures .serial)
 
 pub results-valid-law-spec : {M : Type 1} → statement M
 results-valid-law-spec =
     tie.close
-    (tie.spec calls-valid-law-requires records-contiguous-law-requires laws-requires laws-requires-2 laws-requires-3 laws-requires-4 laws-requires-5 returns)
+    (tie.spec calls-valid-law-requires records-contiguous-law-requires laws-requires laws-requires-2 laws-requires-3 laws-requires-4
+    laws-requires-5 returns)

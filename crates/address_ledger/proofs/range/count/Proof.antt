@@ -16,7 +16,8 @@ count-down-requires c κs =
 returns : tie.Need-returns
 returns c =
     let a = c .before .before .before .args in
-    counted-within (a .first) (a .size) (sym (c .before .before .in-limits .ensures) ∙ c .before .if1 .taken) (c .count-down .result) (c .count-down .ensures)
+    counted-within (a .first) (a .size) (sym (c .before .before .in-limits .ensures) ∙ c .before .if1 .taken) (c .count-down .result)
+    (c .count-down .ensures)
 
 returns-2 : tie.Need-returns-2
 returns-2 c =

@@ -35,7 +35,8 @@ returns c =
     let start = c .before .before .before .before .before in
     let laws = c .before .before .before .before .laws .ensures in
     let turn = c .before .before .before .loop in
-    ends-here laws (start .args .first) (start .args .size) (turn .n) (start .pre) (turn .inv .0) (turn .inv .1) (c .before .before .loop-test .taken)
+    ends-here laws (start .args .first) (start .args .size) (turn .n) (start .pre) (turn .inv .0) (turn .inv .1)
+    (c .before .before .loop-test .taken)
     (sym (c .before .is-counted .ensures) ∙ c .if1 .taken)
 
 sub-n : tie.Need-sub-n Inv-loop μ-loop
@@ -50,7 +51,8 @@ loop-again c =
     let laws = c .before .before .before .before .laws .ensures in
     let turn = c .before .before .before .loop in (
       omega arith,
-      goes-on laws (start .args .first) (start .args .size) (turn .n) (start .pre) (turn .inv .0) (turn .inv .1) (c .before .before .loop-test .taken)
+      goes-on laws (start .args .first) (start .args .size) (turn .n) (start .pre) (turn .inv .0) (turn .inv .1)
+          (c .before .before .loop-test .taken)
           (sym (c .before .is-counted .ensures) ∙ c .if1 .left),
     )
 

@@ -24,7 +24,8 @@ returns-2 c =
     let group-end = c .before .before .group-end in
     let find-free = c .before .find-free in
     let if1 = c .before .before .before .if1 in
-    in-group (a .group) (a .count) (group-end .result) (find-free .result) (a .memory .now) (group-end .ensures) (find-free .ensures) (a .mark) (if1 .left) (c .if2 .taken)
+    in-group (a .group) (a .count) (group-end .result) (find-free .result) (a .memory .now) (group-end .ensures) (find-free .ensures)
+    (a .mark) (if1 .left) (c .if2 .taken)
 
 returns-3 : tie.Need-returns-3
 returns-3 c =
@@ -32,7 +33,8 @@ returns-3 c =
     let group-end = c .before .before .group-end in
     let find-free = c .before .find-free in
     let if1 = c .before .before .before .if1 in
-    none-in-group (a .group) (a .count) (group-end .result) (find-free .result) (a .memory .now) (group-end .ensures) (find-free .ensures) (a .mark) (if1 .left) (c .if2 .left)
+    none-in-group (a .group) (a .count) (group-end .result) (find-free .result) (a .memory .now) (group-end .ensures) (find-free .ensures)
+    (a .mark) (if1 .left) (c .if2 .left)
 
 pub find-in-group-spec : {M : Type 1} → statement M
 find-in-group-spec =

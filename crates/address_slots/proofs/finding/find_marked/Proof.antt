@@ -27,7 +27,8 @@ returns c =
     let loop-test = c .before .before .loop-test in
     let find-in-group = c .before .find-in-group in
     let turn = c .before .before .before .loop in
-    pass-found (a .count) (a .memory .now) (a .marks) (turn .left) (turn .group) (turn .inv) (loop-test .taken) (find-in-group .result) (find-in-group .ensures) (c .if1 .taken)
+    pass-found (a .count) (a .memory .now) (a .marks) (turn .left) (turn .group) (turn .inv) (loop-test .taken) (find-in-group .result)
+    (find-in-group .ensures) (c .if1 .taken)
 
 add-group : tie.Need-add-group Inv-loop μ-loop
 add-group c = search needs
@@ -41,7 +42,8 @@ loop-again c =
     let loop-test = c .before .before .loop-test in
     let find-in-group = c .before .find-in-group in
     let turn = c .before .before .before .loop in
-    pass-more (a .count) (a .memory .now) (a .marks) (turn .left) (turn .group) (turn .inv) (loop-test .taken) (find-in-group .result) (find-in-group .ensures) (c .if1 .left)
+    pass-more (a .count) (a .memory .now) (a .marks) (turn .left) (turn .group) (turn .inv) (loop-test .taken) (find-in-group .result)
+    (find-in-group .ensures) (c .if1 .left)
 
 returns-2 : tie.Need-returns-2 Inv-loop μ-loop
 returns-2 c =

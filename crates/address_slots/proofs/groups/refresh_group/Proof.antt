@@ -33,7 +33,8 @@ returns-2 c =
     let any-free = c .before .any-free in
     let with-mark = c .with-mark in
     rw (← fit .ensures)
-    (refreshed-there (a .marks) (a .place) (slots (fit .result) (a .memory .now)) (if1 .left) (any-free .result) (any-free .ensures) (with-mark .result) (with-mark .ensures))
+    (refreshed-there (a .marks) (a .place) (slots (fit .result) (a .memory .now)) (if1 .left) (any-free .result) (any-free .ensures)
+    (with-mark .result) (with-mark .ensures))
 
 pub refresh-group-spec : {M : Type 1} → statement M
 refresh-group-spec =

@@ -11,8 +11,10 @@ fit-requires c κs = search needs
 summarize-in-requires : tie.Need-summarize-in-requires
 summarize-in-requires c κs =
     let a = c .before .before .args in
-    let fit = c .fit in
-    (fit-most (a .count) (length (a .memory .now)) (fit .result) (fit .ensures), fit-room (a .count) (length (a .memory .now)) (fit .result) (fit .ensures))
+    let fit = c .fit in (
+      fit-most (a .count) (length (a .memory .now)) (fit .result) (fit .ensures),
+      fit-room (a .count) (length (a .memory .now)) (fit .result) (fit .ensures),
+    )
 
 returns : tie.Need-returns
 returns c = rw (← c .before .fit .ensures) (c .summarize-in .ensures)

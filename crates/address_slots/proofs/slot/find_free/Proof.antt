@@ -29,7 +29,8 @@ returns : tie.Need-returns Inv-loop μ-loop
 returns c =
     let a = c .before .before .before .before .args in
     let turn = c .before .before .before .loop in
-    sym (turn .inv ∙ lowest-here isFree (a .end) (a .memory .now) (turn .i) (omega arith) (free-here (9 * turn .i) (a .memory .now) (c .if1 .taken)))
+    sym (turn .inv
+    ∙ lowest-here isFree (a .end) (a .memory .now) (turn .i) (omega arith) (free-here (9 * turn .i) (a .memory .now) (c .if1 .taken)))
 
 add-i : tie.Need-add-i Inv-loop μ-loop
 add-i c = search needs
@@ -41,7 +42,8 @@ loop-again : tie.Need-loop-again Inv-loop μ-loop
 loop-again c =
     let a = c .before .before .before .before .args in
     let turn = c .before .before .before .loop in
-    turn .inv ∙ lowest-next isFree (a .end) (a .memory .now) (turn .i) (omega arith) (free-not (9 * turn .i) (a .memory .now) (c .if1 .left))
+    turn .inv
+    ∙ lowest-next isFree (a .end) (a .memory .now) (turn .i) (omega arith) (free-not (9 * turn .i) (a .memory .now) (c .if1 .left))
 
 returns-2 : tie.Need-returns-2 Inv-loop μ-loop
 returns-2 c =

@@ -43,8 +43,10 @@ loop-less c = search needs
 loop-again : tie.Need-loop-again Inv-loop μ-loop
 loop-again c =
     let a = c .before .before .before .before .before .args in
-    let turn = c .before .before .before .before .loop in
-    (omega arith, turn .inv .1 ∙ rw (same-step 8 (a .at) (turn .i) (a .memory .now) (a .board .now) (omega arith), eq-eqb _ _ (c .if1 .left)))
+    let turn = c .before .before .before .before .loop in (
+      omega arith,
+      turn .inv .1 ∙ rw (same-step 8 (a .at) (turn .i) (a .memory .now) (a .board .now) (omega arith), eq-eqb _ _ (c .if1 .left)),
+    )
 
 returns-2 : tie.Need-returns-2 Inv-loop μ-loop
 returns-2 c =

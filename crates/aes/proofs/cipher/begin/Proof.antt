@@ -47,7 +47,8 @@ returns c =
     let k8 = c .before .before .word-at6 in
     let s12 = c .before .word-at7 in
     let k12 = c .word-at8 in
-    joined (add-bytes (s0 .result) (k0 .result) (s0 .ensures) (k0 .ensures)) (add-bytes (s4 .result) (k4 .result) (s4 .ensures) (k4 .ensures))
+    joined (add-bytes (s0 .result) (k0 .result) (s0 .ensures) (k0 .ensures))
+    (add-bytes (s4 .result) (k4 .result) (s4 .ensures) (k4 .ensures))
     (add-bytes (s8 .result) (k8 .result) (s8 .ensures) (k8 .ensures)) (add-bytes (s12 .result) (k12 .result) (s12 .ensures) (k12 .ensures))
     ∙ begun (start .args .s) (start .args .k)
 

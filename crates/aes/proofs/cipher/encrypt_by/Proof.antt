@@ -58,7 +58,8 @@ returns c =
     let at-loop = at-loop-test .before in
     let at-begin = at-loop .before in
     let start = at-begin .before .before in
-    round-all (start .args .block) (at-begin .begin .ensures) (at-loop .loop .inv) (at-loop-test .loop-test .left) (c .before .finish .ensures) (c .bytes-of .ensures)
+    round-all (start .args .block) (at-begin .begin .ensures) (at-loop .loop .inv) (at-loop-test .loop-test .left)
+    (c .before .finish .ensures) (c .bytes-of .ensures)
 
 pub encrypt-by-spec : {M : Type 1} → statement M
 encrypt-by-spec =

@@ -13,7 +13,8 @@ element-copy-out-result : tie.Need-element-copy-out-result
 element-copy-out-result c = search needs
 
 returns : tie.Need-returns
-returns c = ap (λ (l : List ℕ). getD l (c .before .args .b) 0) (c .before .pre) ∙ getD-table 256 subByte 0 (c .before .args .b) (search needs)
+returns c =
+    ap (λ (l : List ℕ). getD l (c .before .args .b) 0) (c .before .pre) ∙ getD-table 256 subByte 0 (c .before .args .b) (search needs)
 
 pub substituted-spec : {M : Type 1} → statement M
 substituted-spec = tie.close (tie.spec element-copy-out-result returns)

@@ -36,7 +36,8 @@ returns : tie.Need-returns
 returns c =
     let at-substituted2 = c .before .before .before in
     let at-substituted = at-substituted2 .before in
-    c .word .ensures ∙ column-eq (at-substituted .substituted .ensures) (at-substituted2 .substituted2 .ensures) (c .before .before .substituted3 .ensures) (c .before .substituted4 .ensures)
+    c .word .ensures ∙ column-eq (at-substituted .substituted .ensures) (at-substituted2 .substituted2 .ensures)
+    (c .before .before .substituted3 .ensures) (c .before .substituted4 .ensures)
 
 pub substituted-word-spec : {M : Type 1} → statement M
 substituted-word-spec =

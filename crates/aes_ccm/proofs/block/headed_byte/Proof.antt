@@ -26,7 +26,8 @@ byte-at-requires c κs = search needs
 returns-3 : tie.Need-returns-3
 returns-3 c =
     let start = c .before .before .before .before in
-    c .byte-at .ensures ∙ headed-rest (start .args .a .now) (start .args .i) (start .pre .0) (c .before .before .if1 .left) (c .before .if2 .left)
+    c .byte-at .ensures
+    ∙ headed-rest (start .args .a .now) (start .args .i) (start .pre .0) (c .before .before .if1 .left) (c .before .if2 .left)
 
 pub headed-byte-spec : {M : Type 1} → statement M
 headed-byte-spec =

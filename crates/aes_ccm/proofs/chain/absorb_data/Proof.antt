@@ -29,7 +29,8 @@ returns c =
     let sum = c .before .before .add-round-key in
     let out = c .before .encrypt-by in
     sym (chain-done (args .keys) (out .result) (args .a .now) 14 (c .if1 .taken))
-    ∙ data-step (args .keys) (args .x) (sum .result) (out .result) (first .result) (args .a .now) (start .pre .0) (first .ensures) (sum .ensures)
+    ∙ data-step (args .keys) (args .x) (sum .result) (out .result) (first .result) (args .a .now) (start .pre .0)
+    (first .ensures) (sum .ensures)
     (out .ensures (start .pre .2))
 
 sub-absorb : tie.Need-sub-absorb
@@ -56,8 +57,10 @@ returns-2 c =
     let sum = at-add-round-key .add-round-key in
     let out = at-encrypt-by .encrypt-by in
     c .absorb .ensures
-    ∙ ap (λ (l : List ℕ). chain (args .keys) (out .result) (blocks l)) (take-all (length a - 14) (drop 14 a) (rw (length-drop 14 a) (omega arith)))
-    ∙ data-step (args .keys) (args .x) (sum .result) (out .result) (first .result) a (start .pre .0) (first .ensures) (sum .ensures) (out .ensures (start .pre .2))
+    ∙ ap (λ (l : List ℕ). chain (args .keys) (out .result) (blocks l))
+    (take-all (length a - 14) (drop 14 a) (rw (length-drop 14 a) (omega arith)))
+    ∙ data-step (args .keys) (args .x) (sum .result) (out .result) (first .result) a (start .pre .0) (first .ensures) (sum .ensures)
+    (out .ensures (start .pre .2))
 
 pub absorb-data-spec : {M : Type 1} → statement M
 absorb-data-spec =

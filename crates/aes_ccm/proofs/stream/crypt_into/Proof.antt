@@ -15,7 +15,8 @@ use Rattle.aes_ccm.proofs.stream.crypt_into.Statement.{statement}
 use Rattle.aes_ccm.proofs.stream.crypt_into.Tie as tie
 
 abbrev Inv-loop : tie.InvT-loop
-Inv-loop table keys nonce src dst₀ s₀ j₀ dst s j = Writing (cryptByte keys nonce src) dst₀ dst j × (j ≤ length src) × ((j % 16 ≡ 0 → ⊥) → s ≡ stream keys nonce (j / 16 + 1))
+Inv-loop table keys nonce src dst₀ s₀ j₀ dst s j =
+    Writing (cryptByte keys nonce src) dst₀ dst j × (j ≤ length src) × ((j % 16 ≡ 0 → ⊥) → s ≡ stream keys nonce (j / 16 + 1))
 
 abbrev μ-loop : tie.MeasureT-loop
 μ-loop table keys nonce src dst₀ s₀ j₀ dst s j = length src - j
@@ -82,7 +83,8 @@ returns c =
     let src = start .args .src .now in
     let dst = start .args .dst .now in
     all (length src) (c .before .loop .inv .0) (omega arith)
-    ∙ ap (λ (l : List ℕ). l ++ drop (length src) dst) (sym (crypt-bytes (c .before .before .laws .ensures) (start .args .keys) (start .args .nonce) src))
+    ∙ ap (λ (l : List ℕ). l ++ drop (length src) dst)
+    (sym (crypt-bytes (c .before .before .laws .ensures) (start .args .keys) (start .args .nonce) src))
 
 pub crypt-into-spec : {M : Type 1} → statement M
 crypt-into-spec =

@@ -32,10 +32,12 @@ loop-less c = search needs
 loop-again : tie.Need-loop-again Inv-loop μ-loop
 loop-again c =
     let start = c .before .before .before in
-    let n : length (start .args .t2) ≡ 8 = search needs in compare-step (c .before .before .loop .inv) (omega arith) (omega arith) (omega arith)
+    let n : length (start .args .t2) ≡ 8 = search needs in
+    compare-step (c .before .before .loop .inv) (omega arith) (omega arith) (omega arith)
 
 returns : tie.Need-returns Inv-loop μ-loop
-returns c = let n : length (c .before .before .args .t2) ≡ 8 = search needs in compare-end (c .before .loop .inv) (omega arith) (omega arith)
+returns c = let n : length (c .before .before .args .t2) ≡ 8 = search needs in
+    compare-end (c .before .loop .inv) (omega arith) (omega arith)
 
 pub same-tag-spec : {M : Type 1} → statement M
 same-tag-spec =

@@ -12,7 +12,8 @@ use Rattle.cbor.proofs.head.argument_at.Tie as tie
 
 abbrev Inv-loop : tie.InvT-loop
 Inv-loop s info at₀ end value₀ at value =
-    (at₀ ≤ at) × (at ≤ end) × (value < 256 ^ (at - at₀)) × (digits value (take (end - at) (drop at s)) ≡ bigEndian (take (end - at₀) (drop at₀ s)))
+    (at₀ ≤ at) × (at ≤ end) × (value < 256 ^ (at - at₀))
+    × (digits value (take (end - at) (drop at s)) ≡ bigEndian (take (end - at₀) (drop at₀ s)))
 
 abbrev μ-loop : tie.MeasureT-loop
 μ-loop s info at₀ end value₀ at value = end - at

@@ -18,7 +18,8 @@ returns c =
     let n = c .before .before in
     let a = n .args in
     head-yes (a .s .now) (a .at) (a .first) (a .first % 32) (a .at) true (n .pre)
-    (argument-direct (a .first % 32) (drop (a .at) (a .s .now)) (c .if1 .taken)) (direct-short (a .first / 32) (a .first % 32) (c .if1 .taken))
+    (argument-direct (a .first % 32) (drop (a .at) (a .s .now)) (c .if1 .taken))
+    (direct-short (a .first / 32) (a .first % 32) (c .if1 .taken))
 
 returns-2 : tie.Need-returns-2
 returns-2 c =
@@ -52,8 +53,10 @@ is-short-requires c κs = tt
 returns-4 : tie.Need-returns-4
 returns-4 c =
     let a = c .before .before .before .before .before .before .before .args in
-    head-yes (a .s .now) (a .at) (a .first) (c .before .argument-at .result) (a .at + c .before .before .before .width .result) (c .is-short .result)
+    head-yes (a .s .now) (a .at) (a .first) (c .before .argument-at .result) (a .at + c .before .before .before .width .result)
+    (c .is-short .result)
     (c .before .before .if3 .left) (c .before .argument-at .ensures) (c .is-short .ensures)
 
 pub head-from-spec : {M : Type 1} → statement M
-head-from-spec = tie.close (tie.spec cast-argument returns returns-2 width-requires add-next returns-3 argument-at-requires is-short-requires returns-4)
+head-from-spec =
+    tie.close (tie.spec cast-argument returns returns-2 width-requires add-next returns-3 argument-at-requires is-short-requires returns-4)

@@ -23,12 +23,22 @@ returns-3 c = simp (le-ltb _ 24 (c .before .before .if1 .left), le-ltb _ 256 (c 
 returns-4 : tie.Need-returns-4
 unfolding infoOf
 returns-4 c =
-    simp (le-ltb _ 24 (c .before .before .before .if1 .left), le-ltb _ 256 (c .before .before .if2 .left), le-ltb _ 65536 (c .before .if3 .left), lt-ltb _ 4294967296 (c .if4 .taken))
+    simp (
+      le-ltb _ 24 (c .before .before .before .if1 .left),
+      le-ltb _ 256 (c .before .before .if2 .left),
+      le-ltb _ 65536 (c .before .if3 .left),
+      lt-ltb _ 4294967296 (c .if4 .taken),
+    )
 
 returns-5 : tie.Need-returns-5
 unfolding infoOf
 returns-5 c =
-    simp (le-ltb _ 24 (c .before .before .before .if1 .left), le-ltb _ 256 (c .before .before .if2 .left), le-ltb _ 65536 (c .before .if3 .left), le-ltb _ 4294967296 (c .if4 .left))
+    simp (
+      le-ltb _ 24 (c .before .before .before .if1 .left),
+      le-ltb _ 256 (c .before .before .if2 .left),
+      le-ltb _ 65536 (c .before .if3 .left),
+      le-ltb _ 4294967296 (c .if4 .left),
+    )
 
 pub shortest-info-spec : {M : Type 1} → statement M
 shortest-info-spec =

@@ -1,4 +1,5 @@
--- The item calls the members with a level less, the members call the item with as many: twice the levels, and one more for the members, falls.
+-- The item calls the members with a level less, the members call the item with as many:
+-- twice the levels, and one more for the members, falls.
 -- Each return answers as the laws of Items say; the members' loop keeps what is left to pass over.
 use Prim.Native.Nat.{ℕ, _<_, _≤_, _+_, _-_, _*_}
 use mathlib.Core.Path.{_≡_, sym, ap, _∙_}
@@ -62,7 +63,8 @@ Item-calls =
     × In 1 skip-item-kinds.ps × Out 1 skip-item-kinds.ps skip-item-kinds.r
 
 abbrev item-calls : ℕ → Item-calls
-item-calls t = (read-head-by-reads.Asked, read-head-by-reads.Learnt, skip-members-below t, skip-members.Post, skip-item-below t, skip-item.Post)
+item-calls t =
+    (read-head-by-reads.Asked, read-head-by-reads.Learnt, skip-members-below t, skip-members.Post, skip-item-below t, skip-item.Post)
 
 abbrev Members-calls : Type 1
 Members-calls =
@@ -83,14 +85,16 @@ head-of : (t : ℕ) (k : skip-item-lts.After-h2 (item-calls t) (skip-item-at t) 
     → let a = k .before .before .before .before .before .args in HeadAt (a .strict) (a .s .now) (a .at) (hv.Got (k .h2 .given .0 .0))
 head-of t k =
     let a = k .before .before .before .before .before .args in
-    rw (k .h2 .given .1) at (head-says (a .strict) (a .s .now) (a .at) (k .before .before .read-head-by .result) (k .before .before .read-head-by .ensures))
+    rw (k .h2 .given .1) at (head-says (a .strict) (a .s .now) (a .at) (k .before .before .read-head-by .result)
+    (k .before .before .read-head-by .ensures))
 
 -- a map's first half was passed over
 half-of : (t : ℕ) (k : skip-item-lts.After-half2 (item-calls t) (skip-item-at t) skip-item.Post)
     → let arm = k .before .before .before .before .before in
     let a = arm .before .before .before .before .before .args in
     let h = arm .h2 .given .0 .0 in
-    Passed (a .s .now) (members (itemBy (a .strict) (a .levels - 1)) (h .argument) (drop (h .next) (a .s .now))) (sv.Next (k .half2 .given .0 .0))
+    Passed (a .s .now) (members (itemBy (a .strict) (a .levels - 1)) (h .argument) (drop (h .next) (a .s .now)))
+    (sv.Next (k .half2 .given .0 .0))
 half-of t k =
     let arm = k .before .before .before .before .before in
     let a = arm .before .before .before .before .before .args in
@@ -145,7 +149,8 @@ skip-item-skip-members-requires-3 t c κs =
     (omega (arith, arm .before .before .before .before .before .pre .0), tt)
 
 -- a tag's content is passed over in a slice that is the whole one
-passed-whole : (b : Bool) (s : List ℕ) (at d : ℕ) (p : List ℕ) (r : SkipResult) → p ≡ s → r ≡ skipAnswer (length p) (itemBy b d (drop at p)) → Passed s (itemBy b d (drop at s)) r
+passed-whole : (b : Bool) (s : List ℕ) (at d : ℕ) (p : List ℕ) (r : SkipResult) → p ≡ s → r ≡ skipAnswer (length p) (itemBy b d (drop at p))
+    → Passed s (itemBy b d (drop at s)) r
 passed-whole b s at d p r same said = passed-item b s at d r (rw same at said)
 
 skip-item-sub-skip-item : item-need skip-item-lts.Need-sub-skip-item
@@ -184,7 +189,8 @@ skip-item-returns-2 t c =
     let a = k .before .before .before .before .before .args in
     skip-tells (a .s .now) (itemBy (a .strict) (a .levels) (drop (a .at) (a .s .now))) _
     (item-refused (a .strict) (a .s .now) (a .at) (a .levels) (k .h .given .0 .0) (k .before .before .before .if1 .left)
-    (rw (k .h .given .1) at (head-says (a .strict) (a .s .now) (a .at) (k .before .before .read-head-by .result) (k .before .before .read-head-by .ensures))))
+    (rw (k .h .given .1) at (head-says (a .strict) (a .s .now) (a .at) (k .before .before .read-head-by .result)
+    (k .before .before .read-head-by .ensures))))
 
 skip-item-returns-3 : item-need skip-item-lts.Need-returns-3
 skip-item-returns-3 t c =
@@ -193,7 +199,8 @@ skip-item-returns-3 t c =
     let h = arm .h2 .given .0 .0 in
     skip-tells (a .s .now) (itemBy (a .strict) (a .levels) (drop (a .at) (a .s .now))) _
     (item-array (a .strict) (a .s .now) (a .at) (a .levels) h (arm .before .before .before .if1 .left) (head-of t arm) (omega arith) _
-    (passed-members (a .strict) (a .s .now) (h .next) (a .levels - 1) (h .argument) (c .skip-members .result) (head-of t arm .inside) (c .skip-members .ensures)))
+    (passed-members (a .strict) (a .s .now) (h .next) (a .levels - 1) (h .argument) (c .skip-members .result) (head-of t arm .inside)
+    (c .skip-members .ensures)))
 
 skip-item-returns-4 : item-need skip-item-lts.Need-returns-4
 skip-item-returns-4 t c =
@@ -202,9 +209,11 @@ skip-item-returns-4 t c =
     let h = arm .h2 .given .0 .0 in
     let half = c .before .before .before .skip-members2 in
     skip-tells (a .s .now) (itemBy (a .strict) (a .levels) (drop (a .at) (a .s .now))) _
-    (item-map-refused (a .strict) (a .s .now) (a .at) (a .levels) h (arm .before .before .before .if1 .left) (head-of t arm) (omega arith) (c .before .half .given .0 .0)
+    (item-map-refused (a .strict) (a .s .now) (a .at) (a .levels) h (arm .before .before .before .if1 .left) (head-of t arm) (omega arith)
+    (c .before .half .given .0 .0)
     (rw (c .before .half .given .1) at
-    (passed-members (a .strict) (a .s .now) (h .next) (a .levels - 1) (h .argument) (half .result) (head-of t arm .inside) (half .ensures))))
+    (passed-members (a .strict) (a .s .now) (h .next) (a .levels - 1) (h .argument) (half .result) (head-of t arm .inside)
+    (half .ensures))))
 
 skip-item-returns-5 : item-need skip-item-lts.Need-returns-5
 skip-item-returns-5 t c =
@@ -213,8 +222,10 @@ skip-item-returns-5 t c =
     let h = arm .h2 .given .0 .0 in
     let half = c .before .before in
     skip-tells (a .s .now) (itemBy (a .strict) (a .levels) (drop (a .at) (a .s .now))) _
-    (item-map (a .strict) (a .s .now) (a .at) (a .levels) h (arm .before .before .before .if1 .left) (head-of t arm) (omega arith) (half .half2 .given .0 .0) _ (half-of t half)
-    (passed-members (a .strict) (a .s .now) (half .half2 .given .0 .0) (a .levels - 1) (h .argument) (c .skip-members3 .result) (half-of t half .inside) (c .skip-members3 .ensures)))
+    (item-map (a .strict) (a .s .now) (a .at) (a .levels) h (arm .before .before .before .if1 .left) (head-of t arm) (omega arith)
+    (half .half2 .given .0 .0) _ (half-of t half)
+    (passed-members (a .strict) (a .s .now) (half .half2 .given .0 .0) (a .levels - 1) (h .argument) (c .skip-members3 .result)
+    (half-of t half .inside) (c .skip-members3 .ensures)))
 
 skip-item-returns-6 : item-need skip-item-lts.Need-returns-6
 skip-item-returns-6 t c =
@@ -223,7 +234,8 @@ skip-item-returns-6 t c =
     let h = arm .h2 .given .0 .0 in
     skip-tells (a .s .now) (itemBy (a .strict) (a .levels) (drop (a .at) (a .s .now))) _
     (item-tag (a .strict) (a .s .now) (a .at) (a .levels) h (arm .before .before .before .if1 .left) (head-of t arm) (omega arith) _
-    (passed-whole (a .strict) (a .s .now) (h .next) (a .levels - 1) _ (c .skip-item .result) (take-all (length (a .s .now) - 0) (a .s .now) (omega arith))
+    (passed-whole (a .strict) (a .s .now) (h .next) (a .levels - 1) _ (c .skip-item .result)
+    (take-all (length (a .s .now) - 0) (a .s .now) (omega arith))
     (c .skip-item .ensures .is)))
 
 skip-item-returns-7 : item-need skip-item-lts.Need-returns-7
@@ -232,7 +244,8 @@ skip-item-returns-7 t c =
     let a = arm .before .before .before .before .before .args in
     let h = arm .h2 .given .0 .0 in
     skip-tells (a .s .now) (itemBy (a .strict) (a .levels) (drop (a .at) (a .s .now))) _
-    (item-string (a .strict) (a .s .now) (a .at) (a .levels) h (arm .before .before .before .if1 .left) (head-of t arm) (omega arith) (omega arith) (omega arith))
+    (item-string (a .strict) (a .s .now) (a .at) (a .levels) h (arm .before .before .before .if1 .left) (head-of t arm) (omega arith)
+    (omega arith) (omega arith))
 
 skip-item-returns-8 : item-need skip-item-lts.Need-returns-8
 skip-item-returns-8 t c =
@@ -240,7 +253,8 @@ skip-item-returns-8 t c =
     let a = arm .before .before .before .before .before .args in
     let h = arm .h2 .given .0 .0 in
     skip-tells (a .s .now) (itemBy (a .strict) (a .levels) (drop (a .at) (a .s .now))) _
-    (item-short (a .strict) (a .s .now) (a .at) (a .levels) h (arm .before .before .before .if1 .left) (head-of t arm) (omega arith) (omega arith) (omega arith))
+    (item-short (a .strict) (a .s .now) (a .at) (a .levels) h (arm .before .before .before .if1 .left) (head-of t arm) (omega arith)
+    (omega arith) (omega arith))
 
 skip-item-returns-9 : item-need skip-item-lts.Need-returns-9
 skip-item-returns-9 t c =
@@ -347,7 +361,10 @@ skip-members-returns-2 t c =
     let l = c .before .loop in
     let a = c .before .before .before .before .args in
     skip-answer (a .s .now) (members (itemBy (a .strict) (a .levels)) (a .count) (drop (a .at) (a .s .now))) _
-    (record { says = sym (members-done (a .strict) (a .s .now) (l .p) (a .levels) (l .left) (c .loop-test .left)) ∙ l .inv .1; inside = l .inv .0 })
+    (record {
+      says = sym (members-done (a .strict) (a .s .now) (l .p) (a .levels) (l .left) (c .loop-test .left)) ∙ l .inv .1;
+      inside = l .inv .0;
+    })
 
 pub +skip-item+skip-members-spec : {M : Type 1} → statement M
 +skip-item+skip-members-spec =

@@ -28,7 +28,8 @@ returns-2 c =
     let s = k .before .before .args .s .now in
     let b = k .before .before .args .strict in
     let r = c .before .before .r2 in
-    scan-extra b s (r .given .0 .0) (rw (r .given .1) at (passed-item b s 0 8 (k .skip-item .result) (k .skip-item .ensures .is))) (c .if1 .taken)
+    scan-extra b s (r .given .0 .0) (rw (r .given .1) at (passed-item b s 0 8 (k .skip-item .result) (k .skip-item .ensures .is)))
+    (c .if1 .taken)
 
 returns-3 : tie.Need-returns-3
 returns-3 c =
@@ -36,7 +37,8 @@ returns-3 c =
     let s = k .before .before .args .s .now in
     let b = k .before .before .args .strict in
     let r = c .before .before .r2 in
-    scan-whole b s (r .given .0 .0) (rw (r .given .1) at (passed-item b s 0 8 (k .skip-item .result) (k .skip-item .ensures .is))) (c .if1 .left)
+    scan-whole b s (r .given .0 .0) (rw (r .given .1) at (passed-item b s 0 8 (k .skip-item .result) (k .skip-item .ensures .is)))
+    (c .if1 .left)
 
 pub scan-spec : {M : Type 1} → statement M
 scan-spec =

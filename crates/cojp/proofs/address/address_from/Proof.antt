@@ -19,7 +19,8 @@ returns c =
     let called = c .before .before in
     let begun = called .before .before in
     let a = begun .args in
-    let short = address-short (a .s .now) (a .start) (a .len) (begun .pre) (a .leased) (a .lease) (called .laws .ensures) (c .before .if1 .taken) in
+    let short =
+    address-short (a .s .now) (a .start) (a .len) (begun .pre) (a .leased) (a .lease) (called .laws .ensures) (c .before .if1 .taken) in
     c .discarded-address .ensures ∙ ap (λ (x : Reading AddressParameter). addressAnswer x (a .next)) short
 
 shared-slice-read-t13 : tie.Need-shared-slice-read-t13

@@ -23,8 +23,14 @@ no-error-reports-requires c κs = search needs
 
 returns : tie.Need-returns
 returns c =
-    rw
-    (c .before .before .before .before .before .no-key-set .ensures, c .before .before .before .before .no-address .ensures, c .before .before .before .no-octets .ensures, c .before .before .no-list .ensures, c .before .no-rate .ensures, c .no-error-reports .ensures)
+    rw (
+      c .before .before .before .before .before .no-key-set .ensures,
+      c .before .before .before .before .no-address .ensures,
+      c .before .before .before .no-octets .ensures,
+      c .before .before .no-list .ensures,
+      c .before .no-rate .ensures,
+      c .no-error-reports .ensures,
+    )
 
 pub empty-configuration-spec : {M : Type 1} → statement M
 empty-configuration-spec =

@@ -18,7 +18,8 @@ returns : tie.Need-returns Inv-loop μ-loop
 returns c = copied-long (c .before .args .s .now) (c .before .args .at) (c .before .args .n) (c .if1 .taken)
 
 returns-2 : tie.Need-returns-2 Inv-loop μ-loop
-returns-2 c = copied-past (c .before .before .args .s .now) (c .before .before .args .at) (c .before .before .args .n) (c .before .if1 .left) (omega (arith, c .if2 .taken))
+returns-2 c = copied-past (c .before .before .args .s .now) (c .before .before .args .at) (c .before .before .args .n)
+    (c .before .if1 .left) (omega (arith, c .if2 .taken))
 
 returns-3 : tie.Need-returns-3 Inv-loop μ-loop
 returns-3 c =
@@ -49,7 +50,8 @@ loop-again c =
     let test = c .before .loop-test in
     let turn = c .before .before .loop in
     let fits = c .before .before .before .before .before .if1 .left in
-    let inside : a .at + a .n ≤ length (a .s .now) = omega (arith, c .before .before .before .if3 .left, c .before .before .before .before .if2 .left) in
+    let inside : a .at + a .n ≤ length (a .s .now) =
+    omega (arith, c .before .before .before .if3 .left, c .before .before .before .before .if2 .left) in
     (omega arith, rw (turn .inv .1) (pad-more (a .s .now) (a .at) (a .n) (turn .i) (test .taken) fits inside))
 
 returns-4 : tie.Need-returns-4 Inv-loop μ-loop

@@ -26,13 +26,15 @@ returns-2 : tie.Need-returns-2
 returns-2 c =
     let a = c .before .before .before .before .before .before .args in
     let v = c .before .before .before .value-at in
-    value-told (a .s .now) (a .at) (a .left) (c .before .before .before .before .if1 .left) (v .result) (v .ensures) _ (ap memberOf (c .before .v .given .1))
+    value-told (a .s .now) (a .at) (a .left) (c .before .before .before .before .if1 .left) (v .result) (v .ensures) _
+    (ap memberOf (c .before .v .given .1))
 
 returns-3 : tie.Need-returns-3
 returns-3 c =
     let a = c .before .before .before .before .before .before .args in
     let v = c .before .before .before .value-at in
-    value-told (a .s .now) (a .at) (a .left) (c .before .before .before .before .if1 .left) (v .result) (v .ensures) _ (ap memberOf (c .before .v2 .given .1))
+    value-told (a .s .now) (a .at) (a .left) (c .before .before .before .before .if1 .left) (v .result) (v .ensures) _
+    (ap memberOf (c .before .v2 .given .1))
 
 returns-4 : tie.Need-returns-4
 returns-4 c =

@@ -51,7 +51,8 @@ returns-2 c =
     let g = c .before .before .before .before .v .given in
     let s = a .s .now in
     let enough = c .before .before .if1 .left in
-    let many = octets-many s (a .at) (a .least) (v .result) (v .ensures) (g .0 .0) (g .0 .1 .0) (g .1) _ refl enough (c .before .if2 .taken) in
+    let many =
+    octets-many s (a .at) (a .least) (v .result) (v .ensures) (g .0 .0) (g .0 .1 .0) (g .1) _ refl enough (c .before .if2 .taken) in
     let after = string-after s (a .at) (v .result) (v .ensures) (g .0 .0) (g .0 .1 .0) (g .1) in
     octets-told (c .discarded2 .result) _ _ (c .discarded2 .ensures) _ many s _ after
 

@@ -58,7 +58,8 @@ returns c =
       group-used (a .allowed) (a .part .now) (a .left) (m .result) (a .at) (a .identifier) (m .ensures) (g .0 .0) (g .0 .1 .0) (g .1)
           (c .after-usage .result) (c .after-usage .ensures .0),
       rest-on (a .part .now) (a .at) (a .left) (g .0 .1 .0) (a .left - 1) (c .after-usage .result)
-          (number-after (a .part .now) (a .at) (a .left) (m .result) (m .ensures) (g .0 .0) (g .0 .1 .0) (g .1)) (c .after-usage .ensures .1),
+          (number-after (a .part .now) (a .at) (a .left) (m .result) (m .ensures) (g .0 .0) (g .0 .1 .0) (g .1))
+          (c .after-usage .ensures .1),
     )
 
 returns-2 : tie.Need-returns-2
@@ -72,7 +73,8 @@ returns-2 c =
       group-pair (a .allowed) (a .part .now) (a .left) (m .result) (a .at) (a .identifier) (m .ensures) (g .0 .0) (g .0 .1 .0) (g .1)
           (c .after-value .result) (c .after-value .ensures .0),
       rest-on (a .part .now) (a .at) (a .left) (g .0 .0 + g .0 .1 .0) (a .left - 1) (c .after-value .result)
-          (bytes-after (a .part .now) (a .at) (a .left) (m .result) (m .ensures) (g .0 .0) (g .0 .1 .0) (g .1)) (c .after-value .ensures .1),
+          (bytes-after (a .part .now) (a .at) (a .left) (m .result) (m .ensures) (g .0 .0) (g .0 .1 .0) (g .1))
+          (c .after-value .ensures .1),
     )
 
 returns-3 : tie.Need-returns-3

@@ -40,14 +40,17 @@ returns c =
       group-triple (a .allowed) (a .part .now) (a .left) (m .result) (a .at) (a .identifier) (m .ensures) (a .usage) (g .0 .0) (g .0 .1 .0)
           (g .1) (c .after-value .result) (c .after-value .ensures .0),
       rest-on (a .part .now) (a .at) (a .left) (g .0 .0 + g .0 .1 .0) (a .left - 1) (c .after-value .result)
-          (bytes-after (a .part .now) (a .at) (a .left) (m .result) (m .ensures) (g .0 .0) (g .0 .1 .0) (g .1)) (c .after-value .ensures .1),
+          (bytes-after (a .part .now) (a .at) (a .left) (m .result) (m .ensures) (g .0 .0) (g .0 .1 .0) (g .1))
+          (c .after-value .ensures .1),
     )
 
 returns-2 : tie.Need-returns-2
 returns-2 c =
     let a = c .before .before .before .args in
-    let m = c .before .member-at in
-    (group-valueless (a .allowed) (a .part .now) (a .left) (m .result) (a .at) (a .identifier) (m .ensures) (a .usage) (c .match .keys2), tt)
+    let m = c .before .member-at in (
+      group-valueless (a .allowed) (a .part .now) (a .left) (m .result) (a .at) (a .identifier) (m .ensures) (a .usage) (c .match .keys2),
+      tt,
+    )
 
 pub after-usage-spec : {M : Type 1} → statement M
 after-usage-spec =

@@ -36,7 +36,8 @@ returns c =
     let g = further .further .given in
     let told = c .before .before .additional-info-at in (
       rw (member .before .if1 .taken)
-          (value-broken (a .part .now) (a .identifier) (a .usage) (a .start) (a .len) (a .left) (start .pre) (m .result) (m .ensures) (g .0 .0)
+          (value-broken (a .part .now) (a .identifier) (a .usage) (a .start) (a .len) (a .left) (start .pre) (m .result)
+          (m .ensures) (g .0 .0)
           (g .0 .1 .0) (g .1) (told .result) (told .ensures) (not-true _ (c .if2 .taken))),
       tt,
     )
@@ -72,7 +73,8 @@ returns-2 c =
     let g = further .further .given in
     let told = c .before .before .additional-info-at in (
       rw (member .before .if1 .taken)
-          (value-allowed (a .part .now) (a .identifier) (a .usage) (a .start) (a .len) (a .left) (start .pre) (m .result) (m .ensures) (g .0 .0)
+          (value-allowed (a .part .now) (a .identifier) (a .usage) (a .start) (a .len) (a .left) (start .pre) (m .result)
+          (m .ensures) (g .0 .0)
           (g .0 .1 .0) (g .1) (told .result) (told .ensures) (not-false _ (c .if2 .left))),
       bytes-after (a .part .now) (a .start + a .len) (a .left) (m .result) (m .ensures) (g .0 .0) (g .0 .1 .0) (g .1),
     )
@@ -83,7 +85,8 @@ returns-3 c =
     let a = start .args in
     let m = c .before .member-at in (
       rw (c .before .before .if1 .taken)
-          (value-last (a .part .now) (a .identifier) (a .usage) (a .start) (a .len) (a .left) (start .pre) (m .result) (m .ensures) (c .match .keys2)),
+          (value-last (a .part .now) (a .identifier) (a .usage) (a .start) (a .len) (a .left) (start .pre) (m .result) (m .ensures)
+          (c .match .keys2)),
       refl,
     )
 

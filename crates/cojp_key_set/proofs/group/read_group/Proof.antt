@@ -31,10 +31,12 @@ returns c =
     let a = begun .args in
     let m = member-at .member-at in
     let g = first .first .given in (
-      group-begun (a .allowed) (a .part .now) (a .left) (m .result) (begun .pre) (m .ensures) (g .0 .0) (g .0 .1 .0) (g .1) (c .after-identifier .result)
+      group-begun (a .allowed) (a .part .now) (a .left) (m .result) (begun .pre) (m .ensures) (g .0 .0) (g .0 .1 .0) (g .1)
+          (c .after-identifier .result)
           (c .after-identifier .ensures .0),
       rest-on (a .part .now) 0 (a .left) (g .0 .1 .0) (a .left - 1) (c .after-identifier .result)
-          (number-after (a .part .now) 0 (a .left) (m .result) (m .ensures) (g .0 .0) (g .0 .1 .0) (g .1)) (c .after-identifier .ensures .1),
+          (number-after (a .part .now) 0 (a .left) (m .result) (m .ensures) (g .0 .0) (g .0 .1 .0) (g .1))
+          (c .after-identifier .ensures .1),
     )
 
 returns-2 : tie.Need-returns-2

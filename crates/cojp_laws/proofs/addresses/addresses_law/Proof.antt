@@ -21,7 +21,8 @@ returns c =
     let demand = c .before in
     let range = demand .before in
     let address = range .before in
-    object-addresses (address .laws .ensures) (range .reads-in-range-law .ensures) (demand .readers-demand1-law .ensures) (c .strict-readers-law .ensures)
+    object-addresses (address .laws .ensures) (range .reads-in-range-law .ensures) (demand .readers-demand1-law .ensures)
+    (c .strict-readers-law .ensures)
 
 pub addresses-law-spec : {M : Type 1} → statement M
 addresses-law-spec =

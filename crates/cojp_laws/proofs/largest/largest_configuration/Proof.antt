@@ -24,7 +24,8 @@ returns c =
     let items = heads .before in
     let start = items .before in
     let typed = configuration-typed (start .args .c) _ (start .good .0) in
-    largest-configuration (heads .head-laws .ensures) (items .laws .ensures) (lists .laws2 .ensures) (c .laws3 .ensures) (start .args .c) typed
+    largest-configuration (heads .head-laws .ensures) (items .laws .ensures) (lists .laws2 .ensures) (c .laws3 .ensures)
+    (start .args .c) typed
 
 pub largest-configuration-spec : {M : Type 1} → statement M
 largest-configuration-spec = tie.close (tie.spec laws-requires head-laws-requires laws-requires-2 laws-requires-3 returns)

@@ -19,7 +19,8 @@ returns c =
     let heads = c .before in
     let items = heads .before in
     let start = items .before in
-    request-round-trip (items .laws .ensures) (heads .head-laws .ensures) (c .laws2 .ensures) (start .args .q) (reports-bytes (start .args .q) _ (start .good .0))
+    request-round-trip (items .laws .ensures) (heads .head-laws .ensures) (c .laws2 .ensures) (start .args .q)
+    (reports-bytes (start .args .q) _ (start .good .0))
 
 pub request-round-trip-spec : {M : Type 1} → statement M
 request-round-trip-spec = tie.close (tie.spec laws-requires head-laws-requires laws-requires-2 returns)

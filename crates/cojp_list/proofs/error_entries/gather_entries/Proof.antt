@@ -1,6 +1,7 @@
 -- What was kept so far stands in front of the destination; each turn adds one report, or finds none or no room.
 use Rattle.cojp_list.proofs.Reports.{faults-none, faults-broken, faults-less, faults-turn}
-use Rattle.cojp_list.proofs.Gathering.{Gathering, gathering-none, gathering-length, gathering-within, gathering-bad, gathering-done, gathering-ended, turn-length, turn-full, turn-count, turn-more}
+use Rattle.cojp_list.proofs.Gathering.{Gathering, gathering-none, gathering-length, gathering-within, gathering-bad}
+use Rattle.cojp_list.proofs.Gathering.{gathering-done, gathering-ended, turn-length, turn-full, turn-count, turn-more}
 use Rattle.cojp.specs.Lists.{errorReportsIn}
 use Rattle.cojp.specs.Bytes.{membersAt}
 use lib.ListN.{drop}
@@ -22,7 +23,8 @@ head-laws-requires c κs = search needs
 loop-holds : tie.Need-loop-holds Inv-loop μ-loop
 loop-holds c =
     let begun = c .before .before .before in
-    gathering-none (errorReportsIn (membersAt (begun .args .count) (drop (begun .args .from) (begun .args .s .now)))) (begun .args .dst .now)
+    gathering-none (errorReportsIn (membersAt (begun .args .count) (drop (begun .args .from) (begun .args .s .now))))
+    (begun .args .dst .now)
 
 error-entry-at-requires : tie.Need-error-entry-at-requires Inv-loop μ-loop
 error-entry-at-requires c κs = search needs
@@ -41,7 +43,8 @@ returns c =
     let turn = fault-at .before .before in
     let s = turn .before .before .before .before .args .s .now in
     gathering-bad (turn .loop .inv)
-    (faults-broken s (turn .loop .at) (turn .loop .left) (turn .loop .inv) (fault-at .error-entry-at .result) (fault-at .error-entry-at .ensures) (c .enum-told .given .1))
+    (faults-broken s (turn .loop .at) (turn .loop .left) (turn .loop .inv) (fault-at .error-entry-at .result)
+    (fault-at .error-entry-at .ensures) (c .enum-told .given .1))
 
 enum-known-f : tie.Need-enum-known-f Inv-loop μ-loop
 enum-known-f c = search needs
@@ -74,7 +77,8 @@ same-length-2 c =
     let fault-at = f .before .before in
     let turn = fault-at .before .before in
     let s = turn .before .before .before .before .args .s .now in
-    turn-length (faults-turn s (turn .loop .at) (turn .loop .left) (turn .loop .inv) (fault-at .error-entry-at .result) (fault-at .error-entry-at .ensures) (f .f .given .1) (write-fault .write-entry .ensures))
+    turn-length (faults-turn s (turn .loop .at) (turn .loop .left) (turn .loop .inv) (fault-at .error-entry-at .result)
+    (fault-at .error-entry-at .ensures) (f .f .given .1) (write-fault .write-entry .ensures))
 
 returns-2 : tie.Need-returns-2 Inv-loop μ-loop
 returns-2 c =
@@ -83,7 +87,8 @@ returns-2 c =
     let fault-at = f .before .before in
     let turn = fault-at .before .before in
     let s = turn .before .before .before .before .args .s .now in
-    turn-full (faults-turn s (turn .loop .at) (turn .loop .left) (turn .loop .inv) (fault-at .error-entry-at .result) (fault-at .error-entry-at .ensures) (f .f .given .1) (write-fault .write-entry .ensures))
+    turn-full (faults-turn s (turn .loop .at) (turn .loop .left) (turn .loop .inv) (fault-at .error-entry-at .result)
+    (fault-at .error-entry-at .ensures) (f .f .given .1) (write-fault .write-entry .ensures))
     (c .enum-told2 .given .0 .0) (c .enum-told2 .given .1)
 
 enum-known-w : tie.Need-enum-known-w Inv-loop μ-loop
@@ -97,7 +102,8 @@ add-len c =
     let turn = fault-at .before .before in
     let s = turn .before .before .before .before .args .s .now in
     let begun = turn .before .before .before .before in
-    let put = faults-turn s (turn .loop .at) (turn .loop .left) (turn .loop .inv) (fault-at .error-entry-at .result) (fault-at .error-entry-at .ensures) (f .f .given .1) (write-fault .write-entry .ensures) in
+    let put = faults-turn s (turn .loop .at) (turn .loop .left) (turn .loop .inv) (fault-at .error-entry-at .result)
+    (fault-at .error-entry-at .ensures) (f .f .given .1) (write-fault .write-entry .ensures) in
     let counts = turn-count put (c .before .w .given .0 .0) (c .before .w .given .1) (turn .before .head-laws .ensures) in
     omega (arith, counts .0, begun)
 
@@ -109,7 +115,8 @@ add-members c =
     let turn = fault-at .before .before in
     let s = turn .before .before .before .before .args .s .now in
     let begun = turn .before .before .before .before in
-    let put = faults-turn s (turn .loop .at) (turn .loop .left) (turn .loop .inv) (fault-at .error-entry-at .result) (fault-at .error-entry-at .ensures) (f .f .given .1) (write-fault .write-entry .ensures) in
+    let put = faults-turn s (turn .loop .at) (turn .loop .left) (turn .loop .inv) (fault-at .error-entry-at .result)
+    (fault-at .error-entry-at .ensures) (f .f .given .1) (write-fault .write-entry .ensures) in
     let counts = turn-count put (c .before .w .given .0 .0) (c .before .w .given .1) (turn .before .head-laws .ensures) in
     omega (arith, counts .1, begun)
 
@@ -119,7 +126,8 @@ loop-less c =
     let fault-at = f .before .before in
     let turn = fault-at .before .before in
     let s = turn .before .before .before .before .args .s .now in
-    faults-less s (turn .loop .at) (turn .loop .left) (turn .loop .inv) (fault-at .error-entry-at .result) (fault-at .error-entry-at .ensures) (f .f .given .1)
+    faults-less s (turn .loop .at) (turn .loop .left) (turn .loop .inv) (fault-at .error-entry-at .result)
+    (fault-at .error-entry-at .ensures) (f .f .given .1)
 
 loop-again : tie.Need-loop-again Inv-loop μ-loop
 loop-again c =
@@ -128,7 +136,8 @@ loop-again c =
     let fault-at = f .before .before in
     let turn = fault-at .before .before in
     let s = turn .before .before .before .before .args .s .now in
-    turn-more (faults-turn s (turn .loop .at) (turn .loop .left) (turn .loop .inv) (fault-at .error-entry-at .result) (fault-at .error-entry-at .ensures) (f .f .given .1) (write-fault .write-entry .ensures))
+    turn-more (faults-turn s (turn .loop .at) (turn .loop .left) (turn .loop .inv) (fault-at .error-entry-at .result)
+    (fault-at .error-entry-at .ensures) (f .f .given .1) (write-fault .write-entry .ensures))
     (c .before .w .given .0 .0) (c .before .w .given .1)
 
 same-length-3 : tie.Need-same-length-3 Inv-loop μ-loop
@@ -139,7 +148,8 @@ returns-3 : tie.Need-returns-3 Inv-loop μ-loop
 returns-3 c =
     let turn = c .before .loop in
     gathering-done (turn .inv)
-    (gathering-ended errorReportsIn (turn .left) (drop (turn .at) (c .before .before .before .before .before .args .s .now)) faults-none (c .loop-test .left))
+    (gathering-ended errorReportsIn (turn .left) (drop (turn .at) (c .before .before .before .before .before .args .s .now)) faults-none
+    (c .loop-test .left))
 
 pub gather-entries-spec : {M : Type 1} → statement M
 gather-entries-spec =

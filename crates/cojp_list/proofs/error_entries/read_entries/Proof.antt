@@ -17,7 +17,8 @@ bad-list-requires c κs = search needs
 returns : tie.Need-returns
 returns c =
     let begun = c .before .before .before in
-    c .bad-list .ensures ∙ rw (some-none errorReportsIn (begun .args .count) (drop (begun .args .from) (begun .args .s .now)) (c .before .if1 .taken))
+    c .bad-list .ensures
+    ∙ rw (some-none errorReportsIn (begun .args .count) (drop (begun .args .from) (begun .args .s .now)) (c .before .if1 .taken))
 
 slice-aggregate-gather-entries : tie.Need-slice-aggregate-gather-entries
 slice-aggregate-gather-entries c = search needs
@@ -46,7 +47,8 @@ returns-2 c =
     let a = asked .before .before .args in
     let members = errorReportsIn (membersAt (a .count) (drop (a .from) (a .s .now))) in
     let call = gathered .gather-entries in
-    let bad = list-bad members (replicate 253 0) refl (call .result) (call .last .1 .1 .1 .0) (call .ensures) (c .before .enum-told .given .1) in
+    let bad =
+    list-bad members (replicate 253 0) refl (call .result) (call .last .1 .1 .1 .0) (call .ensures) (c .before .enum-told .given .1) in
     c .bad-list2 .ensures ∙ ap listAnswer (sym bad) ∙ some-reports (a .count) (drop (a .from) (a .s .now)) (asked .if1 .left)
 
 returns-3 : tie.Need-returns-3

@@ -24,7 +24,8 @@ returns c =
     let integer-at = c .before .before in
     let begun = integer-at .before .before in
     let a = begun .args in
-    fault-headless (a .s .now) (a .at) (a .left) (integer-at .integer-at .result) (integer-at .integer-at .ensures) (begun .pre) (c .enum-told .given .1)
+    fault-headless (a .s .now) (a .at) (a .left) (integer-at .integer-at .result) (integer-at .integer-at .ensures) (begun .pre)
+    (c .enum-told .given .1)
 
 returns-2 : tie.Need-returns-2
 returns-2 c =

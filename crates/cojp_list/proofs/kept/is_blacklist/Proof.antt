@@ -29,8 +29,11 @@ read-strings-requires c κs = search needs
 same-as-requires : tie.Need-same-as-requires
 same-as-requires c κs =
     let if-place = c .before .before .before in
-    let begun = if-place .before in
-    (list-small (stringsIn (membersAt (begun .args .l .count) (drop 0 (bytesIn (begun .args .l))))) (c .read-strings .result) (c .read-strings .ensures), if-place .if1 .left)
+    let begun = if-place .before in (
+      list-small (stringsIn (membersAt (begun .args .l .count) (drop 0 (bytesIn (begun .args .l))))) (c .read-strings .result)
+          (c .read-strings .ensures),
+      if-place .if1 .left,
+    )
 
 returns-2 : tie.Need-returns-2
 returns-2 c =

@@ -29,14 +29,18 @@ read-entries-requires c κs = search needs
 same-as-requires : tie.Need-same-as-requires
 same-as-requires c κs =
     let if-place = c .before .before .before in
-    let begun = if-place .before in
-    (list-small ((some errorReportsIn) (membersAt (begun .args .l .count) (drop 0 (bytesIn (begun .args .l))))) (c .read-entries .result) (c .read-entries .ensures), if-place .if1 .left)
+    let begun = if-place .before in (
+      list-small ((some errorReportsIn) (membersAt (begun .args .l .count) (drop 0 (bytesIn (begun .args .l))))) (c .read-entries .result)
+          (c .read-entries .ensures),
+      if-place .if1 .left,
+    )
 
 returns-2 : tie.Need-returns-2
 returns-2 c =
     let if-place = c .before .before .before .before in
     let begun = if-place .before in
-    kept-again (some errorReportsIn) (begun .args .l) (if-place .if1 .left) (c .before .read-entries .result) (c .before .read-entries .ensures)
+    kept-again (some errorReportsIn) (begun .args .l) (if-place .if1 .left) (c .before .read-entries .result)
+    (c .before .read-entries .ensures)
     (c .same-as .result) (c .same-as .ensures)
 
 pub is-unsupported-spec : {M : Type 1} → statement M

@@ -5,7 +5,8 @@ use borrow.Author.Needs.{needs}
 use lib.ListN.{take, drop}
 use Rattle.cojp.specs.Lists.{picked}
 use Rattle.cojp_list.specs.Listed.{membersOf}
-use Rattle.cojp_list.proofs.Gathering.{Gathering, gathering-none, gathering-length, gathering-within, gathering-done, turn-length, turn-full, turn-count, turn-more}
+use Rattle.cojp_list.proofs.Gathering.{Gathering, gathering-none, gathering-length, gathering-within}
+use Rattle.cojp_list.proofs.Gathering.{gathering-done, turn-length, turn-full, turn-count, turn-more}
 use Rattle.cojp_list.proofs.Listing.{report-turn, none-more, within-reports, all-reports}
 use Rattle.cojp_list.proofs.listed.gather_reports.Statement.{statement}
 use Rattle.cojp_list.proofs.listed.gather_reports.Tie as tie
@@ -61,7 +62,8 @@ same-length c =
     let sized = turn .before .before in
     let f = sized .before .before .before .args .reports in
     let within = within-reports f (sized .len .result) (sized .len .ensures .0) in
-    let put = report-turn (f .reports) (sized .len .result) (turn .loop .i) (turn .loop .inv) (test .loop-test .taken) within (wrote .write-report .ensures) in
+    let put = report-turn (f .reports) (sized .len .result) (turn .loop .i) (turn .loop .inv) (test .loop-test .taken) within
+    (wrote .write-report .ensures) in
     turn-length put
 
 returns : tie.Need-returns Inv-loop μ-loop
@@ -72,7 +74,8 @@ returns c =
     let sized = turn .before .before in
     let f = sized .before .before .before .args .reports in
     let within = within-reports f (sized .len .result) (sized .len .ensures .0) in
-    let put = report-turn (f .reports) (sized .len .result) (turn .loop .i) (turn .loop .inv) (test .loop-test .taken) within (wrote .write-report .ensures) in
+    let put = report-turn (f .reports) (sized .len .result) (turn .loop .i) (turn .loop .inv) (test .loop-test .taken) within
+    (wrote .write-report .ensures) in
     rw (← all-reports f (sized .len .result) (sized .len .ensures .0)) (turn-full put (c .enum-told .given .0 .0) (c .enum-told .given .1))
 
 enum-known-w : tie.Need-enum-known-w Inv-loop μ-loop
@@ -86,7 +89,8 @@ add-len c =
     let sized = turn .before .before in
     let f = sized .before .before .before .args .reports in
     let within = within-reports f (sized .len .result) (sized .len .ensures .0) in
-    let put = report-turn (f .reports) (sized .len .result) (turn .loop .i) (turn .loop .inv) (test .loop-test .taken) within (wrote .write-report .ensures) in
+    let put = report-turn (f .reports) (sized .len .result) (turn .loop .i) (turn .loop .inv) (test .loop-test .taken) within
+    (wrote .write-report .ensures) in
     let counts = turn-count put (c .before .w .given .0 .0) (c .before .w .given .1) (sized .before .head-laws .ensures) in
     omega (arith, counts .0, sized .before .before .before)
 
@@ -98,7 +102,8 @@ add-members c =
     let sized = turn .before .before in
     let f = sized .before .before .before .args .reports in
     let within = within-reports f (sized .len .result) (sized .len .ensures .0) in
-    let put = report-turn (f .reports) (sized .len .result) (turn .loop .i) (turn .loop .inv) (test .loop-test .taken) within (wrote .write-report .ensures) in
+    let put = report-turn (f .reports) (sized .len .result) (turn .loop .i) (turn .loop .inv) (test .loop-test .taken) within
+    (wrote .write-report .ensures) in
     let counts = turn-count put (c .before .w .given .0 .0) (c .before .w .given .1) (sized .before .head-laws .ensures) in
     omega (arith, counts .1, sized .before .before .before)
 
@@ -116,7 +121,8 @@ loop-again c =
     let sized = turn .before .before in
     let f = sized .before .before .before .args .reports in
     let within = within-reports f (sized .len .result) (sized .len .ensures .0) in
-    let put = report-turn (f .reports) (sized .len .result) (turn .loop .i) (turn .loop .inv) (test .loop-test .taken) within (wrote .write-report .ensures) in
+    let put = report-turn (f .reports) (sized .len .result) (turn .loop .i) (turn .loop .inv) (test .loop-test .taken) within
+    (wrote .write-report .ensures) in
     turn-more put (c .before .w .given .0 .0) (c .before .w .given .1)
 
 same-length-2 : tie.Need-same-length-2 Inv-loop μ-loop

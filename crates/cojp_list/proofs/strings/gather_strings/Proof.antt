@@ -2,7 +2,8 @@
 use Rattle.cojp_list.proofs.Gathering.{turn-length, turn-full, turn-count, turn-more}
 use Rattle.cojp_list.proofs.ByteStrings.{strings-broken, strings-turn}
 use Rattle.cojp_list.proofs.ByteStrings.{string-inside, strings-none}
-use Rattle.cojp_list.proofs.Gathering.{Gathering, gathering-none, gathering-length, gathering-within, gathering-done, gathering-ended}
+use Rattle.cojp_list.proofs.Gathering.{Gathering, gathering-none, gathering-length}
+use Rattle.cojp_list.proofs.Gathering.{gathering-within, gathering-done, gathering-ended}
 use Rattle.cojp.specs.Lists.{stringsIn}
 use Rattle.cojp.specs.Bytes.{membersAt}
 use lib.ListN.{drop}
@@ -81,7 +82,8 @@ same-length c =
     let size = m .m .given .0 .1 .0 in
     let member-at = m .before .before in
     let turn = member-at .before .before in
-    turn-length (strings-turn (turn .loop .inv) (member-at .member-at .ensures) (m .m .given .1) ((start + size) - start) (omega arith) (write-bytes .write-bytes .ensures))
+    turn-length (strings-turn (turn .loop .inv) (member-at .member-at .ensures) (m .m .given .1) ((start + size) - start) (omega arith)
+    (write-bytes .write-bytes .ensures))
 
 returns : tie.Need-returns Inv-loop μ-loop
 returns c =
@@ -91,7 +93,8 @@ returns c =
     let size = m .m .given .0 .1 .0 in
     let member-at = m .before .before in
     let turn = member-at .before .before in
-    turn-full (strings-turn (turn .loop .inv) (member-at .member-at .ensures) (m .m .given .1) ((start + size) - start) (omega arith) (write-bytes .write-bytes .ensures))
+    turn-full (strings-turn (turn .loop .inv) (member-at .member-at .ensures) (m .m .given .1) ((start + size) - start) (omega arith)
+    (write-bytes .write-bytes .ensures))
     (c .enum-told .given .0 .0) (c .enum-told .given .1)
 
 enum-known-w : tie.Need-enum-known-w Inv-loop μ-loop
@@ -106,7 +109,8 @@ add-len c =
     let member-at = m .before .before in
     let turn = member-at .before .before in
     let begun = turn .before .before .before .before in
-    let put = strings-turn (turn .loop .inv) (member-at .member-at .ensures) (m .m .given .1) ((start + size) - start) (omega arith) (write-bytes .write-bytes .ensures) in
+    let put = strings-turn (turn .loop .inv) (member-at .member-at .ensures) (m .m .given .1) ((start + size) - start) (omega arith)
+    (write-bytes .write-bytes .ensures) in
     let counts = turn-count put (c .before .w .given .0 .0) (c .before .w .given .1) (turn .before .head-laws .ensures) in
     omega (arith, counts .0, begun)
 
@@ -122,7 +126,8 @@ add-members c =
     let member-at = m .before .before in
     let turn = member-at .before .before in
     let begun = turn .before .before .before .before in
-    let put = strings-turn (turn .loop .inv) (member-at .member-at .ensures) (m .m .given .1) ((start + size) - start) (omega arith) (write-bytes .write-bytes .ensures) in
+    let put = strings-turn (turn .loop .inv) (member-at .member-at .ensures) (m .m .given .1) ((start + size) - start) (omega arith)
+    (write-bytes .write-bytes .ensures) in
     let counts = turn-count put (c .before .w .given .0 .0) (c .before .w .given .1) (turn .before .head-laws .ensures) in
     omega (arith, counts .1, begun)
 
@@ -137,7 +142,8 @@ loop-again c =
     let size = m .m .given .0 .1 .0 in
     let member-at = m .before .before in
     let turn = member-at .before .before in
-    turn-more (strings-turn (turn .loop .inv) (member-at .member-at .ensures) (m .m .given .1) ((start + size) - start) (omega arith) (write-bytes .write-bytes .ensures))
+    turn-more (strings-turn (turn .loop .inv) (member-at .member-at .ensures) (m .m .given .1) ((start + size) - start) (omega arith)
+    (write-bytes .write-bytes .ensures))
     (c .before .w .given .0 .0) (c .before .w .given .1)
 
 same-length-2 : tie.Need-same-length-2 Inv-loop μ-loop
@@ -160,7 +166,8 @@ returns-3 : tie.Need-returns-3 Inv-loop μ-loop
 returns-3 c =
     let turn = c .before .loop in
     gathering-done (turn .inv)
-    (gathering-ended stringsIn (turn .left) (drop (turn .at) (c .before .before .before .before .before .args .s .now)) strings-none (c .loop-test .left))
+    (gathering-ended stringsIn (turn .left) (drop (turn .at) (c .before .before .before .before .before .args .s .now)) strings-none
+    (c .loop-test .left))
 
 pub gather-strings-spec : {M : Type 1} → statement M
 gather-strings-spec =

@@ -29,7 +29,8 @@ returns c =
     let a = gathered .before .before .before .args in
     let members = stringsIn (membersAt (a .count) (drop (a .from) (a .s .now))) in
     let call = gathered .gather-strings in
-    let bad = list-bad members (replicate 253 0) refl (call .result) (call .last .1 .1 .1 .0) (call .ensures) (c .before .enum-told .given .1) in
+    let bad =
+    list-bad members (replicate 253 0) refl (call .result) (call .last .1 .1 .1 .0) (call .ensures) (c .before .enum-told .given .1) in
     c .bad-list .ensures ∙ ap listAnswer (sym bad)
 
 returns-2 : tie.Need-returns-2

@@ -27,7 +27,11 @@ add-whole c =
     let begun = asked .before .before .before in
     let a = begun .args in
     let z : length (a .l .bytes) ≡ 253 = array-long begun in
-    omega (arith, list-head (asked .before .head-laws .ensures) (a .l) z (asked .if1 .left) (a .dst .now) (c .head-len .ensures), asked .if1 .left)
+    omega (
+      arith,
+      list-head (asked .before .head-laws .ensures) (a .l) z (asked .if1 .left) (a .dst .now) (c .head-len .ensures),
+      asked .if1 .left,
+    )
 
 returns-2 : tie.Need-returns-2
 returns-2 c =
@@ -71,7 +75,8 @@ copy-requires c κs =
     let begun = asked .before .before .before in
     let a = begun .args in
     let z : length (a .l .bytes) ≡ 253 = array-long begun in
-    list-part (asked .before .head-laws .ensures) (a .l) z (asked .if1 .left) (a .dst .now) (size .head-len .ensures) (room .if2 .left) (head .write-head .ensures)
+    list-part (asked .before .head-laws .ensures) (a .l) z (asked .if1 .left) (a .dst .now) (size .head-len .ensures) (room .if2 .left)
+    (head .write-head .ensures)
 
 same-length : tie.Need-same-length
 same-length c = search needs
@@ -86,7 +91,8 @@ returns-3 c =
     let begun = asked .before .before .before in
     let a = begun .args in
     let z : length (a .l .bytes) ≡ 253 = array-long begun in
-    list-done (asked .before .head-laws .ensures) (a .l) z (asked .if1 .left) (a .dst .now) (size .head-len .ensures) (room .if2 .left) (head .write-head .ensures) _
+    list-done (asked .before .head-laws .ensures) (a .l) z (asked .if1 .left) (a .dst .now) (size .head-len .ensures) (room .if2 .left)
+    (head .write-head .ensures) _
     (copied .copy .ensures .1)
 
 pub write-list-spec : {M : Type 1} → statement M

@@ -23,7 +23,8 @@ returns-2 : tie.Need-returns-2
 returns-2 c =
     let start = c .before .before .before .before .before in
     let item = c .before .before .before .skip-item in
-    end-next (start .args .s .now) (start .args .at) (item .result) (item .ensures) (c .before .passed .given .0 .0) (c .before .passed .given .1)
+    end-next (start .args .s .now) (start .args .at) (item .result) (item .ensures) (c .before .passed .given .0 .0)
+    (c .before .passed .given .1)
 
 pub item-end-spec : {M : Type 1} → statement M
 item-end-spec =

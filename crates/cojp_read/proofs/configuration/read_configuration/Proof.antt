@@ -1,5 +1,5 @@
--- A refusal to open answers; else what is still to be read from here on is what was to be read from the start, and at most so many labels were
--- passed over as there were pairs. The slice of the pairs is the whole payload.
+-- A refusal to open answers; else what is still to be read from here on is what was to be read from the start, and at most so many labels
+-- were passed over as there were pairs. The slice of the pairs is the whole payload.
 use Prim.Native.Nat.{ℕ, _-_}
 use native.Mathlib.Omega.{arith}
 use mathlib.Core.Bool.{Bool}
@@ -22,7 +22,8 @@ use Rattle.cojp_map.specs.declared.open.PayloadResult.{PayloadResult}
 use Rattle.cojp_map.specs.declared.open.PayloadResult.the-variants as start
 use Rattle.cojp_map.proofs.Parameters.{octets-said}
 use Rattle.cojp_map.proofs.Maps.{Walking, walk-start, walk-done, turn-stops, turn-goes, read-refused, read-pairs}
-use Rattle.cojp_read.proofs.configuration.Configurations.{Turn, keys-turn, address-turn, jrc-turn, network-turn, prefix-turn, blacklist-turn, rate-turn, passed-turn}
+use Rattle.cojp_read.proofs.configuration.Configurations.{Turn, keys-turn, address-turn, jrc-turn, network-turn}
+use Rattle.cojp_read.proofs.configuration.Configurations.{prefix-turn, blacklist-turn, rate-turn, passed-turn}
 use Rattle.cojp_read.specs.configuration.Noted.{labelsSeenWith}
 use Rattle.cojp_read.proofs.configuration.Labels.{met-draft}
 use Rattle.cojp_read.proofs.configuration.read_configuration.Statement.{statement}
@@ -54,7 +55,8 @@ part s = take (length s - 0) s
 pairs-read : (v : Version) (b : Bool) (s : List ℕ) (r : PayloadResult) → StartSpec b s r → (n p : ℕ) → r ≡ start.Pairs n p
     → configurationAnswer (walkAt (configurationForm v) n emptyConfiguration (drop p (part s))) ≡ readConfigurationBy v (headBy b) s
 pairs-read v b s r said n p pairs =
-    ap (λ (l : List ℕ). configurationAnswer (walkAt (configurationForm v) n emptyConfiguration (drop p l))) (take-all (length s - 0) s (omega arith))
+    ap (λ (l : List ℕ). configurationAnswer (walkAt (configurationForm v) n emptyConfiguration (drop p l)))
+    (take-all (length s - 0) s (omega arith))
     ∙ ap configurationAnswer (sym (read-pairs (configurationForm v) b emptyConfiguration s r said n p pairs))
 
 abbrev Inv-loop : tie.InvT-loop
@@ -115,7 +117,8 @@ met-noted : (noting : Noting)
     → let walked = noting .before .before .before .before .loop in
     let opened = noting .before .before .before .before .before .before .before in
     let a = opened .before .before .before .before .before .args in
-    noting .if1 .c ≡ withLabelsSeen (walked .c) (labelsSeenWith (a .version) (noting .before .before .labelled-at .result .label) (walked .c .labels))
+    noting .if1 .c
+    ≡ withLabelsSeen (walked .c) (labelsSeenWith (a .version) (noting .before .before .labelled-at .result .label) (walked .c .labels))
 met-noted noting =
     let asked = noting .before .allows-additional-info in
     let walked = noting .before .before .before .before .loop in
@@ -134,7 +137,8 @@ Said m =
     let opened = noting .before .before .before .before .before .before .before in
     let a = opened .before .before .before .before .before .args in
     let s = part (a .payload .now) in
-    Turn (a .version) (walked .c) s (drop (walked .at) s) (pair .result) (pair .ensures) (noting .if1 .c) (met-noted noting) (m .match2 .c) (m .match2 .verdict) (m .match2 .at)
+    Turn (a .version) (walked .c) s (drop (walked .at) s) (pair .result) (pair .ensures) (noting .if1 .c) (met-noted noting) (m .match2 .c)
+    (m .match2 .verdict) (m .match2 .at)
 
 turn : (m : Met) → Said m
 turn m =
@@ -148,19 +152,26 @@ turn m =
     ⊎-elim (λ w. keys-turn _ _ _ _ _ (p .ensures) _ noted _ _ _ (told name.Keys (w .1 .given .1)) (w .6 .result .verdict)
     (keysParameter (w .6 .result .disposition) (w .4 .result .parameter .value)) (w .6 .result .next)
     (w .6 .ensures .0 _ _ (rw (← w .3 .ensures) (w .4 .ensures .0))) (w .6 .ensures .1 (w .4 .ensures .1)) (w .10) (w .9) (w .11))
-    (⊎-elim (λ w. address-turn _ _ _ _ _ (p .ensures) _ noted _ _ _ (told name.Address (w .1 .given .1)) (w .2 .result .verdict) (w .2 .result .parameter) (w .2 .result .next)
+    (⊎-elim (λ w. address-turn _ _ _ _ _ (p .ensures) _ noted _ _ _ (told name.Address (w .1 .given .1)) (w .2 .result .verdict)
+    (w .2 .result .parameter) (w .2 .result .next)
     (w .2 .ensures .0) (w .2 .ensures .1) (w .5) (rw (w .3 .ensures) at (w .4)) (w .6))
-    (⊎-elim (λ w. jrc-turn _ _ _ _ _ (p .ensures) _ noted _ _ _ (told name.Jrc (w .1 .given .1)) (w .3 .result .verdict) (w .3 .result .parameter) (w .3 .result .next)
+    (⊎-elim (λ w. jrc-turn _ _ _ _ _ (p .ensures) _ noted _ _ _ (told name.Jrc (w .1 .given .1)) (w .3 .result .verdict)
+    (w .3 .result .parameter) (w .3 .result .next)
     (octets-said (w .3 .result) _ _ (w .3 .ensures .0)) (w .3 .ensures .1) (w .6) (rw (w .4 .ensures) at (w .5)) (w .7))
-    (⊎-elim (λ w. network-turn _ _ _ _ _ (p .ensures) _ noted _ _ _ (told name.Network (w .1 .given .1)) (w .3 .result .verdict) (w .3 .result .parameter) (w .3 .result .next)
+    (⊎-elim (λ w. network-turn _ _ _ _ _ (p .ensures) _ noted _ _ _ (told name.Network (w .1 .given .1)) (w .3 .result .verdict)
+    (w .3 .result .parameter) (w .3 .result .next)
     (octets-said (w .3 .result) _ _ (w .3 .ensures .0)) (w .3 .ensures .1) (w .6) (rw (w .4 .ensures) at (w .5)) (w .7))
-    (⊎-elim (λ w. prefix-turn _ _ _ _ _ (p .ensures) _ noted _ _ _ (told name.Prefix (w .1 .given .1)) (w .3 .result .verdict) (w .3 .result .parameter) (w .3 .result .next)
+    (⊎-elim (λ w. prefix-turn _ _ _ _ _ (p .ensures) _ noted _ _ _ (told name.Prefix (w .1 .given .1)) (w .3 .result .verdict)
+    (w .3 .result .parameter) (w .3 .result .next)
     (octets-said (w .3 .result) _ _ (w .3 .ensures .0)) (w .3 .ensures .1) (w .6) (rw (w .4 .ensures) at (w .5)) (w .7))
-    (⊎-elim (λ w. blacklist-turn _ _ _ _ _ (p .ensures) _ noted _ _ _ (told name.Blacklist (w .1 .given .1)) (w .2 .result .verdict) (w .2 .result .parameter) (w .2 .result .next)
+    (⊎-elim (λ w. blacklist-turn _ _ _ _ _ (p .ensures) _ noted _ _ _ (told name.Blacklist (w .1 .given .1)) (w .2 .result .verdict)
+    (w .2 .result .parameter) (w .2 .result .next)
     (w .2 .ensures .0) (w .2 .ensures .1) (w .5) (w .4) (w .6))
-    (⊎-elim (λ w. rate-turn _ _ _ _ _ (p .ensures) _ noted _ _ _ (told name.Rate (w .1 .given .1)) (w .2 .result .verdict) (w .2 .result .parameter) (w .2 .result .next)
+    (⊎-elim (λ w. rate-turn _ _ _ _ _ (p .ensures) _ noted _ _ _ (told name.Rate (w .1 .given .1)) (w .2 .result .verdict)
+    (w .2 .result .parameter) (w .2 .result .next)
     (w .2 .ensures .0) (w .2 .ensures .1) (w .5) (w .4) (w .6))
-    (λ w. passed-turn _ _ _ _ _ (p .ensures) _ noted _ _ _ (told name.Unknown (w .1 .given .1)) (w .3 .result) (w .3 .ensures) (w .5) (w .4) (w .6)))))))) (m .match2 .came)
+    (λ w. passed-turn _ _ _ _ _ (p .ensures) _ noted _ _ _ (told name.Unknown (w .1 .given .1)) (w .3 .result) (w .3 .ensures) (w .5) (w .4)
+    (w .6)))))))) (m .match2 .came)
 
 empty-configuration-requires : tie.Need-empty-configuration-requires Inv-loop μ-loop
 empty-configuration-requires c κs = search needs
@@ -179,7 +190,8 @@ returns c =
     let told = c .before .before .opened .given in
     let opening = c .before .before .before .before .open-payload in
     let given = c .before .before .before .before .before .before .before .args in
-    let read = read-refused (configurationForm (given .version)) (given .strict) emptyConfiguration (given .payload .now) (opening .result) (opening .ensures) (told .0 .0) (told .1) in
+    let read = read-refused (configurationForm (given .version)) (given .strict) emptyConfiguration (given .payload .now) (opening .result)
+    (opening .ensures) (told .0 .0) (told .1) in
     c .refused-configuration .ensures ∙ ap configurationAnswer (sym read)
 
 enum-known-opened-2 : tie.Need-enum-known-opened-2 Inv-loop μ-loop
@@ -304,9 +316,11 @@ returns-2 c =
     let a = opened .before .before .before .before .before .args in
     c .refused-configuration2 .ensures
     ∙ ap configurationAnswer
-    (turn-stops (configurationForm (a .version)) _ _ (part (a .payload .now)) _ (walked .inv) (omega (arith, test .loop-test .taken)) (pair .match2 .verdict) _
+    (turn-stops (configurationForm (a .version)) _ _ (part (a .payload .now)) _ (walked .inv) (omega (arith, test .loop-test .taken))
+    (pair .match2 .verdict) _
     (pair .match2 .at) (turn pair .turned) (why .0 .0) (why .1))
-    ∙ pairs-read (a .version) (a .strict) (a .payload .now) _ (opened .before .before .open-payload .ensures) _ _ (opened .opened2 .given .1)
+    ∙ pairs-read (a .version) (a .strict) (a .payload .now) _ (opened .before .before .open-payload .ensures) _ _
+    (opened .opened2 .given .1)
 
 enum-told-9 : tie.Need-enum-told-9 Inv-loop μ-loop
 enum-told-9 c = search needs
@@ -324,7 +338,8 @@ loop-again c =
     let walked = test .before .loop in
     let opened = test .before .before .before .before in
     let a = opened .before .before .before .before .before .args in
-    turn-goes (configurationForm (a .version)) _ _ (part (a .payload .now)) _ (walked .inv) (omega (arith, test .loop-test .taken)) (pair .match2 .verdict) _
+    turn-goes (configurationForm (a .version)) _ _ (part (a .payload .now)) _ (walked .inv) (omega (arith, test .loop-test .taken))
+    (pair .match2 .verdict) _
     (pair .match2 .at) (turn pair .turned) (c .enum-told9 .given .1) (pair .match2 .c .unknown) (turn pair .few)
 
 returns-3 : tie.Need-returns-3 Inv-loop μ-loop
@@ -333,7 +348,8 @@ returns-3 c =
     let opened = c .before .before .before .before in
     let a = opened .before .before .before .before .before .args in
     ap configurationAnswer (walk-done (configurationForm (a .version)) _ _ (walked .inv) (omega (arith, c .loop-test .left)))
-    ∙ pairs-read (a .version) (a .strict) (a .payload .now) _ (opened .before .before .open-payload .ensures) _ _ (opened .opened2 .given .1)
+    ∙ pairs-read (a .version) (a .strict) (a .payload .now) _ (opened .before .before .open-payload .ensures) _ _
+    (opened .opened2 .given .1)
 
 pub read-configuration-spec : {M : Type 1} → statement M
 read-configuration-spec =

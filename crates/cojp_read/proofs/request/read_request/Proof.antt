@@ -27,7 +27,8 @@ returns c =
     let told = c .before .before .opened .given in
     let opening = c .before .before .before .before .open-payload in
     let given = c .before .before .before .before .before .before .args in
-    let read = read-refused (requestForm (given .version)) (given .strict) emptyRequestState (given .payload .now) (opening .result) (opening .ensures) (told .0 .0) (told .1) in
+    let read = read-refused (requestForm (given .version)) (given .strict) emptyRequestState (given .payload .now) (opening .result)
+    (opening .ensures) (told .0 .0) (told .1) in
     c .refused-request .ensures ∙ ap (answerTo (given .version)) (sym read)
 
 returns-2 : tie.Need-returns-2
@@ -35,7 +36,8 @@ returns-2 c =
     let told = c .before .before .opened2 .given in
     let opening = c .before .before .before .before .open-payload in
     let given = c .before .before .before .before .before .before .args in
-    let read = read-pairs (requestForm (given .version)) (given .strict) emptyRequestState (given .payload .now) (opening .result) (opening .ensures) (told .0 .0) (told .0 .1 .0) (told .1) in
+    let read = read-pairs (requestForm (given .version)) (given .strict) emptyRequestState (given .payload .now) (opening .result)
+    (opening .ensures) (told .0 .0) (told .0 .1 .0) (told .1) in
     c .take-pairs .ensures ∙ ap (answerTo (given .version)) (sym read)
 
 pub read-request-spec : {M : Type 1} → statement M

@@ -25,7 +25,8 @@ use Rattle.cojp_read.proofs.request.unsupported.unsupported_once.Reads 
 
 abbrev Inv-loop : tie.InvT-loop
 Inv-loop s at₀ left₀ version named₀ q₀ at left named q =
-    Walking (requestForm version) (walkAt (requestForm version) left₀ emptyRequestState (drop at₀ s)) left₀ (q .unknown) left (requestState named q) (drop at s)
+    Walking (requestForm version) (walkAt (requestForm version) left₀ emptyRequestState (drop at₀ s)) left₀ (q .unknown) left
+    (requestState named q) (drop at s)
 
 abbrev μ-loop : tie.MeasureT-loop
 μ-loop s at₀ left₀ version named₀ q₀ at left named q = left
@@ -65,16 +66,21 @@ Said m =
     let s = a .s .now in
     let pair = m .before .before .labelled-at in
     let now = m .match in
-    Turn (a .version) (walked .named) (walked .q) s (drop (walked .at) s) (pair .result) (pair .ensures) (now .named) (now .q) (now .verdict) (now .at)
+    Turn (a .version) (walked .named) (walked .q) s (drop (walked .at) s) (pair .result) (pair .ensures) (now .named) (now .q)
+    (now .verdict) (now .at)
 
 turn : (m : Met) → Said m
 turn m =
     let p = m .before .before .labelled-at in
     let names = sym (m .before .request-parameter-of .ensures) in
-    ⊎-elim (λ w. turn-role _ _ _ _ _ _ (p .ensures) _ _ _ _ (names ∙ w .1 .given .1) (w .2 .result) (w .2 .ensures) (w .4) (w .5) (w .6) (w .7))
-    (⊎-elim (λ w. turn-network _ _ _ _ _ _ (p .ensures) _ _ _ _ (names ∙ w .1 .given .1) (w .3 .result) (w .3 .ensures) (w .5) (w .6) (rw (w .4 .ensures) at (w .7)) (w .8))
-    (⊎-elim (λ w. turn-unsupported _ _ _ _ _ _ (p .ensures) _ _ _ _ (names ∙ w .1 .given .1) (w .2 .result) (w .2 .ensures) (w .5) (w .6) (w .7) (w .8))
-    (λ w. turn-passed _ _ _ _ _ _ (p .ensures) _ _ _ _ (names ∙ w .1 .given .1) (w .3 .result) (w .3 .ensures) (w .4) (w .5) (w .6) (w .7))))
+    ⊎-elim
+    (λ w. turn-role _ _ _ _ _ _ (p .ensures) _ _ _ _ (names ∙ w .1 .given .1) (w .2 .result) (w .2 .ensures) (w .4) (w .5) (w .6) (w .7))
+    (⊎-elim (λ w. turn-network _ _ _ _ _ _ (p .ensures) _ _ _ _ (names ∙ w .1 .given .1) (w .3 .result) (w .3 .ensures) (w .5) (w .6)
+    (rw (w .4 .ensures) at (w .7)) (w .8))
+    (⊎-elim (λ w.
+    turn-unsupported _ _ _ _ _ _ (p .ensures) _ _ _ _ (names ∙ w .1 .given .1) (w .2 .result) (w .2 .ensures) (w .5) (w .6) (w .7) (w .8))
+    (λ w.
+    turn-passed _ _ _ _ _ _ (p .ensures) _ _ _ _ (names ∙ w .1 .given .1) (w .3 .result) (w .3 .ensures) (w .4) (w .5) (w .6) (w .7))))
     (m .match .came)
 
 empty-request-requires : tie.Need-empty-request-requires Inv-loop μ-loop
@@ -116,7 +122,12 @@ enum-told-4 : tie.Need-enum-told-4 Inv-loop μ-loop
 enum-told-4 c = search needs
 
 add-q : tie.Need-add-q Inv-loop μ-loop
-add-q c = omega (arith, c .before .before .before .before .before .before .loop .inv .few, c .before .before .before .before .before .loop-test .taken, c .before .before .before .before .before .before .before .before .before .fits .left)
+add-q c = omega (
+  arith,
+  c .before .before .before .before .before .before .loop .inv .few,
+  c .before .before .before .before .before .loop-test .taken,
+  c .before .before .before .before .before .before .before .before .before .fits .left,
+)
 
 item-end-requires : tie.Need-item-end-requires Inv-loop μ-loop
 item-end-requires c κs = search needs
@@ -135,7 +146,8 @@ returns c =
     let a = c .before .before .before .before .before .before .before .before .before .before .before .args in
     c .refused-request .ensures
     ∙ ap (answerTo (a .version))
-    (turn-stops (requestForm (a .version)) _ _ (a .s .now) _ (walked .inv) (omega (arith, c .before .before .before .before .before .before .before .loop-test .taken)) (pair .match .verdict) _ (pair .match .at)
+    (turn-stops (requestForm (a .version)) _ _ (a .s .now) _ (walked .inv)
+    (omega (arith, c .before .before .before .before .before .before .before .loop-test .taken)) (pair .match .verdict) _ (pair .match .at)
     (turn pair .turned) (why .0 .0) (why .1))
 
 enum-told-5 : tie.Need-enum-told-5 Inv-loop μ-loop
@@ -152,7 +164,8 @@ loop-again c =
     let pair = c .before .before in
     let walked = c .before .before .before .before .before .before .loop in
     let a = c .before .before .before .before .before .before .before .before .before .args in
-    turn-goes (requestForm (a .version)) _ _ (a .s .now) _ (walked .inv) (omega (arith, c .before .before .before .before .before .loop-test .taken)) (pair .match .verdict) _ (pair .match .at)
+    turn-goes (requestForm (a .version)) _ _ (a .s .now) _ (walked .inv)
+    (omega (arith, c .before .before .before .before .before .loop-test .taken)) (pair .match .verdict) _ (pair .match .at)
     (turn pair .turned) (c .enum-told5 .given .1) (pair .match .q .unknown) (turn pair .few)
 
 settled-request-requires : tie.Need-settled-request-requires Inv-loop μ-loop
@@ -161,7 +174,8 @@ settled-request-requires c κs = search needs
 returns-2 : tie.Need-returns-2 Inv-loop μ-loop
 returns-2 c =
     let version = c .before .before .before .before .before .args .version in
-    c .settled-request .ensures ∙ ap (answerTo version) (walk-done (requestForm version) _ _ (c .before .before .loop .inv) (omega (arith, c .before .loop-test .left)))
+    c .settled-request .ensures
+    ∙ ap (answerTo version) (walk-done (requestForm version) _ _ (c .before .before .loop .inv) (omega (arith, c .before .loop-test .left)))
 
 pub take-pairs-spec : {M : Type 1} → statement M
 take-pairs-spec =

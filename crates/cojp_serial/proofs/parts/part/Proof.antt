@@ -45,7 +45,8 @@ sub-copy c =
     let told = c in
     let found = told .before .before in
     let a = found .before .before .before .args in
-    let f = open-fits (a .arrival) (length (a .store .now)) (length (a .sent .now)) (sym (found .decision .ensures) ∙ told .enum-told4 .given .1) in
+    let f =
+    open-fits (a .arrival) (length (a .store .now)) (length (a .sent .now)) (sym (found .decision .ensures) ∙ told .enum-told4 .given .1) in
     omega (arith, f .room, f .store)
 
 part-copy-start : tie.Need-part-copy-start
@@ -59,7 +60,8 @@ copy-requires c κs =
     let told = c .before in
     let found = told .before .before in
     let a = found .before .before .before .args in
-    let f = open-fits (a .arrival) (length (a .store .now)) (length (a .sent .now)) (sym (found .decision .ensures) ∙ told .enum-told4 .given .1) in
+    let f =
+    open-fits (a .arrival) (length (a .store .now)) (length (a .sent .now)) (sym (found .decision .ensures) ∙ told .enum-told4 .given .1) in
     simp (length-take, length-drop) (omega (arith, f .room, f .store))
 
 add-t16 : tie.Need-add-t16
@@ -68,7 +70,8 @@ add-t16 c =
     let told = c .before .before .before .before in
     let found = told .before .before in
     let a = found .before .before .before .args in
-    let f = open-fits (a .arrival) (length (a .store .now)) (length (a .sent .now)) (sym (found .decision .ensures) ∙ told .enum-told4 .given .1) in
+    let f =
+    open-fits (a .arrival) (length (a .store .now)) (length (a .sent .now)) (sym (found .decision .ensures) ∙ told .enum-told4 .given .1) in
     omega (arith, f .room, copy .copy .ensures .0)
 
 returns : tie.Need-returns

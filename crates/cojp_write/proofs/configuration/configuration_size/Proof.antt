@@ -25,7 +25,8 @@ returns c =
     let both = rate .before in
     let list = both .before in
     let front = list .before in
-    sizes-append (sizes-append (front .front-size .ensures) (list .list-size .ensures) (both .plus .ensures)) (rate .rate-size .ensures) (c .plus2 .ensures)
+    sizes-append (sizes-append (front .front-size .ensures) (list .list-size .ensures) (both .plus .ensures)) (rate .rate-size .ensures)
+    (c .plus2 .ensures)
 
 pub configuration-size-spec : {M : Type 1} → statement M
 configuration-size-spec =

@@ -30,7 +30,8 @@ returns c =
     let start = heads .before .before in
     let a = start .args in
     let z = configuration-sized (a .c) (laws .laws .ensures .blacklist-written) (start .pre) (size .configuration-size .ensures) in
-    planned-as (map-over (heads .head-laws .ensures) (configurationPairs (a .c)) z (omega arith) (a .dst .now) (c .if1 .taken)) (did-refuse Range _)
+    planned-as (map-over (heads .head-laws .ensures) (configurationPairs (a .c)) z (omega arith) (a .dst .now) (c .if1 .taken))
+    (did-refuse Range _)
 
 returns-2 : tie.Need-returns-2
 returns-2 c =
@@ -52,8 +53,11 @@ put-configuration-requires c κs =
     let heads = laws .before in
     let start = heads .before .before in
     let a = start .args in
-    let law = laws .laws .ensures .blacklist-written in
-    (start .pre, configuration-room (a .c) law (start .pre) (size .configuration-size .ensures) (heads .head-laws .ensures) (a .dst .now) (room .if2 .left))
+    let law = laws .laws .ensures .blacklist-written in (
+      start .pre,
+      configuration-room (a .c) law (start .pre) (size .configuration-size .ensures) (heads .head-laws .ensures) (a .dst .now)
+          (room .if2 .left),
+    )
 
 same-length : tie.Need-same-length
 same-length c = search needs

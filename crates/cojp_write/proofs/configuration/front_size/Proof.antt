@@ -46,7 +46,8 @@ returns c =
     let ka = join (keysPairs (q .keys)) (addressPairs (q .address)) in
     let kaj = join ka (octetsPairs 4 (q .jrc)) in
     let kajn = join kaj (octetsPairs 5 (q .network)) in
-    let z1 = sizes-join (keysPairs (q .keys)) (addressPairs (q .address)) (keys .keys-size .ensures) (address .address-size .ensures) (both .plus .ensures) in
+    let z1 = sizes-join (keysPairs (q .keys)) (addressPairs (q .address)) (keys .keys-size .ensures) (address .address-size .ensures)
+    (both .plus .ensures) in
     let z2 = sizes-join ka (octetsPairs 4 (q .jrc)) z1 (jrc .octets-size .ensures) (middle .plus2 .ensures) in
     let z3 = sizes-join kaj (octetsPairs 5 (q .network)) z2 (network .octets-size2 .ensures) (front .plus3 .ensures) in
     sizes-join kajn (octetsPairs 6 (q .prefix)) z3 (prefix .octets-size3 .ensures) (c .plus4 .ensures)

@@ -86,7 +86,8 @@ same-length c =
     let start = front .before .before .before in
     let a = start .args in
     wrote-length (returns c)
-    (omega (arith, start .pre .1, configuration-length (a .c) (a .members), length-append (shortest 5 (a .members)) (configurationBytes (a .c))))
+    (omega
+    (arith, start .pre .1, configuration-length (a .c) (a .members), length-append (shortest 5 (a .members)) (configurationBytes (a .c))))
 
 pub put-configuration-spec : {M : Type 1} → statement M
 put-configuration-spec =

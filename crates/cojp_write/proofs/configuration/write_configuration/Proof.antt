@@ -32,7 +32,8 @@ returns-2 c =
     let test = emitted .before .before in
     let range = test .before in
     let a = range .before .before .args in
-    configuration-emit (a .version) (a .c) (sym (range .configuration-in-range .ensures) ∙ not-false _ (test .if1 .left)) (emitted .emit-configuration .ensures)
+    configuration-emit (a .version) (a .c) (sym (range .configuration-in-range .ensures) ∙ not-false _ (test .if1 .left))
+    (emitted .emit-configuration .ensures)
 
 pub write-configuration-spec : {M : Type 1} → statement M
 write-configuration-spec =

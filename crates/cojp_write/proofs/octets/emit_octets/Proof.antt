@@ -44,13 +44,15 @@ returns c =
     let taken = test .before in
     let known = taken .before .before in
     let a = known .before .before .args in
-    did-same (octets-known (a .p) _ (taken .is-taken .ensures) (test .if1 .taken) (a .label) (known .known-len .ensures .0)) (string .write-string .ensures)
+    did-same (octets-known (a .p) _ (taken .is-taken .ensures) (test .if1 .taken) (a .label) (known .known-len .ensures .0))
+    (string .write-string .ensures)
 
 returns-2 : tie.Need-returns-2
 returns-2 c =
     let p = c .before .before .before .before .before .args .p in
     let i = labelled (c .before .before .before .before .before .args .label) (bytes (bytesIn (p .value))) in
-    did-same (taken-not (p .disposition) i empty _ (c .before .is-taken .ensures) (c .if1 .left)) (did-emit (omega arith) (wrote-none (c .before .before .before .before .before .args .dst .now)))
+    did-same (taken-not (p .disposition) i empty _ (c .before .is-taken .ensures) (c .if1 .left))
+    (did-emit (omega arith) (wrote-none (c .before .before .before .before .before .args .dst .now)))
 
 pub emit-octets-spec : {M : Type 1} → statement M
 emit-octets-spec =

@@ -19,14 +19,16 @@ add-whole c =
     let label = c .before in
     let laws = label .before in
     let a = laws .before .before .before .args in
-    omega (arith, heads-most (laws .head-laws .ensures) (a .label) (a .s .now) (a .dst .now) (label .head-len .ensures) (c .head-len2 .ensures))
+    omega
+    (arith, heads-most (laws .head-laws .ensures) (a .label) (a .s .now) (a .dst .now) (label .head-len .ensures) (c .head-len2 .ensures))
 
 add-whole-2 : tie.Need-add-whole-2
 add-whole-2 c =
     let label = c .before in
     let laws = label .before in
     let a = laws .before .before .before .args in
-    omega (arith, heads-most (laws .head-laws .ensures) (a .label) (a .s .now) (a .dst .now) (label .head-len .ensures) (c .head-len2 .ensures))
+    omega
+    (arith, heads-most (laws .head-laws .ensures) (a .label) (a .s .now) (a .dst .now) (label .head-len .ensures) (c .head-len2 .ensures))
 
 returns : tie.Need-returns
 returns c =
@@ -34,7 +36,8 @@ returns c =
     let label = head .before in
     let laws = label .before in
     let a = laws .before .before .before .args in
-    string-refused (laws .head-laws .ensures) (a .label) (a .s .now) (a .dst .now) (label .head-len .ensures) (head .head-len2 .ensures) (c .if1 .taken)
+    string-refused (laws .head-laws .ensures) (a .label) (a .s .now) (a .dst .now) (label .head-len .ensures)
+    (head .head-len2 .ensures) (c .if1 .taken)
 
 write-head-requires : tie.Need-write-head-requires
 write-head-requires c κs = search needs
@@ -63,7 +66,8 @@ returns-2 c =
     let label = head .before in
     let laws = label .before in
     let a = laws .before .before .before .args in
-    string-done (laws .head-laws .ensures) (a .label) (a .s .now) (a .dst .now) (label .head-len .ensures) (head .head-len2 .ensures) (test .if1 .left)
+    string-done (laws .head-laws .ensures) (a .label) (a .s .now) (a .dst .now) (label .head-len .ensures) (head .head-len2 .ensures)
+    (test .if1 .left)
     (first .write-head .ensures) _ (string .write-bytes .ensures)
 
 pub write-string-spec : {M : Type 1} → statement M

@@ -53,7 +53,8 @@ returns-3 c =
     let a = start .args in
     let z = request-sized (a .q) (laws .laws .ensures .unsupported-written) (start .pre) (size .request-size .ensures) in
     let within = map-within (heads .head-laws .ensures) (requestPairs (a .q)) z (omega arith) (a .dst .now) (range .if1 .left) in
-    owing-emit (a .owed) within (owed .if2 .left) (map-room (heads .head-laws .ensures) (requestPairs (a .q)) z (omega arith) _ (c .if3 .taken))
+    owing-emit (a .owed) within (owed .if2 .left)
+    (map-room (heads .head-laws .ensures) (requestPairs (a .q)) z (omega arith) _ (c .if3 .taken))
 
 put-request-requires : tie.Need-put-request-requires
 put-request-requires c κs =
@@ -63,8 +64,10 @@ put-request-requires c κs =
     let heads = laws .before in
     let start = heads .before .before in
     let a = start .args in
-    let law = laws .laws .ensures .unsupported-written in
-    (start .pre, request-room (a .q) law (start .pre) (size .request-size .ensures) (heads .head-laws .ensures) (a .dst .now) (room .if3 .left))
+    let law = laws .laws .ensures .unsupported-written in (
+      start .pre,
+      request-room (a .q) law (start .pre) (size .request-size .ensures) (heads .head-laws .ensures) (a .dst .now) (room .if3 .left),
+    )
 
 same-length : tie.Need-same-length
 same-length c = search needs

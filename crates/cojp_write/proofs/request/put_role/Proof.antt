@@ -39,7 +39,8 @@ returns c =
     let test = first .before .before in
     let laws = test .before in
     let start = laws .before .before in
-    role-wrote (laws .head-laws .ensures) (start .args .role) (test .if1 .taken) (start .pre .0) (start .pre .1) (first .write-head .ensures) (second .write-head2 .ensures)
+    role-wrote (laws .head-laws .ensures) (start .args .role) (test .if1 .taken) (start .pre .0) (start .pre .1)
+    (first .write-head .ensures) (second .write-head2 .ensures)
 
 returns-2 : tie.Need-returns-2
 returns-2 c =

@@ -27,7 +27,8 @@ returns c =
     let network = both .before in
     let role = network .before in
     let q = role .before .args .q in
-    let front = sizes-join (rolePairs (q .role)) (octetsPairs 5 (q .network)) (role .role-size .ensures) (network .octets-size .ensures) (both .plus .ensures) in
+    let front = sizes-join (rolePairs (q .role)) (octetsPairs 5 (q .network)) (role .role-size .ensures) (network .octets-size .ensures)
+    (both .plus .ensures) in
     sizes-append front (list .list-size .ensures) (c .plus2 .ensures)
 
 pub request-size-spec : {M : Type 1} → statement M

@@ -11,7 +11,8 @@ use Rattle.image.proofs.number.put_number.Statement.{statement}
 use Rattle.image.proofs.number.put_number.Tie as tie
 
 abbrev Inv-loop : tie.InvT-loop
-Inv-loop dst₀ width n left₀ i₀ dst left i = (i ≤ width) × (length dst ≡ length dst₀) × (bytesOf i left ++ drop i dst ≡ bytesOf width n ++ drop width dst₀)
+Inv-loop dst₀ width n left₀ i₀ dst left i =
+    (i ≤ width) × (length dst ≡ length dst₀) × (bytesOf i left ++ drop i dst ≡ bytesOf width n ++ drop width dst₀)
 
 abbrev μ-loop : tie.MeasureT-loop
 μ-loop dst₀ width n left₀ i₀ dst left i = i

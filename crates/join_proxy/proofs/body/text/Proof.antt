@@ -73,8 +73,10 @@ returns c =
     let start = at-byte-at .before .before in
     let args = start .args in
     let l : length (args .t1) ≡ 8 = search needs in
-    text-bytes (args .t1) (args .port) (args .token .now) _ _ _ _ _ _ _ _ l (at-byte-at .byte-at .ensures) (at-byte-at2 .byte-at2 .ensures) (at-byte-at3 .byte-at3 .ensures)
-    (at-byte-at4 .byte-at4 .ensures) (at-byte-at5 .byte-at5 .ensures) (c .before .before .byte-at6 .ensures) (c .before .byte-at7 .ensures) (c .byte-at8 .ensures)
+    text-bytes (args .t1) (args .port) (args .token .now) _ _ _ _ _ _ _ _ l (at-byte-at .byte-at .ensures) (at-byte-at2 .byte-at2 .ensures)
+    (at-byte-at3 .byte-at3 .ensures)
+    (at-byte-at4 .byte-at4 .ensures) (at-byte-at5 .byte-at5 .ensures) (c .before .before .byte-at6 .ensures) (c .before .byte-at7 .ensures)
+    (c .byte-at8 .ensures)
 
 pub text-spec : {M : Type 1} → statement M
 text-spec =

@@ -48,8 +48,10 @@ returns c =
     let args = start .args in
     let lt : length (args .t3) ≡ 19 = search needs in
     let ln : length (args .number) ≡ 4 = search needs in
-    written-body (at-laws .laws .ensures) (args .key) (args .t3) (c .before .before .seal .last .1 .1 .1 .1 .0) (c .before .before .seal .result) (args .number) (at-nonce .nonce .result)
-    (args .dst .now) (at-put-number .put-number .last .1 .0) lt ln (at-nonce .nonce .ensures) (start .pre) (at-put-number .put-number .ensures) (c .before .before .seal .ensures)
+    written-body (at-laws .laws .ensures) (args .key) (args .t3) (c .before .before .seal .last .1 .1 .1 .1 .0)
+    (c .before .before .seal .result) (args .number) (at-nonce .nonce .result)
+    (args .dst .now) (at-put-number .put-number .last .1 .0) lt ln (at-nonce .nonce .ensures) (start .pre)
+    (at-put-number .put-number .ensures) (c .before .before .seal .ensures)
 
 pub write-body-spec : {M : Type 1} → statement M
 write-body-spec =

@@ -13,7 +13,8 @@ refused-requires : tie.Need-refused-requires
 refused-requires c κs = search needs
 
 returns : tie.Need-returns
-returns c = c .refused .ensures ∙ sym (text-range (c .before .before .args .issued) (c .before .before .args .number) (c .before .before .args .t3) (c .before .if1 .taken))
+returns c = c .refused .ensures ∙ sym
+    (text-range (c .before .before .args .issued) (c .before .before .args .number) (c .before .before .args .t3) (c .before .if1 .taken))
 
 is-fresh-requires : tie.Need-is-fresh-requires
 is-fresh-requires c κs = search needs
@@ -27,7 +28,8 @@ returns-2 c =
     let start = at-if1 .before in
     let args = start .args in
     ap forwardTo (c .pledge-in .ensures)
-    ∙ sym (text-forwarded (args .issued) (args .number) (args .t3) (at-if1 .if1 .left) (sym (c .before .before .is-fresh .ensures) ∙ c .before .if2 .taken))
+    ∙ sym (text-forwarded (args .issued) (args .number) (args .t3) (at-if1 .if1 .left)
+    (sym (c .before .before .is-fresh .ensures) ∙ c .before .if2 .taken))
 
 refused-requires-2 : tie.Need-refused-requires-2
 refused-requires-2 c κs = search needs
@@ -37,7 +39,8 @@ returns-3 c =
     let at-if1 = c .before .before .before in
     let start = at-if1 .before in
     let args = start .args in
-    c .refused2 .ensures ∙ sym (text-stale (args .issued) (args .number) (args .t3) (at-if1 .if1 .left) (sym (c .before .before .is-fresh .ensures) ∙ c .before .if2 .left))
+    c .refused2 .ensures ∙ sym (text-stale (args .issued) (args .number) (args .t3) (at-if1 .if1 .left)
+    (sym (c .before .before .is-fresh .ensures) ∙ c .before .if2 .left))
 
 pub forwarded-spec : {M : Type 1} → statement M
 forwarded-spec =

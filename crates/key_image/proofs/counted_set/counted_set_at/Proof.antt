@@ -122,22 +122,26 @@ counter-at-requires-6 c κs =
 
 add-counter-at-7 : tie.Need-add-counter-at-7
 add-counter-at-7 c =
-    let start = c .before .before .before .before .before .before .before .before .before .before .before .before .before .before .before .before in
+    let start =
+    c .before .before .before .before .before .before .before .before .before .before .before .before .before .before .before .before in
     omega (arith, start .pre)
 
 counter-at-requires-7 : tie.Need-counter-at-requires-7
 counter-at-requires-7 c κs =
-    let start = c .before .before .before .before .before .before .before .before .before .before .before .before .before .before .before .before in
+    let start =
+    c .before .before .before .before .before .before .before .before .before .before .before .before .before .before .before .before in
     omega (arith, start .pre)
 
 add-counter-at-8 : tie.Need-add-counter-at-8
 add-counter-at-8 c =
-    let start = c .before .before .before .before .before .before .before .before .before .before .before .before .before .before .before .before .before in
+    let start = c .before .before .before .before .before .before .before .before .before .before .before .before .before .before .before
+    .before .before in
     omega (arith, start .pre)
 
 counter-at-requires-8 : tie.Need-counter-at-requires-8
 counter-at-requires-8 c κs =
-    let start = c .before .before .before .before .before .before .before .before .before .before .before .before .before .before .before .before .before in
+    let start = c .before .before .before .before .before .before .before .before .before .before .before .before .before .before .before
+    .before .before in
     omega (arith, start .pre)
 
 returns : tie.Need-returns
@@ -162,10 +166,12 @@ returns c =
     let src = start .args .src .now in
     let at = start .args .at in
     let set = set-got src at (at-number-at .number-at .ensures)
-    (eight-keys src at (at-key-at .key-at .ensures) (at-key-at2 .key-at2 .ensures) (at-key-at3 .key-at3 .ensures) (at-key-at4 .key-at4 .ensures)
+    (eight-keys src at (at-key-at .key-at .ensures) (at-key-at2 .key-at2 .ensures) (at-key-at3 .key-at3 .ensures)
+    (at-key-at4 .key-at4 .ensures)
     (at-key-at5 .key-at5 .ensures) (at-key-at6 .key-at6 .ensures) (at-key-at7 .key-at7 .ensures) (at-key-at8 .key-at8 .ensures)) in
     counted-got src at set
-    (eight-counters src at (at-counter-at .counter-at .ensures) (at-counter-at2 .counter-at2 .ensures) (at-counter-at3 .counter-at3 .ensures)
+    (eight-counters src at (at-counter-at .counter-at .ensures) (at-counter-at2 .counter-at2 .ensures)
+    (at-counter-at3 .counter-at3 .ensures)
     (at-counter-at4 .counter-at4 .ensures) (at-counter-at5 .counter-at5 .ensures) (at-counter-at6 .counter-at6 .ensures)
     (at-counter-at7 .counter-at7 .ensures) (c .counter-at8 .ensures))
 

@@ -24,7 +24,8 @@ returns c =
     let s = start .args .src .now in
     let at = start .args .at in
     set-judged s at
-    (sym (ap (λ (b : Bool). b && goods keyPart 4 (drop (at + 109) s)) (denied (at-is-four .is-four .ensures) (c .if1 .taken))) ∙ halves-judged s at)
+    (sym (ap (λ (b : Bool). b && goods keyPart 4 (drop (at + 109) s)) (denied (at-is-four .is-four .ensures) (c .if1 .taken)))
+    ∙ halves-judged s at)
 
 add-is-four-2 : tie.Need-add-is-four-2
 add-is-four-2 c = search needs
@@ -40,7 +41,8 @@ returns-2 c =
     let s = start .args .src .now in
     let at = start .args .at in
     set-judged s at
-    (c .is-four2 .ensures ∙ sym (ap (λ (b : Bool). b && goods keyPart 4 (drop (at + 109) s)) (granted (at-is-four .is-four .ensures) (at-if1 .if1 .left))) ∙ halves-judged s at)
+    (c .is-four2 .ensures ∙ sym (ap (λ (b : Bool). b && goods keyPart 4 (drop (at + 109) s))
+    (granted (at-is-four .is-four .ensures) (at-if1 .if1 .left))) ∙ halves-judged s at)
 
 pub is-key-set-spec : {M : Type 1} → statement M
 is-key-set-spec =

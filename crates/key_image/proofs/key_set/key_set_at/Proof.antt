@@ -72,7 +72,9 @@ returns c =
     let at-number-at = at-key-at .before in
     let start = at-number-at .before .before in
     set-got (start .args .src .now) (start .args .at) (at-number-at .number-at .ensures)
-    (eight-keys (start .args .src .now) (start .args .at) (at-key-at .key-at .ensures) (at-key-at2 .key-at2 .ensures) (at-key-at3 .key-at3 .ensures) (at-key-at4 .key-at4 .ensures) (at-key-at5 .key-at5 .ensures) (at-key-at6 .key-at6 .ensures) (at-key-at7 .key-at7 .ensures) (c .key-at8 .ensures))
+    (eight-keys (start .args .src .now) (start .args .at) (at-key-at .key-at .ensures) (at-key-at2 .key-at2 .ensures)
+    (at-key-at3 .key-at3 .ensures) (at-key-at4 .key-at4 .ensures) (at-key-at5 .key-at5 .ensures) (at-key-at6 .key-at6 .ensures)
+    (at-key-at7 .key-at7 .ensures) (c .key-at8 .ensures))
 
 pub key-set-at-spec : {M : Type 1} → statement M
 key-set-at-spec =

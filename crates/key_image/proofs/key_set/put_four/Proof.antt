@@ -59,7 +59,8 @@ returns c =
     let w1 = next-field (omega arith) (at-put-key .put-key .ensures) (at-put-key2 .put-key2 .ensures) in
     let w2 = next-field (omega arith) w1 (at-put-key3 .put-key3 .ensures) in
     let w3 = next-field (omega arith) w2 (at-put-key4 .put-key4 .ensures) in
-    four-wrote (keyPart .put (start .args .a)) (keyPart .put (start .args .b)) (keyPart .put (start .args .c)) (keyPart .put (start .args .d)) w3
+    four-wrote (keyPart .put (start .args .a)) (keyPart .put (start .args .b)) (keyPart .put (start .args .c))
+    (keyPart .put (start .args .d)) w3
 
 pub put-four-spec : {M : Type 1} → statement M
 put-four-spec =

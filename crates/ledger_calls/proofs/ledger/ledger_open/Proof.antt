@@ -25,7 +25,8 @@ returns-2 c =
     let at-open = at-hand-ledger .before .before .before in
     let start = at-open .before .before .before .before in
     let e = at-hand-ledger .store-ledger .ensures in
-    open-told (start .args .first) (start .args .size) (start .args .memory .now) (start .args .ledger .now) (at-open .«open» .result) (at-open .«open» .ensures) (omega arith) (e .0) (e .1)
+    open-told (start .args .first) (start .args .size) (start .args .memory .now) (start .args .ledger .now) (at-open .«open» .result)
+    (at-open .«open» .ensures) (omega arith) (e .0) (e .1)
 
 pub ledger-open-spec : {M : Type 1} → statement M
 ledger-open-spec =

@@ -28,13 +28,15 @@ returns c =
     let at-put-ledger = c .before .before in
     let at-answer = at-put-ledger .before .before .before in
     let start = at-answer .before .before .before in
-    address-told (start .args .answer) (start .args .image .now) (ledgerImage .put (start .args .ledger)) _ (at-answer .answer .given .1) (at-put-ledger .put-ledger .ensures)
+    address-told (start .args .answer) (start .args .image .now) (ledgerImage .put (start .args .ledger)) _ (at-answer .answer .given .1)
+    (at-put-ledger .put-ledger .ensures)
 
 returns-2 : tie.Need-returns-2
 returns-2 c =
     let at-answer2 = c .before .before in
     let start = at-answer2 .before .before .before in
-    address-refused (start .args .answer) (start .args .image .now) (ledgerImage .put (start .args .ledger)) _ (at-answer2 .answer2 .given .1) (c .number .ensures)
+    address-refused (start .args .answer) (start .args .image .now) (ledgerImage .put (start .args .ledger)) _
+    (at-answer2 .answer2 .given .1) (c .number .ensures)
 
 pub store-address-spec : {M : Type 1} → statement M
 store-address-spec =

@@ -33,7 +33,8 @@ returns c =
     let at-put-ledger = c .before .before in
     let at-enum-told = at-put-ledger .before .before in
     let start = at-enum-told .before .before .before in
-    accepted (start .args .verdict) (replicate 16 0) (ledgerImage .put (start .args .ledger)) (at-enum-told .enum-told .given .1) (at-put-ledger .put-ledger .ensures)
+    accepted (start .args .verdict) (replicate 16 0) (ledgerImage .put (start .args .ledger)) (at-enum-told .enum-told .given .1)
+    (at-put-ledger .put-ledger .ensures)
 
 same-length-2 : tie.Need-same-length-2
 same-length-2 c = search needs
@@ -43,7 +44,8 @@ returns-2 c =
     let at-clear = c .before .before .before in
     let at-verdict = at-clear .before .before .before in
     let start = at-verdict .before .before .before in
-    refused (start .args .verdict) (replicate 16 0) (ledgerImage .put (start .args .ledger)) _ (at-verdict .verdict .given .1) (c .number .ensures) (at-clear .clear .ensures ∙ ap (λ n. replicate n 0) (start .pre))
+    refused (start .args .verdict) (replicate 16 0) (ledgerImage .put (start .args .ledger)) _ (at-verdict .verdict .given .1)
+    (c .number .ensures) (at-clear .clear .ensures ∙ ap (λ n. replicate n 0) (start .pre))
 
 pub store-ledger-spec : {M : Type 1} → statement M
 store-ledger-spec =

@@ -40,7 +40,8 @@ returns-4 c =
     let values = c .before .before in
     let usages = values .before .before .before .before .before in
     let names = usages .before .before .before in
-    rw (eq-eqb _ _ (names .if1 .left), eq-eqb _ _ (usages .if2 .left), sym (values .same-bytes .ensures) ∙ not-false _ (c .before .if3 .left))
+    rw
+    (eq-eqb _ _ (names .if1 .left), eq-eqb _ _ (usages .if2 .left), sym (values .same-bytes .ensures) ∙ not-false _ (c .before .if3 .left))
     (c .same-additional-info .ensures)
 
 pub same-key-spec : {M : Type 1} → statement M

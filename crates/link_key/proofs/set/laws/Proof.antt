@@ -2,7 +2,8 @@
 use Rattle.link_key.proofs.Keys.{entry-says, coverage-says, coverage-covered, covers-known-type, covers-listed, same-key-self}
 use Rattle.link_key.proofs.Infos.{plain-info}
 use Rattle.link_key.proofs.Keys.{same-key-equal, valid-identifier, limits-fit}
-use Rattle.link_key.proofs.set.KeySets.{same-keys-self, same-keys-equal, has-none, none-has, shares-apart, apart-shares, shares-turned}
+use Rattle.link_key.proofs.set.KeySets.{same-keys-self, same-keys-equal, has-none, none-has}
+use Rattle.link_key.proofs.set.KeySets.{shares-apart, apart-shares, shares-turned}
 use Rattle.link_key.proofs.set.KeySets.{has-append, limits-append, none-twice-append, one-of-a-name, find-found}
 use Rattle.link_key.proofs.set.KeySets.{find-own, find-none, none-find, valid-none-twice, valid-each, valid-some, valid-few}
 use Rattle.link_key.proofs.set.KeySets.{plain-each, valid-set, set-valid, keys-of-none}

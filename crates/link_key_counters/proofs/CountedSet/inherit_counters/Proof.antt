@@ -56,7 +56,8 @@ loop-again c =
     let held : loop .i < length (args .set .keys) = omega (arith, turned .loop-test .taken, places) in
     let few : loop .i < 8 = omega (arith, turned .loop-test .taken, start .len .ensures) in (
       omega (arith, turned .loop-test .taken),
-      write (args .self) (args .set .keys) (loop .i) held few (loop .counters) (c .kept-counter .result) (loop .inv .1) (c .kept-counter .ensures),
+      write (args .self) (args .set .keys) (loop .i) held few (loop .counters) (c .kept-counter .result) (loop .inv .1)
+          (c .kept-counter .ensures),
     )
 
 returns : tie.Need-returns Inv-loop μ-loop

@@ -52,7 +52,8 @@ store-attempt-requires c κs =
     let did = start-as (at-node-in .node-in .ensures) (at-start .start .ensures) in (
       granted (at-is-node .is-node .ensures) (at-if1 .if1 .left),
       subst (λ (x : StartResult). Attempted (nodeImage .get s) (x .node)) (sym (did .says))
-          (at-changes .partial-store-law .ensures .started (nodeImage .get s) (start .args .time) (start .args .timeout) (start .args .dst .now)),
+          (at-changes .partial-store-law .ensures .started (nodeImage .get s) (start .args .time) (start .args .timeout)
+          (start .args .dst .now)),
     )
 
 same-length-2 : tie.Need-same-length-2

@@ -57,8 +57,10 @@ store-delivery-requires c κs =
     let at-if2 = c .before .before .before .before .before in
     let at-is-node = at-if2 .before in
     let at-if1 = at-is-node .before .before in
-    let start = at-if1 .before .before .before .before in
-    (long nodeImage (start .args .node .now) (granted (at-is-node .is-node .ensures) (at-if2 .if2 .left)), omega (arith, (at-if1 .if1 .left)))
+    let start = at-if1 .before .before .before .before in (
+      long nodeImage (start .args .node .now) (granted (at-is-node .is-node .ensures) (at-if2 .if2 .left)),
+      omega (arith, (at-if1 .if1 .left)),
+    )
 
 same-length-3 : tie.Need-same-length-3
 same-length-3 c = search needs

@@ -66,7 +66,8 @@ store-counters-requires c κs =
     let at-changes = at-is-node .before .before .before in
     let start = at-changes .before .before .before in
     let s = start .args .node .now in
-    let says = (at-sending-key .sending-key .ensures) ∙ ap (λ n. frames.sending n (start .args .frame-type)) (at-node-in .node-in .ensures) in (
+    let says =
+    (at-sending-key .sending-key .ensures) ∙ ap (λ n. frames.sending n (start .args .frame-type)) (at-node-in .node-in .ensures) in (
       granted (at-is-node .is-node .ensures) (at-if2 .if2 .left),
       subst (λ (x : SendResult). Recounted (nodeImage .get s) (x .node)) (sym says)
           (at-changes .partial-store-law .ensures .sent (nodeImage .get s) (start .args .frame-type)),

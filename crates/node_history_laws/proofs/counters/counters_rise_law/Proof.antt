@@ -25,7 +25,8 @@ returns c =
     let kept = node .before in
     let counters = kept .before in
     let keys = counters .before in
-    counters-rise (keys .laws .ensures) (counters .laws2 .ensures) (kept .kept-counters-law .ensures) (node .laws3 .ensures) (c .answers-law .ensures)
+    counters-rise (keys .laws .ensures) (counters .laws2 .ensures) (kept .kept-counters-law .ensures) (node .laws3 .ensures)
+    (c .answers-law .ensures)
 
 pub counters-rise-law-spec : {M : Type 1} → statement M
 counters-rise-law-spec =

@@ -41,7 +41,9 @@ returns c =
     merged-delivers (applies .merged-applies-law .ensures) (laws .laws .ensures) (c .reads-in-range-law .ensures) (a .first) (a .second)
     (subst (λ (m : MergeResult). LargestConfiguration (m .configuration)) (both .merge .ensures) (largest .largest-configuration .ensures))
     (subst (λ (m : MergeResult). DraftWritten (m .configuration)) (both .merge .ensures) (written .draft-written .ensures))
-    (subst (λ (m : MergeResult). ConfigurationRoundTrip (m .configuration)) (both .merge .ensures) (back .configuration-round-trip .ensures))
+    (subst (λ (m : MergeResult). ConfigurationRoundTrip (m .configuration)) (both .merge .ensures)
+    (back .configuration-round-trip .ensures))
 
 pub merged-delivers-spec : {M : Type 1} → statement M
-merged-delivers-spec = tie.close (tie.spec merged-applies-law-requires merge-requires largest-configuration-requires draft-written-requires configuration-round-trip-requires laws-requires reads-in-range-law-requires returns)
+merged-delivers-spec = tie.close (tie.spec merged-applies-law-requires merge-requires largest-configuration-requires draft-written-requires
+    configuration-round-trip-requires laws-requires reads-in-range-law-requires returns)

@@ -76,7 +76,8 @@ returns c =
     let w3 = next-field (omega (arith, start .pre)) w2 (at-put-held-octets3 .put-held-octets3 .ensures) in
     let w4 = next-field (omega (arith, start .pre)) w3 (at-put-form .put-form .ensures) in
     wrote-same
-    (four-fields (heldAddressPart .put (n .address)) (heldOctetsPart .put (n .jrc)) (heldOctetsPart .put (n .network)) (heldOctetsPart .put (n .prefix)) (formFields .put (formOf n))) w4
+    (four-fields (heldAddressPart .put (n .address)) (heldOctetsPart .put (n .jrc)) (heldOctetsPart .put (n .network))
+    (heldOctetsPart .put (n .prefix)) (formFields .put (formOf n))) w4
 
 pub put-holding-spec : {M : Type 1} → statement M
 put-holding-spec =

@@ -18,7 +18,8 @@ returns c =
     let at-counted-set-at = c .before in
     let start = at-counted-set-at .before .before in
     ap setsTo
-    (next-got countedSetPart countedSetPart (start .args .s .now) 29 278 refl (at-counted-set-at .counted-set-at .ensures) (c .counted-set-at2 .ensures))
+    (next-got countedSetPart countedSetPart (start .args .s .now) 29 278 refl (at-counted-set-at .counted-set-at .ensures)
+    (c .counted-set-at2 .ensures))
 
 pub sets-at-spec : {M : Type 1} → statement M
 sets-at-spec = tie.close (tie.spec counted-set-at-requires counted-set-at-requires-2 returns)

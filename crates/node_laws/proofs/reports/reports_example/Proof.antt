@@ -39,7 +39,8 @@ use Rattle.node_laws.proofs.reports.reports_example.Tie as tie
 
 seen : ReportsExample
 unfolding payloadBy decodeBy heading argument next digits members pairs majorOf bytesOf infoOf extraOf shortest scalarAt same
-    validKey hasNoAdditionalInfo sameKey covers validKeys validSet isAddress padded octetsJudged addressIn groups identified used valued owing
+    validKey hasNoAdditionalInfo sameKey covers validKeys validSet isAddress padded octetsJudged addressIn groups identified
+    used valued owing
     payloadReadBy laterParameter parameterOf configurationTaking requestInRange requestPlan
     validErrorReports errorReportsValid added errorReportsOf errorReportsIn sameAs kept listedIn
     sets.valid sets.validAs install receivingKey verifiedIn attempt.valid mayStart mayCome

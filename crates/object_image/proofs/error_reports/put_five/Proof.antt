@@ -96,7 +96,8 @@ returns c =
     let w3 = next-field (omega arith) w2 (at-put-fault3 .put-error-report3 .ensures) in
     let w4 = next-field (omega arith) w3 (at-put-fault4 .put-error-report4 .ensures) in
     let w5 = next-field (omega arith) w4 (at-put-fault5 .put-error-report5 .ensures) in
-    five-wrote xs many (at-place .error-report-offset .ensures) (at-place2 .error-report-offset2 .ensures) (at-place3 .error-report-offset3 .ensures)
+    five-wrote xs many (at-place .error-report-offset .ensures) (at-place2 .error-report-offset2 .ensures)
+    (at-place3 .error-report-offset3 .ensures)
     (at-place4 .error-report-offset4 .ensures) (at-place5 .error-report-offset5 .ensures) w5
 
 pub put-five-spec : {M : Type 1} → statement M

@@ -17,7 +17,8 @@ returns : tie.Need-returns
 returns c =
     let at-form = c .before .before in
     let a = at-form .before .before .args in
-    ordinary (a .reading) (readConfigurationAs (versionOf (a .form)) (a .payload .now)) (readStrictConfigurationAs (versionOf (a .form)) (a .payload .now)) (c .before .if1 .taken)
+    ordinary (a .reading) (readConfigurationAs (versionOf (a .form)) (a .payload .now))
+    (readStrictConfigurationAs (versionOf (a .form)) (a .payload .now)) (c .before .if1 .taken)
     (c .read-configuration .ensures ∙ ap (λ v. readConfigurationAs v (a .payload .now)) (at-form .version-of .ensures))
 
 read-configuration-requires-2 : tie.Need-read-configuration-requires-2
@@ -27,7 +28,8 @@ returns-2 : tie.Need-returns-2
 returns-2 c =
     let at-form = c .before .before in
     let a = at-form .before .before .args in
-    strict (a .reading) (readConfigurationAs (versionOf (a .form)) (a .payload .now)) (readStrictConfigurationAs (versionOf (a .form)) (a .payload .now)) (c .before .if1 .left)
+    strict (a .reading) (readConfigurationAs (versionOf (a .form)) (a .payload .now))
+    (readStrictConfigurationAs (versionOf (a .form)) (a .payload .now)) (c .before .if1 .left)
     (c .read-configuration2 .ensures ∙ ap (λ v. readStrictConfigurationAs v (a .payload .now)) (at-form .version-of .ensures))
 
 pub configuration-asked-spec : {M : Type 1} → statement M

@@ -17,7 +17,8 @@ returns : tie.Need-returns
 returns c =
     let at-form = c .before .before in
     let a = at-form .before .before .args in
-    ordinary (a .reading) (readRequestAs (versionOf (a .form)) (a .payload .now)) (readStrictRequestAs (versionOf (a .form)) (a .payload .now)) (c .before .if1 .taken)
+    ordinary (a .reading) (readRequestAs (versionOf (a .form)) (a .payload .now))
+    (readStrictRequestAs (versionOf (a .form)) (a .payload .now)) (c .before .if1 .taken)
     (c .read-request .ensures ∙ ap (λ v. readRequestAs v (a .payload .now)) (at-form .version-of .ensures))
 
 read-request-requires-2 : tie.Need-read-request-requires-2
@@ -27,7 +28,8 @@ returns-2 : tie.Need-returns-2
 returns-2 c =
     let at-form = c .before .before in
     let a = at-form .before .before .args in
-    strict (a .reading) (readRequestAs (versionOf (a .form)) (a .payload .now)) (readStrictRequestAs (versionOf (a .form)) (a .payload .now)) (c .before .if1 .left)
+    strict (a .reading) (readRequestAs (versionOf (a .form)) (a .payload .now))
+    (readStrictRequestAs (versionOf (a .form)) (a .payload .now)) (c .before .if1 .left)
     (c .read-request2 .ensures ∙ ap (λ v. readStrictRequestAs v (a .payload .now)) (at-form .version-of .ensures))
 
 pub request-asked-spec : {M : Type 1} → statement M

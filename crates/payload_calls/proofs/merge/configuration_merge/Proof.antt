@@ -16,7 +16,8 @@ use Rattle.payload_calls.proofs.merge.configuration_merge.Tie as tie
 returns : tie.Need-returns
 returns c =
     let a = c .before .before .before .before .args in
-    hands-unfit 570 (isImage configurationImage (a .first .now) && isImage configurationImage (a .second .now)) (mergedIn (a .first .now) (a .second .now) .verdict)
+    hands-unfit 570 (isImage configurationImage (a .first .now) && isImage configurationImage (a .second .now))
+    (mergedIn (a .first .now) (a .second .now) .verdict)
     (configurationImage .put (mergedIn (a .first .now) (a .second .now) .configuration))
     (a .out .now)
     (c .if1 .taken)
@@ -36,11 +37,13 @@ returns-2 c =
     let at-if2 = at-clear .before .before in
     let at-is = at-if2 .before in
     let a = at-is .before .before .before .before .before .args in
-    hands-none 570 (isImage configurationImage (a .first .now) && isImage configurationImage (a .second .now)) (mergedIn (a .first .now) (a .second .now) .verdict)
+    hands-none 570 (isImage configurationImage (a .first .now) && isImage configurationImage (a .second .now))
+    (mergedIn (a .first .now) (a .second .now) .verdict)
     (configurationImage .put (mergedIn (a .first .now) (a .second .now) .configuration))
     (a .out .now)
     (omega arith)
-    (not-first (isImage configurationImage (a .first .now)) (isImage configurationImage (a .second .now)) (denied (at-is .is-configuration .ensures) (at-if2 .if2 .taken)))
+    (not-first (isImage configurationImage (a .first .now)) (isImage configurationImage (a .second .now))
+    (denied (at-is .is-configuration .ensures) (at-if2 .if2 .taken)))
     (at-clear .clear .ensures)
 
 is-configuration-requires-2 : tie.Need-is-configuration-requires-2
@@ -58,11 +61,13 @@ returns-3 c =
     let at-if3 = at-clear2 .before .before in
     let at-is2 = at-if3 .before in
     let a = at-is2 .before .before .before .before .before .before .before .args in
-    hands-none 570 (isImage configurationImage (a .first .now) && isImage configurationImage (a .second .now)) (mergedIn (a .first .now) (a .second .now) .verdict)
+    hands-none 570 (isImage configurationImage (a .first .now) && isImage configurationImage (a .second .now))
+    (mergedIn (a .first .now) (a .second .now) .verdict)
     (configurationImage .put (mergedIn (a .first .now) (a .second .now) .configuration))
     (a .out .now)
     (omega arith)
-    (not-second (isImage configurationImage (a .first .now)) (isImage configurationImage (a .second .now)) (denied (at-is2 .is-configuration2 .ensures) (at-if3 .if3 .taken)))
+    (not-second (isImage configurationImage (a .first .now)) (isImage configurationImage (a .second .now))
+    (denied (at-is2 .is-configuration2 .ensures) (at-if3 .if3 .taken)))
     (at-clear2 .clear2 .ensures)
 
 configuration-in-requires : tie.Need-configuration-in-requires
@@ -101,9 +106,11 @@ returns-4 c =
     let a = at-is .before .before .before .before .before .args in
     let right = both (isImage configurationImage (a .first .now)) (isImage configurationImage (a .second .now))
     (granted (at-is .is-configuration .ensures) (at-if2 .if2 .left)) (granted (at-is2 .is-configuration2 .ensures) (at-if3 .if3 .left)) in
-    let same = at-merge .merge .ensures ∙ ap₂ (λ x y. mergeAnswer x y) (at-in .configuration-in .ensures) (at-in2 .configuration-in2 .ensures) in
+    let same =
+    at-merge .merge .ensures ∙ ap₂ (λ x y. mergeAnswer x y) (at-in .configuration-in .ensures) (at-in2 .configuration-in2 .ensures) in
     let e = at-hand .store-configuration .ensures in
-    hands-as 570 (isImage configurationImage (a .first .now) && isImage configurationImage (a .second .now)) (λ m. m .verdict) (λ m. configurationImage .put (m .configuration)) (a .out .now)
+    hands-as 570 (isImage configurationImage (a .first .now) && isImage configurationImage (a .second .now)) (λ m. m .verdict)
+    (λ m. configurationImage .put (m .configuration)) (a .out .now)
     (at-merge .merge .result) (mergedIn (a .first .now) (a .second .now)) (omega arith) right same (e .0) (e .1)
 
 pub configuration-merge-spec : {M : Type 1} → statement M

@@ -33,7 +33,8 @@ returns c =
     let at-put = c .before .before in
     let at-enum-told = at-put .before .before in
     let a = at-enum-told .before .before .before .args in
-    accepted (a .verdict) (replicate 296 0) (requestImage .put (a .request)) (at-enum-told .enum-told .given .1) (at-put .put-request .ensures)
+    accepted (a .verdict) (replicate 296 0) (requestImage .put (a .request)) (at-enum-told .enum-told .given .1)
+    (at-put .put-request .ensures)
 
 same-length-2 : tie.Need-same-length-2
 same-length-2 c = search needs
@@ -43,7 +44,8 @@ returns-2 c =
     let at-clear = c .before .before .before in
     let at-verdict = at-clear .before .before .before in
     let start = at-verdict .before .before .before in
-    refused (start .args .verdict) (replicate 296 0) (requestImage .put (start .args .request)) _ (at-verdict .verdict .given .1) (c .number .ensures)
+    refused (start .args .verdict) (replicate 296 0) (requestImage .put (start .args .request)) _ (at-verdict .verdict .given .1)
+    (c .number .ensures)
     (at-clear .clear .ensures ∙ ap (λ n. replicate n 0) (start .pre))
 
 pub store-request-spec : {M : Type 1} → statement M

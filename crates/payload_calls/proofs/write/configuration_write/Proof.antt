@@ -18,7 +18,8 @@ returns : tie.Need-returns
 returns c =
     let at-form = c .before in
     let a = at-form .before .before .before .args in
-    unfit (isVersion (a .form) && isImage configurationImage (a .object .now)) (configurationPlan (versionOf (a .form)) (configurationImage .get (a .object .now))) (a .dst .now)
+    unfit (isVersion (a .form) && isImage configurationImage (a .object .now))
+    (configurationPlan (versionOf (a .form)) (configurationImage .get (a .object .now))) (a .dst .now)
     (not-first (isVersion (a .form)) (isImage configurationImage (a .object .now)) (denied (at-form .is-version .ensures) (c .if1 .taken)))
 
 is-configuration-requires : tie.Need-is-configuration-requires
@@ -28,8 +29,10 @@ returns-2 : tie.Need-returns-2
 returns-2 c =
     let at-is = c .before in
     let a = at-is .before .before .before .before .before .args in
-    unfit (isVersion (a .form) && isImage configurationImage (a .object .now)) (configurationPlan (versionOf (a .form)) (configurationImage .get (a .object .now))) (a .dst .now)
-    (not-second (isVersion (a .form)) (isImage configurationImage (a .object .now)) (denied (at-is .is-configuration .ensures) (c .if2 .taken)))
+    unfit (isVersion (a .form) && isImage configurationImage (a .object .now))
+    (configurationPlan (versionOf (a .form)) (configurationImage .get (a .object .now))) (a .dst .now)
+    (not-second (isVersion (a .form)) (isImage configurationImage (a .object .now))
+    (denied (at-is .is-configuration .ensures) (c .if2 .taken)))
 
 configuration-in-requires : tie.Need-configuration-in-requires
 configuration-in-requires c κs =
@@ -60,10 +63,12 @@ returns-3 c =
     let at-if1 = at-is .before in
     let at-form = at-if1 .before in
     let a = at-form .before .before .before .args in
-    let right = both (isVersion (a .form)) (isImage configurationImage (a .object .now)) (granted (at-form .is-version .ensures) (at-if1 .if1 .left))
+    let right =
+    both (isVersion (a .form)) (isImage configurationImage (a .object .now)) (granted (at-form .is-version .ensures) (at-if1 .if1 .left))
     (granted (at-is .is-configuration .ensures) (at-if2 .if2 .left)) in
     let e = c .store-length .ensures in
-    wrote-as (isVersion (a .form) && isImage configurationImage (a .object .now)) (λ v q. configurationPlan v q) (a .dst .now) _ (at-write .write-configuration .result) right (at-form-of .version-of .ensures) (at-in .configuration-in .ensures)
+    wrote-as (isVersion (a .form) && isImage configurationImage (a .object .now)) (λ v q. configurationPlan v q) (a .dst .now) _
+    (at-write .write-configuration .result) right (at-form-of .version-of .ensures) (at-in .configuration-in .ensures)
     (at-write .write-configuration .ensures) (e .0) (e .1)
 
 pub configuration-write-spec : {M : Type 1} → statement M

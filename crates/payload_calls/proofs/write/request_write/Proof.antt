@@ -18,7 +18,8 @@ returns : tie.Need-returns
 returns c =
     let at-form = c .before in
     let a = at-form .before .before .before .args in
-    unfit (isVersion (a .form) && isImage requestImage (a .object .now)) (requestPlan (versionOf (a .form)) (requestImage .get (a .object .now))) (a .dst .now)
+    unfit (isVersion (a .form) && isImage requestImage (a .object .now))
+    (requestPlan (versionOf (a .form)) (requestImage .get (a .object .now))) (a .dst .now)
     (not-first (isVersion (a .form)) (isImage requestImage (a .object .now)) (denied (at-form .is-version .ensures) (c .if1 .taken)))
 
 is-request-requires : tie.Need-is-request-requires
@@ -28,7 +29,8 @@ returns-2 : tie.Need-returns-2
 returns-2 c =
     let at-is = c .before in
     let a = at-is .before .before .before .before .before .args in
-    unfit (isVersion (a .form) && isImage requestImage (a .object .now)) (requestPlan (versionOf (a .form)) (requestImage .get (a .object .now))) (a .dst .now)
+    unfit (isVersion (a .form) && isImage requestImage (a .object .now))
+    (requestPlan (versionOf (a .form)) (requestImage .get (a .object .now))) (a .dst .now)
     (not-second (isVersion (a .form)) (isImage requestImage (a .object .now)) (denied (at-is .is-request .ensures) (c .if2 .taken)))
 
 request-in-requires : tie.Need-request-in-requires
@@ -60,10 +62,12 @@ returns-3 c =
     let at-if1 = at-is .before in
     let at-form = at-if1 .before in
     let a = at-form .before .before .before .args in
-    let right = both (isVersion (a .form)) (isImage requestImage (a .object .now)) (granted (at-form .is-version .ensures) (at-if1 .if1 .left))
+    let right =
+    both (isVersion (a .form)) (isImage requestImage (a .object .now)) (granted (at-form .is-version .ensures) (at-if1 .if1 .left))
     (granted (at-is .is-request .ensures) (at-if2 .if2 .left)) in
     let e = c .store-length .ensures in
-    wrote-as (isVersion (a .form) && isImage requestImage (a .object .now)) (λ v q. requestPlan v q) (a .dst .now) _ (at-write .write-request .result) right (at-form-of .version-of .ensures) (at-in .request-in .ensures)
+    wrote-as (isVersion (a .form) && isImage requestImage (a .object .now)) (λ v q. requestPlan v q) (a .dst .now) _
+    (at-write .write-request .result) right (at-form-of .version-of .ensures) (at-in .request-in .ensures)
     (at-write .write-request .ensures) (e .0) (e .1)
 
 pub request-write-spec : {M : Type 1} → statement M

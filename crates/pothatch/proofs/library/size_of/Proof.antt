@@ -37,7 +37,9 @@ returns-10 c = size-known (c .before .args .kind) 0x54 (omega arith)
 returns-11 : tie.Need-returns-11
 returns-11 c =
     let others = c .match .rest in
-    size-none (c .before .args .kind) (others .0 .0 .0 .0 .0 .0 .0 .0 .0 .1) (others .0 .0 .0 .0 .0 .0 .0 .0 .1) (others .0 .0 .0 .0 .0 .0 .0 .1) (others .0 .0 .0 .0 .0 .0 .1) (others .0 .0 .0 .0 .0 .1) (others .0 .0 .0 .0 .1) (others .0 .0 .0 .1) (others .0 .0 .1) (others .0 .1) (others .1)
+    size-none (c .before .args .kind) (others .0 .0 .0 .0 .0 .0 .0 .0 .0 .1) (others .0 .0 .0 .0 .0 .0 .0 .0 .1)
+    (others .0 .0 .0 .0 .0 .0 .0 .1) (others .0 .0 .0 .0 .0 .0 .1) (others .0 .0 .0 .0 .0 .1) (others .0 .0 .0 .0 .1) (others .0 .0 .0 .1)
+    (others .0 .0 .1) (others .0 .1) (others .1)
 
 pub size-of-spec : {M : Type 1} → statement M
 size-of-spec =

@@ -25,7 +25,8 @@ returns-2 c =
     let at-if2 = at-clear .before .before in
     let at-numbers = at-if2 .before .before in
     let start = at-numbers .before .before in
-    below-all (start .args .number) (start .args .name .now) (at-numbers .number-range-law .ensures) (at-if2 .if2 .taken) (omega arith) (at-clear .clear .ensures)
+    below-all (start .args .number) (start .args .name .now) (at-numbers .number-range-law .ensures) (at-if2 .if2 .taken) (omega arith)
+    (at-clear .clear .ensures)
 
 clear-requires-2 : tie.Need-clear-requires-2
 clear-requires-2 c κs = search needs
@@ -39,7 +40,8 @@ returns-3 c =
     let at-if3 = at-clear2 .before .before in
     let at-numbers = at-if3 .before .before .before in
     let start = at-numbers .before .before in
-    above-all (start .args .number) (start .args .name .now) (at-numbers .number-range-law .ensures) (at-if3 .if3 .taken) (omega arith) (at-clear2 .clear2 .ensures)
+    above-all (start .args .number) (start .args .name .now) (at-numbers .number-range-law .ensures) (at-if3 .if3 .taken) (omega arith)
+    (at-clear2 .clear2 .ensures)
 
 refusal-of-requires : tie.Need-refusal-of-requires
 refusal-of-requires c κs = search needs
@@ -59,7 +61,8 @@ returns-4 c =
     let at-name3 = at-put-eight .before in
     let at-refusal-of = at-name3 .before in
     let start = at-refusal-of .before .before .before .before .before .before .before in
-    name-told (start .args .number) (start .args .name .now) (at-refusal-of .refusal-of .result) (at-refusal-of .refusal-of .ensures) (omega arith) (at-name3 .name3 .ensures) (at-put-eight .put-array-8 .ensures)
+    name-told (start .args .number) (start .args .name .now) (at-refusal-of .refusal-of .result) (at-refusal-of .refusal-of .ensures)
+    (omega arith) (at-name3 .name3 .ensures) (at-put-eight .put-array-8 .ensures)
 
 pub pothatch-refusal-name-spec : {M : Type 1} → statement M
 pothatch-refusal-name-spec =

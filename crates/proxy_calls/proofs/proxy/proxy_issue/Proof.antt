@@ -28,7 +28,8 @@ returns-2 c =
     let start = at-is-proxy .before .before .before .before .before .before .before in
     let a = start .args in
     issue-unfit (a .proxy .now) (a .interface .now) (a .port) (a .token .now) (a .dst .now)
-    (then-not (a .interface .now) 8 (isImage proxyImage (a .proxy .now)) (omega arith) (denied (at-is-proxy .is-proxy .ensures) (c .if2 .taken)))
+    (then-not (a .interface .now) 8 (isImage proxyImage (a .proxy .now)) (omega arith)
+    (denied (at-is-proxy .is-proxy .ensures) (c .if2 .taken)))
 
 proxy-in-requires : tie.Need-proxy-in-requires
 proxy-in-requires c κs =
@@ -80,9 +81,11 @@ returns-3 c =
     let start = at-is-proxy .before .before .before .before .before .before .before in
     let a = start .args in
     let interface = whole 8 (a .interface .now) (omega arith) (at-eight-at .array-8-at .ensures) in
-    let right = then-so (a .interface .now) 8 (isImage proxyImage (a .proxy .now)) (omega arith) (granted (at-is-proxy .is-proxy .ensures) (at-if2 .if2 .left)) in
+    let right = then-so (a .interface .now) 8 (isImage proxyImage (a .proxy .now)) (omega arith)
+    (granted (at-is-proxy .is-proxy .ensures) (at-if2 .if2 .left)) in
     let did = issue-as (at-proxy-in .proxy-in .ensures) interface (at-issue .issue .ensures) in
-    issue-done (a .proxy .now) (a .interface .now) (a .port) (a .token .now) (a .dst .now) (at-issue .issue .result) _ right did _ (at-enum-told .enum-told .given .1) (at-put-proxy .put-proxy .ensures)
+    issue-done (a .proxy .now) (a .interface .now) (a .port) (a .token .now) (a .dst .now) (at-issue .issue .result) _ right did _
+    (at-enum-told .enum-told .given .1) (at-put-proxy .put-proxy .ensures)
 
 same-length-4 : tie.Need-same-length-4
 same-length-4 c = search needs
@@ -101,9 +104,11 @@ returns-4 c =
     let start = at-is-proxy .before .before .before .before .before .before .before in
     let a = start .args in
     let interface = whole 8 (a .interface .now) (omega arith) (at-eight-at .array-8-at .ensures) in
-    let right = then-so (a .interface .now) 8 (isImage proxyImage (a .proxy .now)) (omega arith) (granted (at-is-proxy .is-proxy .ensures) (at-if2 .if2 .left)) in
+    let right = then-so (a .interface .now) 8 (isImage proxyImage (a .proxy .now)) (omega arith)
+    (granted (at-is-proxy .is-proxy .ensures) (at-if2 .if2 .left)) in
     let did = issue-as (at-proxy-in .proxy-in .ensures) interface (at-issue .issue .ensures) in
-    issue-refused (a .proxy .now) (a .interface .now) (a .port) (a .token .now) (a .dst .now) (at-issue .issue .result) _ right did _ (at-written .written .given .1) (c .number .ensures)
+    issue-refused (a .proxy .now) (a .interface .now) (a .port) (a .token .now) (a .dst .now) (at-issue .issue .result) _ right did _
+    (at-written .written .given .1) (c .number .ensures)
 
 pub proxy-issue-spec : {M : Type 1} → statement M
 proxy-issue-spec =

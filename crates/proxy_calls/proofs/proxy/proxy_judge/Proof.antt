@@ -30,7 +30,8 @@ returns-2 c =
     let at-if2 = at-clear .before .before in
     let at-is-proxy = at-if2 .before in
     let start = at-is-proxy .before .before .before .before .before in
-    judge-none (start .args .proxy .now) (start .args .body .now) (start .args .pledge .now) (omega arith) (denied (at-is-proxy .is-proxy .ensures) (at-if2 .if2 .taken)) (at-clear .clear .ensures)
+    judge-none (start .args .proxy .now) (start .args .body .now) (start .args .pledge .now) (omega arith)
+    (denied (at-is-proxy .is-proxy .ensures) (at-if2 .if2 .taken)) (at-clear .clear .ensures)
 
 proxy-in-requires : tie.Need-proxy-in-requires
 proxy-in-requires c κs =
@@ -58,7 +59,8 @@ returns-3 c =
     let a = start .args in
     let same = at-judge .judge .ensures ∙ ap (λ p. judgeBody p (a .body .now)) (at-proxy-in .proxy-in .ensures) in
     let e = at-hand-pledge .store-pledge .ensures in
-    judge-told (a .proxy .now) (a .body .now) (a .pledge .now) (at-judge .judge .result) (omega arith) (granted (at-is-proxy .is-proxy .ensures) (at-if2 .if2 .left)) same (e .0) (e .1)
+    judge-told (a .proxy .now) (a .body .now) (a .pledge .now) (at-judge .judge .result) (omega arith)
+    (granted (at-is-proxy .is-proxy .ensures) (at-if2 .if2 .left)) same (e .0) (e .1)
 
 pub proxy-judge-spec : {M : Type 1} → statement M
 proxy-judge-spec =

@@ -43,7 +43,8 @@ returns-3 c =
     let at-sixteen-at = at-new .before in
     let start = at-sixteen-at .before .before .before .before .before .before in
     let a = start .args in
-    made (a .key .now) (a .proxy .now) (at-new .new .result) (omega arith) (omega arith) (whole 16 (a .key .now) (omega arith) (at-sixteen-at .array-16-at .ensures))
+    made (a .key .now) (a .proxy .now) (at-new .new .result) (omega arith) (omega arith)
+    (whole 16 (a .key .now) (omega arith) (at-sixteen-at .array-16-at .ensures))
     (at-new .new .ensures) (at-put-proxy .put-proxy .ensures)
 
 pub proxy-make-spec : {M : Type 1} → statement M

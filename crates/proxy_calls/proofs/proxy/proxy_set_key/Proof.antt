@@ -65,7 +65,8 @@ returns-3 c =
     let start = at-is-proxy .before .before .before .before .before in
     let a = start .args in
     let key = whole 16 (a .key .now) (omega arith) (at-sixteen-at .array-16-at .ensures) in
-    let right = then-so (a .key .now) 16 (isImage proxyImage (a .proxy .now)) (omega arith) (granted (at-is-proxy .is-proxy .ensures) (at-if2 .if2 .left)) in
+    let right = then-so (a .key .now) 16 (isImage proxyImage (a .proxy .now)) (omega arith)
+    (granted (at-is-proxy .is-proxy .ensures) (at-if2 .if2 .left)) in
     let same = at-set-key .set-key .ensures ∙ ap₂ (λ p k. setKey p k) (at-proxy-in .proxy-in .ensures) key in
     let e = at-keep-proxy .store-proxy .ensures in
     key-told (a .proxy .now) (a .key .now) (at-set-key .set-key .result) right same (e .0) (e .1)

@@ -33,7 +33,8 @@ returns c =
     let at-put-pledge = c .before .before in
     let at-enum-told = at-put-pledge .before .before in
     let start = at-enum-told .before .before .before in
-    accepted (start .args .verdict) (replicate 21 0) (pledgeImage .put (start .args .pledge)) (at-enum-told .enum-told .given .1) (at-put-pledge .put-pledge .ensures)
+    accepted (start .args .verdict) (replicate 21 0) (pledgeImage .put (start .args .pledge)) (at-enum-told .enum-told .given .1)
+    (at-put-pledge .put-pledge .ensures)
 
 same-length-2 : tie.Need-same-length-2
 same-length-2 c = search needs
@@ -43,7 +44,8 @@ returns-2 c =
     let at-clear = c .before .before .before in
     let at-verdict = at-clear .before .before .before in
     let start = at-verdict .before .before .before in
-    refused (start .args .verdict) (replicate 21 0) (pledgeImage .put (start .args .pledge)) _ (at-verdict .verdict .given .1) (c .number .ensures) (at-clear .clear .ensures ∙ ap (λ n. replicate n 0) (start .pre))
+    refused (start .args .verdict) (replicate 21 0) (pledgeImage .put (start .args .pledge)) _ (at-verdict .verdict .given .1)
+    (c .number .ensures) (at-clear .clear .ensures ∙ ap (λ n. replicate n 0) (start .pre))
 
 pub store-pledge-spec : {M : Type 1} → statement M
 store-pledge-spec =

@@ -29,13 +29,15 @@ returns c =
     let at-put-proxy = c .before .before in
     let at-enum-told = at-put-proxy .before .before in
     let start = at-enum-told .before .before .before in
-    accepted (start .args .verdict) (start .args .image .now) (proxyImage .put (start .args .proxy)) (at-enum-told .enum-told .given .1) (at-put-proxy .put-proxy .ensures)
+    accepted (start .args .verdict) (start .args .image .now) (proxyImage .put (start .args .proxy)) (at-enum-told .enum-told .given .1)
+    (at-put-proxy .put-proxy .ensures)
 
 returns-2 : tie.Need-returns-2
 returns-2 c =
     let at-verdict = c .before .before in
     let start = at-verdict .before .before .before in
-    refused (start .args .verdict) (start .args .image .now) (proxyImage .put (start .args .proxy)) _ (at-verdict .verdict .given .1) (c .number .ensures) refl
+    refused (start .args .verdict) (start .args .image .now) (proxyImage .put (start .args .proxy)) _ (at-verdict .verdict .given .1)
+    (c .number .ensures) refl
 
 pub store-proxy-spec : {M : Type 1} → statement M
 store-proxy-spec =

@@ -57,7 +57,8 @@ loop-again c =
     let start = at-loop .before .before .before in
     let l = at-loop .loop in
     let a = start .args in
-    let w = next-count (a .counts .now) (l .i) (at-loop-test .loop-test .taken) (omega arith) (l .inv .2) (at-put-number .put-number .ensures) in
+    let w =
+    next-count (a .counts .now) (l .i) (at-loop-test .loop-test .taken) (omega arith) (l .inv .2) (at-put-number .put-number .ensures) in
     (omega arith, wrote-length w (omega (arith, w .many)), w)
 
 same-length : tie.Need-same-length Inv-loop μ-loop

@@ -78,7 +78,8 @@ returns c =
     let start = at-put-counts .before .before .before .before .before .before in
     let six = kinds-many start in
     let many = refusals-many start in
-    let w1 = next-field (omega arith) (so-many 6 six (at-put-counts .put-counts .ensures)) (so-many 22 many (at-put-counts2 .put-counts2 .ensures)) in
+    let w1 = next-field (omega arith) (so-many 6 six (at-put-counts .put-counts .ensures))
+    (so-many 22 many (at-put-counts2 .put-counts2 .ensures)) in
     let w2 = next-field (omega arith) w1 (at-put-number .put-number .ensures) in
     let w3 = next-field (omega arith) w2 (at-put-number2 .put-number2 .ensures) in
     trace-written (start .args .report) w3

@@ -24,7 +24,8 @@ returns-2 c =
     let at-is-serial = at-if1 .before in
     let start = at-is-serial .before .before in
     let a = start .args in
-    end-by-reading (a .serial .now) (a .form) (a .reading) (granted (at-is-serial .is-serial .ensures) (at-if1 .if1 .left)) (c .is-reading .ensures)
+    end-by-reading (a .serial .now) (a .form) (a .reading) (granted (at-is-serial .is-serial .ensures) (at-if1 .if1 .left))
+    (c .is-reading .ensures)
 
 pub may-end-spec : {M : Type 1} → statement M
 may-end-spec =

@@ -22,7 +22,8 @@ returns c =
     let at-number-at2 = at-number-at3 .before in
     let at-number-at = at-number-at2 .before in
     let start = at-number-at .before .before in
-    ledger-got (start .args .s .now) (at-number-at .number-at .ensures) (at-number-at2 .number-at2 .ensures) (at-number-at3 .number-at3 .ensures) (c .number-at4 .ensures)
+    ledger-got (start .args .s .now) (at-number-at .number-at .ensures) (at-number-at2 .number-at2 .ensures)
+    (at-number-at3 .number-at3 .ensures) (c .number-at4 .ensures)
 
 pub ledger-in-spec : {M : Type 1} → statement M
 ledger-in-spec =

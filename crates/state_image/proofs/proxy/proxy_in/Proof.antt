@@ -20,7 +20,8 @@ returns c =
     let at-number-at = c .before in
     let at-sixteen-at = at-number-at .before in
     let start = at-sixteen-at .before .before in
-    proxy-got (start .args .s .now) (at-sixteen-at .array-16-at .ensures) (c .issued-of .ensures ∙ ap issuedOf (at-number-at .number-at .ensures))
+    proxy-got (start .args .s .now) (at-sixteen-at .array-16-at .ensures)
+    (c .issued-of .ensures ∙ ap issuedOf (at-number-at .number-at .ensures))
 
 pub proxy-in-spec : {M : Type 1} → statement M
 proxy-in-spec =

@@ -23,7 +23,8 @@ returns c =
     let after = c .before in
     let did = after .before in
     let a = did .before .args in
-    walks (newNode (a .role) (a .network)) (a .at) (a .state) _ refl _ (did .new-node .ensures) _ (after .after .ensures) _ refl (c .reached .ensures)
+    walks (newNode (a .role) (a .network)) (a .at) (a .state) _ refl _ (did .new-node .ensures) _ (after .after .ensures) _ refl
+    (c .reached .ensures)
 
 pub new-at-spec : {M : Type 1} → statement M
 new-at-spec =

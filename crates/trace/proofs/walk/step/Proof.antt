@@ -61,7 +61,8 @@ start-at-requires c κs =
     let read = told .before .before in
     let a = read .before .before .args in
     let known = told .time .given in
-    let h = room-start (a .trace .now) (a .at) (read .entry-at .result) (read .entry-at .ensures) (known .0 .0) (known .0 .1 .0) (known .1) in
+    let h =
+    room-start (a .trace .now) (a .at) (read .entry-at .result) (read .entry-at .ensures) (known .0 .0) (known .0 .1 .0) (known .1) in
     omega (arith, h)
 
 enum-known-time-2 : tie.Need-enum-known-time-2
@@ -73,7 +74,8 @@ add-from c =
     let read = told .before .before in
     let a = read .before .before .args in
     let known = told .time2 .given in
-    let h = room-answer (a .trace .now) (a .at) (read .entry-at .result) (read .entry-at .ensures) (known .0 .0) (known .0 .1 .0) (known .1) in
+    let h =
+    room-answer (a .trace .now) (a .at) (read .entry-at .result) (read .entry-at .ensures) (known .0 .0) (known .0 .1 .0) (known .1) in
     omega (arith, h .0)
 
 add-to : tie.Need-add-to
@@ -82,7 +84,8 @@ add-to c =
     let read = told .before .before in
     let a = read .before .before .args in
     let known = told .time2 .given in
-    let h = room-answer (a .trace .now) (a .at) (read .entry-at .result) (read .entry-at .ensures) (known .0 .0) (known .0 .1 .0) (known .1) in
+    let h =
+    room-answer (a .trace .now) (a .at) (read .entry-at .result) (read .entry-at .ensures) (known .0 .0) (known .0 .1 .0) (known .1) in
     omega (arith, h .0, h .1)
 
 sub-join-answer-at : tie.Need-sub-join-answer-at
@@ -97,7 +100,8 @@ part-join-answer-at-end c =
     let read = told .before .before in
     let a = read .before .before .args in
     let known = told .time2 .given in
-    let h = room-answer (a .trace .now) (a .at) (read .entry-at .result) (read .entry-at .ensures) (known .0 .0) (known .0 .1 .0) (known .1) in
+    let h =
+    room-answer (a .trace .now) (a .at) (read .entry-at .result) (read .entry-at .ensures) (known .0 .0) (known .0 .1 .0) (known .1) in
     omega (arith, h .0, h .1)
 
 join-answer-at-requires : tie.Need-join-answer-at-requires
@@ -106,7 +110,8 @@ join-answer-at-requires c κs =
     let read = told .before .before in
     let a = read .before .before .args in
     let known = told .time2 .given in
-    let h = room-answer (a .trace .now) (a .at) (read .entry-at .result) (read .entry-at .ensures) (known .0 .0) (known .0 .1 .0) (known .1) in
+    let h =
+    room-answer (a .trace .now) (a .at) (read .entry-at .result) (read .entry-at .ensures) (known .0 .0) (known .0 .1 .0) (known .1) in
     omega (arith, h .0)
 
 enum-known-time-3 : tie.Need-enum-known-time-3
@@ -118,7 +123,8 @@ add-from-2 c =
     let read = told .before .before in
     let a = read .before .before .args in
     let known = told .time3 .given in
-    let h = room-update (a .trace .now) (a .at) (read .entry-at .result) (read .entry-at .ensures) (known .0 .0) (known .0 .1 .0) (known .1) in
+    let h =
+    room-update (a .trace .now) (a .at) (read .entry-at .result) (read .entry-at .ensures) (known .0 .0) (known .0 .1 .0) (known .1) in
     omega (arith, h .0)
 
 add-to-2 : tie.Need-add-to-2
@@ -127,7 +133,8 @@ add-to-2 c =
     let read = told .before .before in
     let a = read .before .before .args in
     let known = told .time3 .given in
-    let h = room-update (a .trace .now) (a .at) (read .entry-at .result) (read .entry-at .ensures) (known .0 .0) (known .0 .1 .0) (known .1) in
+    let h =
+    room-update (a .trace .now) (a .at) (read .entry-at .result) (read .entry-at .ensures) (known .0 .0) (known .0 .1 .0) (known .1) in
     omega (arith, h .0, h .1)
 
 sub-update-at : tie.Need-sub-update-at
@@ -142,7 +149,8 @@ part-update-at-end c =
     let read = told .before .before in
     let a = read .before .before .args in
     let known = told .time3 .given in
-    let h = room-update (a .trace .now) (a .at) (read .entry-at .result) (read .entry-at .ensures) (known .0 .0) (known .0 .1 .0) (known .1) in
+    let h =
+    room-update (a .trace .now) (a .at) (read .entry-at .result) (read .entry-at .ensures) (known .0 .0) (known .0 .1 .0) (known .1) in
     omega (arith, h .0, h .1)
 
 update-at-requires : tie.Need-update-at-requires
@@ -151,7 +159,8 @@ update-at-requires c κs =
     let read = told .before .before in
     let a = read .before .before .args in
     let known = told .time3 .given in
-    let h = room-update (a .trace .now) (a .at) (read .entry-at .result) (read .entry-at .ensures) (known .0 .0) (known .0 .1 .0) (known .1) in
+    let h =
+    room-update (a .trace .now) (a .at) (read .entry-at .result) (read .entry-at .ensures) (known .0 .0) (known .0 .1 .0) (known .1) in
     omega (arith, h .0)
 
 enum-known-frame-type : tie.Need-enum-known-frame-type
@@ -163,7 +172,8 @@ verified-at-requires c κs =
     let read = told .before .before in
     let a = read .before .before .args in
     let known = told .frame-type .given in
-    let h = room-verified (a .trace .now) (a .at) (read .entry-at .result) (read .entry-at .ensures) (known .0 .0) (known .0 .1 .0) (known .1) in
+    let h =
+    room-verified (a .trace .now) (a .at) (read .entry-at .result) (read .entry-at .ensures) (known .0 .0) (known .0 .1 .0) (known .1) in
     omega (arith, h)
 
 enum-known-time-4 : tie.Need-enum-known-time-4

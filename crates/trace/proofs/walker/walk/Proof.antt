@@ -1,4 +1,5 @@
--- The invariant: while the walk goes on, what is left to play is the whole; then the last step is. The measure is what is left of the trace.
+-- The invariant: while the walk goes on, what is left to play is the whole; then the last step is.
+-- The measure is what is left of the trace.
 use borrow.Author.Needs.{needs}
 use Rattle.trace.proofs.Turns.{Held, left, begins, complete, stopped, again, less, done}
 use Rattle.trace.proofs.walker.walk.Statement.{statement}
@@ -30,14 +31,16 @@ loop-less c =
     let turn = c .before .before .before .before in
     let said = c .before .before .step-from in
     let trace = turn .before .before .before .before .args .trace .now in
-    done (turn .loop .going) trace (turn .loop .last) (said .result) (c .before .before .before .loop-test .taken) (turn .loop .inv) (said .ensures)
+    done (turn .loop .going) trace (turn .loop .last) (said .result) (c .before .before .before .loop-test .taken)
+    (turn .loop .inv) (said .ensures)
 
 loop-again : tie.Need-loop-again Inv-loop μ-loop
 loop-again c =
     let turn = c .before .before .before .before in
     let said = c .before .before .step-from in
     let trace = turn .before .before .before .before .args .trace .now in
-    complete (turn .loop .going) trace (turn .loop .last) (said .result) (c .before .before .before .loop-test .taken) (turn .loop .inv) (said .ensures) (c .enum-told .given .1)
+    complete (turn .loop .going) trace (turn .loop .last) (said .result) (c .before .before .before .loop-test .taken) (turn .loop .inv)
+    (said .ensures) (c .enum-told .given .1)
 
 enum-told-2 : tie.Need-enum-told-2 Inv-loop μ-loop
 enum-told-2 c = search needs
@@ -47,14 +50,16 @@ loop-less-2 c =
     let turn = c .before .before .before .before in
     let said = c .before .before .step-from in
     let trace = turn .before .before .before .before .args .trace .now in
-    done (turn .loop .going) trace (turn .loop .last) (said .result) (c .before .before .before .loop-test .taken) (turn .loop .inv) (said .ensures)
+    done (turn .loop .going) trace (turn .loop .last) (said .result) (c .before .before .before .loop-test .taken)
+    (turn .loop .inv) (said .ensures)
 
 loop-again-2 : tie.Need-loop-again-2 Inv-loop μ-loop
 loop-again-2 c =
     let turn = c .before .before .before .before in
     let said = c .before .before .step-from in
     let trace = turn .before .before .before .before .args .trace .now in
-    stopped (turn .loop .going) trace (turn .loop .last) (said .result) (c .before .before .before .loop-test .taken) (turn .loop .inv) (said .ensures) (c .enum-told2 .given .1)
+    stopped (turn .loop .going) trace (turn .loop .last) (said .result) (c .before .before .before .loop-test .taken) (turn .loop .inv)
+    (said .ensures) (c .enum-told2 .given .1)
 
 enum-told-3 : tie.Need-enum-told-3 Inv-loop μ-loop
 enum-told-3 c = search needs
@@ -64,14 +69,16 @@ loop-less-3 c =
     let turn = c .before .before .before .before in
     let said = c .before .before .step-from in
     let trace = turn .before .before .before .before .args .trace .now in
-    less (turn .loop .going) trace (turn .loop .last) (said .result) (c .before .before .before .loop-test .taken) (turn .loop .inv) (said .ensures) (c .enum-told3 .given .1)
+    less (turn .loop .going) trace (turn .loop .last) (said .result) (c .before .before .before .loop-test .taken) (turn .loop .inv)
+    (said .ensures) (c .enum-told3 .given .1)
 
 loop-again-3 : tie.Need-loop-again-3 Inv-loop μ-loop
 loop-again-3 c =
     let turn = c .before .before .before .before in
     let said = c .before .before .step-from in
     let trace = turn .before .before .before .before .args .trace .now in
-    again (turn .loop .going) trace (turn .loop .last) (said .result) (c .before .before .before .loop-test .taken) (turn .loop .inv) (said .ensures) (c .enum-told3 .given .1)
+    again (turn .loop .going) trace (turn .loop .last) (said .result) (c .before .before .before .loop-test .taken) (turn .loop .inv)
+    (said .ensures) (c .enum-told3 .given .1)
 
 returns : tie.Need-returns Inv-loop μ-loop
 returns c = rw (c .loop-test .left) at (c .before .loop .inv)

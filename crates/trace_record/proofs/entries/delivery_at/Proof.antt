@@ -50,7 +50,8 @@ returns-3 c =
     let short = asked .before in
     let len = short .before in
     let a = len .before .before .before .args in
-    delivery-used (a .s .now) (a .at) (deliveryOf (a .update)) _ (len .number-at2 .ensures) (short .if1 .left) _ (asked .blank .ensures) (c .if2 .left)
+    delivery-used (a .s .now) (a .at) (deliveryOf (a .update)) _ (len .number-at2 .ensures) (short .if1 .left) _
+    (asked .blank .ensures) (c .if2 .left)
 
 pub delivery-at-spec : {M : Type 1} → statement M
 delivery-at-spec =

@@ -34,7 +34,8 @@ returns-3 c =
     let size = c .before .before in
     let a = size .before .before .before .before .args in
     read-at (a .s .now) (a .at) _
-    (at-record (a .s .now) (a .at) (size .before .before .if1 .left) _ (rw (size .body-size .ensures) at (c .before .if2 .left)) (c .fields-at .ensures))
+    (at-record (a .s .now) (a .at) (size .before .before .if1 .left) _ (rw (size .body-size .ensures) at (c .before .if2 .left))
+    (c .fields-at .ensures))
 
 pub entry-at-spec : {M : Type 1} → statement M
 entry-at-spec =

@@ -1,4 +1,5 @@
--- Each kind's answer is the definition's: the tests for the kinds before it fail by computing, and the body's size gives what each reader asks.
+-- Each kind's answer is the definition's: the tests for the kinds before it fail by computing,
+-- and the body's size gives what each reader asks.
 use native.Mathlib.Omega.{arith}
 use lib.Seq.{drop-drop}
 use borrow.Author.Needs.{needs}

@@ -43,8 +43,11 @@ loop-less c = omega arith
 loop-again : tie.Need-loop-again Inv-loop μ-loop
 loop-again c =
     let l = c .before .before .before .loop in
-    let a = c .before .before .before .before .args in
-    (omega arith, omega arith, sym (rw (c .if1 .left) at (zeros-step (a .s .now) (l .at) (a .at + a .n) (omega arith) (omega arith))) ∙ l .inv .2)
+    let a = c .before .before .before .before .args in (
+      omega arith,
+      omega arith,
+      sym (rw (c .if1 .left) at (zeros-step (a .s .now) (l .at) (a .at + a .n) (omega arith) (omega arith))) ∙ l .inv .2,
+    )
 
 returns-2 : tie.Need-returns-2 Inv-loop μ-loop
 unfolding blank

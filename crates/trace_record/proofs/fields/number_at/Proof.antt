@@ -11,7 +11,8 @@ use Rattle.trace_record.proofs.fields.number_at.Tie as tie
 
 abbrev Inv-loop : tie.InvT-loop
 Inv-loop s at₀ n end value₀ at value =
-    (at₀ ≤ at) × (at ≤ end) × (value < 256 ^ (at - at₀)) × (bigEndianOn value (take (end - at) (drop at s)) ≡ bigEndianOn 0 (take n (drop at₀ s)))
+    (at₀ ≤ at) × (at ≤ end) × (value < 256 ^ (at - at₀))
+    × (bigEndianOn value (take (end - at) (drop at s)) ≡ bigEndianOn 0 (take n (drop at₀ s)))
 
 abbrev μ-loop : tie.MeasureT-loop
 μ-loop s at₀ n end value₀ at value = end - at

@@ -29,7 +29,8 @@ give-back-in-requires c κs =
     let arm = c .before .before .enum-told in
     let a = start .args in
     let accepted = sym (arm .given .1) ∙ judge .ensures in
-    let n = counted-is (a .self .first) (a .self .size) (length (a .memory .now)) accepted (c .before .count .result) (c .before .count .ensures) in
+    let n =
+    counted-is (a .self .first) (a .self .size) (length (a .memory .now)) accepted (c .before .count .result) (c .before .count .ensures) in
     usable (a .self .first) (a .self .size) (length (a .memory .now)) accepted (c .before .count .result) n
 
 returns : tie.Need-returns
@@ -39,7 +40,8 @@ returns c =
     let refusal = c .before .before .refusal in
     let a = start .args in
     let told = refusal .given in
-    back-refused (a .self) (a .memory .now) (a .board) (told .0 .0) (sym (told .1) ∙ judge .ensures) (c .refused .result) (c .refused .ensures)
+    back-refused (a .self) (a .memory .now) (a .board) (told .0 .0) (sym (told .1) ∙ judge .ensures) (c .refused .result)
+    (c .refused .ensures)
 
 same-length : tie.Need-same-length
 same-length c = search needs

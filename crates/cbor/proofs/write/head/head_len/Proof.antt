@@ -18,12 +18,22 @@ returns-3 c = simp (le-ltb _ 24 (c .before .before .if1 .left), le-ltb _ 256 (c 
 returns-4 : tie.Need-returns-4
 unfolding extraOf
 returns-4 c =
-    simp (le-ltb _ 24 (c .before .before .before .if1 .left), le-ltb _ 256 (c .before .before .if2 .left), le-ltb _ 65536 (c .before .if3 .left), lt-ltb _ 4294967296 (c .if4 .taken))
+    simp (
+      le-ltb _ 24 (c .before .before .before .if1 .left),
+      le-ltb _ 256 (c .before .before .if2 .left),
+      le-ltb _ 65536 (c .before .if3 .left),
+      lt-ltb _ 4294967296 (c .if4 .taken),
+    )
 
 returns-5 : tie.Need-returns-5
 unfolding extraOf
 returns-5 c =
-    simp (le-ltb _ 24 (c .before .before .before .if1 .left), le-ltb _ 256 (c .before .before .if2 .left), le-ltb _ 65536 (c .before .if3 .left), le-ltb _ 4294967296 (c .if4 .left))
+    simp (
+      le-ltb _ 24 (c .before .before .before .if1 .left),
+      le-ltb _ 256 (c .before .before .if2 .left),
+      le-ltb _ 65536 (c .before .if3 .left),
+      le-ltb _ 4294967296 (c .if4 .left),
+    )
 
 pub head-len-spec : {M : Type 1} → statement M
 head-len-spec = tie.close (tie.spec returns returns-2 returns-3 returns-4 returns-5)

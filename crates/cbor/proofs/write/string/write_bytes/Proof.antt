@@ -27,7 +27,8 @@ sub-copy c =
     let w = c .before .before in
     let f = w .before .before in
     let a = f .before .before .before .before .args in
-    string-part (a .s .now) (a .dst .now) (f .before .head-len .result) (f .before .head-len .ensures) (f .if1 .left) _ (w .put-head .ensures)
+    string-part (a .s .now) (a .dst .now) (f .before .head-len .result) (f .before .head-len .ensures) (f .if1 .left) _
+    (w .put-head .ensures)
 
 part-copy-start : tie.Need-part-copy-start
 part-copy-start c = sub-copy c
@@ -40,7 +41,8 @@ copy-requires c κs =
     let w = c .before .before .before in
     let f = w .before .before in
     let a = f .before .before .before .before .args in
-    string-room (a .s .now) (a .dst .now) (f .before .head-len .result) (f .before .head-len .ensures) (f .if1 .left) _ (w .put-head .ensures)
+    string-room (a .s .now) (a .dst .now) (f .before .head-len .result) (f .before .head-len .ensures) (f .if1 .left) _
+    (w .put-head .ensures)
 
 same-length : tie.Need-same-length
 same-length c = search needs
@@ -50,7 +52,8 @@ returns-2 c =
     let w = c .before .before .before .before .before .before in
     let f = w .before .before in
     let a = f .before .before .before .before .args in
-    string-done (a .s .now) (a .dst .now) (f .before .head-len .result) (f .before .head-len .ensures) (f .if1 .left) _ (w .put-head .ensures)
+    string-done (a .s .now) (a .dst .now) (f .before .head-len .result) (f .before .head-len .ensures) (f .if1 .left) _
+    (w .put-head .ensures)
     _ (c .before .before .copy .ensures .1)
 
 pub write-bytes-spec : {M : Type 1} → statement M

@@ -34,7 +34,12 @@ unfolding requestParameterOf
 returns-5 c =
     let none = c .match .rest in
     let n = c .before .args .label in
-    rw (ne-eqb n 1 (none .0 .0 .1), ne-eqb n 5 (none .0 .1), ne-eqb n 8 (none .1), by-version-same (c .before .args .version) parameter.Unknown)
+    rw (
+      ne-eqb n 1 (none .0 .0 .1),
+      ne-eqb n 5 (none .0 .1),
+      ne-eqb n 8 (none .1),
+      by-version-same (c .before .args .version) parameter.Unknown,
+    )
 
 pub request-parameter-of-spec : {M : Type 1} → statement M
 request-parameter-of-spec = tie.close (tie.spec enum-told enum-told-2 returns returns-2 returns-3 returns-4 returns-5)

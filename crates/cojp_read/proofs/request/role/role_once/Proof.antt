@@ -2,7 +2,8 @@
 use borrow.Author.Needs.{needs}
 use mathlib.Core.List.{[], _∷_}
 use types.Run.{miss}
-use Rattle.cojp_read.proofs.request.Roles.{role-high, role-fits, role-ends, role-broken, says-first, says-unfit, says-broken, says-good}
+use Rattle.cojp_read.proofs.request.Roles.{role-high, role-fits, role-ends, role-broken}
+use Rattle.cojp_read.proofs.request.Roles.{says-first, says-unfit, says-broken, says-good}
 use Rattle.cojp_read.proofs.request.role.role_once.Statement.{statement}
 use Rattle.cojp_read.proofs.request.role.role_once.Tie as tie
 
@@ -29,8 +30,11 @@ returns-2 c =
     let told = c .before .before .before .v .given in
     let v = c .before .before .before .before .before .value-at in
     let a = c .before .before .before .before .before .before .before .before .args in
-    let high = role-high (a .s .now) (a .at) (v .result) (v .ensures) (told .0 .0) (told .0 .1 .0) (told .1) (c .before .if2 .taken) in
-    (says-first (a .version) (a .named) (a .errors) _ _ (r .result) (c .before .before .before .before .before .before .if1 .left) high (says-unfit (a .version) (a .errors) (r .result) (r .ensures .0)), r .ensures .1)
+    let high = role-high (a .s .now) (a .at) (v .result) (v .ensures) (told .0 .0) (told .0 .1 .0) (told .1) (c .before .if2 .taken) in (
+      says-first (a .version) (a .named) (a .errors) _ _ (r .result) (c .before .before .before .before .before .before .if1 .left) high
+          (says-unfit (a .version) (a .errors) (r .result) (r .ensures .0)),
+      r .ensures .1,
+    )
 
 cast-t15 : tie.Need-cast-t15
 cast-t15 c = search needs
@@ -44,7 +48,8 @@ returns-3 c =
     let v = c .before .before .before .before .value-at in
     let a = c .before .before .before .before .before .before .before .args in
     let fits = role-fits (a .s .now) (a .at) (v .result) (v .ensures) (told .0 .0) (told .0 .1 .0) (told .1) (c .if2 .left) in (
-      says-good (a .version) (a .errors) (a .named) _ (told .0 .0) (told .0 .1 .0) (c .before .before .before .before .before .if1 .left) fits,
+      says-good (a .version) (a .errors) (a .named) _ (told .0 .0) (told .0 .1 .0)
+          (c .before .before .before .before .before .if1 .left) fits,
       role-ends (a .s .now) (a .at) (v .result) (v .ensures) (told .0 .0) (told .0 .1 .0) (told .1),
     )
 
@@ -54,8 +59,11 @@ returns-4 c =
     let v = c .before .before .value-at in
     let a = c .before .before .before .before .before .args in
     let broken = role-broken (a .s .now) (a .at) (v .result) (v .ensures)
-    (λ x p e. miss (1 ∷ 2 ∷ 3 ∷ 4 ∷ []) 0 tt (rw e at (c .before .match .keys2))) in
-    (says-first (a .version) (a .named) (a .errors) _ _ (r .result) (c .before .before .before .if1 .left) broken (says-broken (a .version) (a .errors) (r .result) (r .ensures .0)), r .ensures .1)
+    (λ x p e. miss (1 ∷ 2 ∷ 3 ∷ 4 ∷ []) 0 tt (rw e at (c .before .match .keys2))) in (
+      says-first (a .version) (a .named) (a .errors) _ _ (r .result) (c .before .before .before .if1 .left) broken
+          (says-broken (a .version) (a .errors) (r .result) (r .ensures .0)),
+      r .ensures .1,
+    )
 
 pub role-once-spec : {M : Type 1} → statement M
 role-once-spec =

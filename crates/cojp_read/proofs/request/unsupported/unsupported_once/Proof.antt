@@ -28,7 +28,8 @@ returns-2 c =
     let list = c .before .before .read-unsupported in
     let a = c .before .before .before .before .before .before .before .args in
     let first = sym (c .before .before .before .before .before .is-seen .ensures) ∙ c .before .before .before .before .if1 .left in
-    let says = says-taken (a .held .disposition) (a .errors) (list .result) (c .before .before .before .item-end .result) first (c .if2 .taken) in
+    let says =
+    says-taken (a .held .disposition) (a .errors) (list .result) (c .before .before .before .item-end .result) first (c .if2 .taken) in
     (rw (← list .ensures, c .before .taken-list .ensures) says, c .before .before .before .item-end .ensures)
 
 add-requires : tie.Need-add-requires
@@ -38,9 +39,13 @@ returns-3 : tie.Need-returns-3
 returns-3 c =
     let list = c .before .before .before .read-unsupported in
     let a = c .before .before .before .before .before .before .before .before .args in
-    let first = sym (c .before .before .before .before .before .before .is-seen .ensures) ∙ c .before .before .before .before .before .if1 .left in
-    let says = says-reported (a .held .disposition) (a .errors) (list .result) (c .before .before .before .before .item-end .result) first (c .before .if2 .left) in
-    (rw (← list .ensures, c .before .before .taken-list .ensures, c .add .ensures) says, c .before .before .before .before .item-end .ensures)
+    let first =
+    sym (c .before .before .before .before .before .before .is-seen .ensures) ∙ c .before .before .before .before .before .if1 .left in
+    let says = says-reported (a .held .disposition) (a .errors) (list .result) (c .before .before .before .before .item-end .result) first
+    (c .before .if2 .left) in (
+      rw (← list .ensures, c .before .before .taken-list .ensures, c .add .ensures) says,
+      c .before .before .before .before .item-end .ensures,
+    )
 
 pub unsupported-once-spec : {M : Type 1} → statement M
 unsupported-once-spec =

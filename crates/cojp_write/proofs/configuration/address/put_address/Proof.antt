@@ -30,7 +30,8 @@ put-place-requires c κs =
     let taken = test .before in
     let start = taken .before .before in
     let p = start .args .p in
-    let m : 1 + size .optional-size .result .members ≡ count (addressItems (p .value)) = omega (arith, size .optional-size .ensures .members) in
+    let m : 1 + size .optional-size .result .members ≡ count (addressItems (p .value)) =
+    omega (arith, size .optional-size .ensures .members) in
     let e = address-taken p _ (taken .is-taken .ensures) (test .if1 .taken) in
     (m, omega (arith, same-room (length (start .args .dst .now)) e (start .pre), place-length (p .value) _ m))
 

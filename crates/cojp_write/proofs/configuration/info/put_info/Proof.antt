@@ -28,7 +28,8 @@ array-share-prefix-bytes c =
 slice-aggregate-put-bytes : tie.Need-slice-aggregate-put-bytes
 slice-aggregate-put-bytes c =
     let spread = c .before .before .before .before in
-    sym (length-take-le (spread .additional-info-bytes .result .len) (spread .additional-info-bytes .result .bytes) (array-share-prefix-bytes (c .before)))
+    sym (length-take-le (spread .additional-info-bytes .result .len) (spread .additional-info-bytes .result .bytes)
+    (array-share-prefix-bytes (c .before)))
 
 put-bytes-requires : tie.Need-put-bytes-requires
 put-bytes-requires c κs =

@@ -88,7 +88,8 @@ returns c =
     let name = used .before in
     let laws = name .before .before in
     let start = laws .before in
-    group-size (start .args .k) (laws .head-laws .ensures) (name .head-len .ensures) (byte start) (sixteen start) (used .optional-size .ensures)
+    group-size (start .args .k) (laws .head-laws .ensures) (name .head-len .ensures) (byte start) (sixteen start)
+    (used .optional-size .ensures)
     (source .info-size .ensures)
 
 pub key-size-spec : {M : Type 1} → statement M

@@ -83,7 +83,8 @@ same-length c = (c .before .loop .inv .1)
 returns : tie.Need-returns Inv-loop μ-loop
 returns c =
     let l = (c .before .loop) in
-    rw (all-keys (keysOf (c .before .before .before .before .args .t2)) (l .i) (omega (arith, (c .before .before .len .ensures .0)))) at (l .inv .2)
+    rw (all-keys (keysOf (c .before .before .before .before .args .t2)) (l .i)
+    (omega (arith, (c .before .before .len .ensures .0)))) at (l .inv .2)
 
 pub put-groups-spec : {M : Type 1} → statement M
 put-groups-spec =

@@ -36,7 +36,8 @@ returns c =
     let groups = c .before .before in
     let array = groups .before .before .before .before in
     let start = array .before .before .before in
-    set-seam (keysOf (start .args .set)) (start .args .members) (start .pre .0) (start .pre .1) (array .put-labelled .ensures) (groups .put-groups .ensures)
+    set-seam (keysOf (start .args .set)) (start .args .members) (start .pre .0) (start .pre .1) (array .put-labelled .ensures)
+    (groups .put-groups .ensures)
 
 pub put-set-spec : {M : Type 1} → statement M
 put-set-spec =

@@ -38,7 +38,8 @@ returns-2 c =
     let test = c .before in
     let taken = test .before in
     let p = taken .before .before .args .p in
-    size-none 1 10 (taken-not (p .disposition) (labelled 7 (unsigned (p .value))) empty _ (taken .is-taken .ensures) (test .if1 .left)) (c .no-size .ensures)
+    size-none 1 10 (taken-not (p .disposition) (labelled 7 (unsigned (p .value))) empty _ (taken .is-taken .ensures) (test .if1 .left))
+    (c .no-size .ensures)
 
 pub rate-size-spec : {M : Type 1} → statement M
 rate-size-spec =

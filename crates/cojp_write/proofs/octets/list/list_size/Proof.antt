@@ -33,7 +33,11 @@ add-t10 c =
     let label = count .before in
     let laws = label .before .before .before in
     let a = laws .before .args in
-    omega (arith, array-heads (laws .head-laws .ensures) (a .label) (a .p .value) (label .head-len .ensures) (count .head-len2 .ensures), c .known-len .ensures .1)
+    omega (
+      arith,
+      array-heads (laws .head-laws .ensures) (a .label) (a .p .value) (label .head-len .ensures) (count .head-len2 .ensures),
+      c .known-len .ensures .1,
+    )
 
 returns : tie.Need-returns
 returns c =

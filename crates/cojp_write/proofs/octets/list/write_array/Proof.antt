@@ -38,7 +38,8 @@ add-whole-2 c =
     let test = label .before in
     let laws = test .before in
     let a = laws .before .before .args in
-    omega (arith, array-heads (laws .head-laws .ensures) (a .label) (a .l) (label .head-len .ensures) (c .head-len2 .ensures), test .if1 .left)
+    omega
+    (arith, array-heads (laws .head-laws .ensures) (a .label) (a .l) (label .head-len .ensures) (c .head-len2 .ensures), test .if1 .left)
 
 returns-2 : tie.Need-returns-2
 returns-2 c =
@@ -48,7 +49,8 @@ returns-2 c =
     let laws = test .before in
     let begun = laws .before .before in
     let a = begun .args in
-    array-room (laws .head-laws .ensures) (a .label) (a .l) (label .head-len .ensures) (count .head-len2 .ensures) (array-long begun) (a .dst .now) (test .if1 .left) (c .if2 .taken)
+    array-room (laws .head-laws .ensures) (a .label) (a .l) (label .head-len .ensures) (count .head-len2 .ensures) (array-long begun)
+    (a .dst .now) (test .if1 .left) (c .if2 .taken)
 
 write-head-requires : tie.Need-write-head-requires
 write-head-requires c κs = search needs
@@ -79,7 +81,8 @@ returns-3 c =
     let laws = test .before in
     let begun = laws .before .before in
     let a = begun .args in
-    array-done (laws .head-laws .ensures) (a .label) (a .l) (label .head-len .ensures) (count .head-len2 .ensures) (array-long begun) (a .dst .now) (test .if1 .left)
+    array-done (laws .head-laws .ensures) (a .label) (a .l) (label .head-len .ensures) (count .head-len2 .ensures) (array-long begun)
+    (a .dst .now) (test .if1 .left)
     (test-if2 .if2 .left) (first .write-head .ensures) _ (list .write-list .ensures)
 
 pub write-array-spec : {M : Type 1} → statement M

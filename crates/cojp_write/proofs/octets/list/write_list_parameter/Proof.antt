@@ -25,7 +25,8 @@ returns c =
     let test = array .before .before in
     let taken = test .before in
     let a = taken .before .before .args in
-    planned-as (taken-is (a .p .disposition) (arrayPlan (a .label) (a .p .value)) (emit []) _ (taken .is-taken .ensures) (test .if1 .taken)) (array .write-array .ensures)
+    planned-as (taken-is (a .p .disposition) (arrayPlan (a .label) (a .p .value)) (emit []) _ (taken .is-taken .ensures) (test .if1 .taken))
+    (array .write-array .ensures)
 
 returns-2 : tie.Need-returns-2
 returns-2 c =

@@ -10,7 +10,8 @@ keys-in-range-requires : tie.Need-keys-in-range-requires
 keys-in-range-requires c κs = search needs
 
 returns : tie.Need-returns
-returns c = in-range-1 (c .before .before .args .version) (c .before .before .args .c) (sym (c .before .keys-in-range .ensures) ∙ not-true _ (c .if1 .taken))
+returns c = in-range-1 (c .before .before .args .version) (c .before .before .args .c)
+    (sym (c .before .keys-in-range .ensures) ∙ not-true _ (c .if1 .taken))
 
 address-in-range-requires : tie.Need-address-in-range-requires
 address-in-range-requires c κs = search needs
@@ -21,7 +22,8 @@ returns-2 c =
     let test = range .before in
     let keys = test .before in
     let start = keys .before in
-    in-range-2 (start .args .version) (start .args .c) (sym (keys .keys-in-range .ensures) ∙ not-false _ (test .if1 .left)) (sym (range .address-in-range .ensures) ∙ not-true _ (c .if2 .taken))
+    in-range-2 (start .args .version) (start .args .c) (sym (keys .keys-in-range .ensures) ∙ not-false _ (test .if1 .left))
+    (sym (range .address-in-range .ensures) ∙ not-true _ (c .if2 .taken))
 
 jrc-in-range-requires : tie.Need-jrc-in-range-requires
 jrc-in-range-requires c κs = search needs
@@ -54,7 +56,8 @@ returns-4 c =
     let keys-in = sym (keys .keys-in-range .ensures) ∙ not-false _ (test-if1 .if1 .left) in
     let address-in = sym (address .address-in-range .ensures) ∙ not-false _ (test-if2 .if2 .left) in
     let jrc-in = sym (jrc .jrc-in-range .ensures) ∙ not-false _ (test .if3 .left) in
-    in-range-4 (start .args .version) (start .args .c) keys-in address-in jrc-in (sym (range .octets-in-range .ensures) ∙ not-true _ (c .if4 .taken))
+    in-range-4 (start .args .version) (start .args .c) keys-in address-in jrc-in
+    (sym (range .octets-in-range .ensures) ∙ not-true _ (c .if4 .taken))
 
 octets-in-range-requires-2 : tie.Need-octets-in-range-requires-2
 octets-in-range-requires-2 c κs = search needs

@@ -18,7 +18,8 @@ unfolding requestInRange
 returns-2 c =
     let network = c .before in
     let test = network .before in
-    simp (le-leb (test .before .before .args .q .role) 1 (test .if1 .left), sym (network .octets-in-range .ensures) ∙ not-true _ (c .if2 .taken))
+    simp
+    (le-leb (test .before .before .args .q .role) 1 (test .if1 .left), sym (network .octets-in-range .ensures) ∙ not-true _ (c .if2 .taken))
 
 reports-in-range-requires : tie.Need-reports-in-range-requires
 reports-in-range-requires c κs = search needs
@@ -29,7 +30,10 @@ returns-3 c =
     let test-if2 = c .before in
     let network = test-if2 .before in
     let test = network .before in
-    simp (le-leb (test .before .before .args .q .role) 1 (test .if1 .left), sym (network .octets-in-range .ensures) ∙ not-false _ (test-if2 .if2 .left))
+    simp (
+      le-leb (test .before .before .args .q .role) 1 (test .if1 .left),
+      sym (network .octets-in-range .ensures) ∙ not-false _ (test-if2 .if2 .left),
+    )
     (c .reports-in-range .ensures)
 
 pub request-in-range-spec : {M : Type 1} → statement M

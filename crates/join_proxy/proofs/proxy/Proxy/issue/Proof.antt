@@ -24,14 +24,16 @@ returns-2 : tie.Need-returns-2
 returns-2 c =
     let start = c .before .before .before .before .before in
     let args = start .args in
-    issue-spent (args .self) (args .interface) (args .port) (args .token .now) (args .dst .now) (c .before .before .if1 .left) (c .enum-told .given .1)
+    issue-spent (args .self) (args .interface) (args .port) (args .token .now) (args .dst .now) (c .before .before .if1 .left)
+    (c .enum-told .given .1)
 
 returns-3 : tie.Need-returns-3
 returns-3 c =
     let at-if1 = c .before .before .before .before in
     let start = at-if1 .before .before .before in
     let args = start .args in
-    issue-no-room (args .self) (args .interface) (args .port) (args .token .now) (args .dst .now) _ (at-if1 .if1 .left) (c .before .before .issued .given .1) (c .if2 .taken)
+    issue-no-room (args .self) (args .interface) (args .port) (args .token .now) (args .dst .now) _ (at-if1 .if1 .left)
+    (c .before .before .issued .given .1) (c .if2 .taken)
 
 number-bytes-requires : tie.Need-number-bytes-requires
 number-bytes-requires c κs = search needs

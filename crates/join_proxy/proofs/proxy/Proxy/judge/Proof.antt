@@ -71,7 +71,8 @@ returns-2 c =
     let start = at-if1 .before .before .before in
     let opened = at-unseal .unseal in
     c .refused2 .ensures
-    ∙ sym (sealed-wrong (start .args .self) (start .args .body .now) (at-if1 .if1 .left) (at-nonce .nonce .result) _ (opened .last .1 .1 .1 .1 .0) (opened .result) (at-nonce .nonce .ensures)
+    ∙ sym (sealed-wrong (start .args .self) (start .args .body .now) (at-if1 .if1 .left) (at-nonce .nonce .result) _
+    (opened .last .1 .1 .1 .1 .0) (opened .result) (at-nonce .nonce .ensures)
     (opened .ensures) _ (c .before .enum-told2 .given .1))
 
 shared-slice-read-number-of-5 : tie.Need-shared-slice-read-number-of-5
@@ -104,7 +105,8 @@ returns-3 c =
     let self = start .args .self in
     c .forwarded .ensures
     ∙ ap (λ (n : ℕ). judgeText (self .issued) n (opened .last .1 .1 .1 .1 .0)) (c .before .number-of .ensures)
-    ∙ sym (sealed-right self (start .args .body .now) (at-if1 .if1 .left) (at-nonce .nonce .result) _ (opened .last .1 .1 .1 .1 .0) (opened .result) (at-nonce .nonce .ensures)
+    ∙ sym (sealed-right self (start .args .body .now) (at-if1 .if1 .left) (at-nonce .nonce .result) _ (opened .last .1 .1 .1 .1 .0)
+    (opened .result) (at-nonce .nonce .ensures)
     (opened .ensures) (at-laws .laws .ensures) _ (at-enum-told .enum-told .given .1) refl)
 
 pub judge-spec : {M : Type 1} → statement M

@@ -20,7 +20,8 @@ new-requires c κs = search needs
 returns-2 : tie.Need-returns-2
 returns-2 c =
     let start = c .before .before .before .before in
-    let e : same (start .args .self .key) (start .args .key) ≡ false = sym (c .before .before .same-key .ensures) ∙ c .before .if1 .left in rw (e, c .new .ensures)
+    let e : same (start .args .self .key) (start .args .key) ≡ false = sym (c .before .before .same-key .ensures) ∙ c .before .if1 .left in
+    rw (e, c .new .ensures)
 
 pub set-key-spec : {M : Type 1} → statement M
 set-key-spec = tie.close (tie.spec same-key-requires returns new-requires returns-2)

@@ -27,7 +27,11 @@ returns c =
     let loop = c .before .before .loop in
     let args = c .before .before .before .args in
     let places : length (args .t1) ≡ 8 = search needs in
-    rw (loop .inv, turn (args .t1) (λ (ids : List ℕ). isAmong ids (args .identifier)) (args .to) (loop .i) 0 (omega arith) (omega arith), eq-eqb _ _ (c .if1 .taken))
+    rw (
+      loop .inv,
+      turn (args .t1) (λ (ids : List ℕ). isAmong ids (args .identifier)) (args .to) (loop .i) 0 (omega arith) (omega arith),
+      eq-eqb _ _ (c .if1 .taken),
+    )
 
 add-i : tie.Need-add-i Inv-loop μ-loop
 add-i c = search needs
@@ -40,7 +44,11 @@ loop-again c =
     let loop = c .before .before .loop in
     let args = c .before .before .before .args in
     let places : length (args .t1) ≡ 8 = search needs in
-    rw (loop .inv, turn (args .t1) (λ (ids : List ℕ). isAmong ids (args .identifier)) (args .to) (loop .i) 0 (omega arith) (omega arith), ne-eqb _ _ (c .if1 .left))
+    rw (
+      loop .inv,
+      turn (args .t1) (λ (ids : List ℕ). isAmong ids (args .identifier)) (args .to) (loop .i) 0 (omega arith) (omega arith),
+      ne-eqb _ _ (c .if1 .left),
+    )
 
 returns-2 : tie.Need-returns-2 Inv-loop μ-loop
 returns-2 c =

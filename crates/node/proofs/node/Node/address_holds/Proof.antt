@@ -30,7 +30,11 @@ returns-3 c =
     let test = at .before in
     let test-if1 = test .before .before .before in
     let at-valid = test-if1 .before in
-    rw (granted (at-valid .valid .ensures) (test-if1 .if1 .left), le-leb _ _ (test .if2 .left), is-true (at .holds-at .ensures) (c .if3 .taken))
+    rw (
+      granted (at-valid .valid .ensures) (test-if1 .if1 .left),
+      le-leb _ _ (test .if2 .left),
+      is-true (at .holds-at .ensures) (c .if3 .taken),
+    )
 
 returns-4 : tie.Need-returns-4
 unfolding holds
@@ -39,7 +43,11 @@ returns-4 c =
     let test = at .before in
     let test-if1 = test .before .before .before in
     let at-valid = test-if1 .before in
-    rw (granted (at-valid .valid .ensures) (test-if1 .if1 .left), le-leb _ _ (test .if2 .left), is-false (at .holds-at .ensures) (c .if3 .left))
+    rw (
+      granted (at-valid .valid .ensures) (test-if1 .if1 .left),
+      le-leb _ _ (test .if2 .left),
+      is-false (at .holds-at .ensures) (c .if3 .left),
+    )
 
 pub address-holds-spec : {M : Type 1} → statement M
 address-holds-spec =

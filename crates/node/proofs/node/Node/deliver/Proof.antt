@@ -5,7 +5,8 @@ use borrow.Author.Needs.{needs}
 use Rattle.cojp.specs.declared.configuration.Configuration.{Configuration}
 use Rattle.node.specs.Delivery.{configured, apply, fitted, deliver}
 use Rattle.lemmas.specs.logic.Tests.{denied, granted, is-false, is-true}
-use Rattle.node.proofs.Applied.{Placed, apply-changed, apply-clash, apply-owed, deliver-early, deliver-invalid, deliver-read, deliver-unread, none-placed, set-discarded, set-placed}
+use Rattle.node.proofs.Applied.{Placed, apply-changed, apply-clash, apply-owed, deliver-early, deliver-invalid}
+use Rattle.node.proofs.Applied.{deliver-read, deliver-unread, none-placed, set-discarded, set-placed}
 use Rattle.node.proofs.node.Node.deliver.Statement.{statement}
 use Rattle.node.proofs.node.Node.deliver.Tie as tie
 
@@ -38,7 +39,8 @@ returns-2 c =
     let judged = come .before .before in
     let a = judged .before .before .args in
     c .undelivered2 .ensures
-    ∙ deliver-early (a .delivery) (a .self) (a .time) (a .payload .now) (granted (judged .valid .ensures) (come .before .if1 .left)) (come .may-come .ensures)
+    ∙ deliver-early (a .delivery) (a .self) (a .time) (a .payload .now) (granted (judged .valid .ensures) (come .before .if1 .left))
+    (come .may-come .ensures)
     (seen .why .given .1)
 
 enum-told : tie.Need-enum-told
@@ -61,7 +63,8 @@ returns-3 c =
     let judged = come .before .before in
     let a = judged .before .before .args in
     c .undelivered3 .ensures
-    ∙ deliver-unread (a .delivery) (a .self) (a .time) (a .payload .now) (granted (judged .valid .ensures) (come .before .if1 .left)) (come .may-come .ensures)
+    ∙ deliver-unread (a .delivery) (a .self) (a .time) (a .payload .now) (granted (judged .valid .ensures) (come .before .if1 .left))
+    (come .may-come .ensures)
     (reading .before .enum-told .given .1) (reading .read-configuration .ensures) (seen .verdict .given .1)
 
 -- the configuration that was read, and what is made of it
@@ -70,13 +73,15 @@ configurationIn x = x .before .before .before .read-configuration .result .confi
 
 read-so : (x : tie.After-c) →
     let a = x .before .before .before .before .before .before .before .before .before .before .args in
-    apply (a .delivery) (a .self) (a .time) (fitted (a .self) (configurationIn x)) ≡ deliver (a .delivery) (a .self) (a .time) (a .payload .now)
+    apply (a .delivery) (a .self) (a .time) (fitted (a .self) (configurationIn x))
+    ≡ deliver (a .delivery) (a .self) (a .time) (a .payload .now)
 read-so x =
     let reading = x .before .before .before in
     let come = reading .before .before .before in
     let judged = come .before .before in
     let a = judged .before .before .args in
-    deliver-read (a .delivery) (a .self) (a .time) (a .payload .now) (granted (judged .valid .ensures) (come .before .if1 .left)) (come .may-come .ensures)
+    deliver-read (a .delivery) (a .self) (a .time) (a .payload .now) (granted (judged .valid .ensures) (come .before .if1 .left))
+    (come .may-come .ensures)
     (reading .before .enum-told .given .1) (reading .read-configuration .ensures) (x .before .enum-told2 .given .1)
 
 enum-told-2 : tie.Need-enum-told-2
@@ -93,7 +98,8 @@ returns-4 c =
     let owed = c .before .before in
     let a = owed .before .before .before .before .before .before .before .before .before .before .before .args in
     c .undelivered4 .ensures
-    ∙ apply-owed (a .delivery) (a .self) (a .time) (configurationIn (owed .before)) (is-true (owed .owes-identifier .ensures) (c .before .if2 .taken))
+    ∙ apply-owed (a .delivery) (a .self) (a .time) (configurationIn (owed .before))
+    (is-true (owed .owes-identifier .ensures) (c .before .if2 .taken))
     ∙ read-so (owed .before)
 
 is-taken-requires : tie.Need-is-taken-requires
@@ -119,8 +125,10 @@ returns-5 c =
     let got = other .before .before in
     let a = got .before .before .before .before .before .before .before .before .before .before .args in
     c .undelivered5 .ensures
-    ∙ apply-clash (a .delivery) (a .self) (a .time) (configurationIn got) (is-false (other .before .owes-identifier .ensures) (other .if2 .left))
-    (asked .is-taken .ensures) (placing .before .before .if3 .taken) (placing .decide-install .ensures) (c .before .before .before .before .place .given .1)
+    ∙ apply-clash (a .delivery) (a .self) (a .time) (configurationIn got)
+    (is-false (other .before .owes-identifier .ensures) (other .if2 .left))
+    (asked .is-taken .ensures) (placing .before .before .if3 .taken) (placing .decide-install .ensures)
+    (c .before .before .before .before .place .given .1)
     (c .before .enum-told3 .given .1)
     ∙ read-so got
 
@@ -141,7 +149,8 @@ met m =
     let owes = is-false (other .before .owes-identifier .ensures) (other .if2 .left) in
     let taken = asked .is-taken .ensures in
     ⊎-elim
-    (λ w. rw (w .9, w .10, w .8 .ensures) (set-discarded d n t c owes taken (w .0 .taken) (w .2 .ensures) (w .4 .given .1) (w .7 .given .1)))
+    (λ w.
+    rw (w .9, w .10, w .8 .ensures) (set-discarded d n t c owes taken (w .0 .taken) (w .2 .ensures) (w .4 .given .1) (w .7 .given .1)))
     (⊎-elim
     (λ w. rw (w .7, w .8, w .6 .ensures) (set-placed d n t c owes taken (w .0 .taken) (w .2 .ensures) (w .4 .given .1)))
     (λ w. rw (w .1, w .2) (none-placed d n t c owes taken (w .0 .left))))

@@ -12,7 +12,8 @@ valid-requires c κs = search needs
 
 -- where the ways meet, after the second test
 met : (c : tie.Joined1) →
-    c .if1 .if2 ≡ (not (c .before .before .before .before .args .self .blacklist .held) && not (c .before .before .before .before .args .self .rate .held))
+    c .if1 .if2 ≡ (not (c .before .before .before .before .args .self .blacklist .held)
+    && not (c .before .before .before .before .args .self .rate .held))
 met c =
     let n = c .before .before .before .before .args .self in
     ⊎-elim

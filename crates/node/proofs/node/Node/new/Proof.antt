@@ -21,7 +21,8 @@ not-made-requires-2 c κs = search needs
 
 returns-2 : tie.Need-returns-2
 unfolding made
-returns-2 c = rw (le-leb _ _ (c .before .before .before .if1 .left), denied (c .before .before .valid .ensures) (c .before .if2 .taken)) (c .not-made2 .ensures)
+returns-2 c = rw (le-leb _ _ (c .before .before .before .if1 .left), denied (c .before .before .valid .ensures) (c .before .if2 .taken))
+    (c .not-made2 .ensures)
 
 known-requires : tie.Need-known-requires
 known-requires c κs = search needs
@@ -36,7 +37,8 @@ returns-3 c =
     let test = at-known .before in
     let range = test .before in
     let test-if1 = range .before in
-    rw (le-leb _ _ (test-if1 .if1 .left), granted (range .valid .ensures) (test .if2 .left), c .fresh-node .ensures, at-known .known .ensures)
+    rw
+    (le-leb _ _ (test-if1 .if1 .left), granted (range .valid .ensures) (test .if2 .left), c .fresh-node .ensures, at-known .known .ensures)
 
 pub new-spec : {M : Type 1} → statement M
 new-spec =

@@ -26,9 +26,11 @@ two n = (validRole (n .role) && validJrc (n .jrc))
 
 two-met : (c : tie.Joined1) → c .if1 .if2 ≡ two (c .before .before .args .self)
 two-met c =
-    ⊎-elim (λ w. rw (le-leb _ _ (w .0 .taken)) (w .2 ∙ w .1 .ensures)) (λ w. rw (lt-leb _ _ (w .0 .left)) (w .1 ∙ lt-leb _ _ (w .0 .left))) (c .if1 .came)
+    ⊎-elim (λ w. rw (le-leb _ _ (w .0 .taken)) (w .2 ∙ w .1 .ensures))
+    (λ w. rw (lt-leb _ _ (w .0 .left)) (w .1 ∙ lt-leb _ _ (w .0 .left))) (c .if1 .came)
 
-three-met : (c : tie.Joined2) → c .if2 .if3 ≡ (two (c .before .before .before .args .self) && validOctets (c .before .before .before .args .self .network))
+three-met : (c : tie.Joined2)
+    → c .if2 .if3 ≡ (two (c .before .before .before .args .self) && validOctets (c .before .before .before .args .self .network))
 three-met c =
     let first = two-met (c .before) in
     ⊎-elim (λ w. and-next first (w .0 .taken) (w .1 .ensures) (w .2)) (λ w. and-stops _ first (w .0 .left) (w .1)) (c .if2 .came)

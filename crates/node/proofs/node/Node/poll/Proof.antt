@@ -20,7 +20,8 @@ attempting-requires c κs = search needs
 
 returns-2 : tie.Need-returns-2
 unfolding poll
-returns-2 c = rw (granted (c .before .before .before .valid .ensures) (c .before .before .if1 .left), c .attempting .ensures, c .before .poll .ensures)
+returns-2 c = rw
+    (granted (c .before .before .before .valid .ensures) (c .before .before .if1 .left), c .attempting .ensures, c .before .poll .ensures)
 
 pub poll-spec : {M : Type 1} → statement M
 poll-spec = tie.close (tie.spec valid-requires returns poll-requires attempting-requires returns-2)

@@ -36,7 +36,8 @@ two n = (sets.validAs (allowsAdditionalInfo (n .version)) (isBorder n) (n .sets)
 two-met : (c : tie.Joined1) → c .if1 .if2 ≡ two (c .before .before .before .before .before .args .self)
 two-met c =
     let n = c .before .before .before .before .before .args .self in
-    let first = c .before .valid .ensures ∙ ap (λ (b : Bool). sets.validAs b (isBorder n) (n .sets)) (c .before .before .before .allows-additional-info .ensures) in
+    let first = c .before .valid .ensures
+    ∙ ap (λ (b : Bool). sets.validAs b (isBorder n) (n .sets)) (c .before .before .before .allows-additional-info .ensures) in
     ⊎-elim (λ w. and-next first (w .0 .taken) (w .1 .ensures) (w .2)) (λ w. and-stops _ first (w .0 .left) (w .1)) (c .if1 .came)
 
 three-met :

@@ -34,7 +34,8 @@ returns-3 : tie.Need-returns-3
 unfolding versionValid
 returns-3 c =
     let asked = c .before .before .before in
-    rw (granted (asked .before .error-reports-valid .ensures) (asked .if1 .left), c .before .enum-told2 .given .1) (c .published-valid .ensures)
+    rw (granted (asked .before .error-reports-valid .ensures) (asked .if1 .left), c .before .enum-told2 .given .1)
+    (c .published-valid .ensures)
 
 pub version-valid-spec : {M : Type 1} → statement M
 version-valid-spec =

@@ -1,4 +1,5 @@
--- `sending_key` meets its contract: the test of the type is the definition's, and what `takeCounter` gives where no key serves leaves the sets.
+-- `sending_key` meets its contract: the test of the type is the definition's,
+-- and what `takeCounter` gives where no key serves leaves the sets.
 use borrow.Author.Needs.{needs}
 use borrow.Author.Tests.{le-leb, lt-leb}
 use Rattle.node_key_sets.specs.Frames.{sending}

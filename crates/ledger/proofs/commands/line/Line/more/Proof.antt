@@ -7,7 +7,8 @@ use Rattle.ledger.proofs.commands.line.Line.more.Statement.{statement}
 use Rattle.ledger.proofs.commands.line.Line.more.Tie as tie
 
 abbrev Inv-loop : tie.InvT-loop
-Inv-loop part board₀ hex₀ line₀ at₀ board hex line at = (at ≤ length part + 1) × ((length board ≡ length board₀) × (length hex ≡ length hex₀))
+Inv-loop part board₀ hex₀ line₀ at₀ board hex line at =
+    (at ≤ length part + 1) × ((length board ≡ length board₀) × (length hex ≡ length hex₀))
 
 abbrev μ-loop : tie.MeasureT-loop
 μ-loop part board₀ hex₀ line₀ at₀ board hex line at = length part + 1 - at

@@ -22,7 +22,8 @@ returns c =
     let args = c .before .before .before .args in
     let size : n .result ≡ length (keysOf (args .self)) = n .ensures .0 in
     rw (← firsts (args .self) (n .result) size)
-    (c .among .ensures ∙ among-keys (args .self .keys) (c .before .identifiers .result) (c .before .identifiers .ensures) (args .identifier) 0 (n .result))
+    (c .among .ensures
+    ∙ among-keys (args .self .keys) (c .before .identifiers .result) (c .before .identifiers .ensures) (args .identifier) 0 (n .result))
 
 pub has-spec : {M : Type 1} → statement M
 has-spec = tie.close (tie.spec len-requires identifiers-requires among-requires returns)

@@ -90,7 +90,8 @@ returns-2 c =
     let few = within (a .self) n size in
     let joined = c .before .join in
     let more = joined .ensures .1 .1 (take (turn .i) (take n (a .self .keys))) (turn .inv .0 .exact) in
-    let bad = judged-bad (a .self .keys) n (turn .i) (turn .seen) (turn .inv .0) few past (test .loop-test .taken) _ _ more (c .if2 .left) in
+    let bad =
+    judged-bad (a .self .keys) n (turn .i) (turn .seen) (turn .inv .0) few past (test .loop-test .taken) _ _ more (c .if2 .left) in
     rw (← firsts (a .self) n size, bad)
 
 returns-3 : tie.Need-returns-3 Inv-loop μ-loop

@@ -13,7 +13,8 @@ use Rattle.link_key.proofs.set.key_set.KeySet.valid_as.Tie as tie
 returns : tie.Need-returns
 returns c =
     let set = c .before .before .args .self in
-    let out : validSet set ≡ false = ⊎-elim (λ w. set-none set (w .taken)) (λ w. set-over set (ltb-true 8 (set .count) (w .2 .taken))) (c .if1 .came) in
+    let out : validSet set ≡ false =
+    ⊎-elim (λ w. set-none set (w .taken)) (λ w. set-over set (ltb-true 8 (set .count) (w .2 .taken))) (c .if1 .came) in
     rw out
 
 keys-valid-requires : tie.Need-keys-valid-requires
