@@ -7,7 +7,7 @@ use lib.ListN.{length, take, drop}
 use Rattle.cojp.specs.Octets.{octetsOf}
 use Rattle.node_parameters.specs.Octets.{absentOctets}
 use Rattle.node_parameters.specs.declared.octets.HeldOctets.{HeldOctets}
-use Rattle.trace_record.specs.Layout.{bodySize, entry}
+use Rattle.trace_record.specs.Layout.{recordSize, entry}
 use Rattle.trace_record.specs.declared.entries.Entry.{Entry}
 use Rattle.trace_record.specs.declared.entries.Entry.the-variants as entries
 
@@ -34,7 +34,7 @@ kindOf (poll time) = 6
 
 -- with the byte of its kind
 abbrev pub sizeOf : Record → ℕ
-sizeOf r = 1 + bodySize (kindOf r)
+sizeOf r = recordSize (kindOf r)
 
 -- ---- what stands at the front of the rest of a trace: its end, a record, or none that is good
 pub data Reading : Type 0 where

@@ -10,12 +10,17 @@ use cojp::Octets;
 use cojp::copied;
 use node_parameters::HeldOctets;
 use node_parameters::octets::absent_octets;
+use trace_record::DELIVERY_SIZE;
 use trace_record::Entry;
+use trace_record::NEW_SIZE;
+use trace_record::POLL_SIZE;
+use trace_record::START_SIZE;
+use trace_record::VERIFIED_SIZE;
 use trace_record::entry_at;
 ghost use mathlib.Core.Path.{_≡_};
 ghost use Prim.Native.Nat.{_+_, _≤_, _<_, _^_};
 ghost use lib.ListN.{length, drop};
-ghost use Rattle.trace_record.specs.Layout.{networkUsed};
+ghost use Rattle.trace_record.specs.Layout.{recordSize, networkUsed};
 ghost use Rattle.trace.specs.Trace.{newNode, start, joinAnswer, update, verified, poll, got, networkIn};
 ghost use Rattle.trace.specs.Step.{advance, step};
 
@@ -34,20 +39,20 @@ fn network_at(trace: &[u8], at: usize, len: u8) -> HeldOctets
 }
 
 fn new_at(at: usize, role: u8, network: HeldOctets, state: State) -> StepResult
-    requires { ⌜ at + 19 < 2 ^ 64 ⌝ }
+    requires { ⌜ at + recordSize 1 < 2 ^ 64 ⌝ }
     ensures { λ r. ⌜ r ≡ advance (got (newNode role network)) at state ⌝ }
 {
     let did = done::new_node(state.node, role, network);
     let longest = state.statistics.longest;
     reached(
         Progress::Walked,
-        at + 19,
+        at + NEW_SIZE,
         state.after(0, did, state.started, longest),
     )
 }
 
 fn start_at(at: usize, time: u64, timeout: u64, state: State) -> StepResult
-    requires { ⌜ at + 13 < 2 ^ 64 ⌝ }
+    requires { ⌜ at + recordSize 2 < 2 ^ 64 ⌝ }
     ensures { λ r. ⌜ r ≡ advance (got (start time timeout)) at state ⌝ }
 {
     if !state.made {
@@ -59,13 +64,13 @@ fn start_at(at: usize, time: u64, timeout: u64, state: State) -> StepResult
     let longest = state.statistics.longest;
     reached(
         Progress::Walked,
-        at + 13,
+        at + START_SIZE,
         state.after(1, did, started, longest),
     )
 }
 
 fn join_answer_at(at: usize, time: u64, payload: &[u8], state: State) -> StepResult
-    requires { ⌜ at + 267 < 2 ^ 64 ⌝ }
+    requires { ⌜ at + recordSize 3 < 2 ^ 64 ⌝ }
     ensures { λ r. ⌜ r ≡ advance (got (joinAnswer time (now (payload .entry)))) at state ⌝ }
 {
     if !state.made {
@@ -76,13 +81,13 @@ fn join_answer_at(at: usize, time: u64, payload: &[u8], state: State) -> StepRes
     let longest = longer(verdict, state.started, time, state.statistics.longest);
     reached(
         Progress::Walked,
-        at + 267,
+        at + DELIVERY_SIZE,
         state.after(2, did, state.started, longest),
     )
 }
 
 fn update_at(at: usize, time: u64, payload: &[u8], state: State) -> StepResult
-    requires { ⌜ at + 267 < 2 ^ 64 ⌝ }
+    requires { ⌜ at + recordSize 4 < 2 ^ 64 ⌝ }
     ensures { λ r. ⌜ r ≡ advance (got (update time (now (payload .entry)))) at state ⌝ }
 {
     if !state.made {
@@ -92,13 +97,13 @@ fn update_at(at: usize, time: u64, payload: &[u8], state: State) -> StepResult
     let longest = state.statistics.longest;
     reached(
         Progress::Walked,
-        at + 267,
+        at + DELIVERY_SIZE,
         state.after(3, did, state.started, longest),
     )
 }
 
 fn verified_at(at: usize, frame_type: u8, identifier: u8, state: State) -> StepResult
-    requires { ⌜ at + 3 < 2 ^ 64 ⌝ }
+    requires { ⌜ at + recordSize 5 < 2 ^ 64 ⌝ }
     ensures { λ r. ⌜ r ≡ advance (got (verified «frame_type» identifier)) at state ⌝ }
 {
     if !state.made {
@@ -108,13 +113,13 @@ fn verified_at(at: usize, frame_type: u8, identifier: u8, state: State) -> StepR
     let longest = state.statistics.longest;
     reached(
         Progress::Walked,
-        at + 3,
+        at + VERIFIED_SIZE,
         state.after(4, did, state.started, longest),
     )
 }
 
 fn poll_at(at: usize, time: u64, state: State) -> StepResult
-    requires { ⌜ at + 9 < 2 ^ 64 ⌝ }
+    requires { ⌜ at + recordSize 6 < 2 ^ 64 ⌝ }
     ensures { λ r. ⌜ r ≡ advance (got (poll time)) at state ⌝ }
 {
     if !state.made {
@@ -124,7 +129,7 @@ fn poll_at(at: usize, time: u64, state: State) -> StepResult
     let longest = state.statistics.longest;
     reached(
         Progress::Walked,
-        at + 9,
+        at + POLL_SIZE,
         state.after(5, did, state.started, longest),
     )
 }

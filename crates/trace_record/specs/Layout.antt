@@ -33,6 +33,10 @@ bodySize kind =
     cond (eqb kind 1) 18
     (cond (eqb kind 2) 12 (cond (eqb kind 3) 266 (cond (eqb kind 4) 266 (cond (eqb kind 5) 2 (cond (eqb kind 6) 8 0)))))
 
+-- how many bytes a record has, with the byte of its kind
+abbrev pub recordSize : ℕ → ℕ
+recordSize kind = 1 + bodySize kind
+
 -- kind 1, new node: role 1, network length 1 (0 to 16, 255 for none), network 16
 abbrev pub isNetworkLength : ℕ → Bool
 isNetworkLength len = cond (eqb len 255) true (leb len 16)
@@ -93,12 +97,12 @@ entry (kind ∷ b) = cond (leb (bodySize kind) (length b)) (fields kind b) Bad
 abbrev pub Inside : ℕ → ℕ → Entry → Type 0
 Inside at n End = n ≤ at
 Inside at n Bad = Unit {0}
-Inside at n (New role len) = (at + 19 ≤ n) × (networkUsed len ≤ 16)
-Inside at n (Start time timeout) = at + 13 ≤ n
-Inside at n (JoinAnswer time len) = (at + 267 ≤ n) × (len ≤ 256)
-Inside at n (Update time len) = (at + 267 ≤ n) × (len ≤ 256)
-Inside at n (Verified type identifier) = at + 3 ≤ n
-Inside at n (Poll time) = at + 9 ≤ n
+Inside at n (New role len) = (at + recordSize 1 ≤ n) × (networkUsed len ≤ 16)
+Inside at n (Start time timeout) = at + recordSize 2 ≤ n
+Inside at n (JoinAnswer time len) = (at + recordSize 3 ≤ n) × (len ≤ 256)
+Inside at n (Update time len) = (at + recordSize 4 ≤ n) × (len ≤ 256)
+Inside at n (Verified type identifier) = at + recordSize 5 ≤ n
+Inside at n (Poll time) = at + recordSize 6 ≤ n
 
 -- what stands at a place of the trace s
 pub record EntryAt (s : List ℕ) (at : ℕ) (e : Entry) : Type 0 where

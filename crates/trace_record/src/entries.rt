@@ -24,17 +24,39 @@ pub enum Entry {
     Poll(u64),
 }
 
+// How many bytes the body of a record has.
+const NEW_BODY: usize = 18;
+
+const START_BODY: usize = 12;
+
+const DELIVERY_BODY: usize = 266;
+
+const VERIFIED_BODY: usize = 2;
+
+const POLL_BODY: usize = 8;
+
+// How many bytes a record has, with the byte of its kind.
+pub const NEW_SIZE: usize = 1 + NEW_BODY;
+
+pub const START_SIZE: usize = 1 + START_BODY;
+
+pub const DELIVERY_SIZE: usize = 1 + DELIVERY_BODY;
+
+pub const VERIFIED_SIZE: usize = 1 + VERIFIED_BODY;
+
+pub const POLL_SIZE: usize = 1 + POLL_BODY;
+
 // How many bytes a record of this kind has after its first; 0 where there is no such kind.
 fn body_size(kind: u8) -> usize
     ensures { λ r. ⌜ r ≡ bodySize kind ⌝ }
 {
     match kind {
-        1 => 18,
-        2 => 12,
-        3 => 266,
-        4 => 266,
-        5 => 2,
-        6 => 8,
+        1 => NEW_BODY,
+        2 => START_BODY,
+        3 => DELIVERY_BODY,
+        4 => DELIVERY_BODY,
+        5 => VERIFIED_BODY,
+        6 => POLL_BODY,
         _ => 0,
     }
 }

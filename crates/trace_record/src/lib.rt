@@ -2,5 +2,10 @@
 mod entries;
 mod fields;
 
+pub use entries::DELIVERY_SIZE;
 pub use entries::Entry;
+pub use entries::NEW_SIZE;
+pub use entries::POLL_SIZE;
+pub use entries::START_SIZE;
+pub use entries::VERIFIED_SIZE;
 pub use entries::entry_at;
