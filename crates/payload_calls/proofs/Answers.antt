@@ -1,7 +1,7 @@
 -- What a call tells by the answer of the function behind it, one law to a kind of answer.
 use Prim.Native.Nat.{ℕ}
 use mathlib.Core.Path.{_≡_, refl, ap, _∙_}
-use mathlib.Core.Bool.{Bool, true, false, _&&_}
+use mathlib.Core.Bool.{Bool, true, false, _&&_, and-false}
 use mathlib.Core.List.{List}
 use lib.ListN.{length, replicate}
 use Rattle.refusal.specs.Refusal.{numberOf}
@@ -53,8 +53,4 @@ module _ (a b : Bool) where
   not-first e = rw e
 
   pub not-second : b ≡ false → (a && b) ≡ false
-  not-second e = rw e (neither a)
-    where
-      neither : (x : Bool) → (x && false) ≡ false
-      neither true = refl
-      neither false = refl
+  not-second e = rw e (and-false a)

@@ -1,7 +1,7 @@
 -- The image is lawful by its table; what the code reads at fixed places is what the fields get, one after the other.
 use Prim.Native.Nat.{ℕ}
 use mathlib.Core.Path.{_≡_, refl, ap, sym, _∙_}
-use mathlib.Core.Bool.{Bool, true, false, _&&_}
+use mathlib.Core.Bool.{Bool, true, false, _&&_, and-assoc}
 use mathlib.Core.List.{List, [], _∷_, _++_}
 use native.Mathlib.Omega.{arith}
 use borrow.Author.Tests.{eqb-true}
@@ -19,10 +19,6 @@ use Rattle.cojp_serial.specs.declared.state.SerialState.{SerialState}
 use Rattle.object_image.specs.Codes.{boolPart}
 use Rattle.serial_calls.specs.Laws.{SerialImages}
 use Rattle.serial_calls.specs.Serial.{serialFields, serialTo, serialFrom, serialImage}
-
-and-assoc : (a b c : Bool) → ((a && b) && c) ≡ (a && (b && c))
-and-assoc true b c = refl
-and-assoc false b c = refl
 
 module _ (s : List ℕ) where
   abbrev Head : Bool
