@@ -19,7 +19,8 @@ use Rattle.link_key.specs.declared.usage.Entry.the-variants as entry
 use Rattle.link_key.specs.declared.usage.Usage.{Usage}
 use Rattle.link_key.specs.declared.usage.Family.{Family}
 use Rattle.link_key.specs.declared.usage.Family.the-variants.{K1K2Encrypted, K1K2, K1, K2, K2Encrypted}
-use Rattle.lemmas.specs.lists.Same.{same, same-refl, same-equal}
+use Rattle.lemmas.specs.lists.Same.{same}
+use Rattle.lemmas.specs.lists.SameLemmas.{same-refl, same-equal}
 use Rattle.lemmas.specs.logic.Tests.{both-left, both-right, first}
 use Rattle.link_key.proofs.Infos.{info-equal}
 

@@ -10,7 +10,8 @@ use borrow.Author.Tests.{eqb-true, eq-eqb, not-true}
 use lib.Dec.{eqb}
 use lib.ListN.{length, getD, set, replicate, length-set, length-map, length-append, length-replicate}
 use lib.Seq.{getD-set-same, getD-set-other, getD-append-seam, append-snoc}
-use Rattle.lemmas.specs.lists.Same.{same, same-refl, same-equal}
+use Rattle.lemmas.specs.lists.Same.{same}
+use Rattle.lemmas.specs.lists.SameLemmas.{same-refl, same-equal}
 use Rattle.lemmas.specs.logic.Tests.{both, both-left, both-right}
 use Rattle.link_key.specs.Key.{sameSecret}
 use Rattle.link_key.specs.declared.Key.{Key}
