@@ -12,7 +12,6 @@ use lib.Seq.{take-suc, set-at, append-snoc, length-take-le}
 use Rattle.lemmas.specs.lists.Prefix.{take-length-take, prefix-next, prefix-end}
 use Rattle.link_key.specs.Key.{covers}
 use Rattle.link_key.specs.declared.Key.{Key}
-use Rattle.link_key.proofs.Same.{next}
 use Rattle.link_key.proofs.set.Places.{past, firsts}
 use Rattle.link_key.specs.set.KeySet.{keysOf}
 use Rattle.link_key.specs.declared.set.key_set.KeySet.{KeySet}
