@@ -1,11 +1,11 @@
 // The bench command `set`: puts a value into a node by hand, and judges nothing.
-use crate::commands::Edit;
-use crate::commands::command::byte;
 use link_key_counters::CountedSet;
 use link_key_counters::none_counted;
 use node::Node;
 use node_attempt::Attempt;
 use node_attempt::Phase;
+use tool_simulate::Edit;
+use tool_simulate::command::byte;
 use tool_text::word::Word;
 
 // The node with the number, or the bytes, at the place that the edit names.

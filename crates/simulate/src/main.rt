@@ -1,7 +1,6 @@
 // The desk tool simulate: up to 16 nodes, made and called by lines of standard input (docs/TOOLS.md).
 mod answers;
 mod bench;
-mod commands;
 mod nodes;
 mod perform;
 
@@ -9,12 +8,12 @@ use crate::answers::put_answer;
 use crate::answers::reply::lent;
 use crate::answers::reply::marked;
 use crate::answers::reply::reply_node;
-use crate::commands::command::Made;
-use crate::commands::next_command;
 use nodes::Nodes;
 use nodes::execute;
 use nodes::load;
 use nodes::no_nodes;
+use tool_simulate::command::Made;
+use tool_simulate::next_command;
 use tool_text::output::Buffer;
 use tool_text::session::Session;
 

@@ -1,15 +1,15 @@
 // The nodes of a simulation, by number.
 use crate::answers::Reply;
-use crate::commands::Command;
-use crate::commands::Verb;
-use crate::commands::command::byte;
-use crate::commands::command::index;
 use crate::perform::no_node;
 use crate::perform::perform;
 use network::Answer;
 use network_turn::turn;
 use node::Node;
 use node_key_sets::Change;
+use tool_simulate::Command;
+use tool_simulate::Verb;
+use tool_simulate::command::byte;
+use tool_simulate::command::index;
 
 // The nodes 0 to 15; one that was not made stands there too, and no command names it.
 pub type Nodes = [Node; 16];

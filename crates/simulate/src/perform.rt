@@ -4,11 +4,6 @@ use crate::answers::reply::delivery_reply;
 use crate::answers::reply::start_reply;
 use crate::bench::edited;
 use crate::bench::with_counter;
-use crate::commands::Command;
-use crate::commands::Edit;
-use crate::commands::Verb;
-use crate::commands::command::byte;
-use crate::commands::command::counter;
 use cojp::Octets;
 use node::DeliveryResult;
 use node::MakeResult;
@@ -18,6 +13,11 @@ use node_parameters::HeldOctets;
 use node_parameters::octets::absent_octets;
 use protocol_version::Version;
 use refusal::Verdict;
+use tool_simulate::Command;
+use tool_simulate::Edit;
+use tool_simulate::Verb;
+use tool_simulate::command::byte;
+use tool_simulate::command::counter;
 use tool_text::line_error::LineError;
 
 // The node as the command left it, and what it is answered.

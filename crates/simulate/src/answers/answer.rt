@@ -1,9 +1,6 @@
 // How answers are written.
 use crate::answers::delivery::put_delivery;
 use crate::answers::reply::Reply;
-use crate::commands::Command;
-use crate::commands::Verb;
-use crate::commands::command::byte;
 use node::LeaseStatus;
 use node::Node;
 use node::SendResult;
@@ -14,6 +11,9 @@ use refusal::Verdict;
 use tool_node::put_counter;
 use tool_node::put_node;
 use tool_notation::put_refusal;
+use tool_simulate::Command;
+use tool_simulate::Verb;
+use tool_simulate::command::byte;
 use tool_text::line_error::put_line_error;
 use tool_text::output::Buffer;
 use tool_text::output::Output;

@@ -1,6 +1,4 @@
 // What a command is answered, as a value.
-use crate::commands::command::Made;
-use crate::commands::command::index;
 use node::LeaseStatus;
 use node::Node;
 use node_attempt::Due;
@@ -8,6 +6,8 @@ use node_key_sets::Change;
 use node_parameters::Dispositions;
 use refusal::Refusal;
 use refusal::Verdict;
+use tool_simulate::command::Made;
+use tool_simulate::command::index;
 use tool_text::line_error::LineError;
 
 pub enum Reply {

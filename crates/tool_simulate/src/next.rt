@@ -1,7 +1,7 @@
 // The commands of a session, line after line.
-use crate::commands::command::Command;
-use crate::commands::command::Made;
-use crate::commands::command::command_of;
+use crate::command::Command;
+use crate::command::Made;
+use crate::command::command_of;
 use tool_text::line::Form;
 use tool_text::output::Buffer;
 use tool_text::session::Session;

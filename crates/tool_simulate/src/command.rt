@@ -1,11 +1,11 @@
 // What a line asks for: its command, with its numbers and HEX, or what is wrong with it.
 ghost use Prim.Native.Nat.{_<_};
-use crate::commands::verb::Bytes;
-use crate::commands::verb::Number;
-use crate::commands::verb::Shape;
-use crate::commands::verb::Verb;
-use crate::commands::verb::shape_of;
-use crate::commands::verb::verb_of;
+use crate::verb::Bytes;
+use crate::verb::Number;
+use crate::verb::Shape;
+use crate::verb::Verb;
+use crate::verb::shape_of;
+use crate::verb::verb_of;
 use tool_numerals::decimal::Decimal;
 use tool_numerals::hex::Hex;
 use tool_numerals::hex::Payload;

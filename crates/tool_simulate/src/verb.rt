@@ -1,6 +1,6 @@
 // The commands by their first words, and which words stand after each.
-use crate::commands::edit::Edit;
-use crate::commands::edit::edit_of;
+use crate::edit::Edit;
+use crate::edit::edit_of;
 use protocol_version::Version;
 use tool_text::line::Line;
 use tool_text::line_error::LineError;
