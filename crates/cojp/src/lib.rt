@@ -25,6 +25,7 @@ pub use configuration::ConfigurationRead;
 pub use configuration::empty_configuration;
 pub use copy::copied;
 pub use disposition::Disposition;
+pub use disposition::is_taken;
 pub use error_report::ErrorReport;
 pub use error_report::ErrorReports;
 pub use error_report::error_report_of;

@@ -7,13 +7,13 @@ mod size;
 
 use crate::range::parameter::jrc_in_range;
 use crate::range::parameter::octets_in_range;
-use crate::range::report::is_taken;
 use byte_io::WriteResult;
 use cbor::write::head_len;
 use cbor::write::write_bytes;
 use cbor::write::write_head;
 use cojp::Octets;
 use cojp::OctetsParameter;
+use cojp::is_taken;
 pub(crate) use list::list_size;
 pub(crate) use list::write_list_parameter;
 pub(crate) use put::put_head;

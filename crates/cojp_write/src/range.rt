@@ -9,4 +9,3 @@ pub(crate) use parameter::address_in_range;
 pub(crate) use parameter::jrc_in_range;
 pub(crate) use parameter::keys_in_range;
 pub(crate) use parameter::octets_in_range;
-pub use report::is_taken;

@@ -2,8 +2,8 @@
 use cojp::AddressParameter;
 use cojp::Disposition;
 use cojp::ShortAddress;
+use cojp::is_taken;
 use cojp::no_address;
-use cojp_write::range::is_taken;
 use protocol_version::Version;
 use short_address::is_address;
 ghost use mathlib.Core.Path.{_≡_};

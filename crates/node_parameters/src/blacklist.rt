@@ -2,9 +2,9 @@
 use cojp::Disposition;
 use cojp::ItemList;
 use cojp::ListParameter;
+use cojp::is_taken;
 use cojp::no_list;
 use cojp_list::is_blacklist;
-use cojp_write::range::is_taken;
 ghost use mathlib.Core.Path.{_≡_};
 ghost use Rattle.node_parameters.specs.Blacklist.{absentList, validList, listAfter};
 

@@ -2,8 +2,8 @@
 use cojp::Disposition;
 use cojp::Octets;
 use cojp::OctetsParameter;
+use cojp::is_taken;
 use cojp::no_octets;
-use cojp_write::range::is_taken;
 ghost use mathlib.Core.Path.{_≡_};
 ghost use Rattle.node_parameters.specs.Octets.{absentOctets, knownOctets, validOctets, validJrc, identifierIn, octetsAfter};
 

@@ -1,6 +1,6 @@
 // The join rate of RFC 9031.
 use cojp::RateParameter;
-use cojp_write::range::is_taken;
+use cojp::is_taken;
 ghost use mathlib.Core.Path.{_≡_};
 ghost use Rattle.node_parameters.specs.Rate.{absentRate, rateAfter};
 

@@ -2,9 +2,9 @@
 use crate::configuration::item::put_labelled;
 use crate::octets::Size;
 use crate::octets::no_size;
-use crate::range::report::is_taken;
 use cbor::write::head_len;
 use cojp::RateParameter;
+use cojp::is_taken;
 ghost use Prim.Native.Nat.{_≤_};
 ghost use lib.ListN.{length};
 ghost use Rattle.byte_io.specs.Write.{Wrote};

@@ -1,12 +1,12 @@
 // Parameters that are arrays kept as they are written (RFC 9031): the blacklist, the unsupported configuration.
 use crate::octets::size::Size;
 use crate::octets::size::no_size;
-use crate::range::report::is_taken;
 use byte_io::WriteResult;
 use cbor::write::head_len;
 use cbor::write::write_head;
 use cojp::ItemList;
 use cojp::ListParameter;
+use cojp::is_taken;
 use cojp_list::write_list;
 use refusal::Refusal;
 ghost use mathlib.Core.Path.{_≡_};

@@ -1,9 +1,9 @@
 // The parameters' limits.
-use crate::range::report::is_taken;
 use cojp::AddressParameter;
 use cojp::KeysParameter;
 use cojp::ListParameter;
 use cojp::OctetsParameter;
+use cojp::is_taken;
 use cojp_list::is_blacklist;
 use cojp_list::is_unsupported;
 use short_address::is_address;
