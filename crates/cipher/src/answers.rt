@@ -1,12 +1,12 @@
 // The answers to commands, by the library's calls.
 use crate::verb::Verb;
 use aes_ccm::WriteResult;
+use tool_text::input::least;
 use tool_text::output::Buffer;
 use tool_text::output::Output;
 use tool_words::copies::sixteen;
 use tool_words::copies::thirteen;
 use tool_words::words::Words;
-use tool_words::words::least;
 use tool_words::words::place;
 
 pub fn answer(

@@ -7,13 +7,13 @@ use join_proxy::Pledge;
 use join_proxy::Proxy;
 use refusal::Verdict;
 use tool_notation::put_refusal;
+use tool_text::input::least;
 use tool_text::line_error::put_line_error;
 use tool_text::output::Buffer;
 use tool_text::output::Output;
 use tool_words::copies::eight;
 use tool_words::copies::sixteen;
 use tool_words::words::Words;
-use tool_words::words::least;
 use tool_words::words::place;
 
 // The proxy after a command, and the output with its answer.

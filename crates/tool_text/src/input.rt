@@ -18,6 +18,18 @@ pub struct Part {
     pub complete: bool,
 }
 
+impl Part {
+    // Its bytes; none where the bytes are not those that it was found in.
+    pub fn of<'a>(self, bytes: &'a [u8]) -> &'a [u8] {
+        let from = self.from;
+        let to = self.to;
+        if to < from || bytes.len() < to {
+            return &bytes[0..0];
+        }
+        &bytes[from..to]
+    }
+}
+
 impl Input {
     pub fn new() -> Input {
         Input { at: 0, end: 0 }
@@ -79,7 +91,8 @@ fn before_return(bytes: &[u8], from: usize, to: usize) -> usize
     to
 }
 
-pub(crate) fn least(a: usize, b: usize) -> usize
+// The lesser of two lengths.
+pub fn least(a: usize, b: usize) -> usize
     ensures { λ r. ⌜ r ≤ b ⌝ }
 {
     if a < b {

@@ -9,6 +9,7 @@ pub mod line;
 pub mod line_error;
 pub mod output;
 pub mod parting;
+pub mod reading;
 pub mod session;
 pub mod word;
 

@@ -5,6 +5,7 @@ use crate::line::Form;
 use crate::line::Line;
 use crate::output::Buffer;
 use crate::output::Output;
+use crate::reading::Reading;
 
 pub struct Session {
     pub input: Input,
@@ -15,14 +16,10 @@ pub struct Session {
     pub open: bool,
 }
 
-// A line as far as it was read, and the session after it.
+// A line, and the session after it.
 pub struct Asked {
     pub line: Line,
     pub session: Session,
-    // whether it has a first byte
-    begun: bool,
-    // whether there may be more of it
-    goes_on: bool,
 }
 
 impl Session {
@@ -52,18 +49,17 @@ impl Session {
         payload: &mut [u8],
         buffer: &mut Buffer,
     ) -> Asked {
-        let mut asked = Asked {
-            line: Line::new(),
-            session: self,
-            begun: false,
-            goes_on: true,
-        };
+        let mut reading = Reading::new(self);
+        let mut line = Line::new();
         let mut parts = u64::MAX;
-        while parts > 0 && asked.goes_on {
-            asked = asked.more(form, bytes, payload, buffer);
+        while parts > 0 && reading.goes_on {
+            let part = reading.part(bytes);
+            line = line.more(part.of(bytes), form, payload);
+            reading = reading.after(part, bytes, buffer);
             parts -= 1;
         }
-        asked
+        let session = reading.session;
+        Asked { line, session }
     }
 
     // Writes what waits, after the last line.
@@ -72,7 +68,7 @@ impl Session {
     }
 
     // The session with this text written, where lines are.
-    pub fn echoed(mut self, text: &[u8], buffer: &mut Buffer) -> Session {
+    pub(crate) fn echoed(mut self, text: &[u8], buffer: &mut Buffer) -> Session {
         if self.echo {
             self.out = self.out.text(text, buffer);
         }
@@ -80,7 +76,7 @@ impl Session {
     }
 
     // The session at a line's end, if it is one.
-    pub fn ended(self, line_ends: bool, buffer: &mut Buffer) -> Session {
+    pub(crate) fn ended(self, line_ends: bool, buffer: &mut Buffer) -> Session {
         if line_ends {
             return self.echoed(b"\n", buffer);
         }
@@ -88,7 +84,7 @@ impl Session {
     }
 
     // The session with more of the input in the buffer; answers are written before it is asked for.
-    pub fn filled(self, bytes: &mut Buffer, buffer: &Buffer) -> Session {
+    pub(crate) fn filled(self, bytes: &mut Buffer, buffer: &Buffer) -> Session {
         let out = self.out.flush(buffer);
         let input = self.input.fill(bytes);
         Session {
@@ -107,49 +103,4 @@ fn put_help(help: &[u8], buffer: &mut Buffer) -> Output {
 --echo writes each line before its answer, --help this text.\n",
         buffer,
     )
-}
-
-impl Asked {
-    // The line with what the buffer has of it; where it goes on, more is read.
-    fn more(
-        self,
-        form: Form,
-        bytes: &mut Buffer,
-        payload: &mut [u8],
-        buffer: &mut Buffer,
-    ) -> Asked {
-        let asked = self.with_part(form, bytes, payload, buffer);
-        if !asked.goes_on {
-            return asked;
-        }
-        asked.read_on(bytes, buffer)
-    }
-
-    // The line with what the bytes have of it.
-    fn with_part(self, form: Form, bytes: &[u8], payload: &mut [u8], buffer: &mut Buffer) -> Asked {
-        let part = self.session.input.part(bytes);
-        let from = part.from;
-        let to = part.to;
-        let line = self.line.more(&bytes[from..to], form, payload);
-        let mut session = self.session.echoed(&bytes[from..to], buffer);
-        session.input.at = part.next;
-        Asked {
-            line,
-            session: session.ended(part.complete, buffer),
-            begun: self.begun | (from < to),
-            goes_on: !part.complete,
-        }
-    }
-
-    // The line with the input read on; it ends where nothing comes.
-    fn read_on(self, bytes: &mut Buffer, buffer: &mut Buffer) -> Asked {
-        let line = self.line;
-        let session = self.session.filled(bytes, buffer);
-        Asked {
-            line,
-            session: session.ended(self.begun & !session.open, buffer),
-            begun: self.begun,
-            goes_on: session.open,
-        }
-    }
 }

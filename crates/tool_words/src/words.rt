@@ -1,5 +1,4 @@
 // A line's words.
-ghost use Prim.Native.Nat.{_≤_};
 use crate::argument::Argument;
 use tool_numerals::hex::Hex;
 use tool_text::word::Word;
@@ -138,14 +137,4 @@ pub fn place<'a>(store: &'a [u8], at: usize, len: usize) -> &'a [u8] {
     }
     let end = at + len;
     &store[at..end]
-}
-
-// The lesser of two lengths.
-pub fn least(a: usize, b: usize) -> usize
-    ensures { λ r. ⌜ r ≤ b ⌝ }
-{
-    if a < b {
-        return a;
-    }
-    b
 }

@@ -1,37 +1,24 @@
--- `next_line` is safe and ends: the measure is how many parts are left. Nothing has to hold from part to part.
+-- `next_line` is safe and ends: the measure is how many parts it may still read. Nothing has to hold from part to part.
+use native.Mathlib.Omega.{arith}
 use borrow.Author.Needs.{needs}
 use Rattle.ledger.proofs.commands.next.next_line.Statement.{statement}
 use Rattle.ledger.proofs.commands.next.next_line.Tie as tie
 
 abbrev Inv-loop : tie.InvT-loop
-Inv-loop bytes₀ board₀ hex₀ buffer₀ asked₀ parts₀ bytes board hex buffer asked parts = Unit {0}
+Inv-loop bytes₀ board₀ hex₀ buffer₀ reading₀ line₀ parts₀ bytes board hex buffer reading line parts = Unit {0}
 
 abbrev μ-loop : tie.MeasureT-loop
-μ-loop bytes₀ board₀ hex₀ buffer₀ asked₀ parts₀ bytes board hex buffer asked parts = parts
-
-new-requires : tie.Need-new-requires Inv-loop μ-loop
-new-requires c κs = search needs
-
-loop-holds : tie.Need-loop-holds Inv-loop μ-loop
-loop-holds c = search needs
-
-more-requires : tie.Need-more-requires Inv-loop μ-loop
-more-requires c κs = search needs
+μ-loop bytes₀ board₀ hex₀ buffer₀ reading₀ line₀ parts₀ bytes board hex buffer reading line parts = parts
 
 sub-parts : tie.Need-sub-parts Inv-loop μ-loop
-sub-parts c = search needs
+sub-parts c =
+    let taken = c .before .before .before .before .before .before in
+    omega (arith, taken .before .before .before .before .before .before .before .loop-test .taken)
 
 loop-less : tie.Need-loop-less Inv-loop μ-loop
-loop-less c = search needs
-
-loop-again : tie.Need-loop-again Inv-loop μ-loop
-loop-again c = search needs
-
-returns : tie.Need-returns Inv-loop μ-loop
-returns c = search needs
-
-returns-2 : tie.Need-returns-2 Inv-loop μ-loop
-returns-2 c = search needs
+loop-less c =
+    let taken = c .before .before .before .before .before .before in
+    omega (arith, taken .before .before .before .before .before .before .before .loop-test .taken)
 
 pub next-line-spec : {M : Type 1} → statement M
 next-line-spec =
@@ -39,11 +26,14 @@ next-line-spec =
     (tie.spec
     Inv-loop
     μ-loop
-    new-requires
-    loop-holds
-    more-requires
+    (λ c κs. search needs)
+    (λ c κs. search needs)
+    (λ c. search needs)
+    (λ c κs. search needs)
+    (λ c κs. search needs)
+    (λ c κs. search needs)
+    (λ c κs. search needs)
     sub-parts
     loop-less
-    loop-again
-    returns
-    returns-2)
+    (λ c. search needs)
+    (λ c. search needs))

@@ -1,5 +1,6 @@
 -- `Session::next` is safe and ends: the measure is how many parts it may still read. From part to part the payload
 -- keeps its length.
+use native.Mathlib.Omega.{arith}
 use mathlib.Core.Path.{_≡_}
 use borrow.Author.Needs.{needs}
 use lib.ListN.{length}
@@ -7,11 +8,27 @@ use Rattle.tool_text.proofs.session.Session.next.Statement.{statement}
 use Rattle.tool_text.proofs.session.Session.next.Tie as tie
 
 abbrev Inv-loop : tie.InvT-loop
-Inv-loop form bytes₀ payload₀ buffer₀ asked₀ parts₀ bytes payload buffer asked parts =
+Inv-loop form bytes₀ payload₀ buffer₀ reading₀ line₀ parts₀ bytes payload buffer reading line parts =
     length payload ≡ length payload₀
 
 abbrev μ-loop : tie.MeasureT-loop
-μ-loop form bytes₀ payload₀ buffer₀ asked₀ parts₀ bytes payload buffer asked parts = parts
+μ-loop form bytes₀ payload₀ buffer₀ reading₀ line₀ parts₀ bytes payload buffer reading line parts = parts
+
+sub-parts : tie.Need-sub-parts Inv-loop μ-loop
+sub-parts c =
+    let taken = c .before .before .before .before .before .before .before in
+    omega (arith, taken .before .before .before .before .before .before .before .loop-test .taken)
+
+loop-less : tie.Need-loop-less Inv-loop μ-loop
+loop-less c =
+    let taken = c .before .before .before .before .before .before .before in
+    omega (arith, taken .before .before .before .before .before .before .before .loop-test .taken)
+
+loop-again : tie.Need-loop-again Inv-loop μ-loop
+loop-again c =
+    let taken = c .before .before .before .before in
+    let turn = taken .before .before .before .before .before .before .before .before .before .before .before in
+    search (needs, c .before .before .before .slice-known2 .given, taken .payload, turn .loop .inv)
 
 pub next-spec : {M : Type 1} → statement M
 next-spec =
@@ -20,12 +37,14 @@ next-spec =
     Inv-loop
     μ-loop
     (λ c κs. search needs)
-    (λ c. search needs)
     (λ c κs. search needs)
     (λ c. search needs)
-    (λ c. search needs)
-    (λ c. search needs)
-    (λ c. search needs)
-    (λ c. search needs)
+    (λ c κs. search needs)
+    (λ c κs. search needs)
+    (λ c κs. search needs)
+    (λ c κs. search needs)
+    sub-parts
+    loop-less
+    loop-again
     (λ c. search needs)
     (λ c. search needs))
