@@ -15,8 +15,8 @@ use Rattle.node.specs.Node.{activeOf}
 use Rattle.node.specs.declared.node.Node.{Node}
 use Rattle.node_laws.specs.Answers.{AnswersSay}
 use Rattle.network.specs.Answers.{sentKey, found, TurnAnswers}
-use Rattle.network.specs.Turn.{turned, answerOf, told, judged, turn, answerNumber, wasVerified, hasSwitched}
-use Rattle.network.specs.declared.turn.Answer.the-variants.{Failed}
+use Rattle.network_turn.specs.Turn.{turned, answerOf, told, judged, turn, answerNumber, wasVerified, hasSwitched}
+use Rattle.network_turn.specs.declared.answer.Answer.the-variants.{Failed}
 
 -- an answer to the report that is not refused: the active set kept, h, or switched
 none-refused :

@@ -51,7 +51,7 @@ use Rattle.node.specs.declared.node.Node.{Node}
 use Rattle.node_attempt.specs.delivery.Delivery.{mayCome}
 use Rattle.node_attempt.specs.declared.delivery.Delivery.the-variants.{Update}
 use Rattle.network.specs.Network.{Network, nodeAt, withNode}
-use Rattle.network.specs.Turn.{judged, turn}
+use Rattle.network_turn.specs.Turn.{judged, turn}
 use Rattle.network.specs.Events.{Event, turning, calling, step, run, Admissible, AdmissibleEvent, Throughout}
 use Rattle.network.specs.Rounds.{Neighbours, Hops, here, hop, Linked, AllLinked, Round, Rounds, none, more}
 use Rattle.network.specs.Demand3.{Supposed, NoneUsedUp, Demand3}

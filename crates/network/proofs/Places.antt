@@ -16,7 +16,7 @@ use Rattle.network.specs.Network.{Network, nodeAt, withNode}
 use Rattle.network.specs.Events.{Event, turning, calling, step, run, Permitted, AdmissibleEvent, Admissible, Throughout}
 use Rattle.network.specs.Rounds.{Links, Linked, AllLinked}
 use Rattle.network.specs.PartialRekey.{SomeKeyUsable}
-use Rattle.network.specs.Turn.{turn}
+use Rattle.network_turn.specs.Turn.{turn}
 use Rattle.network.proofs.Turns.{stay-self, sender-stays, receiver-either, receiver-role}
 use Rattle.network.proofs.Receiving.{Kind, new, Quiet, IsNew, Is, becomes, stays-is, turn-becomes}
 use Rattle.network.proofs.Flood.{Kinds, with, moves, flows, still}

@@ -12,7 +12,7 @@ use Rattle.node.specs.Frames.{send}
 use Rattle.node_laws.specs.Laws.{KeysStay, CanSend, Sends, NodeLaws}
 use Rattle.node.specs.declared.node.Node.{Node}
 use Rattle.network.specs.Events.{Under}
-use Rattle.network.specs.Turn.{turn}
+use Rattle.network_turn.specs.Turn.{turn}
 use Rattle.network.proofs.Turns.{Moved, receiver-either, receiver-switches}
 
 -- no identifier of the new set, active or pending; the set pending beside an active one apart from it; the set active, and none pending

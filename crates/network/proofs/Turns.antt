@@ -15,10 +15,10 @@ use Rattle.node.specs.Range.{Valid}
 use Rattle.node.specs.Frames.{send, afterSend, receive, verified}
 use Rattle.node_laws.specs.Laws.{KeysStay, Switched, Sends, Switching, NodeLaws, Without}
 use Rattle.node.specs.declared.node.Node.{Node}
-use Rattle.network.specs.Turn.{turned, told, judged, received, sent, turn}
-use Rattle.network.specs.declared.turn.Answer.{Answer}
-use Rattle.network.specs.declared.turn.Answer.the-variants.{Refused, Failed}
-use Rattle.network.specs.declared.turn.TurnResult.{TurnResult}
+use Rattle.network_turn.specs.Turn.{turned, told, judged, received, sent, turn}
+use Rattle.network_turn.specs.declared.answer.Answer.{Answer}
+use Rattle.network_turn.specs.declared.answer.Answer.the-variants.{Refused, Failed}
+use Rattle.network_turn.specs.declared.answer.TurnResult.{TurnResult}
 
 pub stay-self : (n : Node) → KeysStay n n
 stay-self n = record { active = refl; pending = refl; role = refl; valid = λ v. v }

@@ -11,9 +11,9 @@ use Rattle.node_key_sets.specs.declared.frames.Change.{Change}
 use Rattle.node_key_sets.specs.declared.frames.Change.the-variants as change
 use Rattle.node_laws.specs.Laws.{NodeLaws}
 use Rattle.node.specs.declared.node.Node.{Node}
-use Rattle.network.specs.Turn.{answerOf, turn}
+use Rattle.network_turn.specs.Turn.{answerOf, turn}
 use Rattle.network.specs.Demand1.{TurnDemand1}
-use Rattle.network.specs.declared.turn.Answer.the-variants.{Refused, Failed}
+use Rattle.network_turn.specs.declared.answer.Answer.the-variants.{Refused, Failed}
 use Rattle.network.proofs.Turns.{frameId, turn-ends}
 
 -- an answer that the receiver's is, is a refusal only where that is

@@ -13,7 +13,7 @@ use Rattle.node.specs.Frames.{send, receive}
 use Rattle.node.specs.Node.{activeOf}
 use Rattle.node.specs.declared.node.Node.{Node}
 use Rattle.node_key_sets.specs.declared.frames.KeyAnswer.{KeyAnswer}
-use Rattle.network.specs.Turn.{turn, answerNumber, wasVerified, hasSwitched}
+use Rattle.network_turn.specs.Turn.{turn, answerNumber, wasVerified, hasSwitched}
 
 module _ (sender receiver : Node) (type : ℕ) where
   -- the key that the sender answers, and what the receiver answers to a frame with its identifier

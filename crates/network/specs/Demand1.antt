@@ -7,8 +7,8 @@ use Rattle.refusal.specs.declared.Refusal.{Refusal}
 use Rattle.refusal.specs.declared.Verdict.the-variants as verdict
 use Rattle.node.specs.Frames.{send, afterSend}
 use Rattle.node.specs.declared.node.Node.{Node}
-use Rattle.network.specs.Turn.{turn, answerNumber}
-use Rattle.network.specs.declared.turn.Answer.the-variants.{Refused, Failed}
+use Rattle.network_turn.specs.Turn.{turn, answerNumber}
+use Rattle.network_turn.specs.declared.answer.Answer.the-variants.{Refused, Failed}
 
 pub record TurnDemand1 : Type 0 where
   pub sender-refused :

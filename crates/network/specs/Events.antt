@@ -11,8 +11,8 @@ use Rattle.node.specs.Frames.{send}
 use Rattle.node_key_sets.specs.declared.frames.KeyAnswer.{KeyAnswer}
 use Rattle.node.specs.declared.node.Node.{Node}
 use Rattle.network.specs.Network.{Network, nodeAt, withNode}
-use Rattle.network.specs.Turn.{turn}
-use Rattle.network.specs.declared.turn.TurnResult.{TurnResult}
+use Rattle.network_turn.specs.Turn.{turn}
+use Rattle.network_turn.specs.declared.answer.TurnResult.{TurnResult}
 
 pub data Event : Type 0 where
   -- a turn: the first node is asked to send the frame type, the second receives it

@@ -1,4 +1,3 @@
-pub mod Turn
 pub mod Network
 pub mod Events
 pub mod Rounds

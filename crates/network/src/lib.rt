@@ -1,8 +1,4 @@
-// A network of nodes: what a frame from one node to another does to both, and how a rekey goes through.
-pub mod turn;
-
-pub use turn::Answer;
-pub use turn::TurnResult;
+// A network of nodes: what is proved of turns, and how a rekey goes through.
 ghost use Rattle.network.specs.Answers.{EveryTurnAnswers};
 ghost use Rattle.network.specs.Demand1.{TurnDemand1};
 ghost use Rattle.network.specs.Demand3.{Demand3};

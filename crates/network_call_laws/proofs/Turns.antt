@@ -25,8 +25,8 @@ use Rattle.node_image.specs.Answers.{frameKeyImage}
 use Rattle.node_laws.specs.Calls.{sending, receiving, reporting, changeObject, perform}
 use Rattle.node_calls.specs.Results.{valueOf}
 use Rattle.node_call_laws.specs.Fits.{CallsFit}
-use Rattle.network.specs.Turn.{turn, judged, received, sent, answerOf, answerNumber}
-use Rattle.network.specs.declared.turn.TurnResult.{TurnResult}
+use Rattle.network_turn.specs.Turn.{turn, judged, received, sent, answerOf, answerNumber}
+use Rattle.network_turn.specs.declared.answer.TurnResult.{TurnResult}
 use Rattle.pothatch_laws.specs.Node.{NodeOutput, Called, NodeRuns}
 use Rattle.network_call_laws.specs.Network.{answerCode}
 use Rattle.network_call_laws.specs.Turn.{identifierIn, keyIn, Accepted, Refused, Played, not-sent, not-received, failed, verified}

@@ -13,10 +13,10 @@ use Rattle.node_image.specs.Node.{nodeImage}
 use Rattle.node_laws.specs.Calls.{NodeCall, perform}
 use Rattle.network.specs.Events.{Event, turning, calling, step, run}
 use Rattle.network.specs.Network.{Network, nodeAt}
-use Rattle.network.specs.Turn.{turn, answerNumber}
-use Rattle.network.specs.declared.turn.Answer as network
-use Rattle.network.specs.declared.turn.Answer.the-variants.{Refused, Failed, Kept, Switched}
-use Rattle.network.specs.declared.turn.TurnResult.{TurnResult}
+use Rattle.network_turn.specs.Turn.{turn, answerNumber}
+use Rattle.network_turn.specs.declared.answer.Answer as network
+use Rattle.network_turn.specs.declared.answer.Answer.the-variants.{Refused, Failed, Kept, Switched}
+use Rattle.network_turn.specs.declared.answer.TurnResult.{TurnResult}
 use Rattle.pothatch_laws.specs.Node.{NodeOutput, Called, toldOf}
 use Rattle.pothatch_laws.specs.Runs.{Runs, answers}
 use Rattle.network_call_laws.specs.Turn.{identifierIn, keyIn, Played}

@@ -13,10 +13,10 @@ use Rattle.node.specs.declared.frames.VerifyResult.{VerifyResult}
 use Rattle.node.specs.declared.frames.SendResult.{SendResult}
 use Rattle.node_key_sets.specs.declared.frames.KeyAnswer.{KeyAnswer}
 use Rattle.node.specs.declared.node.Node.{Node}
-use Rattle.network.specs.Turn.{turned, answerOf, judged, receives, sent, turn}
-use Rattle.network.specs.declared.turn.Answer.{Answer}
-use Rattle.network.specs.declared.turn.Answer.the-variants.{Refused, Failed}
-use Rattle.network.specs.declared.turn.TurnResult.{TurnResult}
+use Rattle.network_turn.specs.Turn.{turned, answerOf, judged, receives, sent, turn}
+use Rattle.network_turn.specs.declared.answer.Answer.{Answer}
+use Rattle.network_turn.specs.declared.answer.Answer.the-variants.{Refused, Failed}
+use Rattle.network_turn.specs.declared.answer.TurnResult.{TurnResult}
 
 pub answer-refused : (x : Change) (why : Refusal) → x ≡ change.Refused why → Refused why ≡ answerOf x
 answer-refused x why e = rw e

@@ -1,13 +1,15 @@
-// Turns carried out: one node is asked to send a frame, another receives it.
+// A turn: one node is asked to send a frame, and another receives it.
+pub mod answer;
+
+pub use answer::Answer;
+pub use answer::TurnResult;
 use link_key::Key;
-use network::Answer;
-use network::TurnResult;
 use node::Node;
 use node_key_sets::Change;
 use refusal::Verdict;
 ghost use mathlib.Core.Path.{_≡_};
 ghost use Rattle.node.specs.Frames.{receive};
-ghost use Rattle.network.specs.Turn.{answerOf, judged, receives, turn};
+ghost use Rattle.network_turn.specs.Turn.{answerOf, judged, receives, turn};
 
 // The sender is asked for a frame of this type, and the receiver receives it with the identifier of the key answered. The radio
 // reports the frame verified exactly where their keys are equal. A refusal ends the turn.

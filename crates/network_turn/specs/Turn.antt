@@ -12,9 +12,9 @@ use Rattle.node_key_sets.specs.declared.frames.Change.the-variants as change
 use Rattle.node.specs.declared.frames.VerifyResult.{VerifyResult}
 use Rattle.node_key_sets.specs.declared.frames.KeyAnswer.{KeyAnswer}
 use Rattle.node.specs.declared.node.Node.{Node}
-use Rattle.network.specs.declared.turn.Answer.{Answer}
-use Rattle.network.specs.declared.turn.Answer.the-variants.{Refused, Failed, Kept, Switched}
-use Rattle.network.specs.declared.turn.TurnResult.{TurnResult}
+use Rattle.network_turn.specs.declared.answer.Answer.{Answer}
+use Rattle.network_turn.specs.declared.answer.Answer.the-variants.{Refused, Failed, Kept, Switched}
+use Rattle.network_turn.specs.declared.answer.TurnResult.{TurnResult}
 
 abbrev pub turned : Node → Node → Answer → TurnResult
 turned sender receiver answer = record { sender = sender; receiver = receiver; answer = answer }

@@ -1,4 +1,4 @@
-// How a turn ends: one node is asked to send a frame, another receives it. The definition is carried out in `network_turn`.
+// How a turn ends: one node is asked to send a frame, another receives it.
 use node::Node;
 use refusal::Refusal;
 
