@@ -1,19 +1,16 @@
 // The desk tool simulate: up to 16 nodes, made and called by lines of standard input (docs/TOOLS.md).
-mod answers;
-mod bench;
 mod nodes;
-mod perform;
 
-use crate::answers::put_answer;
-use crate::answers::reply::lent;
-use crate::answers::reply::marked;
-use crate::answers::reply::reply_node;
 use nodes::Nodes;
 use nodes::execute;
 use nodes::load;
 use nodes::no_nodes;
 use tool_simulate::command::Made;
 use tool_simulate::next_command;
+use tool_simulate_answers::put_answer;
+use tool_simulate_reply::lent;
+use tool_simulate_reply::marked;
+use tool_simulate_reply::reply_node;
 use tool_text::output::Buffer;
 use tool_text::session::Session;
 

@@ -1,8 +1,5 @@
 // The nodes of a simulation, by number.
-use crate::answers::Reply;
-use crate::perform::no_node;
-use crate::perform::perform;
-use network::Answer;
+use network_turn::Answer;
 use network_turn::turn;
 use node::Node;
 use node_key_sets::Change;
@@ -10,6 +7,9 @@ use tool_simulate::Command;
 use tool_simulate::Verb;
 use tool_simulate::command::byte;
 use tool_simulate::command::index;
+use tool_simulate_calls::no_node;
+use tool_simulate_calls::perform;
+use tool_simulate_reply::Reply;
 
 // The nodes 0 to 15; one that was not made stands there too, and no command names it.
 pub type Nodes = [Node; 16];

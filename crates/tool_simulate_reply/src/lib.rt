@@ -1,4 +1,4 @@
-// What a command is answered, as a value.
+// What a command of simulate is answered, as a value.
 use node::LeaseStatus;
 use node::Node;
 use node_attempt::Due;

@@ -2,8 +2,8 @@
 use mathlib.Core.Path.{sym}
 use borrow.Author.Needs.{needs}
 use lib.Seq.{length-take-le}
-use Rattle.simulate.proofs.perform.start_within.Statement.{statement}
-use Rattle.simulate.proofs.perform.start_within.Tie as tie
+use Rattle.tool_simulate_calls.proofs.node_call.start_within.Statement.{statement}
+use Rattle.tool_simulate_calls.proofs.node_call.start_within.Tie as tie
 
 slice-aggregate-start : tie.Need-slice-aggregate-start
 slice-aggregate-start c =

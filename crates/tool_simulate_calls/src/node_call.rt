@@ -1,7 +1,4 @@
 // What a command does to one node, and what it is answered.
-use crate::answers::Reply;
-use crate::answers::reply::delivery_reply;
-use crate::answers::reply::start_reply;
 use crate::bench::edited;
 use crate::bench::with_counter;
 use cojp::Octets;
@@ -18,6 +15,9 @@ use tool_simulate::Edit;
 use tool_simulate::Verb;
 use tool_simulate::command::byte;
 use tool_simulate::command::counter;
+use tool_simulate_reply::Reply;
+use tool_simulate_reply::delivery_reply;
+use tool_simulate_reply::start_reply;
 use tool_text::line_error::LineError;
 
 // The node as the command left it, and what it is answered.

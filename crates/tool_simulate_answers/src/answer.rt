@@ -1,6 +1,5 @@
 // How answers are written.
-use crate::answers::delivery::put_delivery;
-use crate::answers::reply::Reply;
+use crate::delivery::put_delivery;
 use node::LeaseStatus;
 use node::Node;
 use node::SendResult;
@@ -14,6 +13,7 @@ use tool_notation::put_refusal;
 use tool_simulate::Command;
 use tool_simulate::Verb;
 use tool_simulate::command::byte;
+use tool_simulate_reply::Reply;
 use tool_text::line_error::put_line_error;
 use tool_text::output::Buffer;
 use tool_text::output::Output;

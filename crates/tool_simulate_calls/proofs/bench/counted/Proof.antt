@@ -1,8 +1,8 @@
 -- `counted` is safe and ends. The measure is how many places are left.
 use Prim.Native.Nat.{_-_}
 use borrow.Author.Needs.{needs}
-use Rattle.simulate.proofs.bench.counted.Statement.{statement}
-use Rattle.simulate.proofs.bench.counted.Tie as tie
+use Rattle.tool_simulate_calls.proofs.bench.counted.Statement.{statement}
+use Rattle.tool_simulate_calls.proofs.bench.counted.Tie as tie
 
 abbrev Inv-loop : tie.InvT-loop
 Inv-loop held identifier counter set keys counters₀ i₀ counters i = Unit {0}
