@@ -9,7 +9,7 @@ use borrow.Author.Tests.{eqb-true, eqb-false}
 use lib.Dec.{eqb}
 use lib.ListN.{length, drop}
 use Rattle.refusal.specs.declared.Refusal.{Refusal}
-use Rattle.cbor.specs.Item.{Item, Pairs, map, pair}
+use Rattle.cbor.specs.Item.{Item, Pairs, mapItem, pair}
 use Rattle.cbor.specs.Decode.{Outcome, refused, got, andThen, next, heading, Heading, members}
 use Rattle.cbor.specs.Decode.{pairs, majorOf, content, decodeBy, decode, payload, payloadBy, ended}
 use Rattle.cbor.specs.Answer.{mapAnswer, openAnswer, outcomeNumber, openedNumber}
@@ -30,7 +30,7 @@ record IsMap (b : Bool) (s : List ℕ) (n p : ℕ) : Type 0 where
   pub pairs-are : Pairs
   pub left : List ℕ
   pub inside : p ≤ length s
-  pub read : payloadBy (headBy b) s ≡ got (map pairs-are) []
+  pub read : payloadBy (headBy b) s ≡ got (mapItem pairs-are) []
   pub each : pairs (decode 7) n (drop p s) ≡ got pairs-are left
 
 record IsOther (b : Bool) (s : List ℕ) : Type 1 where
@@ -64,10 +64,10 @@ module _ (s : List ℕ) (i : Item) (t : List ℕ) (e : payload s ≡ got i t) wh
 
 module _ (x a : ℕ) (l : List ℕ) (i : Item) (t : List ℕ) where
   the-map : (m : ℕ) → m ≡ 5 → content (decode 7) (majorOf m) x a l ≡ got i t
-      → (ps : Pairs) × (u : List ℕ) × (i ≡ map ps) × (pairs (decode 7) a l ≡ got ps u)
+      → (ps : Pairs) × (u : List ℕ) × (i ≡ mapItem ps) × (pairs (decode 7) a l ≡ got ps u)
   unfolding majorOf
   the-map m n e =
-      let b : andThen (pairs (decode 7) a l) (λ ps u. got (map ps) u) ≡ got i t = rw n at e in
+      let b : andThen (pairs (decode 7) a l) (λ ps u. got (mapItem ps) u) ≡ got i t = rw n at e in
       let q = then-got (pairs (decode 7) a l) _ i t b in
       (q .0, q .1, sym (same-value (q .3)), q .2)
 

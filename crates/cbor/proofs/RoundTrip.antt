@@ -11,8 +11,9 @@ use borrow.Author.Tests.{le-ltb, lt-ltb, eq-eqb}
 use lib.ListN.{length, length-append}
 use lib.Seq.{take-append-seam, drop-append-seam, take-at, drop-at}
 use Rattle.byte_io.specs.BigEndian.{digits, bytesOf}
-use Rattle.cbor.specs.Item.{Size, half, single, double, Item, Items, Pairs, unsigned, negative, bytes, text, array, map, tag, simple}
-use Rattle.cbor.specs.Item.{float, none, more, empty, pair, count, countPairs, depth, depths, depthPairs, width, Fit, Fits, FitPairs}
+use Rattle.cbor.specs.Item.{Size, half, single, double, Item, Items, Pairs, unsigned, negative, bytes, text, array, mapItem}
+use Rattle.cbor.specs.Item.{tag, simple, float, noItems, more, empty, pair}
+use Rattle.cbor.specs.Item.{count, countPairs, depth, depths, depthPairs, width, Fit, Fits, FitPairs}
 use Rattle.cbor.specs.Decode.{Outcome, got, andThen, next, argument, heading, Heading}
 use Rattle.cbor.specs.Decode.{members, pairs, majorOf, content, decodeBy, payloadBy}
 use Rattle.cbor.specs.Strict.{isShort, strictHeading, headBy}
@@ -125,7 +126,7 @@ module _ (head : List ℕ → Outcome Heading) (read : Reads head) where
     read-item (array is) d r l f =
         rw append-assoc
         (decode-at d 4 (count is) (encodes is ++ r) (omega arith) (f .0) ∙ rw (read-items is (d - 1) r (omega arith) (f .1)))
-    read-item (map ps) d r l f =
+    read-item (mapItem ps) d r l f =
         rw append-assoc
         (decode-at d 5 (countPairs ps) (encodePairs ps ++ r) (omega arith) (f .0) ∙ rw (read-pairs ps (d - 1) r (omega arith) (f .1)))
     read-item (tag n i) d r l f =
@@ -137,7 +138,7 @@ module _ (head : List ℕ → Outcome Heading) (read : Reads head) where
 
     read-items : (is : Items) (d : ℕ) (r : List ℕ) → depths is ≤ d → Fits is
         → members (decodeBy head d) (count is) (encodes is ++ r) ≡ got is r
-    read-items none d r l f = refl
+    read-items noItems d r l f = refl
     read-items (more i is) d r l f =
         rw (
           append-assoc (encode i) (encodes is) r,

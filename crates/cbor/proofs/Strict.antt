@@ -11,7 +11,7 @@ use lib.ListN.{length, drop}
 use Rattle.refusal.specs.Refusal.{numberOf}
 use Rattle.refusal.specs.declared.Refusal.{Refusal}
 use Rattle.refusal.specs.declared.Refusal.the-variants.{Loose}
-use Rattle.cbor.specs.Item.{Item, more, pair, array, map, tag}
+use Rattle.cbor.specs.Item.{Item, more, pair, array, mapItem, tag}
 use Rattle.cbor.specs.Decode.{Outcome, refused, got, andThen, next, argument, heading, Heading, members, pairs, Major, unsigneds}
 use Rattle.cbor.specs.Decode.{negatives, byteStrings, textStrings, arrays, maps, tags, others}
 use Rattle.cbor.specs.Decode.{majorOf, content, decodeBy, decode, payload, payloadBy, ended}
@@ -97,7 +97,7 @@ module _ (item item′ : List ℕ → Outcome Item) (longer : List ℕ → Bool)
   content-loose byteStrings x a s = refl
   content-loose textStrings x a s = refl
   content-loose arrays x a s = rw (members-loose a s) (then-built (looseMembers item longer a s) (members item a s) array)
-  content-loose maps x a s = rw (pairs-loose a s) (then-built (loosePairs item longer a s) (pairs item a s) map)
+  content-loose maps x a s = rw (pairs-loose a s) (then-built (loosePairs item longer a s) (pairs item a s) mapItem)
   content-loose tags x a s = rw (same s) (then-built (longer s) (item s) (tag a))
   content-loose others x a s = refl
 

@@ -9,7 +9,7 @@ use Rattle.refusal.specs.declared.Refusal.{Refusal}
 use Rattle.refusal.specs.declared.Refusal.the-variants.{Cut, Form, Deep, Extra}
 use Rattle.byte_io.specs.BigEndian.{bigEndian}
 use Rattle.cbor.specs.Item.{half, single, double, Item, Items, Pairs, unsigned, negative, bytes}
-use Rattle.cbor.specs.Item.{text, array, map, tag, simple, float, none, more, empty, pair}
+use Rattle.cbor.specs.Item.{text, array, mapItem, tag, simple, float, noItems, more, empty, pair}
 
 -- reading from the front of some bytes: a refusal, or a value and the bytes after it
 pub data Outcome (A : Type 0) : Type 0 where
@@ -59,7 +59,7 @@ majorOf (suc (suc (suc (suc (suc (suc (suc m))))))) = others
 
 -- n items one after the other, and n pairs; `item` reads one
 unfoldable pub members : (List ℕ → Outcome Item) → ℕ → List ℕ → Outcome Items
-members item zero s = got none s
+members item zero s = got noItems s
 members item (suc n) s = andThen (item s) (λ i t. andThen (members item n t) (λ is u. got (more i is) u))
 
 unfoldable pub pairs : (List ℕ → Outcome Item) → ℕ → List ℕ → Outcome Pairs
@@ -79,7 +79,7 @@ content item negatives info n s = got (negative n) s
 content item byteStrings info n s = andThen (next n s) (λ bs t. got (bytes bs) t)
 content item textStrings info n s = andThen (next n s) (λ bs t. got (text bs) t)
 content item arrays info n s = andThen (members item n s) (λ is t. got (array is) t)
-content item maps info n s = andThen (pairs item n s) (λ ps t. got (map ps) t)
+content item maps info n s = andThen (pairs item n s) (λ ps t. got (mapItem ps) t)
 content item tags info n s = andThen (item s) (λ i t. got (tag n i) t)
 content item others info n s = got (special info n) s
 

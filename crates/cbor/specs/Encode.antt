@@ -6,7 +6,7 @@ use lib.ListN.{length}
 use lib.Dec.{ltb}
 use Rattle.byte_io.specs.BigEndian.{bytesOf}
 use Rattle.cbor.specs.Item.{Size, half, single, double, Item, Items, Pairs, unsigned, negative, bytes, text}
-use Rattle.cbor.specs.Item.{array, map, tag, simple, float, none, more, empty, pair, count, countPairs, width}
+use Rattle.cbor.specs.Item.{array, mapItem, tag, simple, float, noItems, more, empty, pair, count, countPairs, width}
 
 -- the head of a major type with this length information and k bytes for the argument
 abbrev pub headWith : ℕ → ℕ → ℕ → ℕ → List ℕ
@@ -35,13 +35,13 @@ abbrev mutual
   encode (bytes s) = shortest 2 (length s) ++ s
   encode (text s) = shortest 3 (length s) ++ s
   encode (array is) = shortest 4 (count is) ++ encodes is
-  encode (map ps) = shortest 5 (countPairs ps) ++ encodePairs ps
+  encode (mapItem ps) = shortest 5 (countPairs ps) ++ encodePairs ps
   encode (tag n i) = shortest 6 n ++ encode i
   encode (simple n) = shortest 7 n
   encode (float w n) = headWith 7 (sizeInfo w) (width w) n
 
   pub encodes : Items → List ℕ
-  encodes none = []
+  encodes noItems = []
   encodes (more i is) = encode i ++ encodes is
 
   pub encodePairs : Pairs → List ℕ

@@ -15,13 +15,13 @@ mutual
     bytes : List ℕ → Item
     text : List ℕ → Item
     array : Items → Item
-    map : Pairs → Item
+    mapItem : Pairs → Item
     tag : ℕ → Item → Item
     simple : ℕ → Item
     float : Size → ℕ → Item
 
   pub data Items : Type 0 where
-    none : Items
+    noItems : Items
     more : Item → Items → Items
 
   pub data Pairs : Type 0 where
@@ -30,7 +30,7 @@ mutual
 
 -- how many items, how many pairs
 abbrev pub count : Items → ℕ
-count none = 0
+count noItems = 0
 count (more i is) = suc (count is)
 
 abbrev pub countPairs : Pairs → ℕ
@@ -45,13 +45,13 @@ abbrev mutual
   depth (bytes s) = 1
   depth (text s) = 1
   depth (array is) = suc (depths is)
-  depth (map ps) = suc (depthPairs ps)
+  depth (mapItem ps) = suc (depthPairs ps)
   depth (tag n i) = suc (depth i)
   depth (simple n) = 1
   depth (float w n) = 1
 
   pub depths : Items → ℕ
-  depths none = 0
+  depths noItems = 0
   depths (more i is) = max (depth i) (depths is)
 
   pub depthPairs : Pairs → ℕ
@@ -72,13 +72,13 @@ abbrev mutual
   Fit (bytes s) = length s < 2 ^ 64
   Fit (text s) = length s < 2 ^ 64
   Fit (array is) = (count is < 2 ^ 64) × Fits is
-  Fit (map ps) = (countPairs ps < 2 ^ 64) × FitPairs ps
+  Fit (mapItem ps) = (countPairs ps < 2 ^ 64) × FitPairs ps
   Fit (tag n i) = (n < 2 ^ 64) × Fit i
   Fit (simple n) = n < 256
   Fit (float w n) = n < 256 ^ width w
 
   pub Fits : Items → Type 0
-  Fits none = Unit {0}
+  Fits noItems = Unit {0}
   Fits (more i is) = Fit i × Fits is
 
   pub FitPairs : Pairs → Type 0

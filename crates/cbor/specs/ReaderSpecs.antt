@@ -6,7 +6,7 @@ use mathlib.Core.List.{List, []}
 use lib.ListN.{length, drop}
 use Rattle.cbor.specs.Answer.{headAnswer, skipAnswer, openAnswer, outcomeNumber, headNumber, skipNumber, openedNumber}
 use Rattle.cbor.specs.Decode.{Outcome, refused, got, heading, payloadBy}
-use Rattle.cbor.specs.Item.{Item, Pairs, map, empty, pair}
+use Rattle.cbor.specs.Item.{Item, Pairs, mapItem, empty, pair}
 use Rattle.cbor.specs.Strict.{headBy}
 use Rattle.cbor.specs.View.{labelOf, viewOf, ifMap, labelAt, viewAt, restOf, afterItem}
 use Rattle.cbor.specs.declared.head.Head.{Head}
@@ -54,7 +54,7 @@ PairsAt n l (pair k v ps) =
 
 pub record MapSpec (b : Bool) (s : List ℕ) (n p : ℕ) : Type 0 where
   pub pairs-are : Pairs
-  pub read : payloadBy (headBy b) s ≡ got (map pairs-are) []
+  pub read : payloadBy (headBy b) s ≡ got (mapItem pairs-are) []
   pub stand : PairsAt n (drop p s) pairs-are
 
 pub record OtherSpec (b : Bool) (s : List ℕ) : Type 0 where

@@ -6,7 +6,7 @@ use mathlib.Core.Path.{_≡_}
 use mathlib.Core.List.{List, [], _∷_}
 use lib.Dec.{leb}
 use lib.ListN.{length, take, drop}
-use Rattle.cbor.specs.Item.{Item, Items, Pairs, unsigned, negative, bytes, text, array, map, tag, simple, float, none, more}
+use Rattle.cbor.specs.Item.{Item, Items, Pairs, unsigned, negative, bytes, text, array, mapItem, tag, simple, float, noItems, more}
 use Rattle.cbor.specs.Decode.{Outcome, refused, got, Heading, Major, unsigneds, negatives, byteStrings}
 use Rattle.cbor.specs.Decode.{textStrings, arrays, maps, tags, others, majorOf, next, heading, decode}
 use Rattle.cbor.specs.declared.value.Label.{Label}
@@ -41,13 +41,13 @@ scalarOf (negative n) = minus n
 scalarOf (bytes s) = string s
 scalarOf (text s) = other
 scalarOf (array is) = other
-scalarOf (map ps) = other
+scalarOf (mapItem ps) = other
 scalarOf (tag n i) = other
 scalarOf (simple n) = other
 scalarOf (float w n) = other
 
 abbrev pub scalarsOf : Items → List Scalar
-scalarsOf none = []
+scalarsOf noItems = []
 scalarsOf (more i is) = scalarOf i ∷ scalarsOf is
 
 abbrev pub viewOf : Item → View
@@ -56,7 +56,7 @@ viewOf (negative n) = scalar (minus n)
 viewOf (bytes s) = scalar (string s)
 viewOf (text s) = scalar other
 viewOf (array is) = list (scalarsOf is)
-viewOf (map ps) = scalar other
+viewOf (mapItem ps) = scalar other
 viewOf (tag n i) = scalar other
 viewOf (simple n) = scalar other
 viewOf (float w n) = scalar other
@@ -68,7 +68,7 @@ labelOf (negative n) = lv.Negative
 labelOf (bytes s) = lv.NoInteger
 labelOf (text s) = lv.NoInteger
 labelOf (array is) = lv.NoInteger
-labelOf (map ps) = lv.NoInteger
+labelOf (mapItem ps) = lv.NoInteger
 labelOf (tag n i) = lv.NoInteger
 labelOf (simple n) = lv.NoInteger
 labelOf (float w n) = lv.NoInteger
@@ -80,7 +80,7 @@ ifMap f x (negative n) = x
 ifMap f x (bytes s) = x
 ifMap f x (text s) = x
 ifMap f x (array is) = x
-ifMap f x (map ps) = f ps
+ifMap f x (mapItem ps) = f ps
 ifMap f x (tag n i) = x
 ifMap f x (simple n) = x
 ifMap f x (float w n) = x

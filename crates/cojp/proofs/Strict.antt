@@ -10,7 +10,7 @@ use Rattle.refusal.specs.Refusal.{numberOf}
 use Rattle.refusal.specs.declared.Refusal.{Refusal}
 use Rattle.refusal.specs.declared.Refusal.the-variants.{«Type», Twice, Keys, Role, Owed, Long, Loose}
 use Rattle.refusal.specs.declared.Verdict.the-variants as verdict
-use Rattle.cbor.specs.Item.{Item, Pairs, unsigned, negative, bytes, text, array, map, tag, simple, float, empty, pair}
+use Rattle.cbor.specs.Item.{Item, Pairs, unsigned, negative, bytes, text, array, mapItem, tag, simple, float, empty, pair}
 use Rattle.cbor.specs.Decode.{Outcome, payload}
 use Rattle.cbor.specs.Decode as decode
 use Rattle.cbor.specs.Laws.{ItemLaws}
@@ -101,7 +101,7 @@ module _ {S : Type 0} (F : Form S) (taking : (s : S) (n : ℕ) (v : View) → Fi
       firm-onward (pairRead F s (labelOf k) (viewOf v)) (λ t. pairsRead F t ps) (pair-firm s (labelOf k) (viewOf v)) (λ t. pairs-firm ps t)
 
   map-firm : (i : Item) (s : S) → Firm (mapRead F s i)
-  map-firm (map ps) s = pairs-firm ps s
+  map-firm (mapItem ps) s = pairs-firm ps s
   map-firm (unsigned n) s = another «Type» (omega arith)
   map-firm (negative n) s = another «Type» (omega arith)
   map-firm (bytes b) s = another «Type» (omega arith)

@@ -9,7 +9,7 @@ use lib.ListN.{length}
 use Rattle.refusal.specs.declared.Refusal.the-variants as refusal
 use Rattle.cbor.specs.Decode.{Outcome, Heading, payloadBy}
 use Rattle.cbor.specs.Decode as decode
-use Rattle.cbor.specs.Item.{Item, Pairs, unsigned, negative, bytes, text, array, map, tag, simple, float, empty, pair}
+use Rattle.cbor.specs.Item.{Item, Pairs, unsigned, negative, bytes, text, array, mapItem, tag, simple, float, empty, pair}
 use Rattle.cbor.specs.View.{View, labelOf, viewOf}
 use Rattle.cbor.specs.declared.value.Label.{Label}
 use Rattle.cbor.specs.declared.value.Label.the-variants as label
@@ -46,7 +46,7 @@ module _ {S : Type 0} (F : Form S) (P : S → Type 0) (passing : (s : S) → P s
       (λ t g. pairs-give t g ps)
 
   map-gives : (s : S) → P s → (i : Item) → Gives P (mapRead F s i)
-  map-gives s h (map ps) = pairs-give s h ps
+  map-gives s h (mapItem ps) = pairs-give s h ps
   map-gives s h (unsigned n) = tt
   map-gives s h (negative n) = tt
   map-gives s h (bytes b) = tt

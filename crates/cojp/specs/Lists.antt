@@ -7,7 +7,7 @@ use lib.Dec.{leb, eqb}
 use lib.ListN.{length, take, replicate}
 use Rattle.refusal.specs.declared.Refusal.the-variants.{Range}
 use Rattle.byte_io.specs.Write.{Plan, emit, refuse}
-use Rattle.cbor.specs.Item.{Item, Items, unsigned, negative, bytes, simple, none, more}
+use Rattle.cbor.specs.Item.{Item, Items, unsigned, negative, bytes, simple, noItems, more}
 use Rattle.cbor.specs.Encode.{encodes, shortest}
 use Rattle.cbor.specs.View.{Scalar, number, minus, string, other, View, scalar, list}
 use Rattle.lemmas.specs.lists.Same.{same}
@@ -27,7 +27,7 @@ scalarItem (string s) = bytes s
 scalarItem other = simple 22
 
 abbrev pub itemsOf : List Scalar → Items
-itemsOf [] = none
+itemsOf [] = noItems
 itemsOf (p ∷ ps) = more (scalarItem p) (itemsOf ps)
 
 abbrev pub written : List Scalar → List ℕ
@@ -69,9 +69,9 @@ errorReportsIn (p ∷ q ∷ []) = nothing
 errorReportsIn (p ∷ q ∷ x ∷ r) = cond (isInteger p && isInteger q) (before (p ∷ q ∷ other ∷ []) (errorReportsIn r)) nothing
 
 -- at least one member
-abbrev pub some : (List Scalar → Picked) → List Scalar → Picked
-some f [] = nothing
-some f (p ∷ ps) = f (p ∷ ps)
+abbrev pub atLeastOne : (List Scalar → Picked) → List Scalar → Picked
+atLeastOne f [] = nothing
+atLeastOne f (p ∷ ps) = f (p ∷ ps)
 
 -- an array of them
 abbrev pub inArray : (List Scalar → Picked) → View → Picked
@@ -110,7 +110,7 @@ blacklistTaken v = listTaken (listAnswer (fitting 253 (inArray stringsIn v)))
 
 -- label 8 of a request
 abbrev pub unsupportedTaken : View → ListParameter
-unsupportedTaken v = listTaken (listAnswer (fitting 253 (inArray (some errorReportsIn) v)))
+unsupportedTaken v = listTaken (listAnswer (fitting 253 (inArray (atLeastOne errorReportsIn) v)))
 
 -- ---- a list that is handed in: it is in its limits if reading it again gives it
 abbrev pub bytesIn : ItemList → List ℕ
@@ -124,7 +124,7 @@ kept f l = (leb (l .len) 253 && sameAs (listAnswer (fitting 253 (f (membersAt (l
 
 -- ---- the array that is written of a list
 abbrev pub pickedItems : Picked → Items
-pickedItems nothing = none
+pickedItems nothing = noItems
 pickedItems (picked ps) = itemsOf ps
 
 abbrev pub itemsIn : (List Scalar → Picked) → ItemList → Items

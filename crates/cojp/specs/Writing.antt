@@ -9,7 +9,7 @@ use lib.ListN.{length}
 use Rattle.refusal.specs.declared.Refusal.the-variants.{Range, Owed}
 use Rattle.byte_io.specs.Write.{Plan, refuse, emit}
 use Rattle.cbor.specs.Encode.{encode}
-use Rattle.cbor.specs.Item.{Item, Items, Pairs, unsigned, bytes, array, map, none, more, empty, pair}
+use Rattle.cbor.specs.Item.{Item, Items, Pairs, unsigned, bytes, array, mapItem, noItems, more, empty, pair}
 use Rattle.cbor.specs.View.{Scalar}
 use Rattle.link_key.specs.AdditionalInfo.{additionalInfoBytes}
 use Rattle.link_key.specs.set.KeySet.{keysOf, validSet, noAdditionalInfos}
@@ -17,7 +17,7 @@ use Rattle.link_key.specs.declared.Key.{Key}
 use Rattle.link_key.specs.declared.additional_info.AdditionalInfo.{AdditionalInfo}
 use Rattle.link_key.specs.declared.additional_info.AdditionalInfo.the-variants as info
 use Rattle.cojp.specs.Reading.{ifTaken}
-use Rattle.cojp.specs.Lists.{Picked, stringsIn, errorReportsIn, some, itemsIn, kept}
+use Rattle.cojp.specs.Lists.{Picked, stringsIn, errorReportsIn, atLeastOne, itemsIn, kept}
 use Rattle.cojp.specs.Octets.{bytesIn}
 use Rattle.short_address.specs.Address.{isAddress}
 use Rattle.cojp.specs.Request.{owing}
@@ -38,7 +38,7 @@ join empty qs = qs
 join (pair k v ps) qs = pair k v (join ps qs)
 
 abbrev pub chain : Items → Items → Items
-chain none js = js
+chain noItems js = js
 chain (more i is) js = more i (chain is js)
 
 abbrev pub labelled : ℕ → Item → Pairs
@@ -52,8 +52,8 @@ abbrev pub octetsPairs : ℕ → OctetsParameter → Pairs
 octetsPairs n p = ifTaken (p .disposition) (labelled n (bytes (bytesIn (p .value)))) empty
 
 abbrev pub leaseItems : Bool → ℕ → Items
-leaseItems true lease = more (unsigned lease) none
-leaseItems false lease = none
+leaseItems true lease = more (unsigned lease) noItems
+leaseItems false lease = noItems
 
 abbrev pub addressPairs : AddressParameter → Pairs
 addressPairs p =
@@ -62,19 +62,19 @@ addressPairs p =
     empty
 
 abbrev pub usageItems : ℕ → Items
-usageItems usage = cond (eqb usage 0) none (more (unsigned usage) none)
+usageItems usage = cond (eqb usage 0) noItems (more (unsigned usage) noItems)
 
 -- additional information is a second byte string
 abbrev pub additionalInfoItems : AdditionalInfo → Items
-additionalInfoItems info.Absent = none
-additionalInfoItems (info.Four a b c d) = more (bytes (additionalInfoBytes (info.Four a b c d))) none
-additionalInfoItems (info.Eight a b c d e f g h) = more (bytes (additionalInfoBytes (info.Eight a b c d e f g h))) none
+additionalInfoItems info.Absent = noItems
+additionalInfoItems (info.Four a b c d) = more (bytes (additionalInfoBytes (info.Four a b c d))) noItems
+additionalInfoItems (info.Eight a b c d e f g h) = more (bytes (additionalInfoBytes (info.Eight a b c d e f g h))) noItems
 
 abbrev pub groupItems : Key → Items
 groupItems k = chain (more (unsigned (k .identifier)) (usageItems (k .usage))) (more (bytes (k .value)) (additionalInfoItems (k .info)))
 
 abbrev pub groupsItems : List Key → Items
-groupsItems [] = none
+groupsItems [] = noItems
 groupsItems (k ∷ ks) = chain (groupItems k) (groupsItems ks)
 
 abbrev pub keysPairs : KeysParameter → Pairs
@@ -117,13 +117,13 @@ fits s = cond (leb (length s) 256) (emit s) (refuse Range)
 
 -- ---- the join request
 abbrev pub requestPairs : JoinRequest → Pairs
-requestPairs q = join (join (rolePairs (q .role)) (octetsPairs 5 (q .network))) (listPairs 8 (some errorReportsIn) (q .unsupported))
+requestPairs q = join (join (rolePairs (q .role)) (octetsPairs 5 (q .network))) (listPairs 8 (atLeastOne errorReportsIn) (q .unsupported))
 
 unfoldable pub requestInRange : Version → JoinRequest → Bool
 requestInRange v q =
     (leb (q .role) 1
     && octetsInRange (q .network)
-    && byVersion v (missing (q .unsupported .disposition)) (listInRange (some errorReportsIn) (q .unsupported)))
+    && byVersion v (missing (q .unsupported .disposition)) (listInRange (atLeastOne errorReportsIn) (q .unsupported)))
 
 -- RANGE, also where the payload would have more than 256 bytes, OWED, then the bytes, for which there may be no ROOM
 abbrev pub owingPlan : Bool → Plan → Plan
@@ -134,7 +134,7 @@ unfoldable pub requestPlan : Version → JoinRequest → Plan
 requestPlan v q =
     cond (not (requestInRange v q))
     (refuse Range)
-    (owingPlan (owing v (q .role) (q .network .disposition)) (fits (encode (map (requestPairs q)))))
+    (owingPlan (owing v (q .role) (q .network .disposition)) (fits (encode (mapItem (requestPairs q)))))
 
 -- ---- the configuration
 abbrev pub configurationPairs : Configuration → Pairs
@@ -165,4 +165,4 @@ configurationInRange v c =
 
 -- RANGE, also where the payload would have more than 256 bytes, then the bytes, for which there may be no ROOM
 unfoldable pub configurationPlan : Version → Configuration → Plan
-configurationPlan v c = cond (not (configurationInRange v c)) (refuse Range) (fits (encode (map (configurationPairs c))))
+configurationPlan v c = cond (not (configurationInRange v c)) (refuse Range) (fits (encode (mapItem (configurationPairs c))))

@@ -10,7 +10,7 @@ use borrow.Author.Tests.{not-false}
 use Rattle.refusal.specs.declared.Refusal.the-variants.{Range}
 use Rattle.cbor.specs.Encode.{encode}
 use Rattle.cbor.specs.HeadLaws.{HeadLaws}
-use Rattle.cbor.specs.Item.{unsigned, bytes, array, map}
+use Rattle.cbor.specs.Item.{unsigned, bytes, array, mapItem}
 use Rattle.cbor.specs.Laws.{ItemLaws}
 use Rattle.cbor.specs.Strict.{headBy}
 use Rattle.cbor.specs.View.{View, viewOf}
@@ -248,9 +248,9 @@ same-back lists v c o met r e =
     })
 
 module _ (heads : HeadLaws) (items : ItemLaws) (lists : ListLaws) (keys : KeyLaws) (c : Configuration) (typed : TypedConfiguration c) where
-  whole-read : (v : Version) (b : Bool) → Judged v c → length (encode (map (configurationPairs c))) ≤ 256 → (met : ErrorReports)
+  whole-read : (v : Version) (b : Bool) → Judged v c → length (encode (mapItem (configurationPairs c))) ≤ 256 → (met : ErrorReports)
       → pairsRead (configurationForm v) emptyConfiguration (configurationPairs c) ≡ read (read-back c met)
-      → readConfigurationBy v (headBy b) (encode (map (configurationPairs c))) ≡ acceptConfiguration (read-back c met)
+      → readConfigurationBy v (headBy b) (encode (mapItem (configurationPairs c))) ≡ acceptConfiguration (read-back c met)
   whole-read v b within n met all =
       let f = fine-configuration heads items lists keys c typed v within in
       rw (payload-read (configurationForm v) items b (configurationPairs c) emptyConfiguration f (omega arith) n, all)
@@ -258,7 +258,7 @@ module _ (heads : HeadLaws) (items : ItemLaws) (lists : ListLaws) (keys : KeyLaw
   pub configuration-round-trip : ConfigurationRoundTrip c
   unfolding configurationPlan
   configuration-round-trip v p e b =
-      let s = encode (map (configurationPairs c)) in
+      let s = encode (mapItem (configurationPairs c)) in
       let (a, x) = emits (not (configurationInRange v c)) Range (fits s) p e in
       let (n, y) = fitted s p x in
       let within = configuration-fits v c (not-false (configurationInRange v c) a) in

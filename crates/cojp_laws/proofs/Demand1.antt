@@ -13,7 +13,7 @@ use Rattle.refusal.specs.declared.Refusal.{Refusal}
 use Rattle.refusal.specs.declared.Refusal.the-variants.{Room, Range}
 use Rattle.byte_io.specs.Write.{Plan, refuse, emit, answer, writtenSays}
 use Rattle.cbor.specs.Encode.{shortest, encode, encodePairs}
-use Rattle.cbor.specs.Item.{map}
+use Rattle.cbor.specs.Item.{mapItem}
 use Rattle.byte_io.specs.declared.WriteResult.the-variants.{Refused, Length}
 use Rattle.cojp.specs.Reading.{ifTaken}
 use Rattle.cojp.specs.Request.{owing}
@@ -97,8 +97,8 @@ writers-demand1 = record {
   head-number = λ major n d. range-room (shortest major n) d (ltb 7 major);
   string-number = λ label p d. in-range-room (encodePairs (octetsPairs label p)) d (stringInRange label p);
   list-number = list-said;
-  request-number = λ v q d. let p = encode (map (requestPairs q)) in
+  request-number = λ v q d. let p = encode (mapItem (requestPairs q)) in
       owed-room p d (not (requestInRange v q)) (tooLong p) (owing v (q .role) (q .network .disposition)) refl;
-  configuration-number = λ v c d. let p = encode (map (configurationPairs c)) in
+  configuration-number = λ v c d. let p = encode (mapItem (configurationPairs c)) in
       long-room p d (not (configurationInRange v c)) (tooLong p) refl;
 }

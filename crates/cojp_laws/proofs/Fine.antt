@@ -9,7 +9,7 @@ use lib.Dec.{leb, eqb}
 use lib.ListN.{length, length-append, length-take}
 use Rattle.cbor.specs.Encode.{extraOf, shortest, encode, encodes, encodePairs}
 use Rattle.cbor.specs.HeadLaws.{HeadLaws}
-use Rattle.cbor.specs.Item.{Item, Items, Pairs, unsigned, bytes, array, none, more}
+use Rattle.cbor.specs.Item.{Item, Items, Pairs, unsigned, bytes, array, noItems, more}
 use Rattle.cbor.specs.Item.{empty, pair, count, countPairs, depth, depths, depthPairs}
 use Rattle.cbor.specs.Item.{Fit, Fits, FitPairs}
 use Rattle.link_key.specs.AdditionalInfo.{additionalInfoBytes}
@@ -68,11 +68,11 @@ fine-join {a} {b} f g = record {
 }
 
 fit-chain : (a b : Items) → Fits a → Fits b → Fits (chain a b)
-fit-chain none b f g = g
+fit-chain noItems b f g = g
 fit-chain (more i a) b f g = (f .0, fit-chain a b (f .1) g)
 
 level-chain : (a b : Items) → depths a ≤ 1 → depths b ≤ 1 → depths (chain a b) ≤ 1
-level-chain none b f g = g
+level-chain noItems b f g = g
 level-chain (more i a) b f g = omega (arith, level-chain a b (omega arith) g)
 
 fine-chain : {a b : Items} {k l m n : ℕ} → FineItems a k m → FineItems b l n → FineItems (chain a b) (k + l) (m + n)
@@ -97,11 +97,11 @@ eight-most true n h = omega arith
 eight-most false n h = omega arith
 
 -- ---- single values
-fine-item : (i : Item) (m : ℕ) → length (encode i) ≤ m → depth i ≤ 1 → Fit i → FineItems (more i none) 1 m
+fine-item : (i : Item) (m : ℕ) → length (encode i) ≤ m → depth i ≤ 1 → Fit i → FineItems (more i noItems) 1 m
 fine-item i m h l f =
     record { few = omega arith; small = omega (arith, ap length (append-nil (encode i))); level = omega arith; fit = (f, tt) }
 
-fine-missing : (m : ℕ) → FineItems none 1 m
+fine-missing : (m : ℕ) → FineItems noItems 1 m
 fine-missing m = record { few = omega arith; small = omega arith; level = omega arith; fit = tt }
 
 -- a parameter that may not be taken
@@ -180,7 +180,7 @@ module _ (heads : HeadLaws) where
   fine-usage : (u : ℕ) → u ≤ 14 → FineItems (usageItems u) 1 1
   fine-usage u h = go (eqb u 0)
     where
-      go : (b : Bool) → FineItems (cond b none (more (unsigned u) none)) 1 1
+      go : (b : Bool) → FineItems (cond b noItems (more (unsigned u) noItems)) 1 1
       go true = fine-missing 1
       go false = fine-item (unsigned u) 1 (omega (arith, heads .short-head 0 u (omega arith))) (omega arith) (omega arith)
 

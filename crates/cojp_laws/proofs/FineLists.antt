@@ -15,7 +15,7 @@ use Rattle.cbor.specs.Item.{Item, array, count, depths, Fit, Fits}
 use Rattle.cbor.specs.Laws.{ItemLaws, Bytes, Suffix}
 use Rattle.cbor.specs.View.{Scalar, number, minus, string, other, scalarAt, andOn, scalarsAt}
 use Rattle.cojp.specs.Lists.{Picked, nothing, picked, before, scalarItem, itemsOf, stringsIn, errorReportsIn}
-use Rattle.cojp.specs.Lists.{some, isInteger, bytesIn, listAnswer, fitting, sameAs, kept, pickedItems, itemsIn}
+use Rattle.cojp.specs.Lists.{atLeastOne, isInteger, bytesIn, listAnswer, fitting, sameAs, kept, pickedItems, itemsIn}
 use Rattle.cojp.specs.Bytes.{membersAt}
 use Rattle.protocol_version.specs.Version.{byVersion}
 use Rattle.cojp.specs.ListLemmas.{scalar-fit}
@@ -79,7 +79,7 @@ faults-fit (p ∷ q ∷ x ∷ r) h = go (faults-fit r (h .1 .1 .1)) (isInteger p
     go k true = three-fit p q (errorReportsIn r) (h .0) (h .1 .0) k
     go k false = tt
 
-pub some-fit : Keeps (some errorReportsIn)
+pub some-fit : Keeps (atLeastOne errorReportsIn)
 some-fit [] h = tt
 some-fit (p ∷ ms) h = faults-fit (p ∷ ms) h
 

@@ -12,7 +12,7 @@ use Rattle.link_key.specs.declared.Key.{Key}
 use Rattle.link_key.specs.declared.additional_info.AdditionalInfo.{AdditionalInfo}
 use Rattle.link_key.specs.declared.additional_info.AdditionalInfo.the-variants as info
 use Rattle.cbor.specs.View.{Scalar}
-use Rattle.cojp.specs.Lists.{Picked, stringsIn, errorReportsIn, some, kept}
+use Rattle.cojp.specs.Lists.{Picked, stringsIn, errorReportsIn, atLeastOne, kept}
 use Rattle.protocol_version.specs.Version.{byVersion, allowsAdditionalInfo}
 use Rattle.cojp.specs.Writing.{octetsInRange, listInRange, keysWithoutAdditionalInfo, missing, ofVersion, requestInRange}
 use Rattle.cojp.specs.declared.configuration.Configuration.{Configuration}
@@ -58,13 +58,13 @@ of-form Published c h =
 
 -- reports in a join request, in range
 abbrev pub ReportsOf : Version → ListParameter → Type 0
-ReportsOf v p = byVersion v (missing (p .disposition)) (listInRange (some errorReportsIn) p) ≡ true
+ReportsOf v p = byVersion v (missing (p .disposition)) (listInRange (atLeastOne errorReportsIn) p) ≡ true
 
 pub reports-of : (v : Version) (q : JoinRequest) → requestInRange v q ≡ true → ReportsOf v (q .unsupported)
 unfolding requestInRange
 reports-of v q h =
     both-right (leb (q .role) 1 && octetsInRange (q .network))
-    (byVersion v (missing (q .unsupported .disposition)) (listInRange (some errorReportsIn) (q .unsupported))) h
+    (byVersion v (missing (q .unsupported .disposition)) (listInRange (atLeastOne errorReportsIn) (q .unsupported))) h
 
 -- the draft's keys have no additional information
 pub keys-fitting : KeyLaws → (v : Version) (p : KeysParameter) → byVersion v (keysWithoutAdditionalInfo p) true ≡ true

@@ -10,7 +10,7 @@ use lib.Dec.{eqb}
 use lib.ListN.{length, length-take}
 use lib.Seq.{take-append-seam, length-take-le}
 use Rattle.cbor.specs.Encode.{encode}
-use Rattle.cbor.specs.Item.{Item, Items, Pairs, bytes, array, map, more, empty, pair}
+use Rattle.cbor.specs.Item.{Item, Items, Pairs, bytes, array, mapItem, more, empty, pair}
 use Rattle.cbor.specs.View.{Scalar, string, scalar, labelOf, viewOf, scalarsOf}
 use Rattle.cbor.specs.declared.value.Label.the-variants as label
 use Rattle.cbor.specs.Laws.{ItemLaws}
@@ -72,13 +72,13 @@ module _ {S : Type 0} (F : Form S) where
   parameter-read s n Discarded v set back left moved held e g = ap read e
 
   -- the payload
-  pub payload-read : ItemLaws → (b : Bool) (ps : Pairs) (s : S) {k m : ℕ} → Fine ps k m → k ≤ 23 → length (encode (map ps)) ≤ 256
-      → payloadReadBy F (headBy b) s (encode (map ps)) ≡ pairsRead F s ps
+  pub payload-read : ItemLaws → (b : Bool) (ps : Pairs) (s : S) {k m : ℕ} → Fine ps k m → k ≤ 23 → length (encode (mapItem ps)) ≤ 256
+      → payloadReadBy F (headBy b) s (encode (mapItem ps)) ≡ pairsRead F s ps
   unfolding payloadReadBy
   payload-read laws b ps s f h n =
       rw (
-        le-ltb 256 (length (encode (map ps))) n,
-        laws .payload-round-trip b (map ps) (omega (arith, f .level)) (omega (arith, f .few), f .fit),
+        le-ltb 256 (length (encode (mapItem ps))) n,
+        laws .payload-round-trip b (mapItem ps) (omega (arith, f .level)) (omega (arith, f .few), f .fit),
       )
 
 -- what is good is taken in both forms

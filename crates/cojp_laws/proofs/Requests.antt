@@ -8,13 +8,13 @@ use borrow.Author.Tests.{not-false}
 use Rattle.refusal.specs.declared.Refusal.the-variants.{Range}
 use Rattle.cbor.specs.Encode.{encode}
 use Rattle.cbor.specs.HeadLaws.{HeadLaws}
-use Rattle.cbor.specs.Item.{bytes, array, map}
+use Rattle.cbor.specs.Item.{bytes, array, mapItem}
 use Rattle.cbor.specs.Laws.{ItemLaws, Bytes}
 use Rattle.cbor.specs.Strict.{headBy}
 use Rattle.cbor.specs.View.{View, viewOf}
 use Rattle.cbor.specs.declared.value.Label.the-variants as label
 use Rattle.cojp.specs.ErrorReports.{noErrorReports}
-use Rattle.cojp.specs.Lists.{errorReportsIn, some, noListParameter, unsupportedTaken, itemsIn}
+use Rattle.cojp.specs.Lists.{errorReportsIn, atLeastOne, noListParameter, unsupportedTaken, itemsIn}
 use Rattle.cojp.specs.Octets.{bytesIn, noOctetsParameter, octetsRead}
 use Rattle.cojp.specs.Reading.{read, ifTaken}
 use Rattle.cojp.specs.Request.{roleJudged, requestState, emptyRequestState, withNetwork, withUnsupported}
@@ -71,7 +71,7 @@ unsupported-step Published g x p d a e t = rw (a, e, t)
 
 module _ (lists : ListLaws) (v : Version) (q : JoinRequest) (f : RequestFits q) (u : ReportsOf v (q .unsupported)) where
   abbrev back : JoinRequest
-  back = requested (q .role) (octetsBack (q .network)) (listBack (some errorReportsIn) (q .unsupported))
+  back = requested (q .role) (octetsBack (q .network)) (listBack (atLeastOne errorReportsIn) (q .unsupported))
 
   request-read : pairsRead (requestForm v) emptyRequestState (requestPairs q) ≡ read (requestState (seen (q .role)) back)
   request-read =
@@ -87,14 +87,14 @@ module _ (lists : ListLaws) (v : Version) (q : JoinRequest) (f : RequestFits q) 
       (octetsGood o) none tt tt refl
       (λ e. network-step v (state none no-list) (viewOf (bytes (bytesIn (o .value)))) (octetsGood o) refl (octets-back o (f .network) e)) in
       let e2 =
-      parameter-read F (state n no-list) 8 (l .disposition) (array (itemsIn (some errorReportsIn) (l .value)))
-      (λ p (u : Unit {0}). state n p) (listGood (some errorReportsIn) l) no-list tt tt refl
+      parameter-read F (state n no-list) 8 (l .disposition) (array (itemsIn (atLeastOne errorReportsIn) (l .value)))
+      (λ p (u : Unit {0}). state n p) (listGood (atLeastOne errorReportsIn) l) no-list tt tt refl
       (λ e.
-      let (p, k) = list-kept v (some errorReportsIn) l u e in
-      unsupported-step v (state n no-list) (viewOf (array (itemsIn (some errorReportsIn) (l .value))))
-      (listGood (some errorReportsIn) l) p refl
-      (list-back (some errorReportsIn) (lists .unsupported-back) l (λ t. k) e) refl) in
-      then F (join (rolePairs (q .role)) (octetsPairs 5 o)) (listPairs 8 (some errorReportsIn) l) emptyRequestState (state n no-list)
+      let (p, k) = list-kept v (atLeastOne errorReportsIn) l u e in
+      unsupported-step v (state n no-list) (viewOf (array (itemsIn (atLeastOne errorReportsIn) (l .value))))
+      (listGood (atLeastOne errorReportsIn) l) p refl
+      (list-back (atLeastOne errorReportsIn) (lists .unsupported-back) l (λ t. k) e) refl) in
+      then F (join (rolePairs (q .role)) (octetsPairs 5 o)) (listPairs 8 (atLeastOne errorReportsIn) l) emptyRequestState (state n no-list)
       (requestState (seen (q .role)) back)
       (then F (rolePairs (q .role)) (octetsPairs 5 o) emptyRequestState (state none no-list) (state n no-list)
       (role-read v (q .role) (f .role)) e1)
@@ -111,7 +111,7 @@ owing-back v role Discarded p e = refl
 pub request-round-trip : ItemLaws → HeadLaws → ListLaws → (q : JoinRequest) → Bytes (q .unsupported .value .bytes) → RequestRoundTrip q
 unfolding requestPlan
 request-round-trip items heads lists q list v p e b =
-    let s = encode (map (requestPairs q)) in
+    let s = encode (mapItem (requestPairs q)) in
     let owes = owing v (q .role) (q .network .disposition) in
     let (a, f) = emits (not (requestInRange v q)) Range (owingPlan owes (fits s)) p e in
     let (o, x) = owed-none owes s p f in
@@ -134,11 +134,13 @@ request-round-trip items heads lists q list v p e b =
       same = record {
         role = refl;
         network = octets-same (q .network);
-        unsupported = list-same (some errorReportsIn) (lists .unsupported-back) l (λ t. list-kept v (some errorReportsIn) l reports t .1);
+        unsupported =
+            list-same (atLeastOne errorReportsIn) (lists .unsupported-back) l
+            (λ t. list-kept v (atLeastOne errorReportsIn) l reports t .1);
       };
       network-kept = kept-if (λ (o : OctetsParameter). o .disposition) (octetsGood (q .network)) (noOctetsParameter Absent)
           (q .network .disposition) refl refl;
-      unsupported-kept = kept-if (λ (l : ListParameter). l .disposition) (listGood (some errorReportsIn) l) (noListParameter Absent)
+      unsupported-kept = kept-if (λ (l : ListParameter). l .disposition) (listGood (atLeastOne errorReportsIn) l) (noListParameter Absent)
           (l .disposition) refl refl;
       unreported = refl;
       passed = refl;

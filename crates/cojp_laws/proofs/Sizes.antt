@@ -12,10 +12,10 @@ use Rattle.refusal.specs.declared.Refusal.the-variants.{Range, Owed}
 use Rattle.byte_io.specs.Write.{Plan, refuse, emit}
 use Rattle.cbor.specs.Encode.{encode}
 use Rattle.cbor.specs.HeadLaws.{HeadLaws}
-use Rattle.cbor.specs.Item.{map}
+use Rattle.cbor.specs.Item.{mapItem}
 use Rattle.cbor.specs.Laws.{ItemLaws, Bytes}
 use Rattle.link_key.specs.set.KeyLaws.{KeyLaws}
-use Rattle.cojp.specs.Lists.{stringsIn, errorReportsIn, some}
+use Rattle.cojp.specs.Lists.{stringsIn, errorReportsIn, atLeastOne}
 use Rattle.cojp.specs.Request.{owing}
 use Rattle.protocol_version.specs.Version.{byVersion, allowsAdditionalInfo}
 use Rattle.cojp.specs.Writing.{fits, requestPairs, requestInRange, owingPlan, requestPlan}
@@ -63,7 +63,7 @@ payloads-fit = record { request = request; configuration = configuration }
   where
     request : (v : Version) (q : JoinRequest) (p : List ℕ) → requestPlan v q ≡ emit p → length p ≤ 256
     request v q p e =
-        let s = encode (map (requestPairs q)) in
+        let s = encode (mapItem (requestPairs q)) in
         let owes = owing v (q .role) (q .network .disposition) in
         let (a, f) = emits (not (requestInRange v q)) Range (owingPlan owes (fits s)) p e in
         let (n, y) = fitted s p (owed-none owes s p f .1) in
@@ -71,7 +71,7 @@ payloads-fit = record { request = request; configuration = configuration }
 
     configuration : (v : Version) (c : Configuration) (p : List ℕ) → configurationPlan v c ≡ emit p → length p ≤ 256
     configuration v c p e =
-        let s = encode (map (configurationPairs c)) in
+        let s = encode (mapItem (configurationPairs c)) in
         let (n, y) = fitted s p (emits (not (configurationInRange v c)) Range (fits s) p e .1) in
         rw (← y) n
 
@@ -83,7 +83,7 @@ module _ (heads : HeadLaws) (items : ItemLaws) (lists : ListLaws) where
       let role = fine-role heads (q .role) (f .role) in
       let network = fine-octets heads 5 (q .network) (omega arith) (f .network) in
       fine-join (fine-join role network)
-      (fine-list heads items (some errorReportsIn) some-fit (lists .unsupported-written) v 8 (q .unsupported) (omega arith) u b)
+      (fine-list heads items (atLeastOne errorReportsIn) some-fit (lists .unsupported-written) v 8 (q .unsupported) (omega arith) u b)
 
   module _ (keys : KeyLaws) (c : Configuration) (typed : TypedConfiguration c) where
     -- ---- the configuration
@@ -103,7 +103,7 @@ module _ (heads : HeadLaws) (items : ItemLaws) (lists : ListLaws) where
         (fine-rate heads v (c .rate) (o .rate) (typed .rate))
 
     -- in the draft
-    draft-size : configurationInRange Draft c ≡ true → length (encode (map (configurationPairs c))) ≤ 232
+    draft-size : configurationInRange Draft c ≡ true → length (encode (mapItem (configurationPairs c))) ≤ 232
     draft-size within =
         let f = fine-configuration Draft (configuration-fits Draft c within) in
         omega (arith, map-length heads (configurationPairs c) (omega (arith, f .few)), f .small)
@@ -111,11 +111,11 @@ module _ (heads : HeadLaws) (items : ItemLaws) (lists : ListLaws) where
     pub largest-configuration : LargestConfiguration c
     unfolding configurationPlan
     largest-configuration p e =
-        let s = encode (map (configurationPairs c)) in
+        let s = encode (mapItem (configurationPairs c)) in
         let (a, x) = emits (not (configurationInRange Draft c)) Range (fits s) p e in
         let (n, y) = fitted s p x in
         rw (← y) (draft-size (not-false (configurationInRange Draft c) a))
 
     pub draft-written : DraftWritten c
     unfolding configurationPlan
-    draft-written within = rw (within, le-leb (length (encode (map (configurationPairs c)))) 256 (omega (arith, draft-size within)))
+    draft-written within = rw (within, le-leb (length (encode (mapItem (configurationPairs c)))) 256 (omega (arith, draft-size within)))

@@ -11,7 +11,7 @@ use Rattle.refusal.specs.declared.Refusal.{Refusal}
 use Rattle.byte_io.specs.Write.{Plan, answer, after, writtenSays}
 use Rattle.cbor.specs.Answer.{headPlan}
 use Rattle.cbor.specs.Encode.{shortest, encode, encodePairs}
-use Rattle.cbor.specs.Item.{map}
+use Rattle.cbor.specs.Item.{mapItem}
 use Rattle.byte_io.specs.declared.WriteResult.the-variants.{Refused}
 use Rattle.cojp.specs.Request.{owing}
 use Rattle.cojp.specs.Writing.{octetsPairs, requestPairs, requestInRange, requestPlan}
@@ -59,15 +59,15 @@ pub record WritersDemand1 : Type 0 where
       numberSaid (requestPlan v q) d
       ≡ inOrder
       (refusedIf (not (requestInRange v q)) 13
-      ∷ refusedIf (tooLong (encode (map (requestPairs q)))) 13
+      ∷ refusedIf (tooLong (encode (mapItem (requestPairs q)))) 13
       ∷ refusedIf (owing v (q .role) (q .network .disposition)) 9
-      ∷ refusedIf (noRoom (encode (map (requestPairs q))) d) 12
+      ∷ refusedIf (noRoom (encode (mapItem (requestPairs q))) d) 12
       ∷ [])
   pub configuration-number :
       (v : Version) (c : Configuration) (d : List ℕ) →
       numberSaid (configurationPlan v c) d
       ≡ inOrder
       (refusedIf (not (configurationInRange v c)) 13
-      ∷ refusedIf (tooLong (encode (map (configurationPairs c)))) 13
-      ∷ refusedIf (noRoom (encode (map (configurationPairs c))) d) 12
+      ∷ refusedIf (tooLong (encode (mapItem (configurationPairs c)))) 13
+      ∷ refusedIf (noRoom (encode (mapItem (configurationPairs c))) d) 12
       ∷ [])

@@ -10,7 +10,7 @@ use Rattle.refusal.specs.declared.Refusal.the-variants.{Long}
 use Rattle.refusal.specs.declared.Verdict.the-variants.{Accepted}
 use Rattle.byte_io.specs.Write.{emit, answer, writtenSays}
 use Rattle.cbor.specs.Encode.{encode}
-use Rattle.cbor.specs.Item.{map}
+use Rattle.cbor.specs.Item.{mapItem}
 use Rattle.link_key.specs.Key.{keyOf}
 use Rattle.link_key.specs.declared.Key.{Key}
 use Rattle.cojp.specs.Address.{addressOf, addressParameter}
@@ -34,7 +34,7 @@ LargestConfiguration c = (p : List ℕ) → configurationPlan Draft c ≡ emit p
 
 -- so none within its limits is too long to be written
 abbrev pub DraftWritten : Configuration → Type 0
-DraftWritten c = configurationInRange Draft c ≡ true → configurationPlan Draft c ≡ emit (encode (map (configurationPairs c)))
+DraftWritten c = configurationInRange Draft c ≡ true → configurationPlan Draft c ≡ emit (encode (mapItem (configurationPairs c)))
 
 -- what is written has at most 256 bytes, in either form
 pub record PayloadsFit : Type 0 where

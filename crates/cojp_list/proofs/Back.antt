@@ -16,7 +16,7 @@ use Rattle.lemmas.specs.lists.SameLemmas.{same-equal}
 use Rattle.lemmas.specs.logic.Tests.{both-left, both-right}
 use Rattle.cojp.specs.Bytes.{membersAt}
 use Rattle.cojp.specs.Octets.{padded}
-use Rattle.cojp.specs.Lists.{Picked, nothing, picked, before, fitting, itemsOf, written, isInteger, stringsIn, errorReportsIn, some}
+use Rattle.cojp.specs.Lists.{Picked, nothing, picked, before, fitting, itemsOf, written, isInteger, stringsIn, errorReportsIn, atLeastOne}
 use Rattle.cojp.specs.Lists.{inArray, listOf, listAnswer, bytesIn, sameAs, kept, itemsIn, pickedItems}
 use Rattle.cojp.specs.ListLemmas.{scalar-back, items-count}
 use Rattle.cojp.specs.declared.list.ItemList.{ItemList}
@@ -59,7 +59,7 @@ faults-again (p ∷ q ∷ x ∷ r) ps e = go (λ qs g. faults-again r qs g) (isI
     go h false f e = never ps e
     go h true f e = again-before errorReportsIn (p ∷ q ∷ other ∷ []) (errorReportsIn r) ps (λ qs g. rw (f, h qs g)) e
 
-pub some-again : Again (some errorReportsIn)
+pub some-again : Again (atLeastOne errorReportsIn)
 unfolding errorReportsIn
 some-again [] ps e = never ps e
 some-again (p ∷ ms) ps e = go ps (faults-again (p ∷ ms) ps e) (first p ms ps e)
@@ -74,7 +74,7 @@ some-again (p ∷ ms) ps e = go ps (faults-again (p ∷ ms) ps e) (first p ms ps
         by true nothing e = never ps e
         by true (picked qs) e = λ g. let z : _≡_ {A = ℕ} 0 1 = cc in omega arith
 
-    go : (ps : List Scalar) → errorReportsIn ps ≡ picked ps → (ps ≡ [] → ⊥) → some errorReportsIn ps ≡ picked ps
+    go : (ps : List Scalar) → errorReportsIn ps ≡ picked ps → (ps ≡ [] → ⊥) → atLeastOne errorReportsIn ps ≡ picked ps
     go [] e h = absurd (h refl)
     go (q ∷ ps) e h = e
 

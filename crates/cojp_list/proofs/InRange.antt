@@ -18,7 +18,7 @@ use Rattle.lemmas.specs.logic.Tests.{both-left, both-right}
 use Rattle.cojp.specs.ListLemmas.{few-reports}
 use Rattle.cojp.specs.Bytes.{membersAt}
 use Rattle.cojp.specs.ErrorReports.{errorReportList, isReportable, validErrorReport, validErrorReports}
-use Rattle.cojp.specs.Lists.{picked, written, errorReportsIn, some, listOf, bytesIn, sameAs, kept}
+use Rattle.cojp.specs.Lists.{picked, written, errorReportsIn, atLeastOne, listOf, bytesIn, sameAs, kept}
 use Rattle.cojp.specs.Octets.{padded}
 use Rattle.cojp.specs.Writing.{listInRange}
 use Rattle.cojp.specs.declared.error_report.ErrorReport.{ErrorReport}
@@ -116,19 +116,20 @@ module _ (x : ErrorReport) (xs : List ErrorReport) (h : allOf validErrorReport (
   its-members : membersAt (length ms) (bytesIn (listOf ms)) ≡ ms
   its-members = rw (its-bytes, three-bytes (x ∷ xs) h) (read-again (x ∷ xs) h)
 
-  its-limits : kept (some errorReportsIn) (listOf ms) ≡ true
+  its-limits : kept (atLeastOne errorReportsIn) (listOf ms) ≡ true
   unfolding kept sameAs
   its-limits = rw (small, its-members, all-kept (x ∷ xs), small, same-refl (bytesIn (listOf ms)), eq-eqb (length ms) (length ms) refl)
     where
       small : leb (length (written ms)) 253 ≡ true
       small = le-leb (length (written ms)) 253 (omega (arith, long))
 
-pub listed-in-range : (f : ErrorReports) → validErrorReports f ≡ true → listInRange (some errorReportsIn) (listedIn f) ≡ true
+pub listed-in-range : (f : ErrorReports) → validErrorReports f ≡ true → listInRange (atLeastOne errorReportsIn) (listedIn f) ≡ true
 unfolding validErrorReports listedIn
 listed-in-range f h =
     go (errorReportList f) (both-right (leb (f .count) 5) (allOf validErrorReport (errorReportList f)) h) (few-reports f h)
   where
-    go : (xs : List ErrorReport) → allOf validErrorReport xs ≡ true → length xs ≤ 5 → listInRange (some errorReportsIn) (listing xs) ≡ true
+    go : (xs : List ErrorReport) → allOf validErrorReport xs ≡ true → length xs ≤ 5
+        → listInRange (atLeastOne errorReportsIn) (listing xs) ≡ true
     go [] h n = refl
     go (x ∷ xs) h n = its-limits x xs h n
 

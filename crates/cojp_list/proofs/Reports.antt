@@ -25,7 +25,7 @@ use Rattle.cbor.specs.ReaderSpecs.{SkipSpec}
 use Rattle.cbor.specs.Writing.{head-did}
 use Rattle.cojp.specs.Bytes.{membersAt}
 use Rattle.cojp.proofs.Arrays.{members-none, members-step, members-some}
-use Rattle.cojp.specs.Lists.{Picked, nothing, picked, scalarItem, written, isInteger, integer, errorReportsIn, some}
+use Rattle.cojp.specs.Lists.{Picked, nothing, picked, scalarItem, written, isInteger, integer, errorReportsIn, atLeastOne}
 use Rattle.cojp_list.specs.Gathered.{NoNumber, IntegerAt, AnyAt, ErrorEntryAt}
 use Rattle.cojp_list.specs.declared.error_entry.Integer.{Integer}
 use Rattle.cojp_list.specs.declared.error_entry.Integer.the-variants as iv
@@ -247,8 +247,8 @@ module _ (s : List ℕ) (at left : ℕ) {whole : Picked} {d : List ℕ} {len mem
     faults-turn w = record { gathering = g; step = group-here .1; put = w }
 
 -- at least one
-pub some-more : (f : List Scalar → Picked) (n : ℕ) (l : List ℕ) → ¬ (n ≡ 0) → some f (membersAt n l) ≡ f (membersAt n l)
+pub some-more : (f : List Scalar → Picked) (n : ℕ) (l : List ℕ) → ¬ (n ≡ 0) → atLeastOne f (membersAt n l) ≡ f (membersAt n l)
 some-more f n l h = let (p, ps, e) = members-some n l (omega arith) in rw e
 
-pub some-none : (f : List Scalar → Picked) (n : ℕ) (l : List ℕ) → n ≡ 0 → some f (membersAt n l) ≡ nothing
+pub some-none : (f : List Scalar → Picked) (n : ℕ) (l : List ℕ) → n ≡ 0 → atLeastOne f (membersAt n l) ≡ nothing
 some-none f n l h = rw (members-none n l h)

@@ -8,7 +8,7 @@ use Rattle.cbor.specs.Encode.{encode, shortest}
 use Rattle.cbor.specs.Item.{array}
 use Rattle.cbor.specs.View.{Scalar, viewOf}
 use Rattle.cojp.specs.ErrorReports.{errorReportList, validErrorReports}
-use Rattle.cojp.specs.Lists.{Picked, fitting, stringsIn, errorReportsIn, some, inArray, listAnswer, bytesIn, kept, itemsIn}
+use Rattle.cojp.specs.Lists.{Picked, fitting, stringsIn, errorReportsIn, atLeastOne, inArray, listAnswer, bytesIn, kept, itemsIn}
 use Rattle.cojp.specs.Writing.{listInRange}
 use Rattle.cojp.specs.declared.error_report.ErrorReports.{ErrorReports}
 use Rattle.cojp.specs.declared.list.ItemList.{ItemList}
@@ -29,9 +29,9 @@ ListRoundTrip f =
 pub record ListLaws : Type 0 where
   pub blacklist-written : ListWritten stringsIn
   pub blacklist-back : ListRoundTrip stringsIn
-  pub unsupported-written : ListWritten (some errorReportsIn)
-  pub unsupported-back : ListRoundTrip (some errorReportsIn)
+  pub unsupported-written : ListWritten (atLeastOne errorReportsIn)
+  pub unsupported-back : ListRoundTrip (atLeastOne errorReportsIn)
   -- the reports that may be kept make a list that may be written, three bytes each
-  pub listed-in-range : (f : ErrorReports) → validErrorReports f ≡ true → listInRange (some errorReportsIn) (listedIn f) ≡ true
+  pub listed-in-range : (f : ErrorReports) → validErrorReports f ≡ true → listInRange (atLeastOne errorReportsIn) (listedIn f) ≡ true
   pub listed-long : (f : ErrorReports) → validErrorReports f ≡ true → listedIn f .value .len ≡ 3 * length (errorReportList f)
   pub listed-members : (f : ErrorReports) → listedIn f .value .count ≡ 3 * length (errorReportList f)

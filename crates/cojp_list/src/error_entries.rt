@@ -18,7 +18,7 @@ ghost use lib.ListN.{drop};
 ghost use Rattle.byte_io.specs.Write.{Did, emit};
 ghost use Rattle.cbor.specs.View.{other};
 ghost use Rattle.cojp.specs.Bytes.{valueView, membersAt};
-ghost use Rattle.cojp.specs.Lists.{fitting, written, integer, errorReportsIn, some, inArray, listAnswer};
+ghost use Rattle.cojp.specs.Lists.{fitting, written, integer, errorReportsIn, atLeastOne, inArray, listAnswer};
 ghost use Rattle.cojp_list.specs.Gathered.{GatheredAs};
 
 fn major_of(negative: bool) -> u8
@@ -95,7 +95,7 @@ fn gather_entries(s: &[u8], from: usize, count: u64, dst: &mut [u8]) -> GatherRe
 
 // The reports that `count` members from a place on are, one at least, as a list.
 pub(crate) fn read_entries(s: &[u8], from: usize, count: u64) -> ListRead
-    ensures { λ r. ⌜ r ≡ listAnswer (fitting 253 (some errorReportsIn (membersAt count (drop from (now (s .entry)))))) ⌝ }
+    ensures { λ r. ⌜ r ≡ listAnswer (fitting 253 (atLeastOne errorReportsIn (membersAt count (drop from (now (s .entry)))))) ⌝ }
 {
     if count == 0 {
         return bad_list();
@@ -120,7 +120,7 @@ pub(crate) fn read_entries(s: &[u8], from: usize, count: u64) -> ListRead
 
 // The array of reports at a place.
 pub fn read_unsupported(s: &[u8], at: usize) -> ListRead
-    ensures { λ r. ⌜ r ≡ listAnswer (fitting 253 (inArray (some errorReportsIn) (valueView (drop at (now (s .entry)))))) ⌝ }
+    ensures { λ r. ⌜ r ≡ listAnswer (fitting 253 (inArray (atLeastOne errorReportsIn) (valueView (drop at (now (s .entry)))))) ⌝ }
 {
     let v = value_at(s, at);
     match v {

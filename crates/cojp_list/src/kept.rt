@@ -6,7 +6,7 @@ use cojp::ItemList;
 use cojp::ListRead;
 ghost use mathlib.Core.Path.{_≡_};
 ghost use Prim.Native.Nat.{_≤_};
-ghost use Rattle.cojp.specs.Lists.{stringsIn, errorReportsIn, some, sameAs, kept};
+ghost use Rattle.cojp.specs.Lists.{stringsIn, errorReportsIn, atLeastOne, sameAs, kept};
 
 // Whether what was read again is the list.
 fn same_as(again: ListRead, l: ItemList) -> bool
@@ -42,7 +42,7 @@ pub fn is_blacklist(l: ItemList) -> bool
 
 // Whether a list that is handed in is one of reports.
 pub fn is_unsupported(l: ItemList) -> bool
-    ensures { λ r. ⌜ r ≡ kept (some errorReportsIn) l ⌝ }
+    ensures { λ r. ⌜ r ≡ kept (atLeastOne errorReportsIn) l ⌝ }
 {
     let len = l.len;
     if 253 < len {

@@ -15,7 +15,7 @@ use Rattle.refusal.specs.declared.Verdict.the-variants as verdict
 use Rattle.cbor.specs.Answer.{headAnswer, skipAnswer}
 use Rattle.cbor.specs.Decode.{Outcome, Heading, heading, decode, payloadBy}
 use Rattle.cbor.specs.Decode as decode
-use Rattle.cbor.specs.Item.{Item, Pairs, unsigned, negative, bytes, text, array, map, tag, simple, float, empty, pair}
+use Rattle.cbor.specs.Item.{Item, Pairs, unsigned, negative, bytes, text, array, mapItem, tag, simple, float, empty, pair}
 use Rattle.cbor.specs.ReaderSpecs.{LabelSpec, saysLabel, HeadSpec, saysEnd, SkipSpec, PairsAt, saysOpened, OpenSpec}
 use Rattle.cbor.specs.Strict.{headBy}
 use Rattle.cbor.specs.View.{View, labelOf, viewOf, ifMap, labelAt}
@@ -48,7 +48,7 @@ unfolding startAnswer pairsIn
 start-long b s h = let long = lt-ltb 256 (length s) h in record { is = rw long; says = rw long }
 
 not-map : {R : Type 0} (f : Pairs → R) (x : R) (i : Item) → ifMap (λ ps. true) false i ≡ false → ifMap f x i ≡ x
-not-map f x (map ps) e = absurd (let z : _≡_ {A = ℕ} 0 1 = cc in omega arith)
+not-map f x (mapItem ps) e = absurd (let z : _≡_ {A = ℕ} 0 1 = cc in omega arith)
 not-map f x (unsigned n) e = refl
 not-map f x (negative n) e = refl
 not-map f x (bytes b) e = refl
@@ -261,7 +261,7 @@ module _ {S : Type 0} (F : Form S) where
 
   -- ---- a whole payload, read strictly or not
   map-read : (c : S) (i : Item) → mapRead F c i ≡ bind (ifMap read (refused refusal.«Type») i) (pairsRead F c)
-  map-read c (map ps) = refl
+  map-read c (mapItem ps) = refl
   map-read c (unsigned n) = refl
   map-read c (negative n) = refl
   map-read c (bytes b) = refl

@@ -11,7 +11,7 @@ use Rattle.refusal.specs.declared.Refusal.the-variants as refusal
 use Rattle.cbor.specs.Decode.{Outcome, heading, payloadBy}
 use Rattle.cbor.specs.Decode as decode
 use Rattle.cbor.specs.HeadLaws.{HeadLaws}
-use Rattle.cbor.specs.Item.{Item, Pairs, unsigned, negative, bytes, text, array, map, tag, simple, float, empty, pair}
+use Rattle.cbor.specs.Item.{Item, Pairs, unsigned, negative, bytes, text, array, mapItem, tag, simple, float, empty, pair}
 use Rattle.cbor.specs.Laws.{Bytes, ItemLaws}
 use Rattle.cbor.specs.View.{View, labelOf, viewOf}
 use Rattle.cbor.specs.declared.value.Label.{Label}
@@ -71,7 +71,7 @@ module _ {S : Type 0} (F : Form S) (R : ℕ → S → Type 0)
 
     scan-bound : length p ≤ 256 → (o : Outcome Item) → payloadBy heading p ≡ o → Gives (Within R p) (scannedRead F s o)
     scan-bound short (decode.refused k) e = tt
-    scan-bound short (decode.got (map ps) t) e = map-bound ps short (payload-map laws H p b ps t e)
+    scan-bound short (decode.got (mapItem ps) t) e = map-bound ps short (payload-map laws H p b ps t e)
     scan-bound short (decode.got (unsigned n) t) e = tt
     scan-bound short (decode.got (negative n) t) e = tt
     scan-bound short (decode.got (bytes x) t) e = tt

@@ -12,7 +12,7 @@ use Rattle.cbor.specs.Encode.{encode, shortest, infoOf, extraOf}
 use Rattle.cbor.specs.HeadLaws.{HeadLaws}
 use Rattle.cbor.specs.View.{Scalar, number, minus, string, other, View, scalar, list}
 use Rattle.cojp.specs.Lists.{Picked, nothing, picked, before, scalarItem, isInteger, stringsIn, errorReportsIn}
-use Rattle.cojp.specs.Lists.{some, listAnswer, listTaken, written, blacklistTaken, unsupportedTaken}
+use Rattle.cojp.specs.Lists.{atLeastOne, listAnswer, listTaken, written, blacklistTaken, unsupportedTaken}
 use Rattle.cojp.specs.Octets.{padded}
 use Rattle.cojp.specs.declared.list.ListParameter.{ListParameter}
 use Rattle.cojp.specs.declared.disposition.Disposition.the-variants.{Taken, Discarded}
@@ -114,7 +114,7 @@ entries-many [] = refl
 entries-many (e ∷ es) = ap (λ (n : ℕ). suc (suc (suc n))) (entries-many es)
 
 -- at least one
-some-picked : (es : List Entry) → 1 ≤ length es → some errorReportsIn (entries es) ≡ picked (keptEntries es)
+some-picked : (es : List Entry) → 1 ≤ length es → atLeastOne errorReportsIn (entries es) ≡ picked (keptEntries es)
 some-picked [] l = absurd (omega (arith, l))
 some-picked (e ∷ es) l = entries-picked (e ∷ es)
 

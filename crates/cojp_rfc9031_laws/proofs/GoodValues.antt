@@ -14,7 +14,7 @@ use Rattle.refusal.specs.declared.Verdict.the-variants.{Accepted}
 use Rattle.cbor.specs.Decode.{Outcome, Heading, payload}
 use Rattle.cbor.specs.Decode as decode
 use Rattle.cbor.specs.HeadLaws.{HeadLaws}
-use Rattle.cbor.specs.Item.{Item, unsigned, negative, bytes, text, array, map, tag, simple, float}
+use Rattle.cbor.specs.Item.{Item, unsigned, negative, bytes, text, array, mapItem, tag, simple, float}
 use Rattle.cbor.specs.Laws.{Bytes, ItemLaws}
 use Rattle.cbor.specs.Strict.{headBy, loosePayload}
 use Rattle.cojp.specs.Configuration.{configurationAnswer, configurationForm, emptyConfiguration}
@@ -53,7 +53,7 @@ short-payload F head s p say refuses e = by (ltb 256 (length p)) refl
 module _ (laws : ItemLaws) (H : HeadLaws) (p : List ℕ) (b : Bytes p) (short : length p ≤ 256) where
   ordinary : (o : Outcome Item) → payload p ≡ o → pairsSize (mapPairs o) ≤ 255
   ordinary (decode.refused k) e = omega arith
-  ordinary (decode.got (map ps) t) e = omega (arith, short, payload-map laws H p b ps t e .size)
+  ordinary (decode.got (mapItem ps) t) e = omega (arith, short, payload-map laws H p b ps t e .size)
   ordinary (decode.got (unsigned n) t) e = omega arith
   ordinary (decode.got (negative n) t) e = omega arith
   ordinary (decode.got (bytes x) t) e = omega arith

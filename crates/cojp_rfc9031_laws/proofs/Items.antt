@@ -14,7 +14,7 @@ use Rattle.cbor.specs.Decode.{majorOf, members, pairs, special, content, decode
 use Rattle.cbor.specs.Encode.{extraOf}
 use Rattle.cbor.specs.HeadLaws.{HeadLaws}
 use Rattle.cbor.specs.Item.{half, single, double, Item, Items, Pairs, unsigned, negative}
-use Rattle.cbor.specs.Item.{bytes, text, array, map, tag, simple, float, more, empty, pair}
+use Rattle.cbor.specs.Item.{bytes, text, array, mapItem, tag, simple, float, more, empty, pair}
 use Rattle.cbor.specs.Laws.{Suffix, Bytes, ItemLaws}
 use Rattle.cbor.specs.View.{Scalar, number, minus, string, other, ScalarValid, View, scalar, list}
 use Rattle.cbor.specs.View.{scalarOf, scalarsOf, viewOf, stringOf, scalarBy, scalarHead, scalarAt}
@@ -75,7 +75,7 @@ MapFits (negative n) = Unit {0}
 MapFits (bytes s) = Unit {0}
 MapFits (text s) = Unit {0}
 MapFits (array is) = Unit {0}
-MapFits (map ps) = ValuesFit ps
+MapFits (mapItem ps) = ValuesFit ps
 MapFits (tag n i) = Unit {0}
 MapFits (simple n) = Unit {0}
 MapFits (float w n) = Unit {0}
@@ -86,7 +86,7 @@ mapSize (negative n) = 0
 mapSize (bytes s) = 0
 mapSize (text s) = 0
 mapSize (array is) = 0
-mapSize (map ps) = 1 + pairsSize ps
+mapSize (mapItem ps) = 1 + pairsSize ps
 mapSize (tag n i) = 0
 mapSize (simple n) = 0
 mapSize (float w n) = 0
@@ -246,7 +246,7 @@ module _ (item : List ℕ → Outcome Item) (reads : (s : List ℕ) → Bytes s 
         left = h .left;
       })
   content-read maps info n whole s l f b =
-      and-gets (PairsRead s) (Read whole) (pairs item n s) (λ ps t. got (map ps) t) (pairs-read item reads n s b)
+      and-gets (PairsRead s) (Read whole) (pairs item n s) (λ ps t. got (mapItem ps) t) (pairs-read item reads n s b)
       (λ ps t h. record {
         fits = tt;
         size = omega (arith, h .size);
@@ -282,16 +282,16 @@ module _ (laws : ItemLaws) (H : HeadLaws) where
   decode-read zero s b = tt
   decode-read (suc d) s b = head-read s b (heading s) refl (laws .plain-fits s b) d (decode-read d)
 
-  pub payload-map : (p : List ℕ) → Bytes p → (ps : Pairs) (t : List ℕ) → payloadBy heading p ≡ got (map ps) t → Whole p ps
+  pub payload-map : (p : List ℕ) → Bytes p → (ps : Pairs) (t : List ℕ) → payloadBy heading p ≡ got (mapItem ps) t → Whole p ps
   unfolding payloadBy
   payload-map p b ps t e = by (decode 8 p) (decode-read 8 p b) e
     where
-      ends : (i : Item) (u : List ℕ) → Read p i u → ended i u ≡ got (map ps) t → Whole p ps
+      ends : (i : Item) (u : List ℕ) → Read p i u → ended i u ≡ got (mapItem ps) t → Whole p ps
       ends i [] h q =
-          let same : i ≡ map ps = cc in
+          let same : i ≡ mapItem ps = cc in
           record { fit = subst MapFits same (h .pairs-fit); size = omega (arith, ap mapSize same, h .pairs-size) }
       ends i (x ∷ u) h q = absurd (let z : _≡_ {A = ℕ} 0 1 = cc in omega arith)
 
-      by : (o : Outcome Item) → Gets (Read p) o → andThen o ended ≡ got (map ps) t → Whole p ps
+      by : (o : Outcome Item) → Gets (Read p) o → andThen o ended ≡ got (mapItem ps) t → Whole p ps
       by (refused k) h q = absurd (let z : _≡_ {A = ℕ} 0 1 = cc in omega arith)
       by (got i u) h q = ends i u h q

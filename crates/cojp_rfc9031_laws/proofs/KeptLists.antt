@@ -15,7 +15,7 @@ use Rattle.cbor.specs.Laws.{ItemLaws}
 use Rattle.cbor.specs.View.{Scalar, number, minus, string, other}
 use Rattle.cojp.specs.Bytes.{membersAt}
 use Rattle.cojp.specs.Lists.{Picked, nothing, picked, before, scalarItem, itemsOf, written, isInteger}
-use Rattle.cojp.specs.Lists.{stringsIn, errorReportsIn, some, listOf, bytesIn, sameAs, kept, itemsIn}
+use Rattle.cojp.specs.Lists.{stringsIn, errorReportsIn, atLeastOne, listOf, bytesIn, sameAs, kept, itemsIn}
 use Rattle.cojp.specs.ListLemmas.{scalar-back, scalar-depth, scalar-fit, items-count}
 use Rattle.cojp.specs.Octets.{padded}
 use Rattle.cojp_rfc9031_laws.proofs.Items.{headSize, plainSize, plainsSize, plain-least, PlainsFit}
@@ -120,14 +120,14 @@ faults-picked (p ∷ q ∷ x ∷ r) = by (isInteger p && isInteger q) refl (faul
     by false e h = tt
 
 -- one at least
-some-again : (ms ps : List Scalar) → Picks errorReportsIn ms ps → 1 ≤ length ms → Picks (some errorReportsIn) ms ps
+some-again : (ms ps : List Scalar) → Picks errorReportsIn ms ps → 1 ≤ length ms → Picks (atLeastOne errorReportsIn) ms ps
 some-again ms [] h l = absurd (omega (arith, h .many))
 some-again ms (p ∷ ps) h l = record { again = h .again; fit = h .fit; many = h .many; size = h .size }
 
-pub reports-picked : (ms : List Scalar) → Picking (some errorReportsIn) ms (some errorReportsIn ms)
+pub reports-picked : (ms : List Scalar) → Picking (atLeastOne errorReportsIn) ms (atLeastOne errorReportsIn ms)
 reports-picked [] = tt
 reports-picked (m ∷ ms) = by (errorReportsIn (m ∷ ms)) (faults-picked (m ∷ ms))
   where
-    by : (q : Picked) → Picking errorReportsIn (m ∷ ms) q → Picking (some errorReportsIn) (m ∷ ms) q
+    by : (q : Picked) → Picking errorReportsIn (m ∷ ms) q → Picking (atLeastOne errorReportsIn) (m ∷ ms) q
     by nothing h = tt
     by (picked ps) h = some-again (m ∷ ms) ps h (omega arith)

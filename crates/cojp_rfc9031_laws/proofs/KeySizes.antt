@@ -87,14 +87,14 @@ module _ (H : HeadLaws) where
   usage-many : (u : ℕ) → count (usageItems u) ≡ usageMany u
   usage-many u = by (eqb u 0)
     where
-      by : (b : Bool) → count (cond b item.none (more (unsigned u) item.none)) ≡ cond b 0 1
+      by : (b : Bool) → count (cond b item.noItems (more (unsigned u) item.noItems)) ≡ cond b 0 1
       by true = refl
       by false = refl
 
   usage-size : (u : ℕ) → length (encodes (usageItems u)) ≡ usageSize u
   usage-size u = by (eqb u 0)
     where
-      by : (b : Bool) → length (encodes (cond b item.none (more (unsigned u) item.none))) ≡ cond b 0 (headSize u)
+      by : (b : Bool) → length (encodes (cond b item.noItems (more (unsigned u) item.noItems))) ≡ cond b 0 (headSize u)
       by true = refl
       by false = ap length (append-nil (shortest 0 u)) ∙ H .length-head 0 u
 

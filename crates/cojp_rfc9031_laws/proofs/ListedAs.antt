@@ -15,7 +15,7 @@ use Rattle.cbor.specs.Item.{array}
 use Rattle.cbor.specs.View.{scalarAt}
 use Rattle.cojp.specs.ListLemmas.{few-reports}
 use Rattle.cojp.specs.ErrorReports.{errorReportList, isReportable, validErrorReport, validErrorReports}
-use Rattle.cojp.specs.Lists.{written, bytesIn, errorReportsIn, some, itemsIn}
+use Rattle.cojp.specs.Lists.{written, bytesIn, errorReportsIn, atLeastOne, itemsIn}
 use Rattle.cojp.specs.Octets.{padded}
 use Rattle.cojp.specs.Writing.{listPairs}
 use Rattle.cojp.specs.declared.error_report.ErrorReport.{ErrorReport}
@@ -77,7 +77,7 @@ listing-taken (x ∷ xs) = refl
 -- ---- the pair
 module _ (L : ListLaws) (f : ErrorReports) (valid : validErrorReports f ≡ true) where
   pair-written : (xs : List ErrorReport) → errorReportList f ≡ xs
-      → encodePairs (listPairs 8 (some errorReportsIn) (listing xs)) ≡ listedPair xs
+      → encodePairs (listPairs 8 (atLeastOne errorReportsIn) (listing xs)) ≡ listedPair xs
   unfolding listedIn
   pair-written [] e = refl
   pair-written (x ∷ xs) e =
@@ -87,7 +87,7 @@ module _ (L : ListLaws) (f : ErrorReports) (valid : validErrorReports f ≡ true
       let array-bytes = L .unsupported-written l (rw e at (L .listed-in-range f valid)) in
       let body = listing-bytes (x ∷ xs) (rw e at (each-valid f valid)) in
       let head = one-byte 4 (l .count) (omega arith) ∙ ap (λ (n : ℕ). (128 + n) ∷ []) members in
-      let text : encode (array (itemsIn (some errorReportsIn) l)) ≡ (128 + 3 * length (x ∷ xs)) ∷ listedBytes (x ∷ xs) =
+      let text : encode (array (itemsIn (atLeastOne errorReportsIn) l)) ≡ (128 + 3 * length (x ∷ xs)) ∷ listedBytes (x ∷ xs) =
       array-bytes ∙ ap₂ (λ (a b : List ℕ). a ++ b) head body in
       ap₂ (λ (a b : List ℕ). a ++ (b ++ [])) (one-byte 0 8 (omega arith)) text
       ∙ ap (λ (b : List ℕ). 8 ∷ b) (append-nil ((128 + 3 * length (x ∷ xs)) ∷ listedBytes (x ∷ xs)))

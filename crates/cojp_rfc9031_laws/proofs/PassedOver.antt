@@ -13,7 +13,7 @@ use Rattle.byte_io.specs.BigEndian.{digits}
 use Rattle.cbor.specs.Decode.{Outcome, payloadBy, decodeBy, heading, argument, next, members, pairs, majorOf}
 use Rattle.cbor.specs.Encode.{infoOf}
 use Rattle.cbor.specs.Decode as decode
-use Rattle.cbor.specs.Item.{Item, Pairs, unsigned, negative, bytes, text, array, map, tag, simple, float, empty, pair}
+use Rattle.cbor.specs.Item.{Item, Pairs, unsigned, negative, bytes, text, array, mapItem, tag, simple, float, empty, pair}
 use Rattle.cbor.specs.Strict.{headBy}
 use Rattle.cbor.specs.View.{View, labelOf, viewOf}
 use Rattle.cbor.specs.declared.value.Label.{Label}
@@ -118,7 +118,7 @@ module _ {S : Type 0} (F : Form S) (known : List ℕ) (passed : S → ℕ)
 
   scan-counts : (s : S) (o : Outcome Item) → Counts passed (passed s + unknownIn known (mapPairs o)) (scannedRead F s o)
   scan-counts s (decode.refused k) = tt
-  scan-counts s (decode.got (map ps) t) = pairs-count ps s
+  scan-counts s (decode.got (mapItem ps) t) = pairs-count ps s
   scan-counts s (decode.got (unsigned n) t) = tt
   scan-counts s (decode.got (negative n) t) = tt
   scan-counts s (decode.got (bytes b) t) = tt

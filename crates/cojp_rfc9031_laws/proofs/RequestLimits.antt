@@ -17,7 +17,7 @@ use Rattle.cbor.specs.Strict.{headBy}
 use Rattle.cbor.specs.View.{number, minus, string, other, View, scalar, list}
 use Rattle.cojp.proofs.Walks.{Gives}
 use Rattle.cojp.specs.Laws.{StrictReaders, meetsLonger}
-use Rattle.cojp.specs.Lists.{errorReportsIn, some, unsupportedTaken}
+use Rattle.cojp.specs.Lists.{errorReportsIn, atLeastOne, unsupportedTaken}
 use Rattle.cojp.specs.Octets.{noOctetsParameter, octetsRead}
 use Rattle.cojp.specs.Reading.{Reading, refused, read, mapReading, bind, byVersionOf, broken, unfit, good, ifTaken}
 use Rattle.cojp.specs.Request.{roleJudged, emptyRequestState, withRole, withNetwork, withUnsupported}
@@ -52,13 +52,13 @@ abbrev pub networkBytes : JoinRequest → ℕ
 networkBytes q = length (encodePairs (octetsPairs 5 (q .network)))
 
 abbrev pub listBytes : JoinRequest → ℕ
-listBytes q = length (encodePairs (listPairs 8 (some errorReportsIn) (q .unsupported)))
+listBytes q = length (encodePairs (listPairs 8 (atLeastOne errorReportsIn) (q .unsupported)))
 
 pub record Fine (v : Version) (m : ℕ) (g : RequestState) : Type 0 where
   pub role : leb (g .request .role) 1 ≡ true
   pub network : octetsInRange (g .request .network) ≡ true
   pub unsupported : byVersion v (missing (g .request .unsupported .disposition))
-      (listInRange (some errorReportsIn) (g .request .unsupported)) ≡ true
+      (listInRange (atLeastOne errorReportsIn) (g .request .unsupported)) ≡ true
   pub size : roleBytes (g .request) + networkBytes (g .request) + listBytes (g .request) ≤ m
 
 none-fine : (v : Version) → Fine v 0 emptyRequestState
@@ -119,7 +119,7 @@ network-fine H v m g h x =
     (λ p f. record { role = h .role; network = f .range; unsupported = h .unsupported; size = omega (arith, h .size, f .size) })
 
 -- ---- a list of reports, in the published form alone
-list-put : (m : ℕ) (g : RequestState) → Fine Published m g → (x : View) (p : ListParameter) → ListFine (some errorReportsIn) 8 x p →
+list-put : (m : ℕ) (g : RequestState) → Fine Published m g → (x : View) (p : ListParameter) → ListFine (atLeastOne errorReportsIn) 8 x p →
     Fine Published (m + (1 + viewSize x)) (listGathered g p)
 list-put m g h x p f = by (p .disposition)
   where
@@ -147,7 +147,7 @@ module _ (laws : ItemLaws) (H : HeadLaws) where
       Fine v (m + (1 + viewSize x)) (listGathered g (unsupportedTaken x))
   listed-fine Draft m g h b e x f = unknown-not e
   listed-fine Published m g h b e x f =
-      list-put m g h x (unsupportedTaken x) (list-fine laws H (some errorReportsIn) reports-picked 8 (omega arith) x f)
+      list-put m g h x (unsupportedTaken x) (list-fine laws H (atLeastOne errorReportsIn) reports-picked 8 (omega arith) x f)
 
   taking : (v : Version) (m : ℕ) (g : RequestState) → Fine v m g → (n : ℕ) → requestLabelStatus v g n ≡ First → (x : View) → ViewFits x →
       Gives (Fine v (m + (1 + viewSize x))) (requestTaking v g n x)

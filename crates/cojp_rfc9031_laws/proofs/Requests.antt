@@ -11,7 +11,7 @@ use borrow.Author.Tests.{eqb-false, ne-eqb, le-leb}
 use Rattle.cbor.specs.Strict.{headBy}
 use Rattle.cbor.specs.View.{View, number, minus, string, other, scalar, list}
 use Rattle.cojp.specs.ErrorReports.{errorReportOf, added}
-use Rattle.cojp.specs.Lists.{listAnswer, fitting, inArray, errorReportsIn, some, unsupportedTaken}
+use Rattle.cojp.specs.Lists.{listAnswer, fitting, inArray, errorReportsIn, atLeastOne, unsupportedTaken}
 use Rattle.cojp.specs.Octets.{noOctetsParameter, octetsParameter, octetsJudged, octetsOf, octetsRead}
 use Rattle.cojp.specs.Reading.{read, malformedAs, concluded, broken, unfit, good, ifTaken}
 use Rattle.cojp.specs.Request.{roleJudged, emptyRequestState, withRole, withNetwork, withUnsupported}
@@ -225,13 +225,13 @@ module _ (ks : List Known) (g : RequestState) (h : Asked ks g) (v : View) where
       }
 
   take-list : isIn 8 (labelsOf ks) ≡ false → Asked (more 8) (listGathered g (unsupportedTaken v))
-  take-list e = by (unsupportedTaken v .disposition) refl (list-met (listAnswer (fitting 253 (inArray (some errorReportsIn) v))))
+  take-list e = by (unsupportedTaken v .disposition) refl (list-met (listAnswer (fitting 253 (inArray (atLeastOne errorReportsIn) v))))
     where
       one : ifTaken (unsupportedTaken v .disposition) [] (errorReportOf 1 8 ∷ []) ≡ errorReportOf 1 8 ∷ [] →
           Asked (more 8) (withError (withUnsupported g (unsupportedTaken v)) 1 8)
       one q =
           list-asked e (unsupportedTaken v) (added (g .request .errors) 1 8) (errorReportOf 1 8 ∷ [])
-          (list-met (listAnswer (fitting 253 (inArray (some errorReportsIn) v)))) q (omega arith) (told 8 1 8 q)
+          (list-met (listAnswer (fitting 253 (inArray (atLeastOne errorReportsIn) v)))) q (omega arith) (told 8 1 8 q)
 
       by : (r : Disposition) → unsupportedTaken v .disposition ≡ r → labelStatusOf (unsupportedTaken v .disposition) ≡ Repeated →
           Asked (more 8) (ifTaken r (withUnsupported g (unsupportedTaken v)) (withError (withUnsupported g (unsupportedTaken v)) 1 8))

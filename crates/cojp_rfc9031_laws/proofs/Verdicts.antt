@@ -12,7 +12,7 @@ use Rattle.byte_io.specs.BigEndian.{digits}
 use Rattle.cbor.specs.Decode.{Outcome, payloadBy, decodeBy, heading, argument, next, members, pairs, majorOf}
 use Rattle.cbor.specs.Encode.{infoOf}
 use Rattle.cbor.specs.Decode as decode
-use Rattle.cbor.specs.Item.{Item, unsigned, negative, bytes, text, array, map, tag, simple, float}
+use Rattle.cbor.specs.Item.{Item, unsigned, negative, bytes, text, array, mapItem, tag, simple, float}
 use Rattle.cbor.specs.Strict.{headBy}
 use Rattle.cojp.specs.Configuration.{configurationAnswer, configurationForm, emptyConfiguration, configurationTaking}
 use Rattle.cojp.specs.Octets.{octetsJudged}
@@ -60,7 +60,7 @@ settled-by ks w (read g) a =
 owed-inside : (o : Outcome Item) →
     orOwed (identified (knownIn requestLabels (mapPairs o))) (scanVerdict (labelsVerdict requestLabels []) o) ≡ scanVerdict requestVerdict o
 owed-inside (decode.refused k) = refl
-owed-inside (decode.got (map ps) t) = refl
+owed-inside (decode.got (mapItem ps) t) = refl
 owed-inside (decode.got (unsigned n) t) = refl
 owed-inside (decode.got (negative n) t) = refl
 owed-inside (decode.got (bytes b) t) = refl

@@ -12,7 +12,7 @@ use Rattle.refusal.specs.declared.Verdict.{Verdict}
 use Rattle.refusal.specs.declared.Verdict.the-variants as verdict
 use Rattle.cbor.specs.Decode.{Outcome, payloadBy}
 use Rattle.cbor.specs.Decode as decode
-use Rattle.cbor.specs.Item.{Item, Pairs, unsigned, negative, bytes, text, array, map, tag, simple, float, empty, pair}
+use Rattle.cbor.specs.Item.{Item, Pairs, unsigned, negative, bytes, text, array, mapItem, tag, simple, float, empty, pair}
 use Rattle.cbor.specs.Strict.{headBy}
 use Rattle.cbor.specs.View.{View, labelOf, viewOf}
 use Rattle.cbor.specs.declared.value.Label.{Label}
@@ -83,7 +83,7 @@ module _ {S : Type 0} (F : Form S) (known : List ℕ) (R : List Known → S → 
   module _ (s : S) (h : R [] s) where
     scan-agrees : (o : Outcome Item) → Agrees (scanVerdict (labelsVerdict known []) o) (R (knownIn known (mapPairs o))) (scannedRead F s o)
     scan-agrees (decode.refused k) = refl
-    scan-agrees (decode.got (map ps) t) = pairs-agree ps [] s h
+    scan-agrees (decode.got (mapItem ps) t) = pairs-agree ps [] s h
     scan-agrees (decode.got (unsigned n) t) = refl
     scan-agrees (decode.got (negative n) t) = refl
     scan-agrees (decode.got (bytes b) t) = refl

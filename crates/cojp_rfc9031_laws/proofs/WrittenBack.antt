@@ -14,7 +14,7 @@ use Rattle.byte_io.specs.BigEndian.{digits, bytesOf}
 use Rattle.cbor.specs.Decode.{payloadBy, decodeBy, heading, argument, next, members, pairs, majorOf}
 use Rattle.cbor.specs.Encode.{encode, encodePairs, shortest, infoOf, extraOf}
 use Rattle.cbor.specs.HeadLaws.{HeadLaws}
-use Rattle.cbor.specs.Item.{Item, Pairs, unsigned, array, bytes, map, more, empty, countPairs}
+use Rattle.cbor.specs.Item.{Item, Pairs, unsigned, array, bytes, mapItem, more, empty, countPairs}
 use Rattle.cbor.specs.Laws.{Bytes, ItemLaws}
 use Rattle.cbor.specs.Strict.{headBy}
 use Rattle.cbor.specs.View.{Scalar}
@@ -23,7 +23,7 @@ use Rattle.cojp.specs.Configuration.{emptyConfiguration, configurationForm, con
 use Rattle.cojp.specs.Configuration.{refuseConfiguration, readConfigurationBy, readConfigurationAs}
 use Rattle.cojp.specs.InRange.{InRange, ReadsInRange}
 use Rattle.cojp.specs.Laws.{StrictReaders, meetsLonger}
-use Rattle.cojp.specs.Lists.{Picked, errorReportsIn, some, stringsIn, itemsIn}
+use Rattle.cojp.specs.Lists.{Picked, errorReportsIn, atLeastOne, stringsIn, itemsIn}
 use Rattle.cojp.specs.Octets.{bytesIn, padded, octetsJudged}
 use Rattle.cojp.specs.Reading.{Reading, refused, read, ifTaken}
 use Rattle.cojp.specs.Request.{requestLabelStatus, requestTaking, owing, readRequestBy}
@@ -78,14 +78,14 @@ role-one n = by (eqb n 0)
     by false = omega arith
 
 module _ (H : HeadLaws) where
-  map-size : (ps : Pairs) → countPairs ps ≤ 23 → length (encode (map ps)) ≡ 1 + length (encodePairs ps)
+  map-size : (ps : Pairs) → countPairs ps ≤ 23 → length (encode (mapItem ps)) ≡ 1 + length (encodePairs ps)
   map-size ps l = length-append (shortest 5 (countPairs ps)) (encodePairs ps) ∙ omega (arith, H .short-head 5 (countPairs ps) l)
 
-  request-size : (q : JoinRequest) → length (encode (map (requestPairs q))) ≡ 1 + (roleBytes q + networkBytes q + listBytes q)
+  request-size : (q : JoinRequest) → length (encode (mapItem (requestPairs q))) ≡ 1 + (roleBytes q + networkBytes q + listBytes q)
   request-size q =
       let r = rolePairs (q .role) in
       let n = octetsPairs 5 (q .network) in
-      let u = listPairs 8 (some errorReportsIn) (q .unsupported) in
+      let u = listPairs 8 (atLeastOne errorReportsIn) (q .unsupported) in
       map-size (requestPairs q)
       (omega (
         arith,
@@ -93,11 +93,11 @@ module _ (H : HeadLaws) where
         join-count r n,
         role-one (q .role),
         octets-one 5 (q .network),
-        list-one 8 (some errorReportsIn) (q .unsupported),
+        list-one 8 (atLeastOne errorReportsIn) (q .unsupported),
       ))
       ∙ omega (arith, join-length (join r n) u, join-length r n)
 
-  configuration-size : (c : Configuration) → length (encode (map (configurationPairs c))) ≡ 1 + parts c
+  configuration-size : (c : Configuration) → length (encode (mapItem (configurationPairs c))) ≡ 1 + parts c
   configuration-size c =
       let k = keysPairs (c .keys) in
       let a = addressPairs (c .address) in
@@ -137,7 +137,7 @@ module _ (H : HeadLaws) where
 request-writes : HeadLaws → (v : Version) (p : List ℕ) (q : JoinRequest) → Accepts v p q → WritesWithin (requestPlan v q) p
 unfolding requestPlan
 request-writes H v p q a =
-    let w = encode (map (requestPairs q)) in
+    let w = encode (mapItem (requestPairs q)) in
     let took : length w ≤ length p =
     rw (a .is) (omega (arith, request-size H (a .gathered .request), a .within .holds .size, a .within .room)) in
     record {
@@ -156,7 +156,7 @@ module _ (laws : ItemLaws) (H : HeadLaws) where
       WritesWithin (configurationPlan v c) p
   unfolding configurationPlan
   configuration-writes v p c h a =
-      let w = encode (map (configurationPairs c)) in
+      let w = encode (mapItem (configurationPairs c)) in
       let took : length w ≤ length p = omega (arith, configuration-size H c, a .holds .size, a .room) in
       record {
         payload = w;

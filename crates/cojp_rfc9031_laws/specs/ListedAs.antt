@@ -7,7 +7,7 @@ use mathlib.Core.List.{List, [], _∷_}
 use lib.ListN.{length, replicate}
 use Rattle.cbor.specs.Encode.{encodePairs}
 use Rattle.cojp.specs.ErrorReports.{errorReportOf, errorReportList, validErrorReports}
-use Rattle.cojp.specs.Lists.{bytesIn, errorReportsIn, some}
+use Rattle.cojp.specs.Lists.{bytesIn, errorReportsIn, atLeastOne}
 use Rattle.cojp.specs.Writing.{listPairs}
 use Rattle.cojp.specs.declared.error_report.ErrorReport.{ErrorReport}
 use Rattle.cojp.specs.declared.error_report.ErrorReports.{ErrorReports}
@@ -33,9 +33,10 @@ pub record ListedAs : Type 0 where
   pub bytes : (f : ErrorReports) → validErrorReports f ≡ true → bytesIn (listedIn f .value) ≡ listedBytes (errorReportList f)
   pub taken : (f : ErrorReports) → listedIn f .disposition ≡ listedReport (errorReportList f)
   pub written : (f : ErrorReports) → validErrorReports f ≡ true
-      → encodePairs (listPairs 8 (some errorReportsIn) (listedIn f)) ≡ listedPair (errorReportList f)
+      → encodePairs (listPairs 8 (atLeastOne errorReportsIn) (listedIn f)) ≡ listedPair (errorReportList f)
   -- a short identifier that was malformed
   pub example :
       encodePairs
-      (listPairs 8 (some errorReportsIn) (listedIn (record { count = 1; reports = errorReportOf 1 3 ∷ replicate 4 (errorReportOf 0 0) })))
+      (listPairs 8 (atLeastOne errorReportsIn)
+      (listedIn (record { count = 1; reports = errorReportOf 1 3 ∷ replicate 4 (errorReportOf 0 0) })))
       ≡ 0x08 ∷ 0x83 ∷ 0x01 ∷ 0x03 ∷ 0xF6 ∷ []

@@ -35,7 +35,7 @@ ghost use Prim.Native.Nat.{_+_, _≤_};
 ghost use lib.ListN.{length};
 ghost use Rattle.byte_io.specs.Write.{Did, Wrote};
 ghost use Rattle.cbor.specs.Encode.{shortest, encode, encodePairs};
-ghost use Rattle.cbor.specs.Item.{map};
+ghost use Rattle.cbor.specs.Item.{mapItem};
 ghost use Rattle.cojp.specs.Writing.{fits, ratePairs, configurationPairs, configurationPlan};
 ghost use Rattle.protocol_version.specs.declared.Version.the-variants.{Draft};
 ghost use Rattle.cojp_write.specs.configuration.Room.{
@@ -120,7 +120,7 @@ fn put_configuration(dst: &mut [u8], c: Configuration, members: u64) -> usize
 // What is in range: RANGE over 256 bytes, ROOM, or the length written.
 fn emit_configuration(dst: &mut [u8], c: Configuration) -> WriteResult
     requires { ⌜ ConfigurationFits c ⌝ }
-    ensures { λ r. ⌜ Did (fits (encode (map (configurationPairs c)))) (now (dst .entry)) r (now (dst .exit)) ⌝ }
+    ensures { λ r. ⌜ Did (fits (encode (mapItem (configurationPairs c)))) (now (dst .entry)) r (now (dst .exit)) ⌝ }
 {
     cbor::head_laws();
     cojp_list::laws();

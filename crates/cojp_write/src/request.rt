@@ -20,7 +20,7 @@ ghost use Prim.Native.Nat.{_≤_};
 ghost use lib.ListN.{length};
 ghost use Rattle.byte_io.specs.Write.{Did, Wrote};
 ghost use Rattle.cbor.specs.Encode.{shortest, encode, encodePairs};
-ghost use Rattle.cbor.specs.Item.{map};
+ghost use Rattle.cbor.specs.Item.{mapItem};
 ghost use Rattle.cojp.specs.Writing.{rolePairs, requestPairs, owingPlan, fits, requestPlan};
 ghost use Rattle.cojp_write.specs.octets.Fits.{RequestFits};
 ghost use Rattle.cojp_write.specs.octets.Size.{Sizes, PairsSize};
@@ -78,7 +78,7 @@ fn put_request(dst: &mut [u8], q: JoinRequest, members: u64) -> usize
 // What is in range: RANGE over 256 bytes, OWED, ROOM, or the length written.
 pub(crate) fn emit_request(dst: &mut [u8], q: JoinRequest, owed: bool) -> WriteResult
     requires { ⌜ RequestFits q ⌝ }
-    ensures { λ r. ⌜ Did (owingPlan owed (fits (encode (map (requestPairs q))))) (now (dst .entry)) r (now (dst .exit)) ⌝ }
+    ensures { λ r. ⌜ Did (owingPlan owed (fits (encode (mapItem (requestPairs q))))) (now (dst .entry)) r (now (dst .exit)) ⌝ }
 {
     cbor::head_laws();
     cojp_list::laws();

@@ -14,7 +14,7 @@ use Rattle.byte_io.specs.BigEndian.{bigEndian}
 use Rattle.cbor.specs.Decode.{Outcome, refused, got, andThen, next, argument, Heading, heading, Major, unsigneds, negatives, byteStrings}
 use Rattle.cbor.specs.Decode.{textStrings, arrays, maps, tags, others, majorOf, members, pairs, content, decodeBy, ended, payloadBy}
 use Rattle.cbor.specs.Strict.{short, strictHeading, headBy}
-use Rattle.cbor.specs.Item.{Item, Items, Pairs, unsigned, negative, bytes, text, array, map, tag, simple, float, empty, pair}
+use Rattle.cbor.specs.Item.{Item, Items, Pairs, unsigned, negative, bytes, text, array, mapItem, tag, simple, float, empty, pair}
 use Rattle.cbor.specs.View.{Scalar, number, minus, string, other, View, scalar, list, scalarOf, scalarsOf, viewOf}
 use Rattle.node_call_laws.proofs.Lists.{by-cond}
 
@@ -56,7 +56,7 @@ MapOk (negative n) = Always
 MapOk (bytes s) = Always
 MapOk (text s) = Always
 MapOk (array is) = Always
-MapOk (map ps) = MapFits ps
+MapOk (mapItem ps) = MapFits ps
 MapOk (tag n i) = Always
 MapOk (simple n) = Always
 MapOk (float w n) = Always

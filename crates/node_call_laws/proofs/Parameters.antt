@@ -27,7 +27,7 @@ use Rattle.cbor.specs.View.{Scalar, number, minus, string, other, View, scalar,
 use Rattle.cojp.specs.Address.{addressBy, addressIn, addressJudged, addressParameter, noAddressParameter, addressRead}
 use Rattle.cojp.specs.KeySet.{keySetOf, Groups, notGroups, groupsOf, group, further, groups, identified}
 use Rattle.cojp.specs.KeySet.{used, valued, keysIn, keysJudgedAs, keysParameter, keysReadAs}
-use Rattle.cojp.specs.Lists.{scalarItem, written, Picked, nothing, picked, before, stringsIn, isInteger, errorReportsIn, some}
+use Rattle.cojp.specs.Lists.{scalarItem, written, Picked, nothing, picked, before, stringsIn, isInteger, errorReportsIn, atLeastOne}
 use Rattle.cojp.specs.Lists.{inArray, fitting, listAnswer, noListParameter, listTaken, blacklistTaken, unsupportedTaken}
 use Rattle.cojp.specs.Octets.{padded, octetsParameter, noOctetsParameter, octetsJudged, octetsRead}
 use Rattle.cojp.specs.Rate.{rateTaken}
@@ -168,7 +168,7 @@ faults-ok (p ∷ q ∷ x ∷ r) h =
     (λ _. before-ok (p ∷ q ∷ other ∷ []) (errorReportsIn r) (h .0, (h .1 .0, (refl, refl))) (faults-ok r (h .1 .1 .1)))
     (λ _. refl)
 
-some-ok : (ps : List Scalar) → PlainsOk ps → PickedOk (some errorReportsIn ps)
+some-ok : (ps : List Scalar) → PlainsOk ps → PickedOk (atLeastOne errorReportsIn ps)
 some-ok [] h = refl
 some-ok (p ∷ ps) h = faults-ok (p ∷ ps) h
 
@@ -237,7 +237,7 @@ pub blacklist-taken : (v : View) → ViewOk v → listParameterPart .Fit (blackl
 blacklist-taken v h = fitted-list (inArray stringsIn v) (array-ok stringsIn strings-ok v h)
 
 pub unsupported-taken : (v : View) → ViewOk v → listParameterPart .Fit (unsupportedTaken v)
-unsupported-taken v h = fitted-list (inArray (some errorReportsIn) v) (array-ok (some errorReportsIn) some-ok v h)
+unsupported-taken v h = fitted-list (inArray (atLeastOne errorReportsIn) v) (array-ok (atLeastOne errorReportsIn) some-ok v h)
 
 -- ---- key sets
 abbrev KeyOk : Key → Type 0

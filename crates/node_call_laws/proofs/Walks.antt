@@ -9,7 +9,7 @@ use lib.ListN.{length}
 use Rattle.image.specs.Part.{AllBytes}
 use Rattle.cbor.specs.Decode as decode
 use Rattle.cbor.specs.Decode.{Outcome, payloadBy}
-use Rattle.cbor.specs.Item.{Item, Pairs, unsigned, negative, bytes, text, array, map, tag, simple, float}
+use Rattle.cbor.specs.Item.{Item, Pairs, unsigned, negative, bytes, text, array, mapItem, tag, simple, float}
 use Rattle.cbor.specs.Strict.{headBy}
 use Rattle.cbor.specs.View.{View, labelOf, viewOf}
 use Rattle.cbor.specs.declared.value.Label.{Label}
@@ -67,7 +67,7 @@ module _ {S : Type 0} (F : Form S) (Fits : S → Type 0) (passed : S → ℕ)
       map-ok (bytes s) h = refl
       map-ok (text s) h = refl
       map-ok (array is) h = refl
-      map-ok (map ps) h = let fits = h .1 .1 in pairs-read (fits .most) ps (fits .each) begin (begins (fits .most) (fits .small))
+      map-ok (mapItem ps) h = let fits = h .1 .1 in pairs-read (fits .most) ps (fits .each) begin (begins (fits .most) (fits .small))
       map-ok (tag n i) h = refl
       map-ok (simple n) h = refl
       map-ok (float w n) h = refl

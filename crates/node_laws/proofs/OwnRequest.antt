@@ -15,9 +15,9 @@ use Rattle.byte_io.specs.Write.{refuse, emit, answer}
 use Rattle.cbor.specs.Encode.{encode, encodePairs, shortest}
 use Rattle.cbor.specs.HeadLaws.{HeadLaws}
 use Rattle.byte_io.specs.declared.WriteResult.the-variants as written
-use Rattle.cbor.specs.Item.{Item, Pairs, unsigned, bytes, array, map, empty, countPairs}
+use Rattle.cbor.specs.Item.{Item, Pairs, unsigned, bytes, array, mapItem, empty, countPairs}
 use Rattle.cojp.specs.ErrorReports.{errorReportList, errorReportsValid, validErrorReport, validErrorReports}
-use Rattle.cojp.specs.Lists.{errorReportsIn, some, bytesIn, itemsIn, kept, noListParameter}
+use Rattle.cojp.specs.Lists.{errorReportsIn, atLeastOne, bytesIn, itemsIn, kept, noListParameter}
 use Rattle.cojp.specs.Octets as octets
 use Rattle.cojp.specs.Reading.{ifTaken}
 use Rattle.cojp.specs.Request.{owing}
@@ -79,19 +79,20 @@ module _ (H : HeadLaws) where
           one-pair 5 (bytes s) 17 (omega arith)
           (omega (arith, few, H .short-head 2 (length s) (omega (arith, few)), length-append (shortest 2 (length s)) s))
 
-  list-short : ListLaws → (p : ListParameter) → listInRange (some errorReportsIn) p ≡ true → p .value .count ≤ 15 → p .value .len ≤ 15
-      → Short 17 (listPairs 8 (some errorReportsIn) p)
+  list-short : ListLaws → (p : ListParameter) → listInRange (atLeastOne errorReportsIn) p ≡ true → p .value .count ≤ 15 → p .value .len ≤ 15
+      → Short 17 (listPairs 8 (atLeastOne errorReportsIn) p)
   list-short L p = go (p .disposition)
     where
-      go : (r : Disposition) → ifTaken r (kept (some errorReportsIn) (p .value)) true ≡ true → p .value .count ≤ 15 → p .value .len ≤ 15
-          → Short 17 (ifTaken r (labelled 8 (array (itemsIn (some errorReportsIn) (p .value)))) empty)
+      go : (r : Disposition) → ifTaken r (kept (atLeastOne errorReportsIn) (p .value)) true ≡ true
+          → p .value .count ≤ 15 → p .value .len ≤ 15
+          → Short 17 (ifTaken r (labelled 8 (array (itemsIn (atLeastOne errorReportsIn) (p .value)))) empty)
       go Absent h m l = no-pair 17
       go Discarded h m l = no-pair 17
       go Taken h m l =
           let e = L .unsupported-written (p .value) h in
           let s : List ℕ = bytesIn (p .value) in
           let n : ℕ = p .value .count in
-          one-pair 8 (array (itemsIn (some errorReportsIn) (p .value))) 16 (omega arith)
+          one-pair 8 (array (itemsIn (atLeastOne errorReportsIn) (p .value))) 16 (omega arith)
           (omega (
             arith,
             ap length e,
@@ -116,14 +117,14 @@ no-reports f e = ap (λ (n : ℕ). listing (take n (f .reports))) (eqb-true (f .
 
 module _ (L : ListLaws) (f : ErrorReports) where
   reports-in-range : (v : Version) → errorReportsValid v f ≡ true
-      → byVersion v (missing (listedIn f .disposition)) (listInRange (some errorReportsIn) (listedIn f)) ≡ true
+      → byVersion v (missing (listedIn f .disposition)) (listInRange (atLeastOne errorReportsIn) (listedIn f)) ≡ true
   unfolding errorReportsValid
   reports-in-range Draft h = rw (no-reports f h)
   reports-in-range Published h = L .listed-in-range f h
 
   -- at most five of three members and bytes
   abbrev Limits : Type 0
-  Limits = (listInRange (some errorReportsIn) (listedIn f) ≡ true) × (listedIn f .value .count ≤ 15) × (listedIn f .value .len ≤ 15)
+  Limits = (listInRange (atLeastOne errorReportsIn) (listedIn f) ≡ true) × (listedIn f .value .count ≤ 15) × (listedIn f .value .len ≤ 15)
 
   list-limits : (v : Version) → errorReportsValid v f ≡ true → Limits
   unfolding errorReportsValid validErrorReports
@@ -154,12 +155,12 @@ module _ (H : HeadLaws) (L : ListLaws) (n : Node) (v : Valid n) where
       both _ _ (both _ _ role-valid (identifier-in-range (n .network) network-valid))
       (reports-in-range L (n .errors) (n .version) faults-fit)
 
-  pub short : length (encode (map (requestPairs q))) ≤ 38
+  pub short : length (encode (mapItem (requestPairs q))) ≤ 38
   unfolding requestOf Short
   short =
       let a : Pairs = rolePairs (n .role) in
       let b : Pairs = octetsPairs 5 (identifierIn (n .network)) in
-      let c : Pairs = listPairs 8 (some errorReportsIn) (listedIn (n .errors)) in
+      let c : Pairs = listPairs 8 (atLeastOne errorReportsIn) (listedIn (n .errors)) in
       let l = list-limits L (n .errors) (n .version) faults-fit in
       let x = role-short H (n .role) role-valid in
       let y = octets-short H (identifierIn (n .network)) (identifier-in-range (n .network) network-valid) in
@@ -177,13 +178,13 @@ module _ (H : HeadLaws) (L : ListLaws) (n : Node) (v : Valid n) where
       )
 
   abbrev payload : List ℕ
-  payload = encode (map (requestPairs q))
+  payload = encode (mapItem (requestPairs q))
 
   pub request-number : (d : List ℕ) →
       writtenNumber (answer (requestPlan (n .version) q) d)
       ≡ inOrder
       (refusedIf (owing (n .version) (n .role) (identifierIn (n .network) .disposition)) 9
-      ∷ refusedIf (not (leb (length (encode (map (requestPairs q)))) (length d))) 12
+      ∷ refusedIf (not (leb (length (encode (mapItem (requestPairs q)))) (length d))) 12
       ∷ [])
   unfolding requestPlan requestOf
   request-number d =

@@ -18,7 +18,7 @@ use Rattle.link_key.specs.set.KeySet.{keysOf, sameKeys, shares, has}
 use Rattle.link_key_counters.specs.Counters.{Slot, firstServing}
 use Rattle.byte_io.specs.Write.{answer}
 use Rattle.cbor.specs.Encode.{encode}
-use Rattle.cbor.specs.Item.{map}
+use Rattle.cbor.specs.Item.{mapItem}
 use Rattle.byte_io.specs.declared.WriteResult.{WriteResult}
 use Rattle.byte_io.specs.declared.WriteResult.the-variants as written
 use Rattle.cojp.specs.Reading.{ifTaken}
@@ -110,9 +110,9 @@ pub record AnswersSay : Type 0 where
       writtenNumber (answer (requestPlan (n .version) (requestOf n)) d)
       ≡ inOrder
       (refusedIf (owing (n .version) (n .role) (identifierIn (n .network) .disposition)) 9
-      ∷ refusedIf (not (leb (length (encode (map (requestPairs (requestOf n))))) (length d))) 12
+      ∷ refusedIf (not (leb (length (encode (mapItem (requestPairs (requestOf n))))) (length d))) 12
       ∷ [])
-  pub request-short : (n : Node) → valid n ≡ true → length (encode (map (requestPairs (requestOf n)))) ≤ 38
+  pub request-short : (n : Node) → valid n ≡ true → length (encode (mapItem (requestPairs (requestOf n)))) ≤ 38
   pub poll-number :
       (n : Node) (time : ℕ) →
       dueNumber (poll n time .due)

@@ -10,7 +10,7 @@ use lib.Seq.{drop-drop}
 use Rattle.refusal.specs.declared.Refusal.{Refusal}
 use Rattle.refusal.specs.declared.Refusal.the-variants.{Cut, Deep, Extra}
 use Rattle.refusal.specs.declared.Verdict.the-variants as vv
-use Rattle.cbor.specs.Item.{Item, bytes, text, array, map, tag, more, pair}
+use Rattle.cbor.specs.Item.{Item, bytes, text, array, mapItem, tag, more, pair}
 use Rattle.cbor.specs.Decode.{Outcome, refused, got, andThen, next, Heading, members}
 use Rattle.cbor.specs.Decode.{pairs, majorOf, content, decodeBy, payloadBy, ended}
 use Rattle.cbor.specs.Strict.{headBy}
@@ -94,7 +94,7 @@ module _ (item : List ℕ → Outcome Item) (i a : ℕ) (l : List ℕ) where
       → forget (content item (majorOf m) i a l) ≡ onward (forget (members item a l)) (λ t. forget (members item a t))
   unfolding majorOf
   map-content m e = rw e
-      (forget-map map (pairs item a l) ∙ pairs-times item a l ∙ times-add item a a l
+      (forget-map mapItem (pairs item a l) ∙ pairs-times item a l ∙ times-add item a a l
       ∙ sym (simp members-times))
 
   tag-content : (m : ℕ) → m ≡ 6 → forget (content item (majorOf m) i a l) ≡ forget (item l)

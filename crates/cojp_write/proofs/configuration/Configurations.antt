@@ -7,7 +7,7 @@ use lib.ListN.{length, length-append}
 use Rattle.byte_io.specs.Write.{Wrote}
 use Rattle.cbor.specs.Encode.{shortest, encode, encodePairs}
 use Rattle.cbor.specs.HeadLaws.{HeadLaws}
-use Rattle.cbor.specs.Item.{map, countPairs}
+use Rattle.cbor.specs.Item.{mapItem, countPairs}
 use Rattle.cojp.specs.Lists.{stringsIn}
 use Rattle.cojp.specs.Writing.{join, keysPairs, addressPairs, octetsPairs, listPairs, ratePairs, configurationPairs}
 use Rattle.cojp.specs.declared.configuration.Configuration.{Configuration}
@@ -108,5 +108,5 @@ module _ (c : Configuration) where
         omega (arith, z .bytes, configuration-length (s .members), heads .short-head 5 (s .members) (omega (arith, z .few)))
 
     pub configuration-map : {d d′ : List ℕ} {n : ℕ} → Wrote (shortest 5 (s .members) ++ configurationBytes c) d n d′
-        → Wrote (encode (map (configurationPairs c))) d n d′
+        → Wrote (encode (mapItem (configurationPairs c))) d n d′
     configuration-map w = map-wrote (configurationPairs c) (configuration-sized .members) (bytes-are law f) w

@@ -7,7 +7,7 @@ use lib.ListN.{length, take}
 use Rattle.byte_io.specs.Write.{Wrote}
 use Rattle.cbor.specs.Encode.{encode, encodes}
 use Rattle.cbor.specs.HeadLaws.{HeadLaws}
-use Rattle.cbor.specs.Item.{bytes, none, more}
+use Rattle.cbor.specs.Item.{bytes, noItems, more}
 use Rattle.link_key.specs.AdditionalInfo.{additionalInfoBytes, paddedBytes}
 use Rattle.link_key.specs.declared.additional_info.AdditionalInfo.{AdditionalInfo}
 use Rattle.link_key.specs.declared.additional_info.AdditionalInfo.the-variants.{Absent, Four, Eight}
@@ -23,13 +23,13 @@ info-most Absent = omega arith
 info-most (Four a b c d) = omega arith
 info-most (Eight a b c d e f g h) = omega arith
 
-none-is : (i : AdditionalInfo) → length (additionalInfoBytes i) ≡ 0 → additionalInfoItems i ≡ none
+none-is : (i : AdditionalInfo) → length (additionalInfoBytes i) ≡ 0 → additionalInfoItems i ≡ noItems
 none-is Absent e = refl
 none-is (Four a b c d) e = absurd (omega arith)
 none-is (Eight a b c d e f g h) z = absurd (omega arith)
 
 string-is : (i : AdditionalInfo) → (length (additionalInfoBytes i) ≡ 0 → ⊥)
-    → additionalInfoItems i ≡ more (bytes (additionalInfoBytes i)) none
+    → additionalInfoItems i ≡ more (bytes (additionalInfoBytes i)) noItems
 string-is Absent f = absurd (f refl)
 string-is (Four a b c d) f = refl
 string-is (Eight a b c d e f g h) z = refl
@@ -55,7 +55,7 @@ module _ (i : AdditionalInfo) {s : PaddedBytes} (e : s ≡ paddedBytes i) where
     info-nothing w = rw (none-is i (sym same-len ∙ h)) w
 
   module _ (h : s .len ≡ 0 → ⊥) where
-    given : additionalInfoItems i ≡ more (bytes (additionalInfoBytes i)) none
+    given : additionalInfoItems i ≡ more (bytes (additionalInfoBytes i)) noItems
     given = string-is i (λ z. h (same-len ∙ z))
 
     given-bytes : encodes (additionalInfoItems i) ≡ encode (bytes (take (s .len) (s .bytes)))

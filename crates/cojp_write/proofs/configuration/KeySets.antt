@@ -12,7 +12,7 @@ use Rattle.byte_io.specs.Write.{Wrote}
 use Rattle.byte_io.specs.WriteLemmas.{seam}
 use Rattle.cbor.specs.Encode.{shortest, encode, encodes, encodePairs, extraOf}
 use Rattle.cbor.specs.HeadLaws.{HeadLaws}
-use Rattle.cbor.specs.Item.{Items, unsigned, bytes, array, none, more, empty, count}
+use Rattle.cbor.specs.Item.{Items, unsigned, bytes, array, noItems, more, empty, count}
 use Rattle.link_key.specs.set.KeySet.{keysOf}
 use Rattle.link_key.specs.declared.Key.{Key}
 use Rattle.link_key.specs.declared.additional_info.AdditionalInfo.the-variants.{Absent}
@@ -33,7 +33,7 @@ use Rattle.cojp_write.proofs.range.Taken.{taken-is}
 usage-items : (u : ℕ) → usageItems u ≡ usedItems u
 usage-items u = go (eqb u 0)
   where
-    go : (b : Bool) → cond b none (more (unsigned u) none) ≡ leaseItems (not b) u
+    go : (b : Bool) → cond b noItems (more (unsigned u) noItems) ≡ leaseItems (not b) u
     go true = refl
     go false = refl
 

@@ -6,7 +6,7 @@ use Prim.Native.Nat.{ℕ}
 use Rattle.refusal.specs.declared.Refusal.the-variants.{Range}
 use Rattle.byte_io.specs.Write.{Did}
 use Rattle.cbor.specs.Encode.{encode}
-use Rattle.cbor.specs.Item.{map}
+use Rattle.cbor.specs.Item.{mapItem}
 use Rattle.byte_io.specs.declared.WriteResult.{WriteResult}
 use Rattle.byte_io.specs.declared.WriteResult.the-variants.{Refused}
 use Rattle.byte_io.specs.WriteLemmas.{did-refuse}
@@ -20,7 +20,7 @@ module _ (v : Version) (c : Configuration) where
   configuration-range d h = simp h (did-refuse Range d)
 
   pub configuration-emit : {d d′ : List ℕ} {r : WriteResult} → configurationInRange v c ≡ true
-      → Did (fits (encode (map (configurationPairs c)))) d r d′
+      → Did (fits (encode (mapItem (configurationPairs c)))) d r d′
       → Did (configurationPlan v c) d r d′
   unfolding configurationPlan
   configuration-emit h w = simp h w

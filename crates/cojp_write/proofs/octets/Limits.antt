@@ -4,7 +4,7 @@ use mathlib.Core.Bool.{Bool, true, _&&_, false≢true}
 use borrow.Author.Tests.{leb-true}
 use lib.Dec.{leb}
 use Rattle.lemmas.specs.logic.Tests.{both-left, both-right}
-use Rattle.cojp.specs.Lists.{stringsIn, errorReportsIn, some}
+use Rattle.cojp.specs.Lists.{stringsIn, errorReportsIn, atLeastOne}
 use Rattle.cojp.specs.Reading.{ifTaken}
 use Rattle.protocol_version.specs.Version.{byVersion}
 use Rattle.cojp.specs.Writing.{missing, octetsInRange, jrcInRange, addressInRange, keysInRange}
@@ -24,8 +24,8 @@ missing-fits Absent b h = refl
 missing-fits Taken b h = absurd (false≢true h)
 missing-fits Discarded b h = refl
 
-reports-fit : (v : Version) (p : ListParameter) → byVersion v (missing (p .disposition)) (listInRange (some errorReportsIn) p) ≡ true
-    → listInRange (some errorReportsIn) p ≡ true
+reports-fit : (v : Version) (p : ListParameter) → byVersion v (missing (p .disposition)) (listInRange (atLeastOne errorReportsIn) p) ≡ true
+    → listInRange (atLeastOne errorReportsIn) p ≡ true
 reports-fit Draft p h = missing-fits (p .disposition) _ h
 reports-fit Published p h = h
 
@@ -34,7 +34,7 @@ unfolding requestInRange
 request-fits v q h =
     let r = leb (q .role) 1 in
     let n = octetsInRange (q .network) in
-    let u = byVersion v (missing (q .unsupported .disposition)) (listInRange (some errorReportsIn) (q .unsupported)) in
+    let u = byVersion v (missing (q .unsupported .disposition)) (listInRange (atLeastOne errorReportsIn) (q .unsupported)) in
     let f = both-left (r && n) u h in
     record {
       role = leb-true _ _ (both-left r n f);

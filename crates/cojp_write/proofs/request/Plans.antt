@@ -6,7 +6,7 @@ use Prim.Native.Nat.{ℕ}
 use Rattle.refusal.specs.declared.Refusal.the-variants.{Range, Owed}
 use Rattle.byte_io.specs.Write.{Plan, Did, refuse, emit}
 use Rattle.cbor.specs.Encode.{encode}
-use Rattle.cbor.specs.Item.{map}
+use Rattle.cbor.specs.Item.{mapItem}
 use Rattle.byte_io.specs.declared.WriteResult.{WriteResult}
 use Rattle.byte_io.specs.declared.WriteResult.the-variants.{Refused}
 use Rattle.byte_io.specs.WriteLemmas.{did-refuse}
@@ -34,6 +34,6 @@ module _ (v : Version) (q : JoinRequest) where
 
   pub request-emit : {owed : Bool} {d d′ : List ℕ} {r : WriteResult} → requestInRange v q ≡ true
       → owed ≡ owing v (q .role) (q .network .disposition)
-      → Did (owingPlan owed (fits (encode (map (requestPairs q))))) d r d′ → Did (requestPlan v q) d r d′
+      → Did (owingPlan owed (fits (encode (mapItem (requestPairs q))))) d r d′ → Did (requestPlan v q) d r d′
   unfolding requestPlan
   request-emit h e w = simp h (rw e at w)

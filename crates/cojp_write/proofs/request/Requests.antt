@@ -7,8 +7,8 @@ use lib.ListN.{length, length-append}
 use Rattle.byte_io.specs.Write.{Wrote}
 use Rattle.cbor.specs.Encode.{shortest, encode, encodePairs}
 use Rattle.cbor.specs.HeadLaws.{HeadLaws}
-use Rattle.cbor.specs.Item.{Pairs, map, countPairs}
-use Rattle.cojp.specs.Lists.{errorReportsIn, some}
+use Rattle.cbor.specs.Item.{Pairs, mapItem, countPairs}
+use Rattle.cojp.specs.Lists.{errorReportsIn, atLeastOne}
 use Rattle.cojp.specs.Writing.{join, rolePairs, octetsPairs, listPairs, requestPairs}
 use Rattle.cojp.specs.declared.request.JoinRequest.{JoinRequest}
 use Rattle.cojp_list.specs.Laws.{ListWritten}
@@ -28,13 +28,13 @@ module _ (q : JoinRequest) where
 
   request-count : countPairs (requestPairs q) ≡ requestCount q
   request-count =
-      join-count front (listPairs 8 (some errorReportsIn) (q .unsupported))
-      ∙ ap (λ (n : ℕ). countPairs front + n) (list-count (some errorReportsIn) 8 (q .unsupported))
+      join-count front (listPairs 8 (atLeastOne errorReportsIn) (q .unsupported))
+      ∙ ap (λ (n : ℕ). countPairs front + n) (list-count (atLeastOne errorReportsIn) 8 (q .unsupported))
 
-  request-bytes : ListWritten (some errorReportsIn) → RequestFits q → encodePairs (requestPairs q) ≡ requestBytes q
+  request-bytes : ListWritten (atLeastOne errorReportsIn) → RequestFits q → encodePairs (requestPairs q) ≡ requestBytes q
   request-bytes law f =
-      join-bytes front (listPairs 8 (some errorReportsIn) (q .unsupported))
-      ∙ ap (λ (s : List ℕ). encodePairs front ++ s) (list-bytes (some errorReportsIn) law 8 (q .unsupported) (f .unsupported))
+      join-bytes front (listPairs 8 (atLeastOne errorReportsIn) (q .unsupported))
+      ∙ ap (λ (s : List ℕ). encodePairs front ++ s) (list-bytes (atLeastOne errorReportsIn) law 8 (q .unsupported) (f .unsupported))
 
   pub request-length : (m : ℕ) → length (shortest 5 m) + length (requestBytes q) ≡ requestLength q m
   request-length m =
@@ -56,7 +56,7 @@ module _ (q : JoinRequest) where
   request-wrote m w = rw (parts m) w
 
   -- ---- the size, as that of the pairs
-  module _ (law : ListWritten (some errorReportsIn)) (f : RequestFits q) {s : Size}
+  module _ (law : ListWritten (atLeastOne errorReportsIn)) (f : RequestFits q) {s : Size}
       (z : Sizes (requestCount q) (requestBytes q) 3 299 s) where
     pub request-sized : PairsSize (requestPairs q) 3 299 s
     request-sized = pairs-size (requestPairs q) request-count (request-bytes law f) z
@@ -65,5 +65,5 @@ module _ (q : JoinRequest) where
     request-room heads d h = omega (arith, z .bytes, request-length (s .members), heads .short-head 5 (s .members) (omega (arith, z .few)))
 
     pub request-map : {d d′ : List ℕ} {n : ℕ} → Wrote (shortest 5 (s .members) ++ requestBytes q) d n d′
-        → Wrote (encode (map (requestPairs q))) d n d′
+        → Wrote (encode (mapItem (requestPairs q))) d n d′
     request-map w = map-wrote (requestPairs q) (request-sized .members) (request-bytes law f) w

@@ -13,13 +13,13 @@ use cojp::ListParameter;
 use protocol_version::Version;
 ghost use mathlib.Core.Bool.{_&&_};
 ghost use mathlib.Core.Path.{_≡_};
-ghost use Rattle.cojp.specs.Lists.{stringsIn, errorReportsIn, some};
+ghost use Rattle.cojp.specs.Lists.{stringsIn, errorReportsIn, atLeastOne};
 ghost use Rattle.protocol_version.specs.Version.{byVersion};
 ghost use Rattle.cojp.specs.Writing.{missing, listInRange, keysWithoutAdditionalInfo, ofVersion, requestInRange, configurationInRange};
 
 // The draft has no reports of what a node could not act on.
 fn reports_in_range(version: Version, p: ListParameter) -> bool
-    ensures { λ r. ⌜ r ≡ byVersion version (missing (p .disposition)) (listInRange (some errorReportsIn) p) ⌝ }
+    ensures { λ r. ⌜ r ≡ byVersion version (missing (p .disposition)) (listInRange (atLeastOne errorReportsIn) p) ⌝ }
 {
     let report = p.disposition;
     match version {

@@ -8,7 +8,7 @@ use cojp_list::is_blacklist;
 use cojp_list::is_unsupported;
 use short_address::is_address;
 ghost use mathlib.Core.Path.{_≡_};
-ghost use Rattle.cojp.specs.Lists.{stringsIn, errorReportsIn, some};
+ghost use Rattle.cojp.specs.Lists.{stringsIn, errorReportsIn, atLeastOne};
 ghost use Rattle.cojp.specs.Writing.{octetsInRange, jrcInRange, addressInRange, keysInRange, keysWithoutAdditionalInfo, listInRange};
 
 // An identifier or a prefix has at most 16 bytes.
@@ -78,7 +78,7 @@ pub(crate) fn blacklist_in_range(p: ListParameter) -> bool
 
 // An unsupported configuration is an array of reports.
 pub(crate) fn unsupported_in_range(p: ListParameter) -> bool
-    ensures { λ r. ⌜ r ≡ listInRange (some errorReportsIn) p ⌝ }
+    ensures { λ r. ⌜ r ≡ listInRange (atLeastOne errorReportsIn) p ⌝ }
 {
     let report = p.disposition;
     if is_taken(report) {

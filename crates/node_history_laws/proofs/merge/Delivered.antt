@@ -13,7 +13,7 @@ use Rattle.refusal.specs.declared.Verdict.{Verdict}
 use Rattle.refusal.specs.declared.Verdict.the-variants.{Accepted, Refused}
 use Rattle.byte_io.specs.Write.{emit}
 use Rattle.cbor.specs.Encode.{encode}
-use Rattle.cbor.specs.Item.{map}
+use Rattle.cbor.specs.Item.{mapItem}
 use Rattle.cojp.specs.Configuration.{readConfigurationAs, readConfiguration}
 use Rattle.cojp.specs.ErrorReports.{errorReportsValid}
 use Rattle.protocol_version.specs.Version.{byVersion}
@@ -153,7 +153,7 @@ module _ (applies : MergedApplies) (laws : MergeLaws) (in-range : ReadsInRange) 
       let is : mergeAnswer first second .configuration ≡ merged first second = merge-is first second i j in
       let w = mergedPayload first second in
       let writes : configurationPlan Draft (mergeAnswer first second .configuration) ≡ emit w =
-      planned (good .1) ∙ ap (λ (c : Configuration). emit (encode (map (configurationPairs c)))) is in
+      planned (good .1) ∙ ap (λ (c : Configuration). emit (encode (mapItem (configurationPairs c)))) is in
       let short = largest w writes in
       let read = back Draft w writes false in
       let arrives : deliver Update n time w ≡ apply Update n time (readConfiguration w .configuration) =

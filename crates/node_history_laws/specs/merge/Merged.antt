@@ -11,7 +11,7 @@ use lib.ListN.{length}
 use Rattle.refusal.specs.declared.Verdict.the-variants.{Accepted}
 use Rattle.byte_io.specs.Write.{emit}
 use Rattle.cbor.specs.Encode.{encode}
-use Rattle.cbor.specs.Item.{map}
+use Rattle.cbor.specs.Item.{mapItem}
 use Rattle.cojp.specs.Configuration.{readConfiguration}
 use Rattle.cojp.specs.Writing.{missing, configurationPairs, configurationPlan}
 use Rattle.cojp.specs.declared.configuration.Configuration.{Configuration}
@@ -53,7 +53,7 @@ MergedApplies =
 
 -- ---- payloads at a node of the draft: any two, and the one that is written of the merged configuration, in at most 232 bytes
 abbrev pub mergedPayload : Configuration → Configuration → List ℕ
-mergedPayload first second = encode (map (configurationPairs (merged first second)))
+mergedPayload first second = encode (mapItem (configurationPairs (merged first second)))
 
 pub record DeliveredAsOne (n : Node) (time : ℕ) (p q : List ℕ) (first second : Configuration) : Type 0 where
   pub merges : mergeAnswer first second .verdict ≡ Accepted

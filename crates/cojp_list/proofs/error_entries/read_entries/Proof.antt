@@ -3,7 +3,7 @@ use Rattle.cojp_list.proofs.Reports.{some-more, some-none}
 use Rattle.cojp_list.proofs.Gathering.{list-bad, list-kept}
 use Prim.Native.Nat.{ℕ}
 use mathlib.Core.List.{List}
-use Rattle.cojp.specs.Lists.{fitting, errorReportsIn, some, listAnswer}
+use Rattle.cojp.specs.Lists.{fitting, errorReportsIn, atLeastOne, listAnswer}
 use Rattle.cojp.specs.Bytes.{membersAt}
 use lib.ListN.{replicate, drop}
 use mathlib.Core.Path.{_≡_, refl, ap, sym, _∙_}
@@ -37,7 +37,7 @@ enum-known-g c = search needs
 
 -- one member at least, so the pattern is that of reports
 some-reports : (n : ℕ) (l : List ℕ) → ¬ (n ≡ 0)
-    → listAnswer (fitting 253 (errorReportsIn (membersAt n l))) ≡ listAnswer (fitting 253 (some errorReportsIn (membersAt n l)))
+    → listAnswer (fitting 253 (errorReportsIn (membersAt n l))) ≡ listAnswer (fitting 253 (atLeastOne errorReportsIn (membersAt n l)))
 some-reports n l h = ap (λ q. listAnswer (fitting 253 q)) (sym (some-more errorReportsIn n l h))
 
 returns-2 : tie.Need-returns-2

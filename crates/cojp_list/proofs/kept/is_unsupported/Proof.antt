@@ -1,6 +1,6 @@
 -- The list is read again from its own bytes.
 use Rattle.cojp_list.proofs.Again.{list-small, kept-long, kept-again}
-use Rattle.cojp.specs.Lists.{bytesIn, some, errorReportsIn}
+use Rattle.cojp.specs.Lists.{bytesIn, atLeastOne, errorReportsIn}
 use lib.Seq.{length-take-le}
 use lib.ListN.{length, drop}
 use Rattle.cojp.specs.Bytes.{membersAt}
@@ -11,7 +11,7 @@ use Rattle.cojp_list.proofs.kept.is_unsupported.Statement.{statement}
 use Rattle.cojp_list.proofs.kept.is_unsupported.Tie as tie
 
 returns : tie.Need-returns
-returns c = kept-long (some errorReportsIn) (c .before .args .l) (c .if1 .taken)
+returns c = kept-long (atLeastOne errorReportsIn) (c .before .args .l) (c .if1 .taken)
 
 array-share-prefix-bytes : tie.Need-array-share-prefix-bytes
 array-share-prefix-bytes c =
@@ -30,8 +30,8 @@ same-as-requires : tie.Need-same-as-requires
 same-as-requires c κs =
     let if-place = c .before .before .before in
     let begun = if-place .before in (
-      list-small ((some errorReportsIn) (membersAt (begun .args .l .count) (drop 0 (bytesIn (begun .args .l))))) (c .read-entries .result)
-          (c .read-entries .ensures),
+      list-small ((atLeastOne errorReportsIn) (membersAt (begun .args .l .count) (drop 0 (bytesIn (begun .args .l)))))
+          (c .read-entries .result) (c .read-entries .ensures),
       if-place .if1 .left,
     )
 
@@ -39,7 +39,7 @@ returns-2 : tie.Need-returns-2
 returns-2 c =
     let if-place = c .before .before .before .before in
     let begun = if-place .before in
-    kept-again (some errorReportsIn) (begun .args .l) (if-place .if1 .left) (c .before .read-entries .result)
+    kept-again (atLeastOne errorReportsIn) (begun .args .l) (if-place .if1 .left) (c .before .read-entries .result)
     (c .before .read-entries .ensures)
     (c .same-as .result) (c .same-as .ensures)
 

@@ -5,7 +5,7 @@ use mathlib.Core.List.{_++_}
 use lib.ListN.{length, length-append}
 use Rattle.byte_io.specs.WriteLemmas.{seam, wrote-length}
 use Rattle.cbor.specs.Encode.{shortest, encodePairs}
-use Rattle.cojp.specs.Lists.{errorReportsIn, some}
+use Rattle.cojp.specs.Lists.{errorReportsIn, atLeastOne}
 use Rattle.cojp.specs.Writing.{rolePairs, octetsPairs}
 use Rattle.cojp_write.specs.octets.Plan.{listBytes}
 use Rattle.cojp_write.proofs.octets.Lists.{list-fits}
@@ -71,7 +71,7 @@ put-list-requires c κs =
     let role = network .before .before .before .before in
     let head = role .before .before .before .before in
     let start = head .before .before .before in
-    (list-fits (some errorReportsIn) (start .args .q .unsupported) (start .pre .0 .unsupported), omega (arith, start .pre .1))
+    (list-fits (atLeastOne errorReportsIn) (start .args .q .unsupported) (start .pre .0 .unsupported), omega (arith, start .pre .1))
 
 add-result : tie.Need-add-result
 add-result c =
