@@ -241,7 +241,8 @@ uint32_t pothatch_request_write(uint8_t form, const uint8_t *object, uint64_t ob
 uint32_t pothatch_configuration_write(uint8_t form, const uint8_t *object, uint64_t object_len, uint8_t *dst, uint64_t dst_len,
     uint64_t *length);
 /* Joins two configurations of the draft form: each parameter from the second where taken there, else from the first. RANGE: one that is
- * none or outside its limits. [in] first, second [result] out: a configuration */
+ * none, outside its limits, or read in the published form with a known label (its lease is in hours).
+ * [in] first, second [result] out: a configuration */
 uint32_t pothatch_configuration_merge(const uint8_t *first, uint64_t first_len, const uint8_t *second, uint64_t second_len, uint8_t *out,
     uint64_t out_len);
 

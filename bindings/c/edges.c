@@ -217,6 +217,8 @@ static void configurations(void) {
     check("merged", pothatch_configuration_merge(POTHATCH_LEND_IN(&c), POTHATCH_LEND_IN(&d), out, sizeof c) == 0);
     memcpy(&c, out, sizeof c);
     check("the later address", c.address.bytes[0] == 0x56 && pothatch_u64(c.address.lease) == 10 && c.network.bytes[1] == 0xFE);
+    read_as(0, 1, 0, "A1 03 82 42 12 34 01", &d);
+    check("an hour is no second", pothatch_configuration_merge(POTHATCH_LEND_IN(&c), POTHATCH_LEND_IN(&d), out, sizeof c) == POTHATCH_RANGE);
     d.layout = 2;
     check("another layout", pothatch_configuration_merge(POTHATCH_LEND_IN(&c), POTHATCH_LEND_IN(&d), out, sizeof c) == POTHATCH_RANGE);
     check("nothing is left", all_zero(out, sizeof c));

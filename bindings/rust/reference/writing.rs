@@ -170,9 +170,11 @@ pub fn configuration(form: u8, c: &Configuration, dst: &mut [u8]) -> Result<u64,
     into(pairs.payload()?, dst)
 }
 
-/// Each parameter from the second where taken there, else from the first. Both are of the draft.
+/// Each parameter from the second where taken there, else from the first. Both are of the draft: a reading of the published form notes the
+/// known labels.
 pub fn merged(a: &Configuration, b: &Configuration) -> Result<Configuration, Refused> {
-    if !configuration_fits(a, DRAFT) || !configuration_fits(b, DRAFT) {
+    let of_draft = |c: &Configuration| configuration_fits(c, DRAFT) && c.came.count == 0;
+    if !of_draft(a) || !of_draft(b) {
         return Err(RANGE);
     }
     let mut c = Configuration { keys_report: a.keys_report, keys: a.keys, address: a.address, ..Configuration::default() };

@@ -2,6 +2,7 @@
 use Prim.Native.Nat.{ℕ}
 use mathlib.Core.Path.{_≡_, refl, ap, sym, _∙_}
 use mathlib.Core.Bool.{Bool, true, false, cond, _&&_}
+use lib.Dec.{eqb}
 use native.Mathlib.Omega.{arith}
 use mathlib.Core.Option.{none, some}
 use Rattle.refusal.specs.declared.Refusal.{Refusal}
@@ -27,7 +28,7 @@ use Rattle.protocol_version.specs.declared.Version.the-variants.{Draft}
 use Rattle.cojp_write.proofs.octets.Limits.{configuration-fits}
 use Rattle.lemmas.specs.logic.Tests.{both-left, both-right, both-true}
 use Rattle.cojp_merge.specs.Laws.{Associative, NeutralFirst, NeutralSecond, StaysInRange, RefusedEmpty}
-use Rattle.cojp_merge.specs.Merge.{merged, mergeAnswer, outsideLimits}
+use Rattle.cojp_merge.specs.Merge.{merged, ofDraft, mergeAnswer, outsideLimits}
 use Rattle.cojp_merge.specs.declared.MergeResult.{MergeResult}
 
 -- ---- one parameter, which tells its report
@@ -118,53 +119,64 @@ none-seen x Absent e = refl
 none-seen x Taken e = absurd (let z : _≡_ {A = ℕ} 0 1 = cc in omega arith)
 none-seen x Discarded e = refl
 
+-- ---- of the draft: the limits, and no label noted
+draft-limits : (c : Configuration) → ofDraft c ≡ true → configurationInRange Draft c ≡ true
+unfolding ofDraft
+draft-limits c e = both-left (configurationInRange Draft c) (eqb (c .labels .count) 0) e
+
+pub of-draft : (c : Configuration) → configurationInRange Draft c ≡ true → eqb (c .labels .count) 0 ≡ true → ofDraft c ≡ true
+unfolding ofDraft
+of-draft c e f = rw (e, f)
+
+merged-of-draft : (a b : Configuration) → ofDraft a ≡ true → ofDraft b ≡ true → ofDraft (merged a b) ≡ true
+merged-of-draft a b e f = of-draft (merged a b) (merged-in-range a b (draft-limits a e) (draft-limits b f)) refl
+
 -- ---- the answer
 abbrev pub answered : Configuration → MergeResult
 answered c = record { verdict = Accepted; configuration = c }
 
-pub merge-answered : (a b : Configuration) → configurationInRange Draft a ≡ true → configurationInRange Draft b ≡ true
-    → answered (merged a b) ≡ mergeAnswer a b
+pub merge-answered : (a b : Configuration) → ofDraft a ≡ true → ofDraft b ≡ true → answered (merged a b) ≡ mergeAnswer a b
 unfolding mergeAnswer
 merge-answered a b e f = rw (e, f)
 
-pub merge-first-outside : (a b : Configuration) → configurationInRange Draft a ≡ false → outsideLimits ≡ mergeAnswer a b
+pub merge-first-outside : (a b : Configuration) → ofDraft a ≡ false → outsideLimits ≡ mergeAnswer a b
 unfolding mergeAnswer
 merge-first-outside a b e = rw e
 
-pub merge-second-outside : (a b : Configuration) → configurationInRange Draft a ≡ true → configurationInRange Draft b ≡ false
-    → outsideLimits ≡ mergeAnswer a b
+pub merge-second-outside : (a b : Configuration) → ofDraft b ≡ false → outsideLimits ≡ mergeAnswer a b
 unfolding mergeAnswer
-merge-second-outside a b e f = rw (e, f)
+merge-second-outside a b f = by (ofDraft a)
+  where
+    by : (x : Bool) → outsideLimits ≡ cond (x && ofDraft b) (answered (merged a b)) outsideLimits
+    by true = rw f
+    by false = refl
 
 accepted-test : (t : Bool) (c : Configuration) → cond t (answered c) outsideLimits .verdict ≡ Accepted → t ≡ true
 accepted-test true c e = refl
 accepted-test false c e = absurd (let z : _≡_ {A = ℕ} 0 1 = cc in omega arith)
 
-accepted-in-range : (a b : Configuration) → mergeAnswer a b .verdict ≡ Accepted
-    → (configurationInRange Draft a ≡ true) × (configurationInRange Draft b ≡ true)
+accepted-of-draft : (a b : Configuration) → mergeAnswer a b .verdict ≡ Accepted → (ofDraft a ≡ true) × (ofDraft b ≡ true)
 unfolding mergeAnswer
-accepted-in-range a b e =
-    both-true (configurationInRange Draft a) (configurationInRange Draft b)
-    (accepted-test (configurationInRange Draft a && configurationInRange Draft b) (merged a b) e)
+accepted-of-draft a b e = both-true (ofDraft a) (ofDraft b) (accepted-test (ofDraft a && ofDraft b) (merged a b) e)
 
 accepted-is : (a b : Configuration) → mergeAnswer a b .verdict ≡ Accepted → mergeAnswer a b .configuration ≡ merged a b
 accepted-is a b e =
-    let r = accepted-in-range a b e in
+    let r = accepted-of-draft a b e in
     ap (λ (m : MergeResult). m .configuration) (sym (merge-answered a b (r .0) (r .1)))
 
 pub associative : Associative
 associative a b c e f =
-    let r = accepted-in-range a b e in
-    let s = accepted-in-range b c f in
+    let r = accepted-of-draft a b e in
+    let s = accepted-of-draft b c f in
     rw (accepted-is a b e, accepted-is b c f)
-    (sym (merge-answered (merged a b) c (merged-in-range a b (r .0) (r .1)) (s .1))
+    (sym (merge-answered (merged a b) c (merged-of-draft a b (r .0) (r .1)) (s .1))
     ∙ ap answered (brackets a b c)
-    ∙ merge-answered a (merged b c) (r .0) (merged-in-range b c (s .0) (s .1)))
+    ∙ merge-answered a (merged b c) (r .0) (merged-of-draft b c (s .0) (s .1)))
 
 pub neutral-first : NeutralFirst
 neutral-first c e =
     rw (accepted-is emptyConfiguration c e)
-    (same (drafted c (configuration-fits Draft c (accepted-in-range emptyConfiguration c e .1) .form)))
+    (same (drafted c (configuration-fits Draft c (draft-limits c (accepted-of-draft emptyConfiguration c e .1)) .form)))
   where
     same : Drafted c → SameConfiguration (merged emptyConfiguration c) c
     same d = record {
@@ -186,7 +198,7 @@ neutral-first c e =
 
 pub neutral-second : NeutralSecond
 neutral-second c e =
-    let d = drafted c (configuration-fits Draft c (accepted-in-range c emptyConfiguration e .0) .form) in
+    let d = drafted c (configuration-fits Draft c (draft-limits c (accepted-of-draft c emptyConfiguration e .0)) .form) in
     rw (accepted-is c emptyConfiguration e) (record {
       keys = refl;
       address = refl;
@@ -200,7 +212,7 @@ neutral-second c e =
 pub in-range : StaysInRange
 in-range a b e f =
     let answer = sym (merge-answered a b e f) in
-    (ap (λ (m : MergeResult). m .verdict) answer, rw answer (merged-in-range a b e f))
+    (ap (λ (m : MergeResult). m .verdict) answer, rw answer (merged-of-draft a b e f))
 
 refused-test : (t : Bool) (c : Configuration) (k : Refusal) → cond t (answered c) outsideLimits .verdict ≡ Refused k
     → cond t (answered c) outsideLimits .configuration ≡ emptyConfiguration
@@ -209,4 +221,4 @@ refused-test false c k e = refl
 
 pub refused : RefusedEmpty
 unfolding mergeAnswer
-refused a b k e = refused-test (configurationInRange Draft a && configurationInRange Draft b) (merged a b) k e
+refused a b k e = refused-test (ofDraft a && ofDraft b) (merged a b) k e

@@ -1,18 +1,21 @@
 -- What is promised of merging. The law on a node stands with the node.
 use Prim.Native.Nat.{ℕ}
 use mathlib.Core.Path.{_≡_}
-use mathlib.Core.Bool.{true}
-use mathlib.Core.List.{List}
+use mathlib.Core.Bool.{Bool, true}
+use mathlib.Core.List.{List, [], _∷_}
+use mathlib.Core.Logic.{_⊎_}
 use mathlib.Core.Option.{none, some}
 use Rattle.refusal.specs.declared.Refusal.{Refusal}
 use Rattle.refusal.specs.declared.Verdict.the-variants.{Accepted, Refused}
-use Rattle.cojp.specs.Configuration.{emptyConfiguration, readConfiguration}
+use Rattle.cbor.specs.Strict.{headBy}
+use Rattle.cojp.specs.Address.{addressOf, addressParameter}
+use Rattle.cojp.specs.Configuration.{emptyConfiguration, readConfigurationBy, readConfigurationAs, readConfiguration}
 use Rattle.cojp.specs.Reading.{ifTaken}
 use Rattle.cojp.specs.Same.{SameConfiguration}
-use Rattle.cojp.specs.Writing.{configurationInRange}
 use Rattle.cojp.specs.declared.configuration.Configuration.{Configuration}
-use Rattle.protocol_version.specs.declared.Version.the-variants.{Draft}
-use Rattle.cojp_merge.specs.Merge.{merged, mergeAnswer}
+use Rattle.cojp.specs.declared.disposition.Disposition.the-variants.{Taken}
+use Rattle.protocol_version.specs.declared.Version.the-variants.{Published}
+use Rattle.cojp_merge.specs.Merge.{merged, ofDraft, outsideLimits, mergeAnswer}
 
 -- ---- three configurations come to the same in either bracket, reports included
 abbrev pub Associative : Type 0
@@ -31,12 +34,11 @@ NeutralSecond =
     (c : Configuration) → mergeAnswer c emptyConfiguration .verdict ≡ Accepted →
     SameConfiguration (mergeAnswer c emptyConfiguration .configuration) c
 
--- ---- whoever merges two that are within their limits gets one that is, so it can be written or merged again;
--- a refusal comes with the empty one
+-- ---- whoever merges two of the draft gets one of the draft, so it can be written or merged again; a refusal comes with the empty one
 abbrev pub StaysInRange : Type 0
 StaysInRange =
-    (a b : Configuration) → configurationInRange Draft a ≡ true → configurationInRange Draft b ≡ true →
-    (mergeAnswer a b .verdict ≡ Accepted) × (configurationInRange Draft (mergeAnswer a b .configuration) ≡ true)
+    (a b : Configuration) → ofDraft a ≡ true → ofDraft b ≡ true →
+    (mergeAnswer a b .verdict ≡ Accepted) × (ofDraft (mergeAnswer a b .configuration) ≡ true)
 
 abbrev pub RefusedEmpty : Type 0
 RefusedEmpty =
@@ -71,3 +73,31 @@ pub record MergeLaws : Type 0 where
   pub in-range : StaysInRange
   pub refused : RefusedEmpty
   pub exact : ReadsExactly
+
+-- ---- the draft alone
+-- what a payload of the published form holds, read strictly or not; beside a refusal the empty configuration
+abbrev pub publishedIn : Bool → List ℕ → Configuration
+publishedIn strict p = readConfigurationBy Published (headBy strict) p .configuration
+
+pub record RangeToMerge (c d : Configuration) : Type 0 where
+  pub first : mergeAnswer c d ≡ outsideLimits
+  pub second : mergeAnswer d c ≡ outsideLimits
+
+-- address 1234 with lease 1: a second in the draft, an hour in the published form
+abbrev pub leaseOfOne : List ℕ
+leaseOfOne = 0xA1 ∷ 0x03 ∷ 0x82 ∷ 0x42 ∷ 0x12 ∷ 0x34 ∷ 0x01 ∷ []
+
+pub record DraftAlone : Type 0 where
+  -- what two payloads of the draft hold merges
+  pub draft :
+      (p q : List ℕ) → readConfiguration p .verdict ≡ Accepted → readConfiguration q .verdict ≡ Accepted →
+      mergeAnswer (readConfiguration p .configuration) (readConfiguration q .configuration) .verdict ≡ Accepted
+  -- what one of the published form holds does not, whatever it is merged with, unless nothing is taken from it
+  pub published :
+      (strict : Bool) (p : List ℕ) (d : Configuration) →
+      RangeToMerge (publishedIn strict p) d ⊎ SameConfiguration (publishedIn strict p) emptyConfiguration
+  -- computed: a second is merged, an hour is not
+  pub second :
+      mergeAnswer emptyConfiguration (readConfiguration leaseOfOne .configuration) .configuration .address
+      ≡ addressParameter Taken (addressOf (0x12 ∷ 0x34 ∷ []) true 1)
+  pub hour : mergeAnswer emptyConfiguration (readConfigurationAs Published leaseOfOne .configuration) ≡ outsideLimits

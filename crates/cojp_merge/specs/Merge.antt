@@ -1,5 +1,6 @@
--- Two configurations joined into one, in document 01's form: what only the published form has (docs/RFC9031.md) is outside its limits.
-use mathlib.Core.Bool.{cond, _&&_}
+-- Two configurations joined into one, in document 01's form. Document 02, request 11: "Requests 4 and 10 stay with the old form".
+use mathlib.Core.Bool.{Bool, cond, _&&_}
+use lib.Dec.{eqb}
 use Rattle.refusal.specs.declared.Refusal.the-variants.{Range}
 use Rattle.refusal.specs.declared.Verdict.the-variants.{Accepted, Refused}
 use Rattle.cojp.specs.Configuration.{emptyConfiguration}
@@ -28,12 +29,18 @@ merged first second = record {
   unknown = 0;
 }
 
--- ---- the answer: RANGE where either is outside its limits, and the empty configuration beside it
+-- ---- the answer
+-- a configuration of the draft: what it takes is within the draft's limits, and it was not read in the published form, in which every known
+-- label is noted; the lease of such a one is in hours
+unfoldable pub ofDraft : Configuration → Bool
+ofDraft c = (configurationInRange Draft c && eqb (c .labels .count) 0)
+
+-- RANGE where either is none, and the empty configuration beside it
 abbrev pub outsideLimits : MergeResult
 outsideLimits = record { verdict = Refused Range; configuration = emptyConfiguration }
 
 unfoldable pub mergeAnswer : Configuration → Configuration → MergeResult
 mergeAnswer first second =
-    cond (configurationInRange Draft first && configurationInRange Draft second)
+    cond (ofDraft first && ofDraft second)
     (record { verdict = Accepted; configuration = merged first second })
     outsideLimits

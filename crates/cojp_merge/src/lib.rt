@@ -19,8 +19,8 @@ use refusal::Refusal;
 use refusal::Verdict;
 ghost use mathlib.Core.Path.{_≡_};
 ghost use Rattle.cojp_laws.specs.Largest.{LargestConfiguration};
-ghost use Rattle.cojp_merge.specs.Merge.{merged, mergeAnswer, outsideLimits};
-ghost use Rattle.cojp_merge.specs.Laws.{MergeLaws};
+ghost use Rattle.cojp_merge.specs.Merge.{merged, mergeAnswer, ofDraft, outsideLimits};
+ghost use Rattle.cojp_merge.specs.Laws.{MergeLaws, DraftAlone};
 
 // Beside a refusal stands the empty configuration.
 pub struct MergeResult {
@@ -62,15 +62,26 @@ fn merge_parameters(first: Configuration, second: Configuration) -> Configuratio
     }
 }
 
-// Joins two configurations. RANGE where either holds a taken parameter outside its limits, even one that the other overrides; what only the
-// published form has is outside them.
+// Whether a configuration is one of the draft: within the draft's limits, and not read in the published form, which notes the known labels.
+// A lease that was read there is in hours.
+fn is_of_draft(configuration: Configuration) -> bool
+    ensures { λ r. ⌜ r ≡ ofDraft configuration ⌝ }
+{
+    if !configuration_in_range(Version::Draft, configuration) {
+        return false;
+    }
+    configuration.labels.count == 0
+}
+
+// Joins two configurations of the draft. RANGE where either was read in the published form, or holds a taken parameter outside its limits,
+// even one that the other overrides.
 pub fn merge(first: Configuration, second: Configuration) -> MergeResult
     ensures { λ r. ⌜ r ≡ mergeAnswer first second ⌝ }
 {
-    if !configuration_in_range(Version::Draft, first) {
+    if !is_of_draft(first) {
         return outside_limits();
     }
-    if !configuration_in_range(Version::Draft, second) {
+    if !is_of_draft(second) {
         return outside_limits();
     }
     let configuration = merge_parameters(first, second);
@@ -84,6 +95,13 @@ pub fn merge(first: Configuration, second: Configuration) -> MergeResult
 pub fn laws()
     ensures { λ r. ⌜ MergeLaws ⌝ }
 {}
+
+// Whatever two payloads of the draft hold merges; what a payload of the published form holds does not, unless nothing of it was taken.
+pub fn draft_alone_law()
+    ensures { λ r. ⌜ DraftAlone ⌝ }
+{
+    cojp::reads_in_range_law();
+}
 
 // The merged configuration takes no more than 232 bytes.
 pub fn merged_size_law(first: Configuration, second: Configuration)

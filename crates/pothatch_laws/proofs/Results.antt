@@ -18,7 +18,6 @@ use Rattle.cojp.specs.Configuration.{emptyConfiguration, refuseConfiguration}
 use Rattle.cojp.specs.Reading.{ifTaken}
 use Rattle.cojp.specs.Request.{emptyRequest, refuseRequest}
 use Rattle.cojp.specs.Walk.{payloadReadBy}
-use Rattle.cojp.specs.Writing.{configurationInRange}
 use Rattle.cojp.specs.declared.configuration.Configuration.{Configuration}
 use Rattle.cojp.specs.declared.configuration.ConfigurationRead.{ConfigurationRead}
 use Rattle.cojp.specs.declared.octets.OctetsParameter.{OctetsParameter}
@@ -26,7 +25,7 @@ use Rattle.cojp.specs.declared.disposition.Disposition.{Disposition}
 use Rattle.cojp.specs.declared.disposition.Disposition.the-variants.{Absent, Taken, Discarded}
 use Rattle.cojp.specs.declared.request.RequestRead.{RequestRead}
 use Rattle.protocol_version.specs.declared.Version.the-variants.{Draft}
-use Rattle.cojp_merge.specs.Merge.{mergeAnswer}
+use Rattle.cojp_merge.specs.Merge.{ofDraft, mergeAnswer}
 use Rattle.cojp_merge.specs.declared.MergeResult.{MergeResult}
 use Rattle.cojp_serial.specs.State.{decisionOf, endRead, endState}
 use Rattle.cojp_serial.specs.declared.state.PartDecision.{PartDecision}
@@ -115,7 +114,7 @@ module _ (follow : CallsFit) where
       let a = f .0 in
       let b = g .0 in
       either (λ (m : MergeResult). configurationImage .Fit (m .configuration))
-      (configurationInRange Draft c && configurationInRange Draft d)
+      (ofDraft c && ofDraft d)
       (λ _. (
         (
           by-report (keysParameterPart .Fit) (d .keys .disposition) (b .0) (a .0),

@@ -6,7 +6,7 @@ use mathlib.Core.Bool.{Bool, true, false, cond, _&&_}
 use mathlib.Core.List.{List}
 use native.Mathlib.Omega.{arith}
 use borrow.Author.Tests.{le-leb, eqb-true}
-use lib.Dec.{leb}
+use lib.Dec.{leb, eqb}
 use lib.ListN.{length}
 use Rattle.refusal.specs.declared.Refusal.the-variants as refusal
 use Rattle.refusal.specs.declared.Verdict.{Verdict}
@@ -27,7 +27,7 @@ use Rattle.cojp.specs.declared.configuration.ConfigurationRead.{ConfigurationRe
 use Rattle.protocol_version.specs.declared.Version.{Version}
 use Rattle.protocol_version.specs.declared.Version.the-variants.{Draft}
 use Rattle.cojp_merge.specs.Laws.{MergeLaws, TakesEqual}
-use Rattle.cojp_merge.specs.Merge.{merged, mergeAnswer}
+use Rattle.cojp_merge.specs.Merge.{merged, ofDraft, mergeAnswer}
 use Rattle.lemmas.specs.logic.Tests.{both-left, both-right}
 use Rattle.node_attempt.specs.Attempt as attempt
 use Rattle.node_attempt.specs.delivery.Delivery.{belongs, mayCome}
@@ -99,9 +99,13 @@ module _ (n : Node) (time : ℕ) where
       (le-leb len 256 h)
 
 -- ---- the merged one
-whole-range : (c : Configuration) → InRange Draft c → configurationInRange Draft c ≡ true
-unfolding configurationInRange
-whole-range c i = rw (i .keys, i .address, i .jrc, i .network, i .prefix, i .form)
+whole-range : (c : Configuration) → InRange Draft c → ofDraft c ≡ true
+unfolding ofDraft configurationInRange errorReportsValid
+whole-range c i = rw (i .keys, i .address, i .jrc, i .network, i .prefix, i .form, i .met)
+
+in-limits : (c : Configuration) → ofDraft c ≡ true → configurationInRange Draft c ≡ true
+unfolding ofDraft
+in-limits c e = both-left (configurationInRange Draft c) (eqb (c .labels .count) 0) e
 
 -- what a reading of the draft takes is of the draft
 of-draft : (c : Configuration) → InRange Draft c → OfDraft c
@@ -116,8 +120,7 @@ of-draft c i =
       met = eqb-true (c .labels .count) 0 (i .met);
     }
 
-merge-is : (f s : Configuration) → configurationInRange Draft f ≡ true → configurationInRange Draft s ≡ true
-    → mergeAnswer f s .configuration ≡ merged f s
+merge-is : (f s : Configuration) → ofDraft f ≡ true → ofDraft s ≡ true → mergeAnswer f s .configuration ≡ merged f s
 unfolding mergeAnswer
 merge-is f s e h = rw (e, h)
 
@@ -153,7 +156,8 @@ module _ (applies : MergedApplies) (laws : MergeLaws) (in-range : ReadsInRange) 
       let is : mergeAnswer first second .configuration ≡ merged first second = merge-is first second i j in
       let w = mergedPayload first second in
       let writes : configurationPlan Draft (mergeAnswer first second .configuration) ≡ emit w =
-      planned (good .1) ∙ ap (λ (c : Configuration). emit (encode (mapItem (configurationPairs c)))) is in
+      planned (in-limits (mergeAnswer first second .configuration) (good .1))
+      ∙ ap (λ (c : Configuration). emit (encode (mapItem (configurationPairs c)))) is in
       let short = largest w writes in
       let read = back Draft w writes false in
       let arrives : deliver Update n time w ≡ apply Update n time (readConfiguration w .configuration) =
