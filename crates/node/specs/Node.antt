@@ -18,6 +18,7 @@ use Rattle.node_parameters.specs.Lease.{absentAddress}
 use Rattle.node_parameters.specs.Octets.{absentOctets, knownOctets, validOctets}
 use Rattle.node_parameters.specs.Rate.{absentRate}
 use Rattle.node_parameters.specs.declared.octets.HeldOctets.{HeldOctets}
+use Rattle.node.specs.declared.node.AttemptLimits.{AttemptLimits}
 use Rattle.node.specs.declared.node.MakeResult.{MakeResult}
 use Rattle.node.specs.declared.node.Node.{Node}
 
@@ -35,6 +36,10 @@ isBorder n = eqb (n .role) 1
 -- the last accepted time
 abbrev pub clockOf : Node → ℕ
 clockOf n = n .attempt .clock
+
+-- "First timeout 10,000 to 15,000 ms; at most 4 retransmissions"
+abbrev pub attemptLimits : AttemptLimits
+attemptLimits = record { least = 10000; most = 15000; retransmissions = 4 }
 
 -- ---- how a node is made: idle, of a form, with its role and perhaps a network identifier, all else absent or 0
 abbrev pub freshNode : Version → ℕ → HeldOctets → Node

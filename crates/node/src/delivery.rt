@@ -6,8 +6,13 @@ use cojp::error_reports_of;
 use cojp::is_taken;
 use cojp::no_key_set;
 use cojp_read::read_configuration;
+use link_key::set::KeySet;
+use link_key_counters::none_counted;
+use link_key_counters::with_zero_counters;
 use node_attempt::delivery::Delivery;
 use node_key_sets::InstallDecision;
+use node_key_sets::InstallSlot;
+use node_key_sets::KeySets;
 use node_parameters::Dispositions;
 use node_parameters::dispositions::dispositions_of;
 use node_parameters::dispositions::no_dispositions;
@@ -17,12 +22,34 @@ use refusal::Verdict;
 ghost use mathlib.Core.Path.{_≡_};
 ghost use Rattle.node.specs.Delivery.{undelivered, owesIdentifier, deliver};
 ghost use Rattle.node_attempt.specs.declared.delivery.Delivery.the-variants as delivery;
+ghost use Rattle.node_key_sets.specs.Sets.{setAt};
 
 // Beside a refusal stand the empty report and the node as it was.
 pub struct DeliveryResult {
     pub verdict: Verdict,
     pub dispositions: Dispositions,
     pub node: Node,
+}
+
+// The sets with a new one at the place that was decided.
+fn with_set(sets: KeySets, spot: InstallSlot, set: KeySet) -> KeySets
+    ensures { λ r. ⌜ r ≡ setAt spot sets set ⌝ }
+{
+    let active = sets.active;
+    match spot {
+        InstallSlot::Active => KeySets {
+            active: active.inherit_counters(set),
+            pending: none_counted(),
+        },
+        InstallSlot::Same => KeySets {
+            active,
+            pending: none_counted(),
+        },
+        InstallSlot::Pending => KeySets {
+            active,
+            pending: with_zero_counters(set),
+        },
+    }
 }
 
 impl Node {
@@ -76,7 +103,7 @@ impl Node {
                     Version::Draft => return self.undelivered(why),
                     Version::Published => c.keys = no_key_set(Disposition::Discarded),
                 },
-                InstallDecision::At(spot) => self.sets = self.sets.with_set(spot, keys.value),
+                InstallDecision::At(spot) => self.sets = with_set(self.sets, spot, keys.value),
             }
         }
         let reports = dispositions_of(self.role == 1, c);

@@ -10,6 +10,7 @@ pub use delivery::DeliveryResult;
 pub use frames::SendResult;
 pub use frames::VerifyResult;
 pub use lease::LeaseStatus;
+pub use node::AttemptLimits;
 pub use node::MakeResult;
 pub use node::Node;
 pub use node_attempt::delivery::Delivery;

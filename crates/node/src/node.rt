@@ -17,7 +17,7 @@ use protocol_version::Version;
 use refusal::Refusal;
 use refusal::Verdict;
 ghost use mathlib.Core.Path.{_≡_};
-ghost use Rattle.node.specs.Node.{freshNode, unmade, made};
+ghost use Rattle.node.specs.Node.{attemptLimits, freshNode, unmade, made};
 
 pub struct Node {
     // 0 ordinary, 1 border (6LBR).
@@ -40,6 +40,13 @@ pub struct Node {
 pub struct MakeResult {
     pub verdict: Verdict,
     pub node: Node,
+}
+
+// The limits of a join attempt: its first timeout in milliseconds, and how often the request is sent again.
+pub struct AttemptLimits {
+    pub least: u64,
+    pub most: u64,
+    pub retransmissions: u8,
 }
 
 // A node as it is made, all but form, role and network identifier absent or 0.
@@ -77,6 +84,17 @@ impl Node {
     pub const FIRST_TIMEOUT_MOST: u64 = Attempt::FIRST_TIMEOUT_MOST;
 
     pub const RETRANSMISSIONS: u8 = Attempt::RETRANSMISSIONS;
+
+    // The three constants, with their values.
+    pub fn limits() -> AttemptLimits
+        ensures { λ r. ⌜ r ≡ attemptLimits ⌝ }
+    {
+        AttemptLimits {
+            least: Node::FIRST_TIMEOUT_LEAST,
+            most: Node::FIRST_TIMEOUT_MOST,
+            retransmissions: Node::RETRANSMISSIONS,
+        }
+    }
 
     // An idle node of this version and role, perhaps with a network identifier. RANGE: role over 1, identifier over 16 bytes. Beside a
     // refusal is the empty node of the draft.

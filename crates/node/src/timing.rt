@@ -7,10 +7,11 @@ use cojp_list::unsupported_of;
 use cojp_write::write_request;
 use node_attempt::Attempt;
 use node_attempt::Due;
-use node_attempt::attempt::waiting_from;
+use node_attempt::Phase;
 use refusal::Refusal;
 use refusal::Verdict;
 ghost use mathlib.Core.Path.{_≡_};
+ghost use Rattle.node_attempt.specs.Attempt.{waitingFrom};
 ghost use Rattle.node.specs.Node.{attempting};
 ghost use Rattle.node.specs.Timing.{requestOf, startVerdict, startedFrom, startedBy, unstarted, StartDid, poll};
 
@@ -24,6 +25,19 @@ pub struct StartResult {
 pub struct PollResult {
     pub due: Due,
     pub node: Node,
+}
+
+// The attempt that starts at this time, which was judged before: waiting, the counter 0.
+fn waiting_from(time: u64, timeout: u64) -> Attempt
+    ensures { λ r. ⌜ r ≡ waitingFrom time timeout ⌝ }
+{
+    Attempt {
+        phase: Phase::Waiting,
+        clock: time,
+        sent: time,
+        timeout,
+        count: 0,
+    }
 }
 
 impl Node {

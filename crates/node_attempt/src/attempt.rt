@@ -2,7 +2,7 @@
 use refusal::Refusal;
 use refusal::Verdict;
 ghost use mathlib.Core.Path.{_≡_};
-ghost use Rattle.node_attempt.specs.Attempt.{isWaiting, isJoined, idle, firstTimeout, timeoutAfter, valid, mayStart, waitingFrom};
+ghost use Rattle.node_attempt.specs.Attempt.{isWaiting, isJoined, idle, firstTimeout, timeoutAfter, valid, mayStart};
 
 // Where the node stands with its join attempt.
 pub enum Phase {
@@ -75,19 +75,6 @@ fn timeout_after(count: u8, timeout: u64) -> bool
         left -= 1;
     }
     first_timeout(half)
-}
-
-// The attempt that starts at this time: waiting, the counter 0.
-pub fn waiting_from(time: u64, timeout: u64) -> Attempt
-    ensures { λ r. ⌜ r ≡ waitingFrom time timeout ⌝ }
-{
-    Attempt {
-        phase: Phase::Waiting,
-        clock: time,
-        sent: time,
-        timeout: timeout,
-        count: 0,
-    }
 }
 
 impl Attempt {

@@ -1,4 +1,5 @@
 -- A node's two key sets: which may stand together, and where a new set goes.
+use mathlib.Core.Path.{_≡_}
 use mathlib.Core.Bool.{Bool, cond, not, _&&_, _||_}
 use mathlib.Core.List.{List, _++_}
 use lib.Dec.{eqb}
@@ -82,7 +83,17 @@ install border s set =
     (decideInstall s set border (sameKeys (keysOf set) (activeIn s)) (shares (keysOf set) (activeIn s)))
     (unplaced refusal.Range s)
 
--- ---- the same, by where the new set goes
+-- ---- the same, by where the new set goes: the decision, and what it does to the two
+unfoldable pub installDecision : Bool → KeySets → KeySet → InstallDecision
+installDecision border s set =
+    cond (validSet set)
+    (cond border
+    (at.At spot.Active)
+    (cond (sameKeys (keysOf set) (activeIn s))
+    (at.At spot.Same)
+    (cond (shares (keysOf set) (activeIn s)) (at.Refused refusal.Clash) (at.At spot.Pending))))
+    (at.Refused refusal.Range)
+
 abbrev pub setAt : InstallSlot → KeySets → KeySet → KeySets
 setAt spot.Active s set = twoSets (inheritCounters (s .active) set) noCounted
 setAt spot.Same s set = twoSets (s .active) noCounted
@@ -91,3 +102,6 @@ setAt spot.Pending s set = twoSets (s .active) (withZeroCounters set)
 abbrev pub placing : InstallDecision → KeySets → KeySet → InstallResult
 placing (at.Refused k) s set = unplaced k s
 placing (at.At spot) s set = placed (setAt spot s set)
+
+abbrev pub InstallDecided : Type 0
+InstallDecided = (border : Bool) (s : KeySets) (set : KeySet) → install border s set ≡ placing (installDecision border s set) s set

@@ -12,6 +12,12 @@ pub use sets::InstallSlot;
 pub use sets::KeySets;
 pub use sets::no_sets;
 ghost use Rattle.node_key_sets.specs.Demand1.{KeySetsDemand1};
+ghost use Rattle.node_key_sets.specs.Sets.{InstallDecided};
+
+// Installing a set does what `KeySets::decide_install` decides.
+pub fn install_law()
+    ensures { λ r. ⌜ InstallDecided ⌝ }
+{}
 
 // Demand 1 for the two key sets.
 pub fn demand1()

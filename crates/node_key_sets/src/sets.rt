@@ -2,13 +2,12 @@
 use link_key::set::KeySet;
 use link_key_counters::CountedSet;
 use link_key_counters::none_counted;
-use link_key_counters::with_zero_counters;
 use refusal::Refusal;
 use refusal::Verdict;
 ghost use mathlib.Core.Bool.{not, _&&_, _||_};
 ghost use mathlib.Core.Path.{_≡_};
 ghost use Rattle.link_key.specs.set.KeySet.{keysOf, additionalInfoAllowed, shares};
-ghost use Rattle.node_key_sets.specs.Sets.{activeIn, pendingIn, isNone, noSets, noneOrValid, validAs, install, setAt, placing};
+ghost use Rattle.node_key_sets.specs.Sets.{activeIn, pendingIn, isNone, noSets, noneOrValid, validAs, installDecision};
 
 // A set whose count is 0 stands for no set.
 pub struct KeySets {
@@ -16,8 +15,8 @@ pub struct KeySets {
     pub pending: CountedSet,
 }
 
-// The sets after a new one came; beside a refusal they are as they were. The definitions' answer: the code gives the place alone, and
-// changes the sets where they stand.
+// The sets after a new one came; beside a refusal they are as they were. The definitions' answer: the code gives the place alone, and the
+// node changes its sets where they stand.
 pub struct InstallResult {
     pub verdict: Verdict,
     pub sets: KeySets,
@@ -80,7 +79,7 @@ impl KeySets {
     // Where a new set goes: a border node's is active at once; an ordinary node's is the active one, or waits as the pending one.
     // RANGE: the new set; CLASH. The two sets themselves are judged by the node's call that this is a part of.
     pub fn decide_install(self, border: bool, set: KeySet) -> InstallDecision
-        ensures { λ r. ⌜ install border self set ≡ placing r self set ⌝ }
+        ensures { λ r. ⌜ r ≡ installDecision border self set ⌝ }
     {
         if !set.valid() {
             return InstallDecision::Refused(Refusal::Range);
@@ -95,26 +94,5 @@ impl KeySets {
             return InstallDecision::Refused(Refusal::Clash);
         }
         InstallDecision::At(InstallSlot::Pending)
-    }
-
-    // The sets with a new one at its place.
-    pub fn with_set(self, spot: InstallSlot, set: KeySet) -> KeySets
-        ensures { λ r. ⌜ r ≡ setAt spot self set ⌝ }
-    {
-        let active = self.active;
-        match spot {
-            InstallSlot::Active => KeySets {
-                active: active.inherit_counters(set),
-                pending: none_counted(),
-            },
-            InstallSlot::Same => KeySets {
-                active,
-                pending: none_counted(),
-            },
-            InstallSlot::Pending => KeySets {
-                active,
-                pending: with_zero_counters(set),
-            },
-        }
     }
 }

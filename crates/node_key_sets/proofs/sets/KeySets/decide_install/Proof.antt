@@ -1,6 +1,6 @@
 -- `decide_install` meets its contract: each test of the code is one of the definition's.
 use borrow.Author.Needs.{needs}
-use Rattle.node_key_sets.specs.Sets.{install}
+use Rattle.node_key_sets.specs.Sets.{installDecision}
 use Rattle.lemmas.specs.logic.Tests.{denied, granted, is-false, is-true}
 use Rattle.node_key_sets.proofs.sets.KeySets.decide_install.Statement.{statement}
 use Rattle.node_key_sets.proofs.sets.KeySets.decide_install.Tie as tie
@@ -9,11 +9,11 @@ valid-requires : tie.Need-valid-requires
 valid-requires c κs = search needs
 
 returns : tie.Need-returns
-unfolding install
+unfolding installDecision
 returns c = rw (denied (c .before .valid .ensures) (c .if1 .taken))
 
 returns-2 : tie.Need-returns-2
-unfolding install
+unfolding installDecision
 returns-2 c =
     let judged = c .before in
     rw (granted (judged .before .valid .ensures) (judged .if1 .left), c .if2 .taken)
@@ -22,7 +22,7 @@ same-keys-requires : tie.Need-same-keys-requires
 same-keys-requires c κs = search needs
 
 returns-3 : tie.Need-returns-3
-unfolding install
+unfolding installDecision
 returns-3 c =
     let asked = c .before in
     let judged = asked .before .before in
@@ -36,7 +36,7 @@ shares-requires : tie.Need-shares-requires
 shares-requires c κs = search needs
 
 returns-4 : tie.Need-returns-4
-unfolding install
+unfolding installDecision
 returns-4 c =
     let other = c .before .before in
     let judged = other .before .before .before in
@@ -48,7 +48,7 @@ returns-4 c =
     )
 
 returns-5 : tie.Need-returns-5
-unfolding install
+unfolding installDecision
 returns-5 c =
     let other = c .before .before in
     let judged = other .before .before .before in

@@ -1,7 +1,7 @@
 -- `with_set` meets its contract: place by place.
 use borrow.Author.Needs.{needs}
-use Rattle.node_key_sets.proofs.sets.KeySets.with_set.Statement.{statement}
-use Rattle.node_key_sets.proofs.sets.KeySets.with_set.Tie as tie
+use Rattle.node.proofs.delivery.with_set.Statement.{statement}
+use Rattle.node.proofs.delivery.with_set.Tie as tie
 
 enum-told : tie.Need-enum-told
 enum-told c = search needs
