@@ -11,3 +11,7 @@ mod Unreported
 mod Configurations
 mod Reserved
 mod InPlace
+mod InOrder
+mod OrderedRequests
+mod OrderedConfigurations
+mod ReadersInOrder
