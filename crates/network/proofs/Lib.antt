@@ -4,6 +4,8 @@ mod Places
 mod Flood
 mod Rekey
 mod Line
+mod WideLine
+mod AmidUpdatesRun
 mod PublishedLine
 mod PartialRekeyRun
 mod Answers

@@ -96,7 +96,7 @@ pub differ : oldKeys ≡ newKeys → ⊥
 differ = ones-differ _ _ (λ e. omega arith)
 
 -- ---- the nodes
-supposed : Supposed line 0 newKeys 1
+pub supposed : Supposed line 0 newKeys 1
 unfolding computing
 supposed =
     record {
@@ -112,7 +112,7 @@ supposed =
     }
 
 -- ---- links, rounds and hops
-linked-worst : AllLinked lineLinks 1 worst
+pub linked-worst : AllLinked lineLinks 1 worst
 linked-worst e (at q) = rw q (inr (past (at refl)), refl)
 linked-worst e (past (at q)) = rw q (inl (past (at refl)), refl)
 linked-worst e (past (past (at q))) = rw q (inr (at refl), refl)
@@ -131,7 +131,7 @@ There i j = List·Memᴰ (turning i j 1) worst
 abbrev Back : ℕ → ℕ → Type 0
 Back i j = There j i
 
-round-worst : Round lineLinks 1 worst
+pub round-worst : Round lineLinks 1 worst
 round-worst i j (inl (at q)) = of-link There i j 0 1 q (past (past (past (at refl))))
 round-worst i j (inl (past (at q))) = of-link There i j 1 2 q (past (at refl))
 round-worst i j (inr (at q)) = of-link Back j i 0 1 q (past (past (at refl)))

@@ -16,7 +16,7 @@ use Rattle.network.specs.Network.{nodeAt}
 use Rattle.network.specs.Events.{turning, run, Admissible, Throughout}
 use Rattle.network.specs.Rounds.{Neighbours, Towards, Hops, here, hop, AllLinked, Round, Rounds, none, more}
 use Rattle.network.specs.Demand3.{NoneUsedUp}
-use Rattle.network.specs.PartialRekey.{Lacks, SupposedSome, RekeyUnder, PartialRekey}
+use Rattle.network.specs.PartialRekey.{Lacks, SupposedSome, RekeyAmong, PartialRekey}
 use Rattle.network.specs.RekeyExample
 use Rattle.network.specs.RekeyExample.{newKeys}
 use Rattle.network.specs.PartialRekeyExample.{thirdKeys, hadPending, building, buildingLinks}
@@ -160,7 +160,7 @@ unfolding computing unspentAt unspentThrough
 unspent-after = unspent-through newKeys 1 takenIn aroundTwice refl
 
 pub building-witness : PartialRekey → PartialRekeyExample
-unfolding RekeyUnder computing
+unfolding RekeyAmong computing
 building-witness claim =
     let said = claim hadPending building 0 newKeys 1 supposed beforehand before in
     let then = said .1 unspent-before Update 20000 RekeyExample.payload takes in

@@ -1,19 +1,23 @@
 -- The kinds of a network's nodes, place by place, follow its events: an event changes the nodes that it names and no other.
 use Prim.Native.Nat.{ℕ, _<_}
 use native.Mathlib.Decide.{ℕ-discrete}
-use mathlib.Core.Path.{_≡_, refl, _∙_}
-use mathlib.Core.Logic.{⊎-elim}
+use mathlib.Core.Path.{_≡_, refl, ap, _∙_}
+use mathlib.Core.Logic.{inl, inr, ⊎-elim}
 use mathlib.Core.List.{List, [], _∷_, List·Memᴰ·head, List·Memᴰ·tail, List·Memᴰ·not-nil}
 use borrow.Author.Tests.{eq-eqb, ne-eqb}
 use lib.ListN.{length, length-set}
 use lib.Seq.{getD-set-same, getD-set-other}
 use Rattle.link_key.specs.declared.Key.{Key}
+use Rattle.node.specs.Delivery.{deliver}
 use Rattle.node.specs.Node.{emptyNode, activeOf, pendingOf}
+use Rattle.node_attempt.specs.declared.delivery.Delivery.{Delivery}
+use Rattle.node_key_sets.specs.Sets.{activeIn, pendingIn}
 use Rattle.node_laws.specs.Calls.{NodeCall, starting, polling, delivering, asking, sending, receiving, reporting, perform}
 use Rattle.node_laws.specs.Laws.{KeysStay, CanSend, NodeLaws}
 use Rattle.node.specs.declared.node.Node.{Node}
 use Rattle.network.specs.Network.{Network, nodeAt, withNode}
-use Rattle.network.specs.Events.{Event, turning, calling, step, run, Permitted, AdmissibleEvent, Admissible, Throughout}
+use Rattle.network.specs.Events.{Event, turning, calling, step, run, Throughout}
+use Rattle.network.specs.AmidUpdates.{TakesNoSet, PermittedAmidUpdates, EventAmidUpdates, AdmissibleAmidUpdates}
 use Rattle.network.specs.Rounds.{Links, Linked, AllLinked}
 use Rattle.network.specs.PartialRekey.{SomeKeyUsable}
 use Rattle.network_turn.specs.Turn.{turn}
@@ -69,12 +73,25 @@ module _ (ks : List Key) (kinds : Kinds) (net : Network) (i : ℕ) (n : Node) (a
 
 -- ---- one event
 module _ (L : NodeLaws) where
+  -- what takes no key set leaves the keys
+  untaken-stays : (delivery : Delivery) (n : Node) (time : ℕ) (payload : List ℕ) → TakesNoSet delivery n time payload
+      → KeysStay n (deliver delivery n time payload .node)
+  untaken-stays delivery n time payload h =
+      let sets = L .untaken-stays delivery n time payload h in
+      record {
+        active = ap activeIn sets;
+        pending = ap pendingIn sets;
+        role = unfold perform in L .role-stays (delivering delivery time payload) n;
+        valid = unfold perform in L .stays-valid (delivering delivery time payload) n;
+      }
+
   -- starts and polls leave the keys, and a call that is refused leaves the node
-  call-stays : (n : Node) (c : NodeCall) → Permitted n c → KeysStay n (perform c n .node)
+  call-stays : (n : Node) (c : NodeCall) → PermittedAmidUpdates n c → KeysStay n (perform c n .node)
   call-stays n (starting time timeout d) h = unfold perform in L .start-stays n time timeout d
   call-stays n (polling time) h = unfold perform in L .poll-stays n time
-  call-stays n (delivering delivery time payload) h =
+  call-stays n (delivering delivery time payload) (inl h) =
       rw (L .refused-stays (delivering delivery time payload) n (h .why) (h .refused)) (stay-self n)
+  call-stays n (delivering delivery time payload) (inr h) = unfold perform in untaken-stays delivery n time payload h
   call-stays n (asking time) h = absurd h
   call-stays n (sending type) h = absurd h
   call-stays n (receiving type identifier) h = absurd h
@@ -87,9 +104,9 @@ module _ (L : NodeLaws) (ks : List Key) where
   Ready kinds net (calling i c) = Unit {0}
 
   step-are :
-      (kinds : Kinds) (net : Network) (e : Event) → AdmissibleEvent net e → Ready kinds net e → Are ks kinds net →
+      (kinds : Kinds) (net : Network) (e : Event) → EventAmidUpdates net e → Ready kinds net e → Are ks kinds net →
       Are ks (moves kinds e) (step net e)
-  unfolding step AdmissibleEvent
+  unfolding step EventAmidUpdates
   step-are kinds net (turning i j type) h f a =
       let t = turn (nodeAt net i) (nodeAt net j) type in
       let s = stays-is ks (kinds i) (sender-stays L (nodeAt net i) (nodeAt net j) type) (a i (h .0)) in
@@ -103,34 +120,34 @@ module _ (L : NodeLaws) (ks : List Key) where
   -- ---- a list of events
   -- where no node has switched, each node's kind stays, whatever the frame types
   module _ (kinds : Kinds) (quiet : (k : ℕ) → Quiet (kinds k)) where
-    pub step-quiet : (net : Network) (e : Event) → AdmissibleEvent net e → Are ks kinds net → Are ks kinds (step net e)
+    pub step-quiet : (net : Network) (e : Event) → EventAmidUpdates net e → Are ks kinds net → Are ks kinds (step net e)
     step-quiet net e h a k l = rw (still kinds quiet e k) at (step-are kinds net e h (ready e) a k l)
       where
         ready : (e : Event) → Ready kinds net e
         ready (turning i j type) = λ w. absurd (rw w at (quiet i))
         ready (calling i c) = tt
 
-    pub run-quiet : (net : Network) (es : List Event) → Admissible net es → Are ks kinds net → Are ks kinds (run net es)
-    unfolding run Admissible
+    pub run-quiet : (net : Network) (es : List Event) → AdmissibleAmidUpdates net es → Are ks kinds net → Are ks kinds (run net es)
+    unfolding run AdmissibleAmidUpdates
     run-quiet net [] h a = a
     run-quiet net (e ∷ es) h a = run-quiet (step net e) es (h .1) (step-quiet net e (h .0) a)
 
   -- with turns of a type for which each node that has the set active has a key left, the kinds flow
   module _ (links : Links) (type : ℕ) where
     ready :
-        (kinds : Kinds) (net : Network) (e : Event) → AdmissibleEvent net e → Linked links type e → SomeKeyUsable ks type net →
+        (kinds : Kinds) (net : Network) (e : Event) → EventAmidUpdates net e → Linked links type e → SomeKeyUsable ks type net →
         Are ks kinds net →
         Ready kinds net e
-    unfolding AdmissibleEvent
+    unfolding EventAmidUpdates
     ready kinds net (turning i j u) h l left a = λ w. let is : IsNew ks (nodeAt net i) = rw w at (a i (h .0)) in
         rw (l .1) (left i (h .0) (is .active))
     ready kinds net (calling i c) h l left a = tt
 
     pub run-flows :
-        (kinds : Kinds) (net : Network) (es : List Event) → Admissible net es → AllLinked links type es →
+        (kinds : Kinds) (net : Network) (es : List Event) → AdmissibleAmidUpdates net es → AllLinked links type es →
         Throughout (SomeKeyUsable ks type) net es →
         Are ks kinds net → Are ks (flows kinds es) (run net es)
-    unfolding run Admissible Throughout
+    unfolding run AdmissibleAmidUpdates Throughout
     run-flows kinds net [] h l u a = a
     run-flows kinds net (e ∷ es) h l u a =
         run-flows (moves kinds e) (step net e) es (h .1) (λ x m. l x (List·Memᴰ·tail m)) (u .1)
@@ -199,8 +216,8 @@ module _ (L : NodeLaws) where
       ⊎-elim (λ q. unmoved-stays q u) (λ d. absurd (List·Memᴰ·not-nil (rw (u .pending) at (d .by .member)))) (receiver-either L a b type)
 
   module _ (start : Network) where
-    step-unmoved : (net : Network) (e : Event) → AdmissibleEvent net e → All (UnmovedFrom start) net → All (UnmovedFrom start) (step net e)
-    unfolding step AdmissibleEvent
+    step-unmoved : (net : Network) (e : Event) → EventAmidUpdates net e → All (UnmovedFrom start) net → All (UnmovedFrom start) (step net e)
+    unfolding step EventAmidUpdates
     step-unmoved net (turning i j type) h a =
         let t = turn (nodeAt net i) (nodeAt net j) type in
         all-still (UnmovedFrom start) (withNode net i (t .sender)) j (t .receiver)
@@ -211,8 +228,8 @@ module _ (L : NodeLaws) where
         all-still (UnmovedFrom start) net i (perform c (nodeAt net i) .node) a
         (λ e. unmoved-stays (call-stays L (nodeAt net i) c (h .1)) (a i (h .0) e))
 
-    pub run-unmoved : (net : Network) (es : List Event) → Admissible net es → All (UnmovedFrom start) net
+    pub run-unmoved : (net : Network) (es : List Event) → AdmissibleAmidUpdates net es → All (UnmovedFrom start) net
         → All (UnmovedFrom start) (run net es)
-    unfolding run Admissible
+    unfolding run AdmissibleAmidUpdates
     run-unmoved net [] h a = a
     run-unmoved net (e ∷ es) h a = run-unmoved (step net e) es (h .1) (step-unmoved net e (h .0) a)

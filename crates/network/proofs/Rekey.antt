@@ -6,7 +6,7 @@ use native.Mathlib.Decide.{ℕ-discrete}
 use native.Mathlib.Omega.{arith}
 use mathlib.Core.Path.{_≡_, refl, _∙_, ap}
 use mathlib.Core.Bool.{Bool, true, false, cond}
-use mathlib.Core.Logic.{⊎-elim}
+use mathlib.Core.Logic.{inl, ⊎-elim}
 use mathlib.Core.List.{List, [], _∷_, List·Memᴰ, List·Memᴰ·head, List·Memᴰ·tail, List·Memᴰ·not-nil}
 use mathlib.Core.List.{List·Memᴰ·append-cases}
 use lib.Dec.{eqb}
@@ -18,15 +18,17 @@ use Rattle.link_key.specs.declared.Key.{Key}
 use Rattle.node.specs.Node.{activeOf, pendingOf}
 use Rattle.node.specs.Range.{Valid}
 use Rattle.node.specs.Delivery.{deliver}
+use Rattle.node_laws.specs.Calls.{starting, polling, delivering, asking, sending, receiving, reporting}
 use Rattle.node_laws.specs.Laws.{CanSend, Takes, NodeLaws}
 use Rattle.node_attempt.specs.declared.delivery.Delivery.{Delivery}
 use Rattle.node_key_sets.specs.declared.frames.KeyAnswer.{KeyAnswer}
 use Rattle.node.specs.declared.node.Node.{Node}
 use Rattle.network.specs.Network.{Network, nodeAt}
 use Rattle.network.specs.Events.{Event, turning, calling, step, run, AdmissibleEvent, Admissible, Throughout, answers, Under}
+use Rattle.network.specs.AmidUpdates.{EventAmidUpdates, AdmissibleAmidUpdates, RekeyAmidUpdates}
 use Rattle.network.specs.Rounds.{Links, Neighbours, Towards, Hops, here, hop, AllLinked, Rounds}
 use Rattle.network.specs.Demand3.{Supposed, NoneUsedUp, NoneSendsUnder, Rekeyed, handed, Demand3}
-use Rattle.network.specs.PartialRekey.{SomeKeyUsable, SupposedSome, Followed, RekeyUnder, PartialRekey, all, FullCase}
+use Rattle.network.specs.PartialRekey.{SomeKeyUsable, SupposedSome, Followed, RekeyAmong, RekeyUnder, PartialRekey, all, FullCase}
 use Rattle.network.proofs.Receiving.{apart, old, new, Quiet, Carries, IsNew, Is, none-apart, kind-valid, quiet-sends}
 use Rattle.network.proofs.Flood.{Kinds, with, flows, far}
 use Rattle.network.proofs.Places.{All, at-other, Are, are-with, size-with, size-run, throughout-map}
@@ -59,9 +61,9 @@ module _ (L : NodeLaws) where
   -- ---- before: no node sends under the set
   module _ (ks : List Key) (kinds : Kinds) (quiet : (k : ℕ) → Quiet (kinds k)) where
     answers-none :
-        (net : Network) (es : List Event) → Admissible net es → Are ks kinds net →
+        (net : Network) (es : List Event) → AdmissibleAmidUpdates net es → Are ks kinds net →
         (a : KeyAnswer) → List·Memᴰ a (answers net es) → Under ks a → ⊥
-    unfolding answers Admissible AdmissibleEvent
+    unfolding answers AdmissibleAmidUpdates EventAmidUpdates
     answers-none net [] h s a m = absurd (List·Memᴰ·not-nil m)
     answers-none net (turning i j type ∷ es) h s a (List·Memᴰ·head q) =
         rw q (quiet-sends L ks (nodeAt net i) type (kinds i) (quiet i) (s i (h .0 .0)))
@@ -70,7 +72,7 @@ module _ (L : NodeLaws) where
     answers-none net (calling i c ∷ es) h s a m =
         answers-none (step net (calling i c)) es (h .1) (step-quiet L ks kinds quiet net (calling i c) (h .0) s) a m
 
-    none-sends : (net : Network) (es : List Event) → Admissible net es → Are ks kinds net → NoneSendsUnder ks net es
+    none-sends : (net : Network) (es : List Event) → AdmissibleAmidUpdates net es → Are ks kinds net → NoneSendsUnder ks net es
     none-sends net es h s = record {
       in-list = answers-none net es h s;
       at-end = λ i type l.
@@ -131,7 +133,7 @@ module _ (L : NodeLaws) where
       size : length next ≡ length net
       size = size-with out border (deliver delivery (nodeAt out border) time payload .node) ∙ same
 
-      module _ (links : Links) (h : ℕ) (es : List Event) (come : Admissible next es) (linked : AllLinked links type es)
+      module _ (links : Links) (h : ℕ) (es : List Event) (come : AdmissibleAmidUpdates next es) (linked : AllLinked links type es)
           (rounds : Rounds links type h es) (left : Throughout (SomeKeyUsable ks type) next es) where
         reached : (i : ℕ) → i < length net → Hops (Towards links had) h border i → Rekeyed ks type (nodeAt (run next es) i)
         reached i l hops =
@@ -165,8 +167,8 @@ module _ (L : NodeLaws) where
         followed : Followed had net border ks type links h (run next es)
         followed = record { reached = reached; lacked = lacked }
 
-  pub while-one-left : RekeyUnder SomeKeyUsable
-  unfolding RekeyUnder
+  while-one-left : RekeyAmong AdmissibleAmidUpdates SomeKeyUsable
+  unfolding RekeyAmong
   while-one-left had net border ks type g before come =
       let quiet = start-quiet had border in
       let start = start-are had net border ks type g in (
@@ -182,15 +184,49 @@ module _ (L : NodeLaws) where
   none-used-left : (ks : List Key) (type : ℕ) → Covers ks type → (net : Network) → NoneUsedUp ks type net → SomeKeyUsable ks type net
   none-used-left ks type covering net unspent i l e = L .covers-can (nodeAt net i) type (rw e covering) (rw e (unspent i l))
 
-  pub some-lack : RekeyUnder SomeKeyUsable → PartialRekey
-  unfolding RekeyUnder
-  some-lack claim had net border ks type g before come =
+  pub some-lack : (May : Network → List Event → Type 0) → RekeyAmong May SomeKeyUsable → RekeyAmong May NoneUsedUp
+  unfolding RekeyAmong
+  some-lack May claim had net border ks type g before come =
       let left = throughout-map (NoneUsedUp ks type) (SomeKeyUsable ks type) (none-used-left ks type (g .covering)) in
       let said = claim had net border ks type g before come in (
         said .0,
         λ unspent delivery time payload takes links h after comes linked rounds unspent-after.
             said .1 (left net before unspent) delivery time payload takes links h after comes linked rounds (left _ after unspent-after),
       )
+
+-- ---- the events of demand 3 are among these
+more-events : (net : Network) (e : Event) → AdmissibleEvent net e → EventAmidUpdates net e
+unfolding AdmissibleEvent EventAmidUpdates
+more-events net (turning i j type) h = h
+more-events net (calling i (starting time timeout d)) h = h
+more-events net (calling i (polling time)) h = h
+more-events net (calling i (delivering delivery time payload)) h = (h .0, inl (h .1))
+more-events net (calling i (asking time)) h = h
+more-events net (calling i (sending type)) h = h
+more-events net (calling i (receiving type identifier)) h = h
+more-events net (calling i (reporting type identifier)) h = h
+
+more-lists : (net : Network) (es : List Event) → Admissible net es → AdmissibleAmidUpdates net es
+unfolding Admissible AdmissibleAmidUpdates
+more-lists net [] h = tt
+more-lists net (e ∷ es) h = (more-events net e (h .0), more-lists (step net e) es (h .1))
+
+pub amid-updates : NodeLaws → RekeyAmidUpdates
+amid-updates L = record {
+  unspent = some-lack L AdmissibleAmidUpdates (while-one-left L);
+  usable = while-one-left L;
+  more = more-lists;
+}
+
+-- a claim about more lists holds of fewer
+pub fewer-lists : (Unused : List Key → ℕ → Network → Type 0) → RekeyAmong AdmissibleAmidUpdates Unused → RekeyUnder Unused
+unfolding RekeyAmong
+fewer-lists Unused claim had net border ks type g before come =
+    let said = claim had net border ks type g before (more-lists net before come) in (
+      said .0,
+      λ left delivery time payload takes links h after comes.
+          said .1 left delivery time payload takes links h after (more-lists _ after comes),
+    )
 
 -- ---- where every ordinary node had the set
 hops-all : (links : Links) {h i k : ℕ} → Hops (Neighbours links) h i k → Hops (Towards links all) h i k
@@ -230,7 +266,7 @@ pub where-all-had : FullCase
 where-all-had = record { supposed = supposed-all; supposed-back = supposed-back; hops = hops-all; hops-back = hops-back }
 
 pub demand3 : PartialRekey → Demand3
-unfolding Demand3 RekeyUnder
+unfolding Demand3 RekeyAmong
 demand3 claim net border ks type g before come =
     let said = claim all net border ks type (supposed-all g) before come in (
       said .0,

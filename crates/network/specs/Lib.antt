@@ -6,5 +6,8 @@ pub mod RekeyExample
 pub mod Answers
 pub mod Demand1
 pub mod PartialRekey
+pub mod AmidUpdates
+pub mod AmidUpdatesExample
+pub mod WideRekeyExample
 pub mod PartialRekeyExample
 pub mod PublishedRekeyExample

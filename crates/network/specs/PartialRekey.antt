@@ -55,18 +55,22 @@ SomeKeyUsable new type net = (i : ℕ) → i < length net → activeOf (nodeAt n
 
 -- "the start is the moment from which the border router's acceptance of the new set is the only update or join answer accepted at any
 -- node": the events of both lists are demand 3's, which have none
-unfoldable pub RekeyUnder : (List Key → ℕ → Network → Type 0) → Type 0
-RekeyUnder Unused =
+-- (`May` says which lists of events there are)
+unfoldable pub RekeyAmong : (Network → List Event → Type 0) → (List Key → ℕ → Network → Type 0) → Type 0
+RekeyAmong May Unused =
     (had : ℕ → Bool) (net : Network) (border : ℕ) (new : List Key) (type : ℕ) → SupposedSome had net border new type →
-    (before : List Event) → Admissible net before →
+    (before : List Event) → May net before →
     -- before the step nobody sends under the set, whoever had it
     NoneSendsUnder new net before
     × (Throughout (Unused new type) net before →
     (delivery : Delivery) (time : ℕ) (payload : List ℕ) → Takes delivery (nodeAt (run net before) border) time payload new →
-    (links : Links) (h : ℕ) (after : List Event) → Admissible (handed (run net before) border delivery time payload) after →
+    (links : Links) (h : ℕ) (after : List Event) → May (handed (run net before) border delivery time payload) after →
     AllLinked links type after → Rounds links type h after →
     Throughout (Unused new type) (handed (run net before) border delivery time payload) after →
     Followed had net border new type links h (run (handed (run net before) border delivery time payload) after))
+
+abbrev pub RekeyUnder : (List Key → ℕ → Network → Type 0) → Type 0
+RekeyUnder Unused = RekeyAmong Admissible Unused
 
 -- the claim, with 02's premise on counters
 abbrev pub PartialRekey : Type 0
