@@ -4,3 +4,4 @@ mod Contiguity
 mod Counts
 mod Longest
 mod Whole
+mod Night

@@ -5,3 +5,4 @@ pub mod Statistics
 pub mod Replay
 pub mod Step
 pub mod ReplayExact
+pub mod ReplayExample

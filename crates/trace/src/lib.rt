@@ -15,6 +15,7 @@ pub(crate) use state::reached;
 pub use walk::step;
 ghost use Rattle.trace.specs.ReplayExact.{ReplayExact};
 ghost use Rattle.trace.specs.Contiguous.{RecordsContiguous};
+ghost use Rattle.trace.specs.ReplayExample.{ReplayExample};
 
 // A walk record by record gives exactly the node that the calls give, and a report of exact numbers.
 pub fn replay_exact_law()
@@ -22,6 +23,13 @@ pub fn replay_exact_law()
 {
     refusal::number_range_law();
     node_laws::waiting_law();
+}
+
+// A night of six records, one of each kind, is replayed, and a seventh record stops the walk.
+pub fn replay_example()
+    ensures { λ r. ⌜ ReplayExample ⌝ }
+{
+    replay_exact_law();
 }
 
 // A trace's records stand one behind the other from the trace's start on, up to its end or to the first that stops the walk.
