@@ -9,6 +9,7 @@ use borrow.Author.Tests.{lt-ltb, le-ltb, ne-eqb}
 use lib.Dec.{eqb, ltb, leb·suc-suc}
 use lib.ListN.{length, set}
 use Rattle.address_slots.specs.Slot.{Slot, same, isFree, heldBy, lowest, countFree}
+use Rattle.address_slots.proofs.Offers.{freeAt}
 use Rattle.address_ledger_laws.specs.History.{Holding, listed, taken, addressOf, enter, strike}
 
 abbrev pub holding : List ℕ → ℕ → Holding
@@ -53,7 +54,7 @@ strike-held a b f [] n h = absurd (omega arith)
 strike-held a b f (p ∷ ps) n h =
     strike-cons a b f p ps (eqb (p .mark) 1) (same 8 (p .board) b) n refl refl (strike-held (suc a) b f ps n) h
 
--- the lowest free place is held: its holding goes in by its address
+-- a free place is held: its holding goes in by its address
 enter-front-cons : (g : Holding) (a : ℕ) (p : Slot) (ps : List Slot) (x : Bool) → eqb (p .mark) 1 ≡ x → g .address < a
     → enter g (heldFrom (suc a) ps) ≡ g ∷ heldFrom (suc a) ps → enter g (heldFrom a (p ∷ ps)) ≡ g ∷ heldFrom a (p ∷ ps)
 unfolding heldFrom enter
@@ -65,28 +66,28 @@ unfolding heldFrom enter
 enter-front g a [] h = refl
 enter-front g a (p ∷ ps) h = enter-front-cons g a p ps (eqb (p .mark) 1) refl h (enter-front g (suc a) ps (omega arith))
 
-enter-cons : (a : ℕ) (b : List ℕ) (p : Slot) (ps : List Slot) (x : Bool) → eqb (p .mark) 1 ≡ x
-    → (lowest isFree ps < length ps
-    → enter (holding b (suc a + lowest isFree ps)) (heldFrom (suc a) ps)
-    ≡ heldFrom (suc a) (set ps (lowest isFree ps) (record { mark = 1; board = b })))
-    → lowest isFree (p ∷ ps) < length (p ∷ ps)
-    → enter (holding b (a + lowest isFree (p ∷ ps))) (heldFrom a (p ∷ ps))
-    ≡ heldFrom a (set (p ∷ ps) (lowest isFree (p ∷ ps)) (record { mark = 1; board = b }))
-unfolding heldFrom enter lowest isFree
-enter-cons a b p ps false e ih h =
-    let z : a + 0 ≡ a = omega arith in
-    rw (e, z) (enter-front (holding b a) (suc a) ps (omega arith))
-enter-cons a b p ps true e ih h =
-    let k = lowest isFree ps in
-    let g : suc k < suc (length ps) = rw e at h in
-    let z : a + suc k ≡ suc a + k = omega arith in
-    rw (e, z, e, le-ltb (suc a + k) a (omega arith)) (ap (λ (hs : List Holding). holding (p .board) a ∷ hs) (ih (omega arith)))
+enter-here : (a : ℕ) (b : List ℕ) (p : Slot) (ps : List Slot) (x : Bool) → eqb (p .mark) 1 ≡ x → isFree p ≡ true
+    → enter (holding b a) (heldFrom a (p ∷ ps)) ≡ heldFrom a (record { mark = 1; board = b } ∷ ps)
+unfolding heldFrom isFree
+enter-here a b p ps true e h = let z : false ≡ true = rw e at h in cc
+enter-here a b p ps false e h = rw e (enter-front (holding b a) (suc a) ps (omega arith))
 
-pub enter-held : (a : ℕ) (b : List ℕ) (ps : List Slot) → lowest isFree ps < length ps
-    → enter (holding b (a + lowest isFree ps)) (heldFrom a ps)
-    ≡ heldFrom a (set ps (lowest isFree ps) (record { mark = 1; board = b }))
-enter-held a b [] h = absurd (omega arith)
-enter-held a b (p ∷ ps) h = enter-cons a b p ps (eqb (p .mark) 1) refl (enter-held (suc a) b ps) h
+enter-cons : (a : ℕ) (b : List ℕ) (p : Slot) (ps : List Slot) (k : ℕ) (x : Bool) → eqb (p .mark) 1 ≡ x
+    → enter (holding b (suc a + k)) (heldFrom (suc a) ps) ≡ heldFrom (suc a) (set ps k (record { mark = 1; board = b }))
+    → enter (holding b (suc a + k)) (heldFrom a (p ∷ ps)) ≡ heldFrom a (p ∷ set ps k (record { mark = 1; board = b }))
+unfolding heldFrom enter
+enter-cons a b p ps k true e ih =
+    rw (e, le-ltb (suc a + k) a (omega arith)) (ap (λ (hs : List Holding). holding (p .board) a ∷ hs) ih)
+enter-cons a b p ps k false e ih = rw e ih
+
+pub enter-held : (a : ℕ) (b : List ℕ) (ps : List Slot) (k : ℕ) → freeAt ps k ≡ true
+    → enter (holding b (a + k)) (heldFrom a ps) ≡ heldFrom a (set ps k (record { mark = 1; board = b }))
+unfolding freeAt
+enter-held a b [] k h = cc
+enter-held a b (p ∷ ps) zero h = let z : a + 0 ≡ a = omega arith in rw z (enter-here a b p ps _ refl h)
+enter-held a b (p ∷ ps) (suc k) h =
+    let z : a + suc k ≡ suc a + k = omega arith in
+    rw z (enter-cons a b p ps k _ refl (enter-held (suc a) b ps k h))
 
 -- held and free are all
 both-cons : (a : ℕ) (p : Slot) (ps : List Slot) (x : Bool) → eqb (p .mark) 1 ≡ x

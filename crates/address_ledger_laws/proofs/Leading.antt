@@ -2,7 +2,7 @@
 -- any marks to the first marked group with one.
 use Prim.Native.Nat.{ℕ, zero, suc, _+_, _*_, _/_, _%_, _≤_, _<_}
 use mathlib.Core.Path.{_≡_, refl, sym, ap, _∙_}
-use mathlib.Core.Bool.{Bool, true, false, cond}
+use mathlib.Core.Bool.{Bool, true, false, cond, _&&_}
 use mathlib.Core.List.{List, [], _∷_}
 use native.Mathlib.Omega.{arith}
 use native.Mathlib.Nat.{zero-add}
@@ -134,6 +134,57 @@ pub none-marked : (n x j : ℕ) (ps : List Slot) → NoneBelow x ps n → freeBy
 unfolding freeBy
 none-marked zero x j ps none = refl
 none-marked (suc n) x j ps none = passed n x j ps n none ∙ none-marked n (x / 2) (j + 64) (drop 64 ps) (none-further n x j ps n none)
+
+-- ---- a marked group with a free place: something is found, and the lowest free place of all where that is in it
+some-by : (n x j : ℕ) (ps : List Slot) (t : Bool) → (marked zero x && has isFree (take 64 ps)) ≡ t
+    → (freeBy n (x / 2) (j + 64) (drop 64 ps) ≡ Nothing → ⊥) → freeBy (suc n) x j ps ≡ Nothing → ⊥
+unfolding freeBy
+some-by n x j ps true t ih e =
+    let f : Free (j + lowest isFree (take 64 ps)) ≡ Nothing = rw t at e in
+    let z : _≡_ {A = ℕ} 0 1 = cc in
+    omega arith
+some-by n x j ps false t ih e = ih (rw t at e)
+
+pub some-marked : (n g x j : ℕ) (ps : List Slot) → g < n → marked g x ≡ true → has isFree (groupAt g ps) ≡ true
+    → freeBy n x j ps ≡ Nothing → ⊥
+unfolding freeBy
+some-marked zero g x j ps h m f e = absurd (omega arith)
+some-marked (suc n) zero x j ps h m f e =
+    let q : Free (j + lowest isFree (take 64 ps)) ≡ Nothing = rw (m, f) at e in
+    let z : _≡_ {A = ℕ} 0 1 = cc in
+    omega arith
+some-marked (suc n) (suc g) x j ps h m f e =
+    some-by n x j ps _ refl
+    (some-marked n g (x / 2) (j + 64) (drop 64 ps) (omega arith) (marked-rest g x m) (rw (next-group g ps) at f)) e
+
+lowest-by : (n x j : ℕ) (ps : List Slot) (t : Bool) → has isFree (take 64 ps) ≡ t → lowest isFree ps < length ps
+    → marked (lowest isFree ps / 64) x ≡ true
+    → (64 ≤ lowest isFree ps → lowest isFree ps ≡ 64 + lowest isFree (drop 64 ps)
+    → freeBy n (x / 2) (j + 64) (drop 64 ps) ≡ Free (j + 64 + lowest isFree (drop 64 ps)))
+    → freeBy (suc n) x j ps ≡ Free (j + lowest isFree ps)
+unfolding freeBy has
+lowest-by n x j ps true t h m ih =
+    let l = ltb-true (lowest isFree (take 64 ps)) (length (take 64 ps)) t in
+    let e = in-front 64 ps l in
+    let z : lowest isFree ps / 64 ≡ 0 = omega (arith, e, l, length-take 64 ps) in
+    let m′ : marked 0 x ≡ true = rw z at m in
+    rw (m′, t, e)
+lowest-by n x j ps false t h m ih =
+    let e = behind 64 ps (ltb-false (lowest isFree (take 64 ps)) (length (take 64 ps)) t) in
+    let q : lowest isFree ps ≡ 64 + lowest isFree (drop 64 ps) = omega (arith, e, h, length-take 64 ps, length-drop 64 ps) in
+    let z : j + 64 + lowest isFree (drop 64 ps) ≡ j + lowest isFree ps = omega arith in
+    passed-by n x j ps _ _ refl refl (λ (w : marked zero x ≡ true). t) ∙ ih (omega arith) q ∙ ap Free z
+
+pub lowest-marked : (n x j : ℕ) (ps : List Slot) → lowest isFree ps < length ps → length ps ≤ 64 * n
+    → marked (lowest isFree ps / 64) x ≡ true → freeBy n x j ps ≡ Free (j + lowest isFree ps)
+unfolding marked
+lowest-marked zero x j ps h l m = absurd (omega arith)
+lowest-marked (suc n) x j ps h l m =
+    lowest-by n x j ps _ refl h m
+    (λ (w : 64 ≤ lowest isFree ps) (q : lowest isFree ps ≡ 64 + lowest isFree (drop 64 ps)).
+    let g : lowest isFree ps / 64 ≡ suc (lowest isFree (drop 64 ps) / 64) = omega arith in
+    lowest-marked n (x / 2) (j + 64) (drop 64 ps) (omega (arith, length-drop 64 ps)) (omega (arith, length-drop 64 ps))
+    (marked-rest (lowest isFree (drop 64 ps) / 64) x (rw g at m)))
 
 -- ---- a group with a free place has one
 lowest-cons : (p : Slot) (ps : List Slot) (k : ℕ) (x : Bool) → isFree p ≡ x → lowest isFree ps ≤ k → lowest isFree (p ∷ ps) ≤ suc k

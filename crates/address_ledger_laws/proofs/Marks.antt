@@ -127,7 +127,7 @@ module _ (l : Ledger) (m b : List ℕ) (k : ℕ) (f : verdict.Accepted ≡ judge
       rw (← q) (written l j (hold m j b) (omega (arith, i, in-use l m f .size)) _ refl refl)
   grant-new Nothing s h e = let z : _≡_ {A = ℕ} 0 1 = cc in absurd (omega arith)
 
-  back-new : (s : SlotFound) → s ≡ slotFound b (placesOf l m)
+  pub back-new : (s : SlotFound) → s ≡ slotFound b (placesOf l m)
       → givingBack (countedOf l) l m s .answer ≡ Address (l .first + k) → MarkedAnew l k (givingBack (countedOf l) l m s)
   unfolding givingBack
   back-new (Held j) s e =
@@ -137,7 +137,7 @@ module _ (l : Ledger) (m b : List ℕ) (k : ℕ) (f : verdict.Accepted ≡ judge
   back-new (Free j) s e = let z : _≡_ {A = ℕ} 0 1 = cc in absurd (omega arith)
   back-new Nothing s e = let z : _≡_ {A = ℕ} 0 1 = cc in absurd (omega arith)
 
-  back-marked : (s : SlotFound) → s ≡ slotFound b (placesOf l m)
+  pub back-marked : (s : SlotFound) → s ≡ slotFound b (placesOf l m)
       → givingBack (countedOf l) l m s .answer ≡ Address (l .first + k)
       → marked (k / 64) (givingBack (countedOf l) l m s .ledger .summary) ≡ true
   unfolding givingBack

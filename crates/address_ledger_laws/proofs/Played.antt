@@ -3,7 +3,7 @@ use Prim.Native.Nat.{ℕ, zero, suc, _*_, _<_}
 use mathlib.Core.Path.{_≡_, refl}
 use native.Mathlib.Omega.{arith}
 use borrow.Author.Tests.{eqb-false}
-use lib.ListN.{getD}
+use lib.ListN.{getD, replicate}
 use Rattle.address_slots.specs.Slot.{slotAt, slots, same, isFree, heldBy, lowest, has, countFree, slotFound, hold, freed}
 use Rattle.address_slots.specs.Marks.{marked, withMark, marksOf, refreshed, freeBy, slotFoundBy}
 use Rattle.short_address.specs.Address.{isAddress, bytesOf}
@@ -17,6 +17,11 @@ fresh zero h = eqb-false 7 1 refl
 fresh (suc zero) h = eqb-false 7 1 refl
 fresh (suc (suc zero)) h = eqb-false 7 1 refl
 fresh (suc (suc (suc k))) h = absurd (omega arith)
+
+sevens : (n i : ℕ) → _≡_ {A = ℕ} (getD (replicate n 7) i 0) 1 → ⊥
+sevens zero i e = omega arith
+sevens (suc n) zero e = omega arith
+sevens (suc n) (suc i) e = sevens n i e
 
 pub played : LedgerExample
 unfolding slotAt slots same isFree heldBy lowest has countFree slotFound marked withMark marksOf refreshed freeBy slotFoundBy
@@ -37,4 +42,10 @@ played =
       unmarked = refl;
       hidden = refl;
       elsewhere = refl;
+      misled-begins = record { accepted = refl; fresh = λ k h. sevens 594 (9 * k); boards = refl };
+      misled-holding = refl;
+      misled-free = refl;
+      misled-count = refl;
+      misled-same = refl;
+      misled-full = refl;
     }

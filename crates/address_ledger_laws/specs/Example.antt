@@ -5,11 +5,12 @@ use mathlib.Core.Path.{_≡_}
 use mathlib.Core.List.{List, [], _∷_, _++_}
 use lib.ListN.{replicate}
 use Rattle.refusal.specs.declared.Refusal.the-variants.{Full, Unknown}
+use Rattle.address_slots.specs.Slot.{slots, countFree}
 use Rattle.address_ledger.specs.Ledger.{ledgerOf, opened, granted, givenBack, freeCount}
 use Rattle.address_ledger.specs.declared.answer.AddressAnswer.{AddressAnswer}
 use Rattle.address_ledger.specs.declared.answer.AddressAnswer.the-variants.{Address, Refused}
 use Rattle.address_ledger.specs.declared.answer.FreeAnswer.the-variants.{Count}
-use Rattle.address_ledger_laws.specs.History.{Call, opens, asks, gives, counts, Moment, after, Begins}
+use Rattle.address_ledger_laws.specs.History.{Call, opens, asks, gives, counts, hands, Moment, after, Begins}
 
 abbrev pub board : ℕ → List ℕ
 board n = replicate 8 n
@@ -34,6 +35,20 @@ back cs n = givenBack (after 0x1000 3 lent cs .ledger) (after 0x1000 3 lent cs .
 abbrev pub final : Moment
 final = after 0x1000 3 lent (fill ++ refill)
 
+-- ---- a history on two groups whose calls are handed wrong counts and wrong summaries: the first board is led past a free group; the
+-- second by a summary that hides nothing; then nothing is marked, the first gets the same again, a third is refused although 64 addresses
+-- are free, and the second gives back its own; at the end the count is wrong and nothing is marked
+abbrev pub wide : List ℕ
+wide = replicate 594 7
+
+abbrev pub misled : List Call
+misled =
+    hands 9 2 ∷ asks (board 10) ∷ hands 0 3 ∷ asks (board 11) ∷ hands 70 0 ∷ asks (board 10) ∷ asks (board 12) ∷ gives (board 11)
+    ∷ hands 4 0 ∷ []
+
+abbrev pub misledEnd : Moment
+misledEnd = after 0x1000 66 wide misled
+
 pub record LedgerExample : Type 0 where
   pub begins : Begins 0x1000 3 lent (fill ++ refill)
   pub repeated : asked fill 10 ≡ Address 0x1000
@@ -53,3 +68,10 @@ pub record LedgerExample : Type 0 where
   pub hidden : granted (ledgerOf 0x1000 3 3 0) lent (board 10) .answer ≡ Refused Full
   -- of two groups, both free, the second alone marked: its first address is granted
   pub elsewhere : granted (ledgerOf 0x1000 66 66 2) (replicate 594 7) (board 10) .answer ≡ Address 0x1040
+  -- wrong counts and wrong summaries
+  pub misled-begins : Begins 0x1000 66 wide misled
+  pub misled-holding : misledEnd .holding ≡ record { board = board 10; address = 0x1040 } ∷ []
+  pub misled-free : countFree (slots 66 (misledEnd .memory)) ≡ 65
+  pub misled-count : freeCount (misledEnd .ledger) ≡ Count 4
+  pub misled-same : granted (misledEnd .ledger) (misledEnd .memory) (board 10) .answer ≡ Address 0x1040
+  pub misled-full : granted (misledEnd .ledger) (misledEnd .memory) (board 11) .answer ≡ Refused Full

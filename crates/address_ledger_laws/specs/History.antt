@@ -1,5 +1,6 @@
 -- Histories: lists of calls on one range and one lent memory, which nothing else writes; and who holds which address, told from the calls
--- and their answers alone.
+-- and their answers alone. The free count and the summary (02 requests 8 and 13) are values beside the memory: between two calls the caller
+-- may put any others in their place, so a history may hand every call a count and a summary of its own, right or wrong.
 use Prim.Native.Nat.{ℕ, _*_, _<_}
 use mathlib.Core.Path.{_≡_}
 use mathlib.Core.Bool.{Bool, true, false, cond, _&&_, _||_}
@@ -9,17 +10,19 @@ use lib.ListN.{length, getD}
 use Rattle.refusal.specs.declared.Verdict.the-variants.{Accepted}
 use Rattle.address_slots.specs.Slot.{same}
 use Rattle.address_ledger.specs.range.Range.{judged, counted}
-use Rattle.address_ledger.specs.Ledger.{opened, granted, givenBack}
+use Rattle.address_ledger.specs.Ledger.{ledgerOf, opened, granted, givenBack}
 use Rattle.address_ledger.specs.declared.answer.AddressAnswer.{AddressAnswer}
 use Rattle.address_ledger.specs.declared.answer.AddressAnswer.the-variants.{Address, Refused}
 use Rattle.address_ledger.specs.declared.ledger.Ledger.{Ledger}
 
--- the ledger is opened again, a board asks for an address or gives its own back, or somebody asks how many are free
+-- the ledger is opened again, a board asks for an address or gives its own back, or somebody asks how many are free; and, no call of the
+-- ledger, what the next calls are handed beside range and memory is replaced: a free count and a summary
 pub data Call : Type 0 where
   opens : Call
   asks : List ℕ → Call
   gives : List ℕ → Call
   counts : Call
+  hands : ℕ → ℕ → Call
 
 -- ---- who holds what, by the history: a board that was granted an address and has not given it back since,
 -- and the address that it was answered
@@ -74,6 +77,8 @@ step first size s (gives b) =
     let o = givenBack (s .ledger) (s .memory) b in
     record { ledger = o .ledger; memory = o .memory; holding = afterGive b (o .answer) (s .holding) }
 step first size s counts = s
+step first size s (hands free summary) =
+    record { ledger = ledgerOf first size free summary; memory = s .memory; holding = s .holding }
 
 unfoldable pub run : ℕ → ℕ → Moment → List Call → Moment
 run first size s [] = s
@@ -90,6 +95,16 @@ wholeBoards (opens ∷ cs) = wholeBoards cs
 wholeBoards (asks b ∷ cs) = (eqb (length b) 8 && wholeBoards cs)
 wholeBoards (gives b ∷ cs) = (eqb (length b) 8 && wholeBoards cs)
 wholeBoards (counts ∷ cs) = wholeBoards cs
+wholeBoards (hands free summary ∷ cs) = wholeBoards cs
+
+-- whether every call of a history is handed the ledger that the call before it left
+unfoldable pub threaded : List Call → Bool
+threaded [] = true
+threaded (opens ∷ cs) = threaded cs
+threaded (asks b ∷ cs) = threaded cs
+threaded (gives b ∷ cs) = threaded cs
+threaded (counts ∷ cs) = threaded cs
+threaded (hands free summary ∷ cs) = false
 
 -- a fresh ledger, which is one with no mark 1, and a history of boards with 8-byte identifiers
 pub record Begins (first size : ℕ) (m : List ℕ) (cs : List Call) : Type 0 where

@@ -1,5 +1,6 @@
--- What holds after every history from a fresh ledger on.
--- A part of a history from its start is a history, so each law holds at every moment of a shift.
+-- What holds after every history from a fresh ledger on, whatever free counts and summaries its calls are handed.
+-- A part of a history from its start is a history, so each law holds at every moment of a shift; and a history may end with any count and
+-- any summary, so what is said of the next call holds with any of them.
 use Prim.Native.Nat.{ℕ, _+_, _-_, _*_, _≤_, _<_}
 use mathlib.Core.Path.{_≡_}
 use mathlib.Core.Bool.{true, false}
@@ -12,16 +13,20 @@ use Rattle.address_ledger.specs.range.Range.{counted}
 use Rattle.address_ledger.specs.Ledger.{outcome, granted, givenBack, freeCount}
 use Rattle.address_ledger.specs.declared.answer.AddressAnswer.the-variants.{Address, Refused}
 use Rattle.address_ledger.specs.declared.answer.FreeAnswer.the-variants.{Count}
-use Rattle.address_ledger_laws.specs.History.{Call, gives, Holding, listed, taken, addressOf, Moment, step, after, Begins}
+use Rattle.address_ledger_laws.specs.History.{Call, gives, Holding, listed, taken, addressOf, Moment, step, after, threaded, Begins}
 
--- ---- held plus free is the size of the range: held counted from the history, free from the memory; and that is what the ledger answers
+-- ---- held plus free is the size of the range: held counted from the history, free from the memory; and the ledger answers how many are
+-- free if its count is right, which it is where every call is handed the ledger that the call before left
 pub record HeldAndFree : Type 0 where
   pub all : (first size : ℕ) (m : List ℕ) (cs : List Call) → Begins first size m cs
       → length (after first size m cs .holding) + countFree (slots (counted first size) (after first size m cs .memory))
       ≡ counted first size
   pub answered : (first size : ℕ) (m : List ℕ) (cs : List Call) → Begins first size m cs
+      → after first size m cs .ledger .free ≡ countFree (slots (counted first size) (after first size m cs .memory))
       → freeCount (after first size m cs .ledger)
       ≡ Count (countFree (slots (counted first size) (after first size m cs .memory)))
+  pub right : (first size : ℕ) (m : List ℕ) (cs : List Call) → Begins first size m cs → threaded cs ≡ true
+      → after first size m cs .ledger .free ≡ countFree (slots (counted first size) (after first size m cs .memory))
 
 -- ---- no two boards hold one address, and at its place stand mark 1 and the board
 pub record Stands (first n : ℕ) (m : List ℕ) (h : Holding) : Type 0 where

@@ -1,5 +1,5 @@
-// What holds of a ledger over whole histories of its calls, on any memory, and of every refusal:
-// claims about the definitions of `address_ledger`.
+// What holds of a ledger over whole histories of its calls, on any memory, and of every refusal: claims about the definitions of
+// `address_ledger`. In a history each call may be handed any free count and any summary.
 ghost use Rattle.address_ledger_laws.specs.Laws.{HeldAndFree, OneHolder, SameAgain, GivesBack, FreedAgain};
 ghost use Rattle.address_ledger_laws.specs.AnyMemory.{AnyMemory};
 ghost use Rattle.address_ledger_laws.specs.Addresses.{AddressesAlone, TwoAlone};
@@ -9,7 +9,7 @@ ghost use Rattle.address_ledger_laws.specs.Written.{Written};
 ghost use Rattle.address_ledger_laws.specs.Demand1.{Demand1};
 ghost use Rattle.address_ledger_laws.specs.Example.{LedgerExample};
 
-// Boards held, counted from the history, plus addresses free in the memory are the size of the range.
+// Boards held, counted from the history, plus addresses free in the memory are the size of the range; a right count answers them.
 pub fn held_and_free_law()
     ensures { λ _. ⌜ HeldAndFree ⌝ }
 {}
@@ -93,7 +93,7 @@ pub fn demand1()
     ensures { λ _. ⌜ Demand1 ⌝ }
 {}
 
-// A shift of four boards on three addresses, as a witness.
+// A shift of four boards on three addresses, and one whose calls are handed wrong counts and wrong summaries, as witnesses.
 pub fn ledger_example()
     ensures { λ _. ⌜ LedgerExample ⌝ }
 {}
