@@ -7,8 +7,8 @@ use native.Mathlib.Omega.{arith}
 use lib.ListN.{getD}
 use Rattle.lemmas.specs.lists.Xor.{_⊕_}
 use Rattle.lemmas.specs.lists.Table.{table}
-use Rattle.aes.specs.Field.{xtime, affineBit, affineFrom, affine, subByte}
-use Rattle.aes.specs.Cipher.{cell, subBytes, shiftRows, addRoundKey, word, addWord}
+use Rattle.aes.specs.Field.{xtime, times, _•_, affineBit, affineFrom, affine, subByte}
+use Rattle.aes.specs.Cipher.{cell, subBytes, shiftRows, mixed, mixColumns, addRoundKey, word, addWord}
 use Rattle.aes.specs.Cipher.{rotWord, subWord, rcon, nextKey, roundKeys, rounds, cipher}
 use Rattle.aes.specs.Bounds.{Bytes}
 use Rattle.aes.specs.BoundsLemmas.{xor-byte, none, one, joined, tabled}
@@ -22,6 +22,11 @@ affine-from : (count i b : ℕ) → affineFrom count i b < 2 ^ count
 unfolding affineFrom
 affine-from zero i b = omega arith
 affine-from (suc count) i b = rw (pow-suc 2 count) (omega (arith, affine-bit b i, affine-from count (suc i) b))
+
+scaled : (x b : ℕ) → x < 2 → b < 256 → x * b < 256
+scaled zero b l h = omega arith
+scaled (suc zero) b l h = omega arith
+scaled (suc (suc x)) b l h = absurd (omega arith)
 
 sub-byte : (b : ℕ) → subByte b < 256
 unfolding subByte affine
@@ -82,6 +87,31 @@ keyed (suc n) key f i =
     with-key ks (nextKey (rcon n) last) (keyed n key f) (next-key (rcon n) last (constant n) (keyed n key f n)) i
 
 -- ---- the block
+pub added-bytes : (s k : List ℕ) → Bytes s → Bytes k → Bytes (addRoundKey s k)
+unfolding addRoundKey
+added-bytes s k f g = tabled 16 (λ i. getD s i 0 ⊕ getD k i 0) (λ i. xor-byte (getD s i 0) (getD k i 0) (f i) (g i))
+
+times-byte : (count a b : ℕ) → b < 256 → times count a b < 256
+unfolding times
+times-byte zero a b h = omega arith
+times-byte (suc count) a b h =
+    xor-byte (a % 2 * b) (times count (a / 2) (xtime b)) (scaled (a % 2) b (omega arith) h) (times-byte count (a / 2) (xtime b) (times-x b h))
+
+product : (a b : ℕ) → b < 256 → a • b < 256
+unfolding _•_
+product a b h = times-byte 8 a b h
+
+-- a round leaves bytes, whatever it began with, where the round key is of bytes
+pub mixed-bytes : (s k : List ℕ) → Bytes k → Bytes (addRoundKey (mixColumns (shiftRows (subBytes s))) k)
+unfolding mixColumns shiftRows subBytes
+mixed-bytes s k g =
+    let t = table 16 (λ i. subByte (getD s i 0)) in
+    let u : Bytes t = tabled 16 (λ i. subByte (getD s i 0)) (λ i. sub-byte (getD s i 0)) in
+    let v : Bytes (shiftRows t) = tabled 16 (λ i. cell t (i % 4) (i / 4 + i % 4)) (λ i. u _) in
+    let w : Bytes (mixColumns (shiftRows t)) = tabled 16 (λ i. mixed (shiftRows t) (i % 4) (i / 4)) (λ i.
+    xor-byte _ _ (xor-byte _ _ (xor-byte _ _ (product 2 _ (v _)) (product 3 _ (v _))) (v _)) (v _)) in
+    added-bytes (mixColumns (shiftRows t)) k w g
+
 pub block-bytes : (key block : List ℕ) → Bytes key → Bytes (cipher (roundKeys 10 key) block)
 unfolding cipher addRoundKey shiftRows subBytes
 block-bytes key block f =

@@ -1,17 +1,19 @@
 -- The two tables of the source follow their rules: each is tested at every entry, by computation.
 -- Assumes nothing.
-use mathlib.Core.Path.{_≡_, refl, sym}
+use mathlib.Core.Path.{_≡_, refl, sym, ap}
 use mathlib.Core.Bool.{Bool, _&&_}
 use mathlib.Core.List.{List, [], _∷_}
 use Prim.Native.Nat.{ℕ, _/_, _%_, _<_}
-use lib.Dec.{T, eqb, eqb→eq}
+use native.Mathlib.Omega.{arith}
+use lib.Dec.{T, eqb, ltb, eqb→eq, ltb→lt}
 use lib.ListN.{getD}
 use Rattle.lemmas.specs.lists.Every.{every-at, T-left, T-right}
 use Rattle.lemmas.specs.lists.Xor.{_⊕_}
 use Rattle.lemmas.specs.lists.Table.{table}
 use Rattle.lemmas.specs.lists.TableLemmas.{table-self}
 use Rattle.aes.specs.Field.{subByte, affine, affineFrom, affineBit, inverse, powers, _•_, times, xtime}
-use Rattle.aes.specs.Words.{bytesOf, part, RoundTable}
+use Rattle.aes.specs.Words.{bytesOf, part, RoundTable, wordOf, roundTable}
+use Rattle.aes.proofs.Words.{digits}
 
 unfoldable pub list : List ℕ
 list =
@@ -98,3 +100,29 @@ words-rule b h = fitting (subByte b) (getD words b 0) (rw (list-rule b h) at (wo
 
 pub round-table : RoundTable words
 round-table = record { rule = words-rule }
+
+-- each entry is below 2^32, so its four bytes give it back
+small : ℕ → ℕ → Bool
+small b x = ltb x 4294967296
+
+words-small : (b : ℕ) → b < 256 → getD words b 0 < 4294967296
+unfolding words small
+words-small b h = ltb→lt (getD words b 0) 4294967296 (every-at small words tt b h)
+
+entry-is : (w s : ℕ) → w < 4294967296 → bytesOf w ≡ part s → w ≡ wordOf (2 • s) s s (3 • s)
+entry-is w s h e =
+    let e0 : w % 256 ≡ 2 • s = ap (λ (l : List ℕ). getD l 0 0) e in
+    let e1 : w / 256 % 256 ≡ s = ap (λ (l : List ℕ). getD l 1 0) e in
+    let e2 : w / 65536 % 256 ≡ s = ap (λ (l : List ℕ). getD l 2 0) e in
+    let e3 : w / 16777216 % 256 ≡ 3 • s = ap (λ (l : List ℕ). getD l 3 0) e in
+    let d = digits w h in
+    omega arith
+
+pub words-table : words ≡ roundTable
+unfolding words roundTable
+words-table =
+    sym (table-self words 0 256 (λ (b : ℕ). wordOf (2 • subByte b) (subByte b) (subByte b) (3 • subByte b)) refl
+    (λ b h. sym (entry-is (getD words b 0) (subByte b) (words-small b h) (words-rule b h))))
+
+pub table-right : RoundTable roundTable
+table-right = rw (← words-table) round-table

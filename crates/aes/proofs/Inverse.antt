@@ -12,6 +12,8 @@ use Rattle.aes.specs.Field.{_•_, xtime, times, powers, inverse}
 use Rattle.aes.specs.Cipher.{cipher, addRoundKey}
 use Rattle.aes.specs.Laws.{AesLaws}
 use Rattle.aes.proofs.Bounds.{block-bytes}
+use Rattle.aes.proofs.Entries.{table-right}
+use Rattle.aes.proofs.Rounds.{by-table}
 
 inverse-is : (b : ℕ) → b < 256 → 0 < b → b • inverse b ≡ 1
 unfolding _⊕_ _•_ xtime times powers inverse
@@ -22,4 +24,10 @@ unfolding cipher addRoundKey
 block-long keys block = length-table 16 _
 
 pub aes-laws : AesLaws
-aes-laws = record { inverse-is = inverse-is; block-long = block-long; block-bytes = block-bytes }
+aes-laws = record {
+  inverse-is = inverse-is;
+  table-right = table-right;
+  by-table = by-table;
+  block-long = block-long;
+  block-bytes = block-bytes;
+}

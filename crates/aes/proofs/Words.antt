@@ -14,7 +14,9 @@ use Rattle.lemmas.specs.lists.XorLemmas.{turn}
 use Rattle.lemmas.specs.lists.Table.{table}
 use Rattle.aes.specs.Field.{_•_, subByte}
 use Rattle.aes.specs.Cipher.{subBytes, shiftRows, mixColumns, addRoundKey}
-use Rattle.aes.specs.Words.{bytesOf, bytesFrom, turned, plus, spread, part, RoundTable, picked, plain}
+use Rattle.aes.specs.Bounds.{Bytes}
+use Rattle.aes.specs.BoundsLemmas.{none, one, joined as both}
+use Rattle.aes.specs.Words.{bytesOf, bytesFrom, turned, plus, spread, part, RoundTable, picked, plain, spreadBy, plainBy, columnsBy}
 
 byte-of : (k x y : ℕ) → bitXor x y / 2 ^ k % 2 ^ 8 ≡ bitXor (x / 2 ^ k % 2 ^ 8) (y / 2 ^ k % 2 ^ 8)
 byte-of k x y = ap (λ (n : ℕ). n % 2 ^ 8) (xor-shr x y k) ∙ xor-mod (x / 2 ^ k) (y / 2 ^ k) 8
@@ -35,7 +37,7 @@ pub word-bytes : (a b c d : ℕ) → a < 256 → b < 256 → c < 256 → d < 256
 word-bytes a b c d ha hb hc hd = column-eq (omega arith) (omega arith) (omega arith) (omega arith)
 
 -- a word below 2^32 is the number of its four bytes
-digits : (w : ℕ) → w < 4294967296
+pub digits : (w : ℕ) → w < 4294967296
     → w ≡ w % 256 + w / 256 % 256 * 256 + w / 65536 % 256 * 65536 + w / 16777216 % 256 * 16777216
 digits w h =
     let small : w / 16777216 < 256 = omega arith in
@@ -85,23 +87,32 @@ parts a b c d =
     column-eq refl (turn a (2 • b) (3 • c) d) (turn a b (2 • c) (3 • d) ∙ turn b (2 • c) (3 • d) a) (sym (turn (2 • d) (3 • a) b c))
 
 -- a column as the code makes it: from the table's entries, those of rows 1 to 3 turned into p, q and r, and the word k of the round key
-pub column-bytes : {t : List ℕ} → RoundTable t → (a b c d p q r k : ℕ) → a < 256 → b < 256 → c < 256 → d < 256
+pub column-bytes : (t : List ℕ) (a b c d p q r k : ℕ)
     → bytesOf p ≡ turned (bytesOf (getD t b 0)) → bytesOf q ≡ turned (turned (bytesOf (getD t c 0)))
     → bytesOf r ≡ turned (turned (turned (bytesOf (getD t d 0))))
-    → bytesOf (getD t a 0 ⊕ p ⊕ q ⊕ r ⊕ k) ≡ plus (spread (subByte a) (subByte b) (subByte c) (subByte d)) (bytesOf k)
-column-bytes {t} holds a b c d p q r k ha hb hc hd ep eq er =
-    let e0 : bytesOf (getD t a 0) ≡ part (subByte a) = holds .rule a ha in
-    let e1 : bytesOf p ≡ turned (part (subByte b)) = ep ∙ ap turned (holds .rule b hb) in
-    let e2 : bytesOf q ≡ turned (turned (part (subByte c))) = eq ∙ ap (λ (l : List ℕ). turned (turned l)) (holds .rule c hc) in
-    let e3 : bytesOf r ≡ turned (turned (turned (part (subByte d))))
-    = er ∙ ap (λ (l : List ℕ). turned (turned (turned l))) (holds .rule d hd) in
+    → bytesOf (getD t a 0 ⊕ p ⊕ q ⊕ r ⊕ k) ≡ plus (spreadBy t a b c d) (bytesOf k)
+column-bytes t a b c d p q r k ep eq er =
     add-bytes (getD t a 0 ⊕ p ⊕ q ⊕ r) k
-    (add-bytes (getD t a 0 ⊕ p ⊕ q) r (add-bytes (getD t a 0 ⊕ p) q (add-bytes (getD t a 0) p e0 e1) e2) e3
-    ∙ parts (subByte a) (subByte b) (subByte c) (subByte d))
+    (add-bytes (getD t a 0 ⊕ p ⊕ q) r (add-bytes (getD t a 0 ⊕ p) q (add-bytes (getD t a 0) p refl ep) eq) er)
     refl
 
-pub substituted-byte : {t : List ℕ} → RoundTable t → (a : ℕ) → a < 256 → getD t a 0 / 256 % 256 ≡ subByte a
-substituted-byte {t} holds a h = ap (λ (l : List ℕ). getD l 1 0) (holds .rule a h)
+-- ---- a right table: its columns are those of the substituted bytes
+added-up : (p q r s : List ℕ) {e f g h : List ℕ} → p ≡ e → q ≡ f → r ≡ g → s ≡ h
+    → plus (plus (plus p (turned q)) (turned (turned r))) (turned (turned (turned s)))
+    ≡ plus (plus (plus e (turned f)) (turned (turned g))) (turned (turned (turned h)))
+added-up p q r s pe qf rg sh = rw (pe, qf, rg, sh)
+
+module _ {t : List ℕ} (holds : RoundTable t) (a b c d : ℕ) (ha : a < 256) (hb : b < 256) (hc : c < 256) (hd : d < 256) where
+  pub spread-right : spreadBy t a b c d ≡ spread (subByte a) (subByte b) (subByte c) (subByte d)
+  spread-right =
+      added-up (bytesOf (getD t a 0)) (bytesOf (getD t b 0)) (bytesOf (getD t c 0)) (bytesOf (getD t d 0)) (holds .rule a ha)
+      (holds .rule b hb) (holds .rule c hc) (holds .rule d hd)
+      ∙ parts (subByte a) (subByte b) (subByte c) (subByte d)
+
+  pub plain-right : plainBy t a b c d ≡ plain (subByte a) (subByte b) (subByte c) (subByte d)
+  plain-right =
+      column-eq (ap (λ (l : List ℕ). getD l 1 0) (holds .rule a ha)) (ap (λ (l : List ℕ). getD l 1 0) (holds .rule b hb))
+      (ap (λ (l : List ℕ). getD l 1 0) (holds .rule c hc)) (ap (λ (l : List ℕ). getD l 1 0) (holds .rule d hd))
 
 -- four columns, one after the other
 pub joined : {a b c d e f g h : List ℕ} → a ≡ e → b ≡ f → c ≡ g → d ≡ h → a ++ b ++ c ++ d ≡ e ++ f ++ g ++ h
@@ -126,16 +137,58 @@ columns m a b c d k p q r s w x y z ep eq er es ew ex ey ez =
     joined (ew ∙ ap (λ (l : List ℕ). plus (picked m a b c d) l) ep) (ex ∙ ap (λ (l : List ℕ). plus (picked m b c d a) l) eq)
     (ey ∙ ap (λ (l : List ℕ). plus (picked m c d a b) l) er) (ez ∙ ap (λ (l : List ℕ). plus (picked m d a b c) l) es)
 
-pub rounded : (a b c d : ℕ) (k : List ℕ)
-    → plus (picked spread a b c d) (bytesFrom k 0) ++ plus (picked spread b c d a) (bytesFrom k 4)
-    ++ plus (picked spread c d a b) (bytesFrom k 8) ++ plus (picked spread d a b c) (bytesFrom k 12)
-    ≡ addRoundKey (mixColumns (shiftRows (subBytes (bytesOf a ++ bytesOf b ++ bytesOf c ++ bytesOf d)))) k
-unfolding subBytes shiftRows mixColumns addRoundKey table
-rounded a b c d k = refl
+pub rounded : (t : List ℕ) (a b c d : ℕ) (k : List ℕ)
+    → plus (picked (spreadBy t) a b c d) (bytesFrom k 0) ++ plus (picked (spreadBy t) b c d a) (bytesFrom k 4)
+    ++ plus (picked (spreadBy t) c d a b) (bytesFrom k 8) ++ plus (picked (spreadBy t) d a b c) (bytesFrom k 12)
+    ≡ addRoundKey (columnsBy (spreadBy t) (bytesOf a ++ bytesOf b ++ bytesOf c ++ bytesOf d)) k
+unfolding addRoundKey table
+rounded t a b c d k = refl
 
-pub finished : (a b c d : ℕ) (k : List ℕ)
-    → plus (picked plain a b c d) (bytesFrom k 0) ++ plus (picked plain b c d a) (bytesFrom k 4)
-    ++ plus (picked plain c d a b) (bytesFrom k 8) ++ plus (picked plain d a b c) (bytesFrom k 12)
-    ≡ addRoundKey (shiftRows (subBytes (bytesOf a ++ bytesOf b ++ bytesOf c ++ bytesOf d))) k
+pub finished : (t : List ℕ) (a b c d : ℕ) (k : List ℕ)
+    → plus (picked (plainBy t) a b c d) (bytesFrom k 0) ++ plus (picked (plainBy t) b c d a) (bytesFrom k 4)
+    ++ plus (picked (plainBy t) c d a b) (bytesFrom k 8) ++ plus (picked (plainBy t) d a b c) (bytesFrom k 12)
+    ≡ addRoundKey (columnsBy (plainBy t) (bytesOf a ++ bytesOf b ++ bytesOf c ++ bytesOf d)) k
+unfolding addRoundKey table
+finished t a b c d k = refl
+
+-- ---- the steps of FIPS 197 on a state, column by column
+abbrev pub spreadOf : ℕ → ℕ → ℕ → ℕ → List ℕ
+spreadOf a b c d = spread (subByte a) (subByte b) (subByte c) (subByte d)
+
+abbrev pub plainOf : ℕ → ℕ → ℕ → ℕ → List ℕ
+plainOf a b c d = plain (subByte a) (subByte b) (subByte c) (subByte d)
+
+pub mixed-columns : (s k : List ℕ) → addRoundKey (columnsBy spreadOf s) k ≡ addRoundKey (mixColumns (shiftRows (subBytes s))) k
+unfolding subBytes shiftRows mixColumns addRoundKey table
+mixed-columns s k = refl
+
+pub plain-columns : (s k : List ℕ) → addRoundKey (columnsBy plainOf s) k ≡ addRoundKey (shiftRows (subBytes s)) k
 unfolding subBytes shiftRows addRoundKey table
-finished a b c d k = refl
+plain-columns s k = refl
+
+module _ {t : List ℕ} (holds : RoundTable t) (s k : List ℕ) (f : Bytes s) where
+  pub round-right : addRoundKey (columnsBy (spreadBy t) s) k ≡ addRoundKey (mixColumns (shiftRows (subBytes s))) k
+  round-right =
+      ap (λ (x : List ℕ). addRoundKey x k)
+      (joined (spread-right holds _ _ _ _ (f _) (f _) (f _) (f _)) (spread-right holds _ _ _ _ (f _) (f _) (f _) (f _))
+      (spread-right holds _ _ _ _ (f _) (f _) (f _) (f _)) (spread-right holds _ _ _ _ (f _) (f _) (f _) (f _)))
+      ∙ mixed-columns s k
+
+  pub finish-right : addRoundKey (columnsBy (plainBy t) s) k ≡ addRoundKey (shiftRows (subBytes s)) k
+  finish-right =
+      ap (λ (x : List ℕ). addRoundKey x k)
+      (joined (plain-right holds _ _ _ _ (f _) (f _) (f _) (f _)) (plain-right holds _ _ _ _ (f _) (f _) (f _) (f _))
+      (plain-right holds _ _ _ _ (f _) (f _) (f _) (f _)) (plain-right holds _ _ _ _ (f _) (f _) (f _) (f _)))
+      ∙ plain-columns s k
+
+-- the sixteen bytes of four words are bytes
+word-all : (w : ℕ) → Bytes (bytesOf w)
+word-all w =
+    one (w % 256) (w / 256 % 256 ∷ w / 65536 % 256 ∷ w / 16777216 % 256 ∷ []) (omega arith)
+    (one (w / 256 % 256) (w / 65536 % 256 ∷ w / 16777216 % 256 ∷ []) (omega arith)
+    (one (w / 65536 % 256) (w / 16777216 % 256 ∷ []) (omega arith) (one (w / 16777216 % 256) [] (omega arith) none)))
+
+pub state-all : (a b c d : ℕ) → Bytes (bytesOf a ++ bytesOf b ++ bytesOf c ++ bytesOf d)
+state-all a b c d =
+    both (bytesOf a ++ bytesOf b ++ bytesOf c) (bytesOf d)
+    (both (bytesOf a ++ bytesOf b) (bytesOf c) (both (bytesOf a) (bytesOf b) (word-all a) (word-all b)) (word-all c)) (word-all d)

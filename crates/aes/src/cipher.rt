@@ -5,8 +5,8 @@ use crate::columns::word_at;
 use crate::expansion::expand;
 use crate::tables::round_table;
 ghost use mathlib.Core.Path.{_≡_};
-ghost use Rattle.aes.specs.Cipher.{subBytes, shiftRows, mixColumns, addRoundKey, cipher, encrypted};
-ghost use Rattle.aes.specs.Words.{stateOf, RoundTable};
+ghost use Rattle.aes.specs.Cipher.{addRoundKey, cipher, encrypted};
+ghost use Rattle.aes.specs.Words.{stateOf, RoundTable, spreadBy, plainBy, columnsBy, cipherBy};
 
 // The state: a word for each column.
 pub(crate) struct State {
@@ -42,7 +42,7 @@ fn begin(s: [u8; 16], k: [u8; 16]) -> State
 }
 
 fn round(t: &[u32; 256], s: State, k: [u8; 16]) -> State
-    ensures { λ r. ⌜ (RoundTable (now (t .entry)) → stateOf r ≡ addRoundKey (mixColumns (shiftRows (subBytes (stateOf s)))) k) ⌝ }
+    ensures { λ r. ⌜ stateOf r ≡ addRoundKey (columnsBy (spreadBy (now (t .entry))) (stateOf s)) k ⌝ }
 {
     State {
         a: column(t, s.a, s.b, s.c, s.d, word_at(k, 0)),
@@ -54,7 +54,7 @@ fn round(t: &[u32; 256], s: State, k: [u8; 16]) -> State
 
 // The last round, which has no MixColumns.
 fn finish(t: &[u32; 256], s: State, k: [u8; 16]) -> State
-    ensures { λ r. ⌜ (RoundTable (now (t .entry)) → stateOf r ≡ addRoundKey (shiftRows (subBytes (stateOf s))) k) ⌝ }
+    ensures { λ r. ⌜ stateOf r ≡ addRoundKey (columnsBy (plainBy (now (t .entry))) (stateOf s)) k ⌝ }
 {
     State {
         a: last_column(t, s.a, s.b, s.c, s.d, word_at(k, 0)),
@@ -88,9 +88,11 @@ pub(crate) fn bytes_of(s: State) -> [u8; 16]
     ]
 }
 
-// The cipher over round keys, for whoever encrypts many blocks: `t` is the answer of `round_table`, made once and lent.
+// The rounds over a table and round keys, for whoever encrypts many blocks: FIPS 197's cipher where `t` is the answer of `round_table`,
+// made once and lent.
 pub fn encrypt_by(t: &[u32; 256], keys: [[u8; 16]; 11], block: [u8; 16]) -> [u8; 16]
-    ensures { λ r. ⌜ (RoundTable (now (t .entry)) → r ≡ cipher keys block) ⌝ }
+    ensures exact { λ r. ⌜ r ≡ cipherBy (now (t .entry)) keys block ⌝ }
+    ensures standard { λ r. ⌜ (RoundTable (now (t .entry)) → r ≡ cipher keys block) ⌝ }
 {
     let first = keys[0];
     let mut x = begin(block, first);

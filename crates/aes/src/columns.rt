@@ -1,9 +1,9 @@
 // A column of the state as a word, row 0 in its lowest byte: what the rounds do with four columns at a time.
 ghost use mathlib.Core.Path.{_≡_};
 ghost use mathlib.Core.List.{[], _∷_};
-ghost use Prim.Native.Nat.{_≤_, _%_};
-ghost use Rattle.aes.specs.Field.{subByte};
-ghost use Rattle.aes.specs.Words.{bytesOf, bytesFrom, turned, picked, plain, spread, plus, RoundTable};
+ghost use Prim.Native.Nat.{_≤_, _/_, _%_};
+ghost use lib.ListN.{getD};
+ghost use Rattle.aes.specs.Words.{bytesOf, bytesFrom, turned, picked, plainBy, spreadBy, plus};
 
 // Four bytes as a word, the first lowest.
 pub(crate) fn word(a: u8, b: u8, c: u8, d: u8) -> u32
@@ -39,9 +39,9 @@ fn turn_thrice(w: u32) -> u32
     w % 256 * 16777216 + w / 256
 }
 
-// One column after SubBytes, MixColumns and AddRoundKey: a to d are the columns from which ShiftRows takes its rows.
+// One column after a round, which over a right table is SubBytes, MixColumns and AddRoundKey: a to d are the columns from which ShiftRows takes its rows.
 pub(crate) fn column(t: &[u32; 256], a: u32, b: u32, c: u32, d: u32, k: u32) -> u32
-    ensures { λ r. ⌜ (RoundTable (now (t .entry)) → bytesOf r ≡ plus (picked spread a b c d) (bytesOf k)) ⌝ }
+    ensures { λ r. ⌜ bytesOf r ≡ plus (picked (spreadBy (now (t .entry))) a b c d) (bytesOf k) ⌝ }
 {
     t[(a % 256) as usize]
         ^ turn_once(t[(b / 256 % 256) as usize])
@@ -50,16 +50,16 @@ pub(crate) fn column(t: &[u32; 256], a: u32, b: u32, c: u32, d: u32, k: u32) -> 
         ^ k
 }
 
-// The substitution of a word's lowest byte, from the table of the rounds.
+// The second byte of the entry of a word's lowest byte: in a right table, its substitution.
 fn substituted(t: &[u32; 256], w: u32) -> u8
-    ensures { λ r. ⌜ (RoundTable (now (t .entry)) → r ≡ subByte (w % 256)) ⌝ }
+    ensures { λ r. ⌜ r ≡ getD (now (t .entry)) (w % 256) 0 / 256 % 256 ⌝ }
 {
     (t[(w % 256) as usize] / 256 % 256) as u8
 }
 
-// One column after SubBytes and AddRoundKey; a to d as in `column`.
+// One column after the last round, over a right table SubBytes and AddRoundKey; a to d as in `column`.
 pub(crate) fn last_column(t: &[u32; 256], a: u32, b: u32, c: u32, d: u32, k: u32) -> u32
-    ensures { λ r. ⌜ (RoundTable (now (t .entry)) → bytesOf r ≡ plus (picked plain a b c d) (bytesOf k)) ⌝ }
+    ensures { λ r. ⌜ bytesOf r ≡ plus (picked (plainBy (now (t .entry))) a b c d) (bytesOf k) ⌝ }
 {
     word(
         substituted(t, a),

@@ -2,7 +2,7 @@
 ghost use mathlib.Core.Path.{_≡_};
 ghost use Rattle.lemmas.specs.lists.Table.{table};
 ghost use Rattle.aes.specs.Field.{subByte};
-ghost use Rattle.aes.specs.Words.{RoundTable};
+ghost use Rattle.aes.specs.Words.{RoundTable, roundTable};
 
 // The substitution list (FIPS 197, figure 7). A caller makes it once and lends it: a constant is stored anew at each use.
 pub fn substitution() -> [u8; 256]
@@ -14,7 +14,8 @@ pub fn substitution() -> [u8; 256]
 // The table of the rounds, 1,024 bytes, for row 0; the other rows' entries are its entries turned. A caller makes it once for all
 // blocks of a message and lends it.
 pub fn round_table() -> [u32; 256]
-    ensures { λ r. ⌜ RoundTable r ⌝ }
+    ensures exact { λ r. ⌜ r ≡ roundTable ⌝ }
+    ensures right { λ r. ⌜ RoundTable r ⌝ }
 {
     ROUND_TABLE
 }

@@ -16,7 +16,7 @@ encrypt-by-requires c κs = search needs
 
 returns : tie.Need-returns
 unfolding encrypted
-returns c = c .encrypt-by .ensures (c .before .before .before .round-table .ensures) ∙ rw (c .before .expand .ensures)
+returns c = c .encrypt-by .ensures .1 (c .before .before .before .round-table .ensures .1) ∙ rw (c .before .expand .ensures)
 
 pub encrypt-spec : {M : Type 1} → statement M
 encrypt-spec =

@@ -1,7 +1,8 @@
--- The invariant: the words hold the state after n rounds, if the table is right.
+-- The invariant: the words hold the state after n rounds over the table, and so the standard's state if the table is right.
 use Prim.Native.Nat.{_-_}
 use Rattle.aes.specs.Words.{stateOf}
-use Rattle.aes.proofs.Rounds.{Rounding, round-begin, round-step, round-all}
+use Rattle.aes.proofs.Rounds.{Rounding, round-begin, round-step, round-all, round-standard}
+use Rattle.aes.proofs.Words.{state-all}
 use native.Mathlib.Omega.{arith}
 use borrow.Author.Needs.{needs}
 use Rattle.aes.proofs.cipher.encrypt_by.Statement.{statement}
@@ -41,7 +42,8 @@ loop-less : tie.Need-loop-less Inv-loop μ-loop
 loop-less c = search needs
 
 loop-again : tie.Need-loop-again Inv-loop μ-loop
-loop-again c = round-step (c .before .before .before .loop .inv) (omega arith) (c .round .ensures)
+loop-again c =
+    round-step (c .before .before .before .loop .inv) (omega arith) (state-all _ _ _ _) (c .round .ensures)
 
 array-copy-out-last : tie.Need-array-copy-out-last Inv-loop μ-loop
 array-copy-out-last c = search needs
@@ -57,9 +59,12 @@ returns c =
     let at-loop-test = c .before .before .before in
     let at-loop = at-loop-test .before in
     let at-begin = at-loop .before in
-    let start = at-begin .before .before in
-    round-all (start .args .block) (at-begin .begin .ensures) (at-loop .loop .inv) (at-loop-test .loop-test .left)
-    (c .before .finish .ensures) (c .bytes-of .ensures)
+    let start = at-begin .before .before in (
+      round-all (start .args .block) (at-begin .begin .ensures) (at-loop .loop .inv) (at-loop-test .loop-test .left)
+          (c .before .finish .ensures) (c .bytes-of .ensures),
+      round-standard (start .args .block) (at-begin .begin .ensures) (at-loop .loop .inv) (at-loop-test .loop-test .left)
+          (c .before .finish .ensures) (c .bytes-of .ensures) (state-all _ _ _ _),
+    )
 
 pub encrypt-by-spec : {M : Type 1} → statement M
 encrypt-by-spec =

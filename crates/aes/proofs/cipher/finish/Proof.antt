@@ -1,6 +1,6 @@
--- As a round, with the bytes unmixed.
+-- As a round, with the entries' second bytes alone.
 use mathlib.Core.Path.{_∙_}
-use Rattle.aes.specs.Words.{plain}
+use Rattle.aes.specs.Words.{plainBy}
 use Rattle.aes.proofs.Words.{columns, finished}
 use borrow.Author.Needs.{needs}
 use Rattle.aes.proofs.cipher.finish.Statement.{statement}
@@ -31,9 +31,11 @@ last-column-requires-4 : tie.Need-last-column-requires-4
 last-column-requires-4 c κs = search needs
 
 returns : tie.Need-returns
-returns c = λ holds.
-    let s = c .before .before .before .before .before .before .before .before .args .s in
-    let k = c .before .before .before .before .before .before .before .before .args .k in
+returns c =
+    let args = c .before .before .before .before .before .before .before .before .args in
+    let t = args .t .now in
+    let s = args .s in
+    let k = args .k in
     let k0 = c .before .before .before .before .before .before .before .word-at in
     let k4 = c .before .before .before .before .before .word-at2 in
     let k8 = c .before .before .before .word-at3 in
@@ -42,10 +44,10 @@ returns c = λ holds.
     let x = c .before .before .before .before .last-column2 in
     let y = c .before .before .last-column3 in
     let z = c .last-column4 in
-    columns plain (s .a) (s .b) (s .c) (s .d) k (k0 .result) (k4 .result) (k8 .result) (k12 .result)
+    columns (plainBy t) (s .a) (s .b) (s .c) (s .d) k (k0 .result) (k4 .result) (k8 .result) (k12 .result)
     (w .result) (x .result) (y .result) (z .result) (k0 .ensures) (k4 .ensures) (k8 .ensures) (k12 .ensures)
-    (w .ensures holds) (x .ensures holds) (y .ensures holds) (z .ensures holds)
-    ∙ finished (s .a) (s .b) (s .c) (s .d) k
+    (w .ensures) (x .ensures) (y .ensures) (z .ensures)
+    ∙ finished t (s .a) (s .b) (s .c) (s .d) k
 
 pub finish-spec : {M : Type 1} → statement M
 finish-spec =

@@ -1,5 +1,4 @@
--- What the table's four entries, turned, add up to is MixColumns' column.
-use native.Mathlib.Omega.{arith}
+-- The word of the table's four entries, turned, and the round key's word, byte by byte.
 use Prim.Native.Nat.{_/_, _%_}
 use Rattle.lemmas.specs.lists.Xor.{_⊕_}
 use Rattle.aes.proofs.Words.{column-bytes}
@@ -54,14 +53,13 @@ turn-thrice-requires c κs = search needs
 
 returns : tie.Need-returns
 unfolding _⊕_
-returns c = λ holds.
+returns c =
     let args = c .before .before .before .before .before .before .before .args in
     let once = c .before .before .before .before .turn-once in
     let twice = c .before .before .turn-twice in
     let thrice = c .turn-thrice in
-    column-bytes holds (args .a % 256) (args .b / 256 % 256) (args .c / 65536 % 256) (args .d / 16777216 % 256)
-    (once .result) (twice .result) (thrice .result) (args .k) (omega arith) (omega arith) (omega arith) (omega arith)
-    (once .ensures) (twice .ensures) (thrice .ensures)
+    column-bytes (args .t .now) (args .a % 256) (args .b / 256 % 256) (args .c / 65536 % 256) (args .d / 16777216 % 256)
+    (once .result) (twice .result) (thrice .result) (args .k) (once .ensures) (twice .ensures) (thrice .ensures)
 
 pub column-spec : {M : Type 1} → statement M
 column-spec =

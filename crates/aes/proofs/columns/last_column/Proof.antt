@@ -1,4 +1,4 @@
--- Four substituted bytes as a word, and the round key's word added.
+-- Four bytes of entries as a word, and the round key's word added.
 use mathlib.Core.Path.{refl, _∙_}
 use Rattle.lemmas.specs.lists.Xor.{_⊕_}
 use Rattle.aes.proofs.Words.{add-bytes, column-eq}
@@ -27,11 +27,10 @@ returns c =
     let at-substituted2 = c .before .before .before in
     let at-substituted = at-substituted2 .before in
     let start = at-substituted .before in
-    λ holds.
-    let first = at-substituted .substituted .ensures holds in
-    let second = at-substituted2 .substituted2 .ensures holds in
-    let third = c .before .before .substituted3 .ensures holds in
-    let fourth = c .before .substituted4 .ensures holds in
+    let first = at-substituted .substituted .ensures in
+    let second = at-substituted2 .substituted2 .ensures in
+    let third = c .before .before .substituted3 .ensures in
+    let fourth = c .before .substituted4 .ensures in
     add-bytes (c .word .result) (start .args .k) (c .word .ensures ∙ column-eq first second third fourth) refl
 
 pub last-column-spec : {M : Type 1} → statement M

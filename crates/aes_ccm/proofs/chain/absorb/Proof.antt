@@ -43,7 +43,7 @@ loop-again c =
     let sum = c .before .add-round-key in
     let out = c .encrypt-by in
     chain-step (args .keys) (turn .y) (sum .result) (out .result) (args .s .now) (turn .at) (next .result) (at-loop-test .loop-test .taken)
-    (next .ensures) (sum .ensures) (out .ensures (start .pre))
+    (next .ensures) (sum .ensures) (out .ensures .1 (start .pre))
     ∙ turn .inv
 
 returns : tie.Need-returns Inv-loop μ-loop

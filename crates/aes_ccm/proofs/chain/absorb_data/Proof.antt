@@ -31,7 +31,7 @@ returns c =
     sym (chain-done (args .keys) (out .result) (args .a .now) 14 (c .if1 .taken))
     ∙ data-step (args .keys) (args .x) (sum .result) (out .result) (first .result) (args .a .now) (start .pre .0)
     (first .ensures) (sum .ensures)
-    (out .ensures (start .pre .2))
+    (out .ensures .1 (start .pre .2))
 
 sub-absorb : tie.Need-sub-absorb
 sub-absorb c = search needs
@@ -60,7 +60,7 @@ returns-2 c =
     ∙ ap (λ (l : List ℕ). chain (args .keys) (out .result) (blocks l))
     (take-all (length a - 14) (drop 14 a) (rw (length-drop 14 a) (omega arith)))
     ∙ data-step (args .keys) (args .x) (sum .result) (out .result) (first .result) a (start .pre .0) (first .ensures) (sum .ensures)
-    (out .ensures (start .pre .2))
+    (out .ensures .1 (start .pre .2))
 
 pub absorb-data-spec : {M : Type 1} → statement M
 absorb-data-spec =

@@ -23,7 +23,7 @@ returns c =
     let x = c .before .encrypt-by in
     let y = c .absorb in
     last-none (args .keys) (args .nonce) (args .a .now) (args .m .now) (first .result) (x .result) (y .result) (at-if1 .if1 .taken)
-    (first .ensures) (x .ensures (start .pre .2)) (y .ensures)
+    (first .ensures) (x .ensures .1 (start .pre .2)) (y .ensures)
 
 framed-requires-2 : tie.Need-framed-requires-2
 framed-requires-2 c κs = search needs
@@ -45,7 +45,7 @@ returns-2 c =
     let y = c .before .absorb-data in
     let z = c .absorb2 in
     last-some (args .keys) (args .nonce) (args .a .now) (args .m .now) (first .result) (x .result) (y .result) (z .result) (omega arith)
-    (first .ensures) (x .ensures (c .before .before .before .before .before .before .before .pre .2)) (y .ensures) (z .ensures)
+    (first .ensures) (x .ensures .1 (c .before .before .before .before .before .before .before .pre .2)) (y .ensures) (z .ensures)
 
 pub last-of-spec : {M : Type 1} → statement M
 last-of-spec =

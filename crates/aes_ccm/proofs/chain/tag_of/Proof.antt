@@ -60,7 +60,7 @@ returns c =
     let zeroth = c .before .before .encrypt-by in
     all (c .before .loop .inv) (c .loop-test .left)
     ∙ tag-bytes (args .keys) (args .nonce) (args .a .now) (args .m .now) (last .result) (zeroth .result) (last .ensures)
-    (zeroth .ensures (start .pre .2) ∙ ap (cipher (args .keys)) (at-framed .framed .ensures))
+    (zeroth .ensures .1 (start .pre .2) ∙ ap (cipher (args .keys)) (at-framed .framed .ensures))
 
 pub tag-of-spec : {M : Type 1} → statement M
 tag-of-spec =

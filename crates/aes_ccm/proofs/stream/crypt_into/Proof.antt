@@ -58,7 +58,7 @@ current : (c : tie.After-shared-slice-known2 Inv-loop μ-loop)
 unfolding stream counter
 current c =
     let start = c .before .before .before .before .before .before .before in
-    ⊎-elim (λ w. w .3 ∙ w .2 .ensures (start .pre .2) ∙ ap (cipher (start .args .keys)) (w .1 .ensures))
+    ⊎-elim (λ w. w .3 ∙ w .2 .ensures .1 (start .pre .2) ∙ ap (cipher (start .args .keys)) (w .1 .ensures))
     (λ w. w .1 ∙ c .before .before .before .loop .inv .2 (w .0 .left))
     (c .before .if1 .came)
 
