@@ -3,6 +3,5 @@ mod ByteStrings
 mod Reports
 mod Again
 mod Back
-mod Writing
 mod Listing
 mod InRange

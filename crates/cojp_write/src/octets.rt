@@ -1,6 +1,7 @@
 // What the writers of both objects share: parameters that are byte strings or kept lists, how much there is to write of them, and the laws
 // of pairs that are written one after the other (proofs/).
 // Parameters that are byte strings: the network identifier, the prefix, the JRC address.
+mod array;
 mod list;
 mod put;
 mod size;

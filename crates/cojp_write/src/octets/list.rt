@@ -1,4 +1,5 @@
 // Parameters that are arrays kept as they are written (RFC 9031): the blacklist, the unsupported configuration.
+use crate::octets::array::write_list;
 use crate::octets::size::Size;
 use crate::octets::size::no_size;
 use byte_io::WriteResult;
@@ -7,7 +8,6 @@ use cbor::write::write_head;
 use cojp::ItemList;
 use cojp::ListParameter;
 use cojp::is_taken;
-use cojp_list::write_list;
 use refusal::Refusal;
 ghost use mathlib.Core.Path.{_≡_};
 ghost use Prim.Native.Nat.{_≤_};

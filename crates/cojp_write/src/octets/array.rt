@@ -1,4 +1,4 @@
-// The array that a list is, written.
+// The array that a list is, written. Its callers judged the list: no one else may write one.
 use byte_io::WriteResult;
 use cbor::write::head_len;
 use cbor::write::write_head;
@@ -8,7 +8,7 @@ ghost use Rattle.byte_io.specs.Write.{Did};
 ghost use Rattle.cojp.specs.Lists.{listPlan};
 
 // Writes the array that a list is, the head of its count and its bytes: RANGE where it has more than 253, ROOM, or the length written.
-pub fn write_list(dst: &mut [u8], l: ItemList) -> WriteResult
+pub(crate) fn write_list(dst: &mut [u8], l: ItemList) -> WriteResult
     ensures { λ r. ⌜ Did (listPlan l) (now (dst .entry)) r (now (dst .exit)) ⌝ }
 {
     cbor::head_laws();

@@ -4,9 +4,9 @@ use native.Mathlib.Omega.{arith}
 use lib.ListN.{length}
 use lib.Seq.{length-take-le}
 use borrow.Author.Needs.{needs}
-use Rattle.cojp_list.proofs.Writing.{list-over, list-head, list-lacks, list-part, list-done}
-use Rattle.cojp_list.proofs.write.write_list.Statement.{statement}
-use Rattle.cojp_list.proofs.write.write_list.Tie as tie
+use Rattle.cojp_write.proofs.octets.Arrays.{list-over, list-head, list-lacks, list-part, list-done}
+use Rattle.cojp_write.proofs.octets.array.write_list.Statement.{statement}
+use Rattle.cojp_write.proofs.octets.array.write_list.Tie as tie
 
 -- the list's array
 array-long : (begun : tie.Start) → length (begun .args .l .bytes) ≡ 253
