@@ -7,11 +7,12 @@ use mathlib.Core.List.{List}
 use native.Mathlib.Omega.{arith}
 use lib.ListN.{length, drop, length-drop}
 use lib.Seq.{drop-drop}
+use Rattle.refusal.specs.Verdict.{verdictNumber}
 use Rattle.refusal.specs.declared.Refusal.{Refusal}
 use Rattle.cbor.specs.Item.{Item}
 use Rattle.cbor.specs.Decode.{Outcome, refused, got, heading, Heading, members, decodeBy}
 use Rattle.cbor.specs.Strict.{headBy}
-use Rattle.cbor.specs.Answer.{headAnswer, skipAnswer, outcomeNumber, skipNumber}
+use Rattle.cbor.specs.Answer.{headAnswer, skipAnswer, scanAnswer, outcomeNumber, headNumber, skipNumber}
 use Rattle.cbor.specs.ReaderSpecs.{saysEnd, SkipSpec}
 use Rattle.cbor.specs.declared.head.Head.{Head}
 use Rattle.cbor.specs.declared.head.HeadResult.{HeadResult}
@@ -35,9 +36,17 @@ skip-answer s (got a t) (sv.Next p) q =
     let f : drop p s ≡ t = cc in
     ap sv.Next (left-over s t p (q .inside) f)
 
-tells-number : {A : Type 0} (n : ℕ) (o : Outcome A) → skipNumber (skipAnswer n o) ≡ outcomeNumber o
+pub tells-number : {A : Type 0} (n : ℕ) (o : Outcome A) → skipNumber (skipAnswer n o) ≡ outcomeNumber o
 tells-number n (refused k) = refl
 tells-number n (got a t) = refl
+
+pub head-number : (n : ℕ) (o : Outcome Heading) → headNumber (headAnswer n o) ≡ outcomeNumber o
+head-number n (refused k) = refl
+head-number n (got h t) = refl
+
+pub scan-number : {A : Type 0} (o : Outcome A) → verdictNumber (scanAnswer o) ≡ outcomeNumber o
+scan-number (refused k) = refl
+scan-number (got a t) = refl
 
 tells-end : {A : Type 0} (s : List ℕ) (o : Outcome A) (r : SkipResult) → Passed s o r → saysEnd s o r
 tells-end s (refused k) (sv.Refused j) q = refl

@@ -6,8 +6,10 @@ use mathlib.Core.List.{List, [], _++_, List·Memᴰ}
 use lib.Dec.{eqb}
 use lib.ListN.{length}
 use Rattle.cbor.specs.Item.{Item, Items, depth, Fit}
+use Rattle.refusal.specs.Verdict.{verdictNumber}
 use Rattle.refusal.specs.declared.Refusal.the-variants.{Loose}
-use Rattle.cbor.specs.Decode.{refused, got, Heading, heading, decode, members, payload, payloadBy}
+use Rattle.cbor.specs.Answer.{headAnswer, skipAnswer, scanAnswer, outcomeNumber, headNumber, skipNumber}
+use Rattle.cbor.specs.Decode.{Outcome, refused, got, Heading, heading, decode, members, payload, payloadBy}
 use Rattle.cbor.specs.Encode.{shortest, encode, infoOf}
 use Rattle.cbor.specs.Strict.{short, headBy, strictPayload, loosePayload}
 use Rattle.cbor.specs.View.{ScalarValid, scalarOf, scalarAt}
@@ -50,3 +52,9 @@ pub record ItemLaws : Type 0 where
   -- the strict reading is LOOSE exactly where the ordinary scan meets a longer head, and else the ordinary one, which is never LOOSE
   pub strict : (s : List ℕ) → strictPayload s ≡ cond (loosePayload s) (refused Loose) (payload s)
   pub never-loose : (s : List ℕ) → payload s ≡ refused Loose → ⊥
+  -- the numbers of the answers: of a head (`read_head`, `read_head_by`), of items that are passed over (`skip_item`, `skip_members`), of a
+  -- payload's scan (`scan`)
+  pub head-number : (n : ℕ) (o : Outcome Heading) → headNumber (headAnswer n o) ≡ outcomeNumber o
+  pub item-number : (n : ℕ) (o : Outcome Item) → skipNumber (skipAnswer n o) ≡ outcomeNumber o
+  pub members-number : (n : ℕ) (o : Outcome Items) → skipNumber (skipAnswer n o) ≡ outcomeNumber o
+  pub scan-number : (o : Outcome Item) → verdictNumber (scanAnswer o) ≡ outcomeNumber o

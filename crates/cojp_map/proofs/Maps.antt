@@ -2,12 +2,15 @@
 use Prim.Native.Nat.{ℕ, suc, _+_, _-_, _≤_, _<_}
 use mathlib.Core.Path.{_≡_, refl, ap, sym, subst, _∙_}
 use mathlib.Core.Bool.{Bool, true, false, cond}
-use mathlib.Core.List.{List}
+use mathlib.Core.List.{List, [], _∷_}
 use native.Mathlib.Omega.{arith}
 use lib.ListN.{length, drop}
 use lib.Seq.{drop-length}
 use borrow.Author.Tests.{lt-ltb, le-ltb}
 use lib.Dec.{ltb}
+use Rattle.refusal.specs.Order.{refusedIf, inOrder}
+use Rattle.refusal.specs.Refusal.{numberOf}
+use Rattle.refusal.specs.RefusalLemmas.{refused-first}
 use Rattle.refusal.specs.declared.Refusal.{Refusal}
 use Rattle.refusal.specs.declared.Refusal.the-variants as refusal
 use Rattle.refusal.specs.declared.Verdict.{Verdict}
@@ -36,7 +39,7 @@ use Rattle.cojp.specs.declared.disposition.Disposition.the-variants.{Absent, Ta
 use Rattle.cojp.specs.declared.walk.LabelStatus.{LabelStatus}
 use Rattle.cojp.specs.declared.walk.LabelStatus.the-variants.{Unknown, First, Repeated}
 use Rattle.cojp.proofs.Nexts.{on-with}
-use Rattle.cojp_map.specs.Pairs.{startOf, startAnswer, mapIn, pairsIn, saysStart, StartSpec}
+use Rattle.cojp_map.specs.Pairs.{startOf, startAnswer, mapIn, pairsIn, saysStart, payloadNumber, mapNumber, StartSpec}
 use Rattle.cojp_map.specs.Pairs.{labelledAnswer, PairLabelSpec, seen, once, walkAt}
 use Rattle.cojp_map.specs.declared.open.PayloadResult.{PayloadResult}
 use Rattle.cojp_map.specs.declared.open.PayloadResult.the-variants as start
@@ -45,7 +48,7 @@ use Rattle.cojp_map.specs.declared.pair.LabelResult.{LabelResult}
 -- ---- the returns of `open_payload`
 pub start-long : (b : Bool) (s : List ℕ) → 256 < length s → StartSpec b s (start.Refused refusal.Long)
 unfolding startAnswer pairsIn
-start-long b s h = let long = lt-ltb 256 (length s) h in record { is = rw long; says = rw long }
+start-long b s h = let long = lt-ltb 256 (length s) h in record { is = rw long; number = rw long; says = rw long }
 
 not-map : {R : Type 0} (f : Pairs → R) (x : R) (i : Item) → ifMap (λ ps. true) false i ≡ false → ifMap f x i ≡ x
 not-map f x (mapItem ps) e = absurd (let z : _≡_ {A = ℕ} 0 1 = cc in omega arith)
@@ -65,10 +68,19 @@ module _ (b : Bool) (s : List ℕ) (h : length s ≤ 256) where
   start-says ov.NoMap w = rw (le-ltb 256 (length s) h, w .read) (not-map read (refused refusal.«Type») (w .item) (w .other))
   start-says (ov.Map n p) w = (w .pairs-are, rw (le-ltb 256 (length s) h, w .read), w .stand)
 
+  start-number : (p : OpenResult) → saysOpened b s p
+      → payloadNumber (startOf p)
+      ≡ inOrder (refusedIf (ltb 256 (length s)) (numberOf refusal.Long) ∷ mapNumber (payloadBy (headBy b) s) ∷ [])
+  start-number (ov.Refused k) w = rw (le-ltb 256 (length s) h, w) (sym (refused-first k []))
+  start-number ov.NoMap w =
+      rw (le-ltb 256 (length s) h, w .read, not-map (λ (ps : Pairs). 0) (numberOf refusal.«Type») (w .item) (w .other))
+  start-number (ov.Map n p) w = rw (le-ltb 256 (length s) h, w .read)
+
   pub start-opened : (o : OpenResult) → OpenSpec b s o → (p : OpenResult) → o ≡ p → StartSpec b s (startOf p)
   unfolding startAnswer
   start-opened o e p g =
-      record { is = rw (le-ltb 256 (length s) h, ← e .is, g); says = start-says p (subst (saysOpened b s) g (e .says)) }
+      let w = subst (saysOpened b s) g (e .says) in
+      record { is = rw (le-ltb 256 (length s) h, ← e .is, g); number = start-number p w; says = start-says p w }
 
 -- ---- a place that is told after an item, or after a head, is in the payload or at its end
 abbrev skipPlace : SkipResult → ℕ

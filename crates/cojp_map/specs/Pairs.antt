@@ -3,9 +3,11 @@
 use Prim.Native.Nat.{ℕ, zero, suc}
 use mathlib.Core.Bool.{Bool, true, false, cond}
 use mathlib.Core.Path.{_≡_}
-use mathlib.Core.List.{List}
+use mathlib.Core.List.{List, [], _∷_}
 use lib.Dec.{ltb}
 use lib.ListN.{length, drop}
+use Rattle.refusal.specs.Order.{refusedIf, inOrder}
+use Rattle.refusal.specs.Refusal.{numberOf}
 use Rattle.refusal.specs.declared.Refusal.the-variants as refusal
 use Rattle.refusal.specs.declared.Verdict.the-variants as verdict
 use Rattle.cbor.specs.Answer.{openAnswer}
@@ -51,8 +53,19 @@ abbrev pub saysStart : Bool → List ℕ → PayloadResult → Type 0
 saysStart b s (start.Refused k) = pairsIn b s ≡ refused k
 saysStart b s (start.Pairs n p) = (ps : Pairs) × (pairsIn b s ≡ read ps) × PairsAt n (drop p s) ps
 
+-- the answer in the documents' numbers: 0 where there is a map
+abbrev pub payloadNumber : PayloadResult → ℕ
+payloadNumber (start.Refused k) = numberOf k
+payloadNumber (start.Pairs n p) = 0
+
+-- the scan's number, then TYPE where the item is no map
+abbrev pub mapNumber : Outcome Item → ℕ
+mapNumber (decode.refused k) = numberOf k
+mapNumber (decode.got i t) = ifMap (λ ps. 0) (numberOf refusal.«Type») i
+
 pub record StartSpec (b : Bool) (s : List ℕ) (r : PayloadResult) : Type 0 where
   pub is : r ≡ startAnswer b s
+  pub number : payloadNumber r ≡ inOrder (refusedIf (ltb 256 (length s)) (numberOf refusal.Long) ∷ mapNumber (payloadBy (headBy b) s) ∷ [])
   pub says : saysStart b s r
 
 -- ---- a label: TYPE where it is no integer, and the place is then the payload's end;

@@ -8,3 +8,4 @@ mod Passed
 mod Again
 mod Short
 mod Lent
+mod Numbers

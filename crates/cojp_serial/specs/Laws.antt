@@ -2,19 +2,22 @@
 -- from call to call is the last law.
 use Prim.Native.Nat.{ℕ, _+_, _≤_, _<_}
 use mathlib.Core.Path.{_≡_}
-use mathlib.Core.Bool.{false, cond}
+use mathlib.Core.Bool.{false, cond, not}
 use mathlib.Core.List.{List, [], _∷_}
 use lib.Dec.{leb}
 use lib.ListN.{length, take, drop}
+use Rattle.refusal.specs.Order.{refusedIf, inOrder}
+use Rattle.refusal.specs.Refusal.{numberOf}
+use Rattle.refusal.specs.Verdict.{verdictNumber}
 use Rattle.refusal.specs.declared.Refusal.{Refusal}
 use Rattle.refusal.specs.declared.Refusal.the-variants.{Long, Phase, Range}
 use Rattle.refusal.specs.declared.Verdict.{Verdict}
 use Rattle.refusal.specs.declared.Verdict.the-variants.{Accepted, Refused}
 use Rattle.cojp.specs.Configuration.{emptyConfiguration}
 use Rattle.cojp.specs.Request.{emptyRequest}
-use Rattle.cojp_serial.specs.State.{overran, endMarked}
+use Rattle.cojp_serial.specs.State.{overran, endMarked, valid, passes, decisionNumber}
 use Rattle.cojp_serial.specs.Calls.{Reader, SerialCall, resetting, sending, ending}
-use Rattle.cojp_serial.specs.Calls.{SerialResult, begun, part, joinRequest, update, Held}
+use Rattle.cojp_serial.specs.Calls.{SerialResult, begun, part, joinRequest, update, Held, decisionOn}
 use Rattle.cojp_serial.specs.Calls.{wholeRead, told, left, leftBy, answers, sent, joined, sendings}
 use Rattle.cojp_serial.specs.Calls.{verdictIn, verdicts, takenIn, longPartIn}
 use Rattle.cojp_serial.specs.Loans.{Loan, loanAnswers, loanLeftBy, served, RangeBetween}
@@ -159,7 +162,21 @@ pub record AsServed (ls : List Loan) (h : Held) : Type 0 where
 abbrev pub LentLengthsMayChange : Type 0
 LentLengthsMayChange = (h : Held) (ls : List Loan) → 256 ≤ length (h .store) → AsServed ls h
 
+-- ---- the numbers in their order: RANGE, LONG, PHASE, and then what the reading of an end answers
+abbrev pub refusalsOf : Held → ℕ → List ℕ → List ℕ
+refusalsOf h n rest =
+    refusedIf (not (valid (h .state) (length (h .store)))) (numberOf Range) ∷ refusedIf (passes (h .state) n) (numberOf Long)
+    ∷ refusedIf (h .state .ended) (numberOf Phase) ∷ rest
+
+pub record NumbersInOrder : Type 0 where
+  pub decides : (h : Held) (n : ℕ) → decisionNumber (decisionOn h n) ≡ inOrder (refusalsOf h n [])
+  pub parts : (h : Held) (p : List ℕ) → verdictNumber (verdictIn (told (sending p) h)) ≡ inOrder (refusalsOf h (length p) [])
+  pub ends : (h : Held) (r : Reader)
+      → verdictNumber (verdictIn (told (ending r) h))
+      ≡ inOrder (refusalsOf h 0 (verdictNumber (verdictIn (wholeRead r (take (h .state .arrived) (h .store)))) ∷ []))
+
 pub record SerialLaws : Type 0 where
+  pub numbers : NumbersInOrder
   pub whole : EndReadsTheWhole
   pub unread : BeyondIsUnread
   pub former-board : ResetForgets

@@ -5,6 +5,7 @@ use mathlib.Core.Bool.{Bool, true, false, cond, not, _&&_, _||_}
 use mathlib.Core.List.{List, _++_}
 use lib.Dec.{leb, ltb}
 use lib.ListN.{length, take, drop}
+use Rattle.refusal.specs.Refusal.{numberOf}
 use Rattle.refusal.specs.declared.Refusal.{Refusal}
 use Rattle.refusal.specs.declared.Refusal.the-variants as refusal
 use Rattle.refusal.specs.declared.Verdict.the-variants.{Accepted, Refused}
@@ -40,6 +41,13 @@ passes a n = a .overrun || ltb 256 (a .arrived + n)
 
 unfoldable pub decisionOf : SerialState → ℕ → ℕ → PartDecision
 decisionOf a lent n = cond (not (valid a lent)) Outside (cond (passes a n) Overrun (cond (a .ended) Ended Open))
+
+-- the decision in the documents' numbers
+abbrev pub decisionNumber : PartDecision → ℕ
+decisionNumber Outside = numberOf refusal.Range
+decisionNumber Overrun = numberOf refusal.Long
+decisionNumber Ended = numberOf refusal.Phase
+decisionNumber Open = 0
 
 -- ---- a part: its answer, and the store afterwards. Where it is LONG the overrun is marked, though the call is refused
 abbrev pub refusedPart : Refusal → SerialState → PartResult

@@ -1,6 +1,7 @@
 mod Laws
 pub mod Turns
 mod Contiguity
+mod Steps
 mod Counts
 mod Longest
 mod Whole

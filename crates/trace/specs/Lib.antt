@@ -4,5 +4,6 @@ pub mod Calls
 pub mod Statistics
 pub mod Replay
 pub mod Step
+pub mod Progress
 pub mod ReplayExact
 pub mod ReplayExample

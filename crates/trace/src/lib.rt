@@ -16,6 +16,7 @@ pub use walk::step;
 ghost use Rattle.trace.specs.ReplayExact.{ReplayExact};
 ghost use Rattle.trace.specs.Contiguous.{RecordsContiguous};
 ghost use Rattle.trace.specs.ReplayExample.{ReplayExample};
+ghost use Rattle.trace.specs.Progress.{StepsSay};
 
 // A walk record by record gives exactly the node that the calls give, and a report of exact numbers.
 pub fn replay_exact_law()
@@ -25,14 +26,24 @@ pub fn replay_exact_law()
     node_laws::waiting_law();
 }
 
-// A night of six records, one of each kind, is replayed, and a seventh record stops the walk.
+// A trace of six records, one of each kind, is replayed, and a seventh record stops the walk.
 pub fn replay_example()
     ensures { λ r. ⌜ ReplayExample ⌝ }
 {
     replay_exact_law();
 }
 
-// A trace's records stand one behind the other from the trace's start on, up to its end or to the first that stops the walk.
+// A trace's records stand one behind the other from the trace's start on, each of the kind that its first byte names, up to its end or to
+// the first that stops the walk.
 pub fn records_contiguous_law()
     ensures { λ r. ⌜ RecordsContiguous ⌝ }
-{}
+{
+    trace_record::kind_law();
+}
+
+// A step is complete exactly at the trace's end, leaves place and state unless it walked a record, and then goes on behind that.
+pub fn progress_law()
+    ensures { λ r. ⌜ StepsSay ⌝ }
+{
+    trace_record::kind_law();
+}

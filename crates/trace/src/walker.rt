@@ -17,23 +17,6 @@ pub struct Walker<'a> {
 }
 
 impl<'a> Walker<'a> {
-    // At the trace's first record.
-    pub fn new(trace: &'a [u8]) -> Walker<'a>
-        ensures { λ r. ⌜ (r .trace ≡ trace .entry) × (r .at ≡ 0) ⌝ }
-    {
-        Walker { trace, at: 0 }
-    }
-
-    // The walker at another place of its trace.
-    pub fn moved(self, at: usize) -> Walker<'a>
-        ensures { λ r. ⌜ (r .trace ≡ self .entry .trace) × (r .at ≡ at) ⌝ }
-    {
-        Walker {
-            trace: self.trace,
-            at,
-        }
-    }
-
     // The record at the walker's place.
     pub fn step(self, state: State) -> StepResult
         ensures { λ r. ⌜ r ≡ steps.step (now (self .entry .trace)) (self .entry .at) state ⌝ }

@@ -1,4 +1,5 @@
 mod Numbers
 mod Zeros
 mod Ends
+mod Saying
 pub mod Rooms

@@ -1,7 +1,7 @@
 -- A record that is read lies inside the trace, and its lengths are within its fields:
 -- its kind's body was found whole, and the lengths were tested.
 use Prim.Native.Nat.{ℕ, suc, _+_, _-_, _≤_}
-use mathlib.Core.Path.{_≡_, refl}
+use mathlib.Core.Path.{_≡_, sym, subst}
 use mathlib.Core.Bool.{Bool, true, false, cond}
 use mathlib.Core.List.{List, [], _∷_}
 use native.Mathlib.Omega.{arith}
@@ -9,15 +9,11 @@ use lib.Dec.{leb, eqb}
 use lib.ListN.{length, drop, getD, length-drop}
 use borrow.Author.Tests.{leb-true}
 use Rattle.trace_record.specs.Layout.{number, blank, bodySize, isNetworkLength, networkUsed, newNode, start}
-use Rattle.trace_record.specs.Layout.{delivery, deliveryOf, verified, poll, fields, entry, Inside, EntryAt}
+use Rattle.trace_record.specs.Layout.{delivery, deliveryOf, verified, poll, fields, entry, Inside, saysRecord, EntryAt}
 use Rattle.trace_record.specs.declared.entries.Entry.{Entry}
 use Rattle.trace_record.specs.declared.entries.Entry.the-variants.{End, Bad, New, Start, JoinAnswer, Update, Verified, Poll}
 use Rattle.trace_record.proofs.Ends.{used-fits}
-
--- what holds of both sides of a test holds of it
-either : {A : Type 0} (P : A → Type 0) (b : Bool) (x y : A) → (b ≡ true → P x) → (b ≡ false → P y) → P (cond b x y)
-either P true x y f g = f refl
-either P false x y f g = g refl
+use Rattle.trace_record.proofs.Saying.{either, entries-say}
 
 module _ (b : List ℕ) where
   abbrev In : Entry → Type 0
@@ -88,4 +84,8 @@ moved n at (Verified type identifier) h = omega arith
 moved n at (Poll time) h = omega arith
 
 pub read-at : (s : List ℕ) (at : ℕ) (e : Entry) → e ≡ entry (drop at s) → EntryAt s at e
-read-at s at e f = record { says = f; inside = moved (length s) at e (rw (f, ← length-drop at s) (roomy (drop at s))) }
+read-at s at e f = record {
+  says = f;
+  table = subst (saysRecord (drop at s)) (sym f) (entries-say (drop at s));
+  inside = moved (length s) at e (rw (f, ← length-drop at s) (roomy (drop at s)));
+}

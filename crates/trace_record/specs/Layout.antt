@@ -104,7 +104,58 @@ Inside at n (Update time len) = (at + recordSize 4 ≤ n) × (len ≤ 256)
 Inside at n (Verified type identifier) = at + recordSize 5 ≤ n
 Inside at n (Poll time) = at + recordSize 6 ≤ n
 
+-- ---- the table of the answer: the number of a record's kind, 0 for what is no record, and its numbers in the order of its fields
+abbrev pub kindNumber : Entry → ℕ
+kindNumber End = 0
+kindNumber Bad = 0
+kindNumber (New role len) = 1
+kindNumber (Start time timeout) = 2
+kindNumber (JoinAnswer time len) = 3
+kindNumber (Update time len) = 4
+kindNumber (Verified type identifier) = 5
+kindNumber (Poll time) = 6
+
+abbrev pub entryNumbers : Entry → List ℕ
+entryNumbers End = []
+entryNumbers Bad = []
+entryNumbers (New role len) = role ∷ len ∷ []
+entryNumbers (Start time timeout) = time ∷ timeout ∷ []
+entryNumbers (JoinAnswer time len) = time ∷ len ∷ []
+entryNumbers (Update time len) = time ∷ len ∷ []
+entryNumbers (Verified type identifier) = type ∷ identifier ∷ []
+entryNumbers (Poll time) = time ∷ []
+
+-- how many bytes each of these numbers has, by kind
+abbrev pub widths : ℕ → List ℕ
+widths kind =
+    cond (eqb kind 1)
+    (1 ∷ 1 ∷ [])
+    (cond (eqb kind 2)
+    (8 ∷ 4 ∷ [])
+    (cond (eqb kind 3)
+    (8 ∷ 2 ∷ [])
+    (cond (eqb kind 4) (8 ∷ 2 ∷ []) (cond (eqb kind 5) (1 ∷ 1 ∷ []) (cond (eqb kind 6) (8 ∷ []) [])))))
+
+-- numbers of these widths, one behind the other at the front of b
+abbrev pub numbersIn : List ℕ → List ℕ → List ℕ
+numbersIn [] b = []
+numbersIn (w ∷ ws) b = number w b ∷ numbersIn ws (drop w b)
+
+-- a record's first byte is the number of its kind, and its numbers follow
+pub record RecordSays (kind : ℕ) (b : List ℕ) (e : Entry) : Type 0 where
+  pub kind-is : kindNumber e ≡ kind
+  pub numbers : entryNumbers e ≡ numbersIn (widths kind) b
+
+-- at the front of s: at its end no record, else a record or none that is good
+abbrev pub saysRecord : List ℕ → Entry → Type 0
+saysRecord [] e = kindNumber e ≡ 0
+saysRecord (kind ∷ b) e = (kindNumber e ≡ 0 → ⊥) → RecordSays kind b e
+
+abbrev pub EntriesSay : Type 0
+EntriesSay = (s : List ℕ) → saysRecord s (entry s)
+
 -- what stands at a place of the trace s
 pub record EntryAt (s : List ℕ) (at : ℕ) (e : Entry) : Type 0 where
   pub says : e ≡ entry (drop at s)
+  pub table : saysRecord (drop at s) e
   pub inside : Inside at (length s) e

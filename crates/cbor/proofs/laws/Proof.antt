@@ -2,6 +2,7 @@
 use mathlib.Core.Bool.{false}
 use Rattle.cbor.specs.Decode.{heading, decode, members}
 use Rattle.cbor.specs.Strict.{headBy}
+use Rattle.cbor.proofs.Answers.{tells-number, head-number, scan-number}
 use Rattle.cbor.proofs.Fits.{plain-fits}
 use Rattle.cbor.proofs.RoundTrip.{read-item, reads, reads-by, read-payload, head-read}
 use Rattle.cbor.proofs.Strict.{payload-loose, never-loose}
@@ -24,6 +25,10 @@ returns c = record {
   head-flag = head-flag;
   strict = payload-loose;
   never-loose = never-loose;
+  head-number = head-number;
+  item-number = tells-number;
+  members-number = tells-number;
+  scan-number = scan-number;
 }
 
 pub laws-spec : {M : Type 1} → statement M

@@ -2,6 +2,7 @@
 use borrow.Author.Needs.{needs}
 use Rattle.cojp_serial.proofs.Again.{end-after-end}
 use Rattle.cojp_serial.proofs.Lent.{lent-lengths-may-change}
+use Rattle.cojp_serial.proofs.Numbers.{numbers-in-order}
 use Rattle.cojp_serial.proofs.Passed.{long-where-passed, fitting-parts-taken, writes-its-own}
 use Rattle.cojp_serial.proofs.Refused.{refused-calls}
 use Rattle.cojp_serial.proofs.Short.{short-store-is-range}
@@ -16,6 +17,7 @@ readers-demand1-law-requires c κs = search needs
 
 returns : tie.Need-returns
 returns c = record {
+  numbers = numbers-in-order;
   whole = end-reads-the-whole;
   unread = beyond-is-unread;
   former-board = nothing-of-the-former-board;
