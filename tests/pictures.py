@@ -1,5 +1,5 @@
 #!/usr/bin/env python3
-"""Checks that each picture in docs/pictures is what its script, tools/draw_NAME.py, draws of the present tree, and that there is no other."""
+"""Checks that the pictures in docs/pictures are those that their scripts, tools/draw_NAME.py, draw of the present tree."""
 import glob
 import os
 import subprocess

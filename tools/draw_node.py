@@ -48,8 +48,11 @@ def key_sets(p):
     p.arrow("M835 444 C835 490 595 490 595 444")
     back = ["verified frame under the pending set: it is active, the old one gone;", "or the active set again: the pending one is dropped"]
     p.lines(700, 498, back)
-    p.lines(20, 540, ["A further set replaces the pending one. One that shares a key identifier with the active set and is not that set is refused or reported.",
-                      "At a border router a key set is active at once. A refused call changes neither phase nor key set."], "small", "start")  # fmt: skip
+    notes = [
+        "A further set replaces the pending one. One that shares an identifier with the active set and is not that set is refused",
+        "(RFC 9031: reported). At a border router a key set is active at once. A refused call changes neither phase nor key set.",
+    ]
+    p.lines(20, 540, notes, "small", "start")
 
 
 def picture():
