@@ -5,4 +5,4 @@ mod Steps
 mod Counts
 mod Longest
 mod Whole
-mod Night
+mod ReplayRun

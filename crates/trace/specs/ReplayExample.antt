@@ -1,4 +1,4 @@
--- Request 4 speaks of something: a recorded night of six records, one of each kind, and a seventh that stops the walk.
+-- Request 4 speaks of something: a recorded trace of six records, one of each kind, and a seventh that stops the walk.
 use Prim.Native.Nat.{ℕ}
 use mathlib.Core.Path.{_≡_}
 use mathlib.Core.Bool.{true, false}
@@ -47,16 +47,16 @@ abbrev pub updateRecord : List ℕ
 updateRecord = 4 ∷ (timed 0x0F 0xA0 ++ (0 ∷ 21 ∷ (oneKey ++ replicate 235 0)))
 
 -- 578 bytes: 19, 13, 267, 9, 3 and 267
-abbrev pub night : List ℕ
-night = newRecord ++ (startRecord ++ (answerRecord ++ (pollRecord ++ (verifiedRecord ++ updateRecord))))
+abbrev pub sixRecords : List ℕ
+sixRecords = newRecord ++ (startRecord ++ (answerRecord ++ (pollRecord ++ (verifiedRecord ++ updateRecord))))
 
 -- with a record of a kind that there is not behind it
 abbrev pub stopped : List ℕ
-stopped = night ++ (7 ∷ [])
+stopped = sixRecords ++ (7 ∷ [])
 
 -- ---- the report: one record of each kind, refusals 11 (CLOCK) and 16 (PHASE), one switch, a longest wait of 4,000 ms
-abbrev pub nightStatistics : ReplayStatistics
-nightStatistics = record {
+abbrev pub sixStatistics : ReplayStatistics
+sixStatistics = record {
   kinds = replicate 6 1;
   refusals = replicate 10 0 ++ (1 ∷ (replicate 4 0 ++ (1 ∷ replicate 6 0)));
   switches = 1;
@@ -64,26 +64,26 @@ nightStatistics = record {
 }
 
 -- ---- the node that a replay ends with
-pub record NightNode (r : ReplayResult) : Type 0 where
+pub record ReplayedNode (r : ReplayResult) : Type 0 where
   pub made : r .made ≡ true
   pub phase : r .node .attempt .phase ≡ Joined
   pub clock : clockOf (r .node) ≡ 5000
   pub active : activeOf (r .node) ≡ keyOf 5 0 (replicate 16 0x22) ∷ []
   pub pending : pendingOf (r .node) ≡ []
-  pub statistics : r .statistics ≡ nightStatistics
+  pub statistics : r .statistics ≡ sixStatistics
 
 pub record ReplayExample : Type 0 where
-  -- the whole night
-  pub complete : replay night .complete ≡ true
-  pub end : replay night .offset ≡ 578
-  pub node : NightNode (replay night)
+  -- the whole trace
+  pub complete : replay sixRecords .complete ≡ true
+  pub end : replay sixRecords .offset ≡ 578
+  pub node : ReplayedNode (replay sixRecords)
   -- a bad record stops the walk where it begins, node and report as before it
   pub stops : replay stopped .complete ≡ false
   pub begins : replay stopped .offset ≡ 578
-  pub as-before : NightNode (replay stopped)
+  pub as-before : ReplayedNode (replay stopped)
   -- a record before the first node stops it at once
-  pub no-node : replay (pollRecord ++ night) .offset ≡ 0
-  pub none-made : replay (pollRecord ++ night) .made ≡ false
-  pub empty-node : replay (pollRecord ++ night) .node ≡ emptyNode
+  pub no-node : replay (pollRecord ++ sixRecords) .offset ≡ 0
+  pub none-made : replay (pollRecord ++ sixRecords) .made ≡ false
+  pub empty-node : replay (pollRecord ++ sixRecords) .node ≡ emptyNode
   -- by the law: the walk record by record gives the same
   pub walked : replayedBy (played stopped) ≡ replay stopped

@@ -1,4 +1,4 @@
--- The night is computed, record by record.
+-- The replay of the six records is computed, record by record.
 use mathlib.Core.Path.{refl}
 use lib.Dec.{lit<}
 use Rattle.byte_io.specs.BigEndian.{digits, bytesOf}
@@ -38,11 +38,11 @@ use Rattle.trace_record.specs.Layout.{number, blank, delivery, fields, entry}
 use Rattle.trace.specs.Calls.{callOf}
 use Rattle.trace.specs.Replay.{replay}
 use Rattle.trace.specs.ReplayExact.{ReplayExact}
-use Rattle.trace.specs.ReplayExample.{night, stopped, NightNode, ReplayExample}
+use Rattle.trace.specs.ReplayExample.{sixRecords, stopped, ReplayedNode, ReplayExample}
 use Rattle.trace.specs.Statistics.{statisticsOf}
 use Rattle.trace.specs.Trace.{reading, parseFrom, parse}
 
-pub night-replayed : ReplayExact → ReplayExample
+pub six-replayed : ReplayExact → ReplayExample
 unfolding payloadBy decodeBy heading argument next digits members pairs majorOf bytesOf infoOf extraOf shortest
     validKey hasNoAdditionalInfo sameKey same covers validKeys validSet
     padded octetsJudged addressIn groups identified used valued owing payloadReadBy
@@ -54,7 +54,7 @@ unfolding payloadBy decodeBy heading argument next digits members pairs majorOf 
     receive verified
     number blank layout.newNode delivery layout.verified fields entry
     callOf statisticsOf reading parseFrom parse replay
-night-replayed exact = record {
+six-replayed exact = record {
   complete = refl;
   end = refl;
   node = record { made = refl; phase = refl; clock = refl; active = refl; pending = refl; statistics = refl };
