@@ -1,5 +1,6 @@
 #!/usr/bin/env bash
-# How long sealing and opening take beside libtomcrypt's portable AES-CCM in the same run (Debian's libtomcrypt-dev). Prints a table and judges nothing.
+# How long sealing and opening take beside libtomcrypt's portable AES-CCM in the same run (Debian's libtomcrypt-dev). Prints a table and judges no time; it fails where
+# the two answer differently.
 set -eu
 cd "$(dirname "$0")/.."
 work=$(mktemp -d)

@@ -1,4 +1,5 @@
-// Sealing and opening as C calls them, for bench/cipher.sh: how many bytes were written, 0 for a refusal.
+// Sealing and opening as C calls them, for bench/cipher.sh: how many bytes were written; the greatest number for a refusal, because an
+// opened text may be empty.
 use aes_ccm::WriteResult;
 
 #[no_mangle]
@@ -26,7 +27,7 @@ pub extern "C" fn bench_open(
 fn written(answer: WriteResult) -> usize {
     match answer {
         WriteResult::Length(len) => len,
-        WriteResult::Refused(_) => 0,
+        WriteResult::Refused(_) => usize::MAX,
     }
 }
 
