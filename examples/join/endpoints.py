@@ -27,7 +27,7 @@ class ProtectedResource(resource.Resource):
 
     def __init__(self, name, contexts):
         super().__init__()
-        self.name, self.contexts = name, contexts
+        self.name, self.contexts, self.dropped = name, contexts, []
 
     async def needs_blockwise_assembly(self, request):
         return False
@@ -38,6 +38,7 @@ class ProtectedResource(resource.Resource):
             context = next(c for c in self.contexts if c.get_oscore_context_for(hints))
             inner, request_id = context.unprotect(outer)
         except (oscore.NotAProtectedMessage, oscore.ProtectionInvalid, StopIteration) as e:
+            self.dropped.append(type(e).__name__)
             say(self.name, "drops a request:", type(e).__name__, e)
             return aiocoap.Message(code=CHANGED, no_response=NO_RESPONSE)
         known = inner.code == POST and inner.opt.uri_path == (PATH,)

@@ -7,6 +7,7 @@ import socket
 import subprocess
 import sys
 import tempfile
+import time
 
 sys.dont_write_bytecode = True
 import aiocoap  # noqa: E402
@@ -25,7 +26,8 @@ FIRST_KEY = (1, bytes.fromhex("e6bf4287c2d7618d6a9687445ffd33e6"))
 SECOND_KEY = (2, bytes(range(16)))
 LEASE = 24
 PATIENCE = 0.5  # seconds that a pledge waits before its clock is moved on
-SILENCE = 0.2  # seconds after which no response is taken to come
+SILENCE = 0.2  # seconds after which no response is taken to come, where none is expected
+LONGEST_WAIT = 10  # seconds, where one is expected
 
 
 def board(number, version):
@@ -117,12 +119,13 @@ class Wire:
         self.target = (HOST, network.jrc_port)
         self.side = await join_proxy.bound(lambda message, source: self.heard.append(message), HOST)
 
-    async def responses(self, message, target=None):
-        """How many datagrams come back."""
-        before = len(self.heard)
+    async def answered(self, message, wait, target=None):
+        """Whether a datagram comes back."""
+        before, end = len(self.heard), time.monotonic() + wait
         self.side.sendto(message.encode(), target or self.target)
-        await asyncio.sleep(SILENCE)
-        return len(self.heard) - before
+        while len(self.heard) == before and time.monotonic() < end:
+            await asyncio.sleep(0.02)
+        return len(self.heard) > before
 
 
 async def drops(network, pledge, wire):
@@ -131,18 +134,20 @@ async def drops(network, pledge, wire):
     request = library.Node("draft", NETWORK).start(0)
     outer, _ = pledge.protected(request)
     outer.mid, outer.token = 1, b"\1"
-    check("a protected request is answered", await wire.responses(outer) == 1)
+    check("a protected request is answered", await wire.answered(outer, LONGEST_WAIT))
     outer.mid = 2
-    check("the same request under a new message identifier is a replay: dropped", await wire.responses(outer) == 0)
+    check("the same request under a new message identifier is dropped", not await wire.answered(outer, SILENCE))
     damaged, _ = pledge.protected(request)
     damaged.mid, damaged.token, damaged.payload = 3, b"\2", damaged.payload[:-1] + bytes([damaged.payload[-1] ^ 1])
-    check("a damaged request is dropped", await wire.responses(damaged) == 0)
+    check("a damaged request is dropped", not await wire.answered(damaged, SILENCE))
     plain = aiocoap.Message(code=aiocoap.POST, uri_path=[endpoints.PATH], payload=request, mtype=aiocoap.NON, mid=4)
-    check("an unprotected request is dropped", await wire.responses(plain) == 0)
+    check("an unprotected request is dropped", not await wire.answered(plain, SILENCE))
+    reasons = ["ReplayError", "ProtectionInvalid", "NotAProtectedMessage"]
+    check("each for its own reason", network.jrc.dropped == reasons)
     response = wire.heard[0]
     response.opt.add_option(endpoints.STATELESS_PROXY.create_option(value=bytes(31)))
     back = network.proxies["draft"].jrc_side.get_extra_info("sockname")[:2]
-    check("a response whose option the proxy did not issue is dropped", await wire.responses(response, back) == 0)
+    check("a response whose option the proxy did not issue is dropped", not await wire.answered(response, SILENCE, back))
 
 
 async def refuses(network, pledge, end):
