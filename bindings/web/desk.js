@@ -175,7 +175,7 @@ function placesOf(building) {
   const deepest = Math.max(...far.filter((h) => h < Infinity));
   const rows = [];
   far.forEach((h, i) => (rows[Math.min(h, deepest + 1)] ||= []).push(i));
-  const width = Math.max(420, 64 * Math.max(...rows.map((row) => row.length)));
+  const width = Math.max(440, 64 * Math.max(...rows.map((row) => row.length)));
   const places = [];
   rows.forEach((row, h) => row.forEach((i, n) => (places[i] = [(width * (n + 0.5)) / row.length, 40 + 72 * h])));
   return { places, width, height: 72 * rows.length + 60 };
@@ -222,8 +222,8 @@ function makeButton(unit, words, act) {
 
 function legend(width, height) {
   const group = element("g", { class: "legend" });
-  [["old", "old set"], ["pending", "new set pending"], ["new", "new set"]].forEach(([state, words], n) => {
-    const x = width / 2 - 180 + [0, 110, 270][n];
+  [["old", "old set"], ["pending", "new set pending"], ["new", "new set"], ["old asleep", "asleep"]].forEach(([state, words], n) => {
+    const x = width / 2 - 204 + [0, 98, 252, 346][n];
     group.append(unitShape(x, height - 30, RADIUS / 2, state, ""), element("text", { x: x + 22, y: height - 25 }, words));
   });
   return group;
