@@ -18,8 +18,11 @@ random = random.Random(6)
 class Native:
     """The shared library. Slices are bytearrays, which a call may change."""
 
-    def __init__(self, path, functions):
-        self.library, self.functions, self.made = ctypes.CDLL(path), functions, 0
+    def __init__(self, path, interface):
+        self.library, self.made = ctypes.CDLL(path), 0
+        self.functions, self.sizes = interface["functions"], interface["sizes"]
+        active = next(member[1] for member in interface["structs"]["node"] if member[0] == "active")
+        self.first_identifier = active + 1  # where a node has the identifier of its first active key
 
     def call(self, name, *args):
         """Makes and writes the call. Returns the refusal and the values of its results."""
@@ -78,26 +81,26 @@ def code(most=1):
     return random.randrange(most + 1) if random.random() < 0.95 else random.randrange(256)
 
 
-def payloads(n, sizes):
+def payloads(n):
     what, version = random.choice(("request", "configuration")), code()
-    out = bytearray(sizes[what])
+    out = bytearray(n.sizes[what])
     refusal, _ = n.call(what + "_read", version, code(), payload(), out)
     if refusal == 0:
         n.call(what + "_write", version, damaged(out), octets(0, 5, 40, 255, 256, 300))
-        other = bytearray(sizes["configuration"])
+        other = bytearray(n.sizes["configuration"])
         if what == "configuration" and n.call("configuration_read", 0, 0, payload(), other)[0] == 0:
-            n.call("configuration_merge", out, other, bytearray(sizes["configuration"]))
+            n.call("configuration_merge", out, other, bytearray(n.sizes["configuration"]))
 
 
-def node(n, sizes):
-    image, time = bytearray(sizes["node"]), 0
+def node(n):
+    image, time = bytearray(n.sizes["node"]), 0
     n.call("node_make", code(), code(), code(), octets(0, 2, 16, 17), image)
     n.call("node_start", image, time, random.randrange(9999, 15002), octets(4, 7, 38, 64))
     for _ in range(random.randrange(12)):
         image = damaged(image, 0.03)
         time = max(0, time + random.choice((0, 1, 10000, 100000, -1)))
-        kind, key, reports = code(), bytearray(sizes["frame_key"]), bytearray(sizes["reports"])
-        identifier = random.choice((image[sizes["at_identifier"]] if len(image) > 60 else 1, 0, 1, 2, 3))
+        kind, key, reports = code(), bytearray(n.sizes["frame_key"]), bytearray(n.sizes["reports"])
+        identifier = random.choice((image[n.first_identifier] if len(image) > 60 else 1, 0, 1, 2, 3))
         random.choice((
             lambda: n.call("node_poll", image, time),
             lambda: n.call("node_answer", image, time, payload(), reports),
@@ -109,9 +112,9 @@ def node(n, sizes):
         ))()  # fmt: skip
 
 
-def ledger(n, sizes):
+def ledger(n):
     size = random.choice((0, 1, 3, 64, 65, 100))
-    memory, image = bytearray(9 * size - (random.random() < 0.1 and size > 0)), bytearray(sizes["ledger"])
+    memory, image = bytearray(9 * size - (random.random() < 0.1 and size > 0)), bytearray(n.sizes["ledger"])
     n.call("ledger_open", random.choice((0, 0x1000, 0xFFF0, 0xFFFE)), size, memory, image)
     boards = [octets(8, 8, 8, 7) for _ in range(4)]
     for _ in range(random.randrange(10)):
@@ -120,28 +123,28 @@ def ledger(n, sizes):
         n.call("ledger_free", image)
 
 
-def cipher(n, sizes):
+def cipher(n):
     key, nonce, associated, text = octets(16, 16, 16, 15), octets(13, 13, 13, 12), octets(0, 1, 15, 64, 65), octets(0, 1, 16, 31, 256, 257)
     sealed = bytearray(len(text) + 8 - (random.random() < 0.1))
     n.call("seal", key, nonce, associated, text, sealed)
     n.call("unseal", key, nonce, associated, damaged(sealed, 0.3), octets(len(text), len(text), max(len(text) - 1, 0)))
 
 
-def proxy(n, sizes):
-    image = bytearray(sizes["proxy"])
+def proxy(n):
+    image = bytearray(n.sizes["proxy"])
     n.call("proxy_make", octets(16, 16, 15), image)
     bodies = [octets(31, 30)]
     for _ in range(random.randrange(6)):
         body = octets(31, 31, 30)
         n.call("proxy_issue", damaged(image, 0.05), octets(8, 8, 7), random.randrange(65536), octets(0, 1, 8, 9), body)
         bodies.append(body)
-        n.call("proxy_judge", image, damaged(bytearray(random.choice(bodies)), 0.2), bytearray(sizes["pledge"]))
+        n.call("proxy_judge", image, damaged(bytearray(random.choice(bodies)), 0.2), bytearray(n.sizes["pledge"]))
         if random.random() < 0.2:
             n.call("proxy_set_key", image, octets(16, 17))
 
 
-def serial(n, sizes):
-    image, store, whole = bytearray(sizes["serial"]), octets(256, 256, 300, 255), payload()
+def serial(n):
+    image, store, whole = bytearray(n.sizes["serial"]), octets(256, 256, 300, 255), payload()
     n.call("serial_reset", image)
     while whole:
         length = random.randrange(1, 40)
@@ -149,25 +152,30 @@ def serial(n, sizes):
         whole = whole[length:]
     what = random.choice(("request", "configuration"))
     for _ in range(2):
-        n.call("serial_end_" + what, image, store, code(), code(), bytearray(sizes[what]))
+        n.call("serial_end_" + what, image, store, code(), code(), bytearray(n.sizes[what]))
 
 
-def rest(n, sizes):
+def rest(n):
     n.call("layout")
     n.call("size", random.choice((*b"QCRKNLPGST", random.randrange(256))))
     n.call("refusal_name", random.randrange(30), octets(8, 8, 8, 7))
-    n.call("replay", damaged(bytearray(random.choice(TRACES))), bytearray(sizes["node"]), bytearray(sizes["replayed"]))
+    n.call("replay", damaged(bytearray(random.choice(TRACES))), bytearray(n.sizes["node"]), bytearray(n.sizes["replayed"]))
+
+
+def anything(n):
+    """Each function once, with arguments of any value and length."""
+    for name, parameters in n.functions.items():
+        lengths = (0, 1, 8, 16, *n.sizes.values())
+        n.call(name, *(code(3) if kind == "number" else octets(*lengths) for kind, _, _ in parameters if kind != "result"))
 
 
 def main():
     with open(sys.argv[2], encoding="utf-8") as f:
-        interface = json.load(f)
-    sizes = interface["sizes"]
-    # The identifier of the first active key of a node.
-    sizes["at_identifier"] = next(member[1] for member in interface["structs"]["node"] if member[0] == "active") + 1
-    n = Native(sys.argv[1], interface["functions"])
+        n = Native(sys.argv[1], json.load(f))
+    for _ in range(10):
+        anything(n)
     while n.made < int(sys.argv[3]):
-        random.choice((payloads, node, node, ledger, cipher, proxy, serial, rest))(n, sizes)
+        random.choice((payloads, node, node, ledger, cipher, proxy, serial, rest))(n)
 
 
 main()
