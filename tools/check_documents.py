@@ -266,6 +266,10 @@ def main():
     check_number('README.md', edits)
     check_imports(crates)
     documents = ['README.md'] + sorted(f'docs/{name}' for name in os.listdir(os.path.join(ROOT, 'docs')) if name.endswith('.md'))
+    for found in sorted(glob.glob(os.path.join(ROOT, 'examples/*/README.md')) + glob.glob(os.path.join(ROOT, 'bindings/*/README.md'))):
+        path = os.path.relpath(found, ROOT)
+        documents.append(path)
+        check_width(path)
     for path in documents:
         if path != HISTORY:
             check_paths(path)
