@@ -22,7 +22,7 @@ use Rattle.cojp.specs.Walk.{Form, knownRead, pairRead, pairsRead, scannedRead, 
 use Rattle.cojp.specs.declared.walk.LabelStatus.{LabelStatus}
 use Rattle.cojp.specs.declared.walk.LabelStatus.the-variants.{Unknown, First, Repeated}
 use Rattle.cojp_laws.specs.ReadingOrder.{scanned, scanNumber, isFollowed, isNoMap, pairsOf, Tests, isAmong}
-use Rattle.cojp_laws.specs.ReadingOrder.{pairNumbers, knownAfter, pairsNumbers, payloadNumbers}
+use Rattle.cojp_laws.specs.ReadingOrder.{knownNumbers, pairNumbers, knownAfter, pairsNumbers, payloadNumbers}
 
 pub in-order-append : (xs ys : List ℕ) → inOrder (xs ++ ys) ≡ inOrder (inOrder xs ∷ ys)
 in-order-append [] ys = refl
@@ -84,9 +84,7 @@ module _ {S : Type 0} (F : Form S) (T : Tests) (R : List ℕ → Pairs → S →
     where
       by : (a b : Bool) → T .known n ≡ a → isAmong n seen ≡ b →
           Numbered
-          (inOrder
-          (cond a (refusedIf b 6 ∷ T .kind n (viewOf v) ∷ T .content n (viewOf v) ∷ []) []
-          ++ pairsNumbers T (cond a (n ∷ seen) seen) ps))
+          (inOrder (cond a (knownNumbers T b n (viewOf v)) [] ++ pairsNumbers T (cond a (n ∷ seen) seen) ps))
           Ended (bind (knownRead F (standing a b) s n (viewOf v)) (λ t. pairsRead F t ps))
       by true true e f = refl
       by true false e f =

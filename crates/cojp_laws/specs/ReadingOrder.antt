@@ -65,12 +65,15 @@ abbrev pub isAmong : ℕ → List ℕ → Bool
 isAmong n ms = anyOf (λ m. eqb n m) ms
 
 module _ (T : Tests) where
+  -- a known label that came before, or did not, and its value
+  abbrev pub knownNumbers : Bool → ℕ → View → List ℕ
+  knownNumbers came n x = refusedIf came 6 ∷ T .kind n x ∷ T .content n x ∷ []
+
   -- one pair, the known labels of the pairs before it being given
   abbrev pub pairNumbers : List ℕ → Label → View → List ℕ
   pairNumbers seen label.NoInteger x = 5 ∷ []
   pairNumbers seen label.Negative x = []
-  pairNumbers seen (label.Number n) x =
-      cond (T .known n) (refusedIf (isAmong n seen) 6 ∷ T .kind n x ∷ T .content n x ∷ []) []
+  pairNumbers seen (label.Number n) x = cond (T .known n) (knownNumbers (isAmong n seen) n x) []
 
   abbrev pub knownAfter : List ℕ → Label → List ℕ
   knownAfter seen label.NoInteger = seen
