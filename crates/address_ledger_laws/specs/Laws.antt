@@ -1,6 +1,7 @@
 -- What holds after every history from a fresh ledger on, whatever free counts and summaries its calls are handed.
 -- A part of a history from its start is a history, so each law holds at every moment of a shift; and a history may end with any count and
--- any summary, so what is said of the next call holds with any of them.
+-- any summary, so what is said of the next call holds with any of them. (`FreedAgain`: giving back may be handed any; the grant after it
+-- is handed what it left.)
 use Prim.Native.Nat.{ℕ, _+_, _-_, _*_, _≤_, _<_}
 use mathlib.Core.Path.{_≡_}
 use mathlib.Core.Bool.{true, false}
@@ -61,8 +62,8 @@ pub record GivesBack : Type 0 where
       → givenBack (after first size m cs .ledger) (after first size m cs .memory) b
       ≡ outcome (Refused Unknown) (after first size m cs .ledger) (after first size m cs .memory)
 
--- ---- a freed address is granted again: right after a board gave back address a, a board that holds none is granted one, and a itself
--- where every lower address of the range is held
+-- ---- a freed address is granted again: right after a board gave back address a, a board that holds none, asking with the ledger that the
+-- giving back left, is granted one, and a itself where every lower address of the range is held
 pub record FreedAgain : Type 0 where
   pub some : (first size : ℕ) (m : List ℕ) (cs : List Call) → Begins first size m cs → (b c : List ℕ) (a : ℕ)
       → givenBack (after first size m cs .ledger) (after first size m cs .memory) b .answer ≡ Address a

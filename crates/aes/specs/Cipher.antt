@@ -1,4 +1,4 @@
--- FIPS 197, section 5, for a key of 128 bits. A state is the list of its sixteen bytes in the order of the input:
+-- FIPS 197 (2001), section 5, for a key of 128 bits. A state is the list of its sixteen bytes in the order of the input:
 -- byte r + 4 c is row r of column c.
 use mathlib.Core.List.{List, [], _∷_, _++_}
 use Prim.Native.Nat.{ℕ, zero, suc, _+_, _*_, _/_, _%_}
@@ -62,12 +62,12 @@ unfoldable pub roundKeys : ℕ → List ℕ → List (List ℕ)
 roundKeys zero key = key ∷ []
 roundKeys (suc n) key = let ks = roundKeys n key in ks ++ (nextKey (rcon n) (getD ks n []) ∷ [])
 
--- 5.1, algorithm 1: the state after rounds 1 to n, from the state s before round 1
+-- 5.1, figure 5: the state after rounds 1 to n, from the state s before round 1
 unfoldable pub rounds : ℕ → List (List ℕ) → List ℕ → List ℕ
 rounds zero ks s = s
 rounds (suc n) ks s = addRoundKey (mixColumns (shiftRows (subBytes (rounds n ks s)))) (getD ks (suc n) [])
 
--- 5.1, algorithm 1: the block s under the round keys ks
+-- 5.1, figure 5: the block s under the round keys ks
 unfoldable pub cipher : List (List ℕ) → List ℕ → List ℕ
 cipher ks s = addRoundKey (shiftRows (subBytes (rounds 9 ks (addRoundKey s (getD ks 0 []))))) (getD ks 10 [])
 

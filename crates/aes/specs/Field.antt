@@ -1,4 +1,4 @@
--- FIPS 197, sections 4 and 5.1.1: bytes as elements of GF(2^8), and the substitution's rule. A byte is a number below 256.
+-- FIPS 197 (2001), sections 4 and 5.1.1: bytes as elements of GF(2^8), and the substitution's rule. A byte is a number below 256.
 -- 4.1: addition is exclusive or, `_⊕_`.
 use Prim.Native.Nat.{ℕ, zero, suc, _+_, _*_, _/_, _%_, _^_}
 use Rattle.lemmas.specs.lists.Xor.{_⊕_}
@@ -21,7 +21,7 @@ unfoldable pub powers : ℕ → ℕ → ℕ → ℕ
 powers zero p acc = acc
 powers (suc count) p acc = powers count (p • p) (acc • p)
 
--- 4.4: the multiplicative inverse, b^254 = b^2 b^4 .. b^128; 0 for 0, which has none. That it is one is a law (Laws: `inverse-is`)
+-- 4.2: the multiplicative inverse, b^254 = b^2 b^4 .. b^128; 0 for 0, which has none. That it is one is a law (Laws: `inverse-is`)
 unfoldable pub inverse : ℕ → ℕ
 inverse b = powers 7 (b • b) 1
 

@@ -9,7 +9,7 @@ use Rattle.aes.specs.Cipher.{roundKeys, cipher}
 use Rattle.aes.specs.Words.{RoundTable, roundTable, cipherBy}
 
 pub record AesLaws : Type 0 where
-  -- FIPS 197, 4.4: the inverse of a byte that is not 0 is one
+  -- FIPS 197 (2001), 4.2: the inverse of a byte that is not 0 is one
   pub inverse-is : (b : ℕ) → b < 256 → 0 < b → b • inverse b ≡ 1
   -- the table of the rounds is right, and over a right table and bytes the rounds are FIPS 197's
   pub table-right : RoundTable roundTable

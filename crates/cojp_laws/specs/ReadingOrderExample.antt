@@ -66,8 +66,8 @@ configurations =
     ∷ draft (0xA1 ∷ 0x02 ∷ 0x80 ∷ 0x00 ∷ []) 4
     -- TYPE, the whole pattern before any content: a bad identifier first, a broken group last
     ∷ draft (0xA1 ∷ 0x02 ∷ 0x83 ∷ 0x00 ∷ 0x40 ∷ 0x01 ∷ []) 5
-    -- KEYS
-    ∷ draft (0xA1 ∷ 0x02 ∷ 0x80 ∷ []) 7
+    -- KEYS, before the second pair's label kind
+    ∷ draft (0xA2 ∷ 0x02 ∷ 0x80 ∷ 0x40 ∷ 0x00 ∷ []) 7
     -- TWICE after a discarded address
     ∷ draft (0xA2 ∷ 0x03 ∷ 0x81 ∷ 0x40 ∷ 0x03 ∷ 0x00 ∷ []) 6
     ∷ draft (0xA1 ∷ 0x04 ∷ 0x00 ∷ []) 5

@@ -30,8 +30,8 @@ merged first second = record {
 }
 
 -- ---- the answer
--- a configuration of the draft: what it takes is within the draft's limits, and it was not read in the published form, in which every known
--- label is noted; the lease of such a one is in hours
+-- a configuration of the draft: what it takes is within the draft's limits, and no known label was noted, as a reading in the published
+-- form does, whose lease is in hours. One that met no known label takes nothing, and merges
 unfoldable pub ofDraft : Configuration → Bool
 ofDraft c = (configurationInRange Draft c && eqb (c .labels .count) 0)
 

@@ -116,6 +116,7 @@ amid-witness claim =
       unspent-after = unspent-after;
       linked = linked;
       rounds = rounds;
+      clash-accepted-after = refl;
       two-rounds-active = refl;
       none-sends = said .0;
       rekeyed =

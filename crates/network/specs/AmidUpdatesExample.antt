@@ -53,6 +53,8 @@ pub record AmidUpdatesExample : Type 0 where
   pub unspent-after : Throughout (NoneUsedUp newKeys 1) takenAmid secondAmid
   pub linked : AllLinked lineLinks 1 secondAmid
   pub rounds : Rounds lineLinks 1 2 secondAmid
+  -- the clashing update of the second list is accepted too
+  pub clash-accepted-after : deliver Update (nodeAt (run takenAmid worst) 2) 21000 clashing .verdict ≡ Accepted
   pub two-rounds-active : activeOf (nodeAt (run takenAmid secondAmid) 2) ≡ newKeys
   -- by the claim
   pub none-sends : NoneSendsUnder newKeys line firstAmid

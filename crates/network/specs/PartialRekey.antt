@@ -53,9 +53,7 @@ pub record Followed (had : ℕ → Bool) (start : Network) (border : ℕ) (new :
 abbrev pub SomeKeyUsable : List Key → ℕ → Network → Type 0
 SomeKeyUsable new type net = (i : ℕ) → i < length net → activeOf (nodeAt net i) ≡ new → CanSend (nodeAt net i) type
 
--- "the start is the moment from which the border router's acceptance of the new set is the only update or join answer accepted at any
--- node": the events of both lists are demand 3's, which have none
--- (`May` says which lists of events there are)
+-- `May` says which lists of events there are
 unfoldable pub RekeyAmong : (Network → List Event → Type 0) → (List Key → ℕ → Network → Type 0) → Type 0
 RekeyAmong May Unused =
     (had : ℕ → Bool) (net : Network) (border : ℕ) (new : List Key) (type : ℕ) → SupposedSome had net border new type →
@@ -69,6 +67,8 @@ RekeyAmong May Unused =
     Throughout (Unused new type) (handed (run net before) border delivery time payload) after →
     Followed had net border new type links h (run (handed (run net before) border delivery time payload) after))
 
+-- "the start is the moment from which the border router's acceptance of the new set is the only update or join answer accepted at any
+-- node": the events of both lists are demand 3's, which have none
 abbrev pub RekeyUnder : (List Key → ℕ → Network → Type 0) → Type 0
 RekeyUnder Unused = RekeyAmong Admissible Unused
 

@@ -19,7 +19,7 @@ goesOn Stopped = false
 goesOn Walked = true
 
 pub record StepSays (trace : List ℕ) (at : ℕ) (s : State) (r : StepResult) : Type 0 where
-  -- complete exactly at the trace's end
+  -- complete exactly at the trace's end or past it
   pub complete : isComplete (r .progress) ≡ leb (length trace) at
   -- complete or stopped: place and state are as they were
   pub stays : goesOn (r .progress) ≡ false → (r .next ≡ at) × (r .state ≡ s)

@@ -41,7 +41,7 @@ pub fn records_contiguous_law()
     trace_record::kind_law();
 }
 
-// A step is complete exactly at the trace's end, leaves place and state unless it walked a record, and then goes on behind that.
+// A step is complete exactly at the trace's end or past it, leaves place and state unless it walked a record, and then goes on behind that.
 pub fn progress_law()
     ensures { λ r. ⌜ StepsSay ⌝ }
 {
