@@ -167,5 +167,5 @@ module _ (t : List ℕ) (b : AllBytes t) where
       let here : ReadingFits (length (drop at t)) (got r) =
       subst (ReadingFits (length (drop at t))) (s .1) (reading-fits (drop at t) (dropped at t b)) in
       let size = here .1 .1 in
-      let after = trace-fits rest true (at + sizeOf r) (omega (arith, size, length-drop at t)) (s .3) in
+      let after = trace-fits rest true (at + sizeOf r) (omega (arith, size, length-drop at t)) (s .4) in
       record { records = next-read (here .0) (after .records); few = omega (arith, after .few, here .1 .0); inside = after .inside }
