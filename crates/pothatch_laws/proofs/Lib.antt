@@ -3,6 +3,8 @@ mod Images
 mod Handing
 mod Bounds
 mod Ledgers
+mod LedgerHistories
+mod LedgerShift
 mod Arriving
 mod Nodes
 mod Running

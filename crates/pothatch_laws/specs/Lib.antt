@@ -1,5 +1,6 @@
 pub mod Runs
 pub mod Ledger
+pub mod LedgerHistory
 pub mod Serial
 pub mod Node
 pub mod NodeExample

@@ -1,6 +1,7 @@
 // Laws of whole lists of calls from C, and of what they hand back.
 ghost use Rattle.pothatch_laws.specs.NodeExample.{NodeExample};
 ghost use Rattle.pothatch_laws.specs.Ledger.{LedgerRuns};
+ghost use Rattle.pothatch_laws.specs.LedgerHistory.{LedgerHistories, LedgerHistoryExample};
 ghost use Rattle.pothatch_laws.specs.Node.{NodeRuns};
 ghost use Rattle.pothatch_laws.specs.ProxyExample.{ProxyExample};
 ghost use Rattle.pothatch_laws.specs.Proxy.{ProxyRuns};
@@ -14,6 +15,22 @@ pub fn ledger_runs_law()
     address_ledger_laws::demand1();
     state_image::laws();
 }
+
+// Request 1's laws in C: whatever counts and summaries stand in the structs, no two boards hold one address, held plus free is the size of
+// the range, and a board that holds an address gets the same again.
+pub fn ledger_histories_law()
+    ensures { λ _. ⌜ LedgerHistories ⌝ }
+{
+    address_ledger_laws::demand1();
+    address_ledger_laws::held_and_free_law();
+    address_ledger_laws::one_holder_law();
+    address_ledger_laws::same_address_law();
+}
+
+// Two boards on two addresses, played in C with wrong counts and a wrong summary.
+pub fn ledger_history_example()
+    ensures { λ _. ⌜ LedgerHistoryExample ⌝ }
+{}
 
 // From a reset on, and from any image on, the calls from C on a payload in parts answer as those on an arrival do, and the struct holds
 // the arrival's image.
