@@ -1,7 +1,7 @@
 -- The structs hold the network's nodes all along, so demand 3 speaks of what stands in them, and of what their boards answer.
 use Prim.Native.Nat.{ℕ, _<_}
-use mathlib.Core.Path.{_≡_, ap, sym, _∙_, subst}
-use mathlib.Core.List.{List, List·Memᴰ}
+use mathlib.Core.Path.{_≡_, refl, ap, sym, _∙_, subst}
+use mathlib.Core.List.{List, [], _∷_, _++_, append-assoc, List·Memᴰ}
 use lib.ListN.{length, length-map}
 use Rattle.refusal.specs.Refusal.{Numbered}
 use Rattle.refusal.specs.Verdict.{verdictNumber}
@@ -21,13 +21,29 @@ use Rattle.network.specs.Demand3.{NoneUsedUp, NoneSendsUnder, Rekeyed, handed, 
 use Rattle.network.specs.Events.{Event, calling, step, run, Admissible, Throughout, Under}
 use Rattle.network.specs.Network.{Network, nodeAt}
 use Rattle.pothatch_laws.specs.Node.{NodeOutput, Called, NodeRuns}
+use Rattle.pothatch_laws.specs.Runs.{Runs, none-made, next-made}
 use Rattle.network_call_laws.specs.Network.{Structs, structAt, loaded, Answer, Did}
-use Rattle.network_call_laws.specs.Rekey.{HandsOneOf, NoneSends, Follows, Demand3InC}
+use Rattle.network_call_laws.specs.Rekey.{HandsOneOf, NoneSends, AtEach, at-end, at-next, Follows, Demand3InC}
 use Rattle.network_call_laws.specs.Turn.{Accepted}
 use Rattle.network_call_laws.proofs.Boards.{Holds, load}
 use Rattle.network_call_laws.proofs.Keys.{key-loaded}
 use Rattle.network_call_laws.proofs.Networks.{Hold, hold-at, did-length, runs-length, from-images, loaded-so, does, ran}
 use Rattle.network_call_laws.proofs.Turns.{Sent, send-number, sends}
+
+-- ---- lists of events, cut in two
+front : (net : Network) (p es : List Event) → Admissible net (p ++ es) → Admissible net p
+unfolding Admissible
+front net [] es a = tt
+front net (e ∷ p) es a = (a .0, front (step net e) p es (a .1))
+
+run-on : (net : Network) (p : List Event) (e : Event) → run net (p ++ (e ∷ [])) ≡ step (run net p) e
+unfolding run
+run-on net [] e = refl
+run-on net (d ∷ p) e = run-on (step net d) p e
+
+start : (net : Network) (x : Structs) → Hold net x → Hold (run net []) x
+unfolding run
+start net x h = h
 
 module _ (numbers : Numbered) (images : KeyImages) (same : SameKeyLaws) (law : NodeRuns) (fit : CallsFit) (lawful : RoundTrips nodeImage)
     (frame : RoundTrips frameKeyImage) where
@@ -61,6 +77,17 @@ module _ (numbers : Numbered) (images : KeyImages) (same : SameKeyLaws) (law : N
       f .at-end i type (subst (λ (k : ℕ). i < k) e l)
       (under new type (nodeAt (run net es) i) (structAt x i) (hold-at i h l) a s′ d m)
 
+  -- at each moment the events that were played are a list of admissible ones, of which demand 3 speaks
+  each : (new : List Key) (net : Network) → ((es : List Event) → Admissible net es → NoneSendsUnder new net es) → (p es : List Event)
+      (x : Structs) (ts : List Answer) (z : Structs) → length x ≡ length net → Hold (run net p) x → Admissible net (p ++ es)
+      → Runs Did es x ts z → AtEach (NoneSends new) es x ts z
+  each new net claim p es x ts z l h a none-made = at-end (none-sends new net p x l h (claim p (front net p es a)))
+  each new net claim p es x ts z l h a (next-made {c = e} {cs = ds} {y = y} {t = t} {ts = us} d r) =
+      at-next (none-sends new net p x l h (claim p (front net p es a))) d
+      (each new net claim (p ++ (e ∷ [])) ds y us z (did-length d ∙ l)
+      (subst (λ (m : Network). Hold m y) (sym (run-on net p e)) (does numbers images same law fit e (run net p) x t y h d .hold))
+      (subst (Admissible net) (sym (append-assoc p (e ∷ []) ds)) a) r)
+
   abbrev same-nodes : {net : Network} {z : Structs} → Hold net z → loaded z ≡ net
   same-nodes = loaded-so numbers images same law fit lawful
 
@@ -78,7 +105,8 @@ module _ (numbers : Numbered) (images : KeyImages) (same : SameKeyLaws) (law : N
       let size : length net ≡ length structs = length-map structs (nodeImage .get) in
       let claim = demand net border new type supposed before come in
       let p = ran numbers images same law fit before net structs ts x (from-images lawful structs i) r in (
-        none-sends new net before x (runs-length r ∙ sym size) (p .hold) (claim .0),
+        each new net (λ es a. demand net border new type supposed es a .0) [] before structs ts x (sym size)
+            (start net structs (from-images lawful structs i)) come r,
         λ unspent delivery time payload t y d takes links h later us z runs comes linked rounds unspent-later j l hops.
             let g = took (run net before) border delivery time payload x t y (p .hold) d in
             let q = ran numbers images same law fit later (handed (run net before) border delivery time payload) y us z g runs in

@@ -9,17 +9,17 @@ use Rattle.network.specs.Events.{calling}
 use Rattle.network.specs.RekeyExample.{oldKeys, newKeys, line, first, payload, worst, twice}
 use Rattle.pothatch_laws.specs.Runs.{Runs}
 use Rattle.network_call_laws.specs.Network.{Structs, structAt, Images, loaded, stored, Answer, Did}
-use Rattle.network_call_laws.specs.Rekey.{NoneSends, Follows}
+use Rattle.network_call_laws.specs.Rekey.{NoneSends, AtEach, Follows}
 
 pub record LineInC : Type 0 where
   -- the boards' structs hold the line's nodes
   pub images : Images (stored line)
   pub nodes : loaded (stored line) ≡ line
-  -- the first list was played, and nobody sends under the set
+  -- the first list was played, and at no moment of it does anybody send under the set
   pub told : List Answer
   pub before : Structs
   pub played : Runs Did first (stored line) told before
-  pub none-sends : NoneSends newKeys before
+  pub none-sends : AtEach (NoneSends newKeys) first (stored line) told before
   -- the border router's board is handed the set; that it took it shows in what follows
   pub answer : Answer
   pub between : Structs

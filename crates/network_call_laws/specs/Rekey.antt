@@ -1,7 +1,7 @@
 -- Demand 3 for a network whose nodes stand in structs and are driven by the calls of the library for C. What it supposes is said of the
 -- nodes in the structs; what it promises is said of what the boards answer, too.
 use Prim.Native.Nat.{ℕ, _<_}
-use mathlib.Core.List.{List, List·Memᴰ}
+use mathlib.Core.List.{List, [], _∷_, List·Memᴰ}
 use mathlib.Core.Path.{_≡_}
 use lib.ListN.{length}
 use Rattle.link_key.specs.declared.Key.{Key}
@@ -29,6 +29,12 @@ NoneSends new structs =
     (i type : ℕ) (a : NodeOutput) (s′ : List ℕ) → i < length structs → Accepted (sending type) (structAt structs i) a s′ → HandsOneOf new a
     → ⊥
 
+-- the events were played, and P holds at every moment, the start and the end included
+pub data AtEach (P : Structs → Type 0) : List Event → Structs → List Answer → Structs → Type 0 where
+  at-end : {x : Structs} → P x → AtEach P [] x [] x
+  at-next : {e : Event} {es : List Event} {x y z : Structs} {t : Answer} {ts : List Answer} → P x → Did e x t y → AtEach P es y ts z
+      → AtEach P (e ∷ es) x (t ∷ ts) z
+
 -- a board that followed the rekey: so did the node in its struct s, and asked for the key to send the type with, it hands back one of the
 -- set
 pub record Follows (new : List Key) (type : ℕ) (s : List ℕ) : Type 0 where
@@ -40,8 +46,8 @@ Demand3InC =
     (structs : Structs) (border : ℕ) (new : List Key) (type : ℕ) → Images structs → Supposed (loaded structs) border new type →
     -- before the border router accepts the set, after any list of events
     (before : List Event) (ts : List Answer) (x : Structs) → Runs Did before structs ts x → Admissible (loaded structs) before →
-    -- no board sends under it
-    NoneSends new x
+    -- no board sends under it, at any moment of the list
+    AtEach (NoneSends new) before structs ts x
     × (Throughout (NoneUsedUp new type) (loaded structs) before →
     -- the border router's board is handed the set, and accepts it
     (delivery : Delivery) (time : ℕ) (payload : List ℕ) (t : Answer) (y : Structs) →

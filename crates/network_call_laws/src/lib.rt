@@ -16,7 +16,7 @@ pub fn network_runs_law()
     pothatch_laws::node_runs_law();
 }
 
-// Demand 3 in C: before the border router's board accepts a new key set that waits at all others, no board sends under it;
+// Demand 3 in C: before the border router's board accepts a new key set that waits at all others, no board sends under it at any moment;
 // h rounds after it, every board at most h hops away has followed.
 pub fn rekey_law()
     ensures { λ _. ⌜ Demand3InC ⌝ }
