@@ -5,3 +5,4 @@ pub mod CodecLaws
 pub mod Fields
 pub mod Effects
 pub mod Lent
+pub mod PartLemmas

@@ -1,3 +1,4 @@
 mod Answers
 mod Nodes
 mod Keeps
+mod Changed

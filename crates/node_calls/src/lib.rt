@@ -1,6 +1,7 @@
 // The calls of a node over images: each loads the node that stands in the lent bytes, calls it, and stores what that left. A call answers
 // 0, or the refusal's number.
 mod attempt;
+mod change;
 mod delivery;
 mod frames;
 mod lease;

@@ -1,12 +1,12 @@
 // What a call answers, and what it stores, by its verdict.
+use crate::change::put_node_attempt;
+use crate::change::put_node_counters;
 use image::clear;
 use link_key::Key;
 use node::Node;
 use node_image::put_dispositions;
 use node_image::put_frame_key;
 use node_image::put_node;
-use node_image::put_node_attempt;
-use node_image::put_node_counters;
 use node_parameters::Dispositions;
 use refusal::Verdict;
 ghost use mathlib.Core.Bool.{true};

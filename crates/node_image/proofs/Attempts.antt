@@ -17,7 +17,7 @@ use Rattle.node_attempt.specs.Attempt.{attempt}
 use Rattle.node_attempt.specs.declared.attempt.Attempt.{Attempt}
 use Rattle.node_attempt.specs.declared.attempt.Phase.{Phase}
 use Rattle.node_attempt.specs.declared.attempt.Phase.the-variants.{Idle, Waiting, Joined, GaveUp}
-use Rattle.node_image.proofs.Places.{first-at}
+use Rattle.node_image.specs.PlaceLemmas.{first-at}
 use Rattle.node_image.specs.Attempt.{phaseNumber, phaseOf, phasePart, attemptFields, attemptTo, attemptFrom, attemptPart}
 
 -- ---- the phase

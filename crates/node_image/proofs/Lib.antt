@@ -1,4 +1,3 @@
-mod Places
 mod Attempts
 mod Versions
 mod Nodes

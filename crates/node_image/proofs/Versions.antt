@@ -11,7 +11,7 @@ use Rattle.image.specs.CodecLaws.{code-lawful}
 use Rattle.image.specs.Part.{RoundTrips}
 use Rattle.protocol_version.specs.declared.Version.{Version}
 use Rattle.protocol_version.specs.declared.Version.the-variants.{Draft, Published}
-use Rattle.node_image.proofs.Places.{first-at}
+use Rattle.node_image.specs.PlaceLemmas.{first-at}
 use Rattle.node_image.specs.Version.{versionNumber, versionOf, versionPart}
 
 pub published : (n : ℕ) → (n ≡ 0 → ⊥) → Published ≡ versionOf n

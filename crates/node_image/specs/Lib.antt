@@ -1,7 +1,10 @@
 pub mod Attempt
 pub mod Held
 pub mod Version
+pub mod PlaceLemmas
 pub mod Node
+pub mod NodeLemmas
 pub mod Answers
 pub mod Change
+pub mod ChangeLemmas
 pub mod Laws

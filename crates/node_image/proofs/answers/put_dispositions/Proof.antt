@@ -7,7 +7,7 @@ use Rattle.byte_io.specs.BigEndian.{bytesOf}
 use Rattle.cojp.specs.declared.disposition.Disposition.{Disposition}
 use Rattle.image.specs.Fields.{next-field, whole-struct}
 use Rattle.object_image.specs.Codes.{dispositionPart}
-use Rattle.node_image.proofs.Places.{eight-fields}
+use Rattle.node_image.specs.PlaceLemmas.{eight-fields}
 use borrow.Author.Needs.{needs}
 use Rattle.node_image.proofs.answers.put_dispositions.Statement.{statement}
 use Rattle.node_image.proofs.answers.put_dispositions.Tie as tie

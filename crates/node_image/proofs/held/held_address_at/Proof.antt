@@ -5,7 +5,7 @@ use native.Mathlib.Omega.{arith}
 use Rattle.image.specs.Part.{number, both}
 use Rattle.object_image.specs.Address.{shortAddressPart}
 use Rattle.object_image.specs.Codes.{boolPart}
-use Rattle.node_image.proofs.Places.{next-got}
+use Rattle.node_image.specs.PlaceLemmas.{next-got}
 use Rattle.node_image.specs.Held.{heldAddressTo}
 use borrow.Author.Needs.{needs}
 use Rattle.node_image.proofs.held.held_address_at.Statement.{statement}

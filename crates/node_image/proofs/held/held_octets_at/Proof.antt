@@ -4,7 +4,7 @@ use mathlib.Core.Path.{ap}
 use native.Mathlib.Omega.{arith}
 use Rattle.object_image.specs.Codes.{boolPart}
 use Rattle.object_image.specs.Octets.{octetsPart}
-use Rattle.node_image.proofs.Places.{next-got}
+use Rattle.node_image.specs.PlaceLemmas.{next-got}
 use Rattle.node_image.specs.Held.{heldOctetsTo}
 use borrow.Author.Needs.{needs}
 use Rattle.node_image.proofs.held.held_octets_at.Statement.{statement}

@@ -4,7 +4,7 @@ use native.Mathlib.Omega.{arith}
 use Rattle.image.specs.Part.{number, both}
 use Rattle.object_image.specs.Address.{shortAddressPart}
 use Rattle.object_image.specs.Codes.{boolPart}
-use Rattle.node_image.proofs.Places.{next-good, not-good, held-good}
+use Rattle.node_image.specs.PlaceLemmas.{next-good, not-good, held-good}
 use borrow.Author.Needs.{needs}
 use Rattle.node_image.proofs.held.is_held_address.Statement.{statement}
 use Rattle.node_image.proofs.held.is_held_address.Tie as tie

@@ -1,7 +1,7 @@
 -- The bytes of each part are judged where those before it are good.
 use mathlib.Core.Path.{refl}
 use Rattle.key_image.specs.Key.{countedSetPart}
-use Rattle.node_image.proofs.Places.{next-good, not-good}
+use Rattle.node_image.specs.PlaceLemmas.{next-good, not-good}
 use Rattle.node_image.specs.Attempt.{attemptPart}
 use Rattle.node_image.specs.Node.{setsPart}
 use borrow.Author.Needs.{needs}

@@ -1,6 +1,6 @@
 -- Each field stands at its place.
 use native.Mathlib.Omega.{arith}
-use Rattle.node_image.proofs.Nodes.{form-got, held-got, node-got}
+use Rattle.node_image.specs.NodeLemmas.{form-got, held-got, node-got}
 use borrow.Author.Needs.{needs}
 use Rattle.node_image.proofs.state.node_in.Statement.{statement}
 use Rattle.node_image.proofs.state.node_in.Tie as tie

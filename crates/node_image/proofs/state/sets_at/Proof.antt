@@ -1,7 +1,7 @@
 -- Each field stands at its place.
 use mathlib.Core.Path.{ap, refl}
 use Rattle.key_image.specs.Key.{countedSetPart}
-use Rattle.node_image.proofs.Places.{next-got}
+use Rattle.node_image.specs.PlaceLemmas.{next-got}
 use Rattle.node_image.specs.Node.{setsTo}
 use borrow.Author.Needs.{needs}
 use Rattle.node_image.proofs.state.sets_at.Statement.{statement}

@@ -3,11 +3,11 @@ use mathlib.Core.Path.{_≡_}
 use native.Mathlib.Omega.{arith}
 use lib.ListN.{length}
 use Rattle.image.specs.Lent.{long}
 use Rattle.node_image.specs.Node.{nodeImage}
-use Rattle.node_image.proofs.Renewed.{attempt-over}
+use Rattle.node_calls.proofs.Changed.{attempted-over}
 use borrow.Author.Needs.{needs}
-use Rattle.node_image.proofs.change.put_node_attempt.Statement.{statement}
-use Rattle.node_image.proofs.change.put_node_attempt.Tie as tie
+use Rattle.node_calls.proofs.change.put_node_attempt.Statement.{statement}
+use Rattle.node_calls.proofs.change.put_node_attempt.Tie as tie
 
 many : (start : tie.Start) → length (start .args .dst .now) ≡ 878
 many start = long nodeImage (start .args .dst .now) (start .pre .0)
@@ -42,7 +42,7 @@ returns c =
     let at-laws = at-put-attempt .before .before .before in
     let at-slice-known = at-laws .before in
     let start = at-slice-known .before in
-    attempt-over (at-laws .laws .ensures .node) (start .args .dst .now) (λ i. omega (arith, at-slice-known .slice-known .given i))
+    attempted-over (at-laws .laws .ensures .node) (start .args .dst .now) (λ i. omega (arith, at-slice-known .slice-known .given i))
     (start .pre .0) (start .args .node) (start .pre .1) (at-put-attempt .put-attempt .ensures)
 
 pub put-node-attempt-spec : {M : Type 1} → statement M

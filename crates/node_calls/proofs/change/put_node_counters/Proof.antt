@@ -3,11 +3,11 @@ use mathlib.Core.Path.{_≡_}
 use native.Mathlib.Omega.{arith}
 use lib.ListN.{length}
 use Rattle.image.specs.Lent.{long}
 use Rattle.node_image.specs.Node.{nodeImage}
-use Rattle.node_image.proofs.Renewed.{counters-over}
+use Rattle.node_calls.proofs.Changed.{recounted-over}
 use borrow.Author.Needs.{needs}
-use Rattle.node_image.proofs.change.put_node_counters.Statement.{statement}
-use Rattle.node_image.proofs.change.put_node_counters.Tie as tie
+use Rattle.node_calls.proofs.change.put_node_counters.Statement.{statement}
+use Rattle.node_calls.proofs.change.put_node_counters.Tie as tie
 
 many : (start : tie.Start) → length (start .args .dst .now) ≡ 878
 many start = long nodeImage (start .args .dst .now) (start .pre .0)
@@ -46,7 +46,7 @@ returns c =
     let at-laws = at-laws2 .before in
     let at-slice-known = at-laws .before in
     let start = at-slice-known .before in
-    counters-over (at-laws .laws .ensures .node) (start .args .dst .now) (λ i. omega (arith, at-slice-known .slice-known .given i))
+    recounted-over (at-laws .laws .ensures .node) (start .args .dst .now) (λ i. omega (arith, at-slice-known .slice-known .given i))
     (start .pre .0) (at-laws2 .laws2 .ensures) (start .args .node) (start .pre .1) (at-put-eight-counters .put-eight-counters .ensures)
 
 pub put-node-counters-spec : {M : Type 1} → statement M

@@ -1,3 +1,4 @@
+-- Lemmas: nothing here has to be believed.
 -- A field after another stands as many bytes further on as the first has: so fields are read, judged and written one after the other.
 use Prim.Native.Nat.{ℕ, _+_}
 use mathlib.Core.Bool.{Bool, true, false, _&&_, and-assoc}

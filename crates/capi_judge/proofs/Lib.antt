@@ -1,0 +1,4 @@
+mod Keys
+mod Together
+mod Strings
+mod Judged
