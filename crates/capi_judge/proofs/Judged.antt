@@ -60,11 +60,13 @@ module _ (n : Node) where
   unfolding versionValid
   reports-not e = rw e
 
-  pub form-draft : {r : Bool} → errorReportsValid (n .version) (n .errors) ≡ true → n .version ≡ Draft → r ≡ draftValid n → r ≡ versionValid n
+  pub form-draft : {r : Bool} → errorReportsValid (n .version) (n .errors) ≡ true → n .version ≡ Draft → r ≡ draftValid n
+      → r ≡ versionValid n
   unfolding versionValid
   form-draft e f g = rw (e, f) g
 
-  pub form-published : {r : Bool} → errorReportsValid (n .version) (n .errors) ≡ true → n .version ≡ Published → r ≡ publishedValid n → r ≡ versionValid n
+  pub form-published : {r : Bool} → errorReportsValid (n .version) (n .errors) ≡ true → n .version ≡ Published → r ≡ publishedValid n
+      → r ≡ versionValid n
   unfolding versionValid
   form-published e f g = rw (e, f) g
 
@@ -99,15 +101,18 @@ module _ (s : List ℕ) where
     pub address-not : sets-good ≡ true → attempt.valid (n .attempt) ≡ true → validAddress (clockOf n) (n .address) ≡ false → false ≡ answer
     address-not e f g = four-3 sets-good _ _ _ e f g ∙ so h
 
-    pub others-so : {r : Bool} → sets-good ≡ true → attempt.valid (n .attempt) ≡ true → validAddress (clockOf n) (n .address) ≡ true → r ≡ othersValid n → r ≡ answer
+    pub others-so : {r : Bool} → sets-good ≡ true → attempt.valid (n .attempt) ≡ true → validAddress (clockOf n) (n .address) ≡ true
+        → r ≡ othersValid n → r ≡ answer
     others-so e f g i = four-4 sets-good _ _ _ e f g i ∙ so h
 
-  pub sets-so : {i r : Bool} → i ≡ allowsAdditionalInfo (n .version) → r ≡ sets.validAs i (isBorder n) (sets.twoSets (countedSetPart .get (drop 29 s)) (countedSetPart .get (drop 278 s))) → r ≡ sets-good
+  pub sets-so : {i r : Bool} → i ≡ allowsAdditionalInfo (n .version)
+      → r ≡ sets.validAs i (isBorder n) (sets.twoSets (countedSetPart .get (drop 29 s)) (countedSetPart .get (drop 278 s))) → r ≡ sets-good
   sets-so e f =
       f ∙ rw (e, ← drop-drop 249 29 s)
 
 -- ---- the blacklist, judged on its bytes
-kept-bytes : (l : ItemList) (n : ℕ) (b : List ℕ) → l .count ≡ n → bytesIn l ≡ b → length b ≡ l .len → kept stringsIn (listIn n b) ≡ kept stringsIn l
+kept-bytes : (l : ItemList) (n : ℕ) (b : List ℕ) → l .count ≡ n → bytesIn l ≡ b → length b ≡ l .len
+    → kept stringsIn (listIn n b) ≡ kept stringsIn l
 unfolding kept sameAs
 kept-bytes l n b e f g = rw (take-length b, ← e, f, g)
 
@@ -116,7 +121,9 @@ module _ (s : List ℕ) (long : length s ≡ 878) where
   listed = heldListPart .get (drop 602 s) .value
 
   count-so : listed .count ≡ getD s 603 0
-  count-so = ap (λ (t : List ℕ). bigEndian (take 1 t)) (drop-drop 1 602 s) ∙ one-digit (drop 603 s) (omega (arith, length-drop 603 s)) ∙ getD-drop 603 s 0 0
+  count-so =
+      ap (λ (t : List ℕ). bigEndian (take 1 t)) (drop-drop 1 602 s) ∙ one-digit (drop 603 s) (omega (arith, length-drop 603 s))
+      ∙ getD-drop 603 s 0 0
 
   len-so : listed .len ≡ getD s 604 0
   len-so =
@@ -137,7 +144,8 @@ module _ (s : List ℕ) (long : length s ≡ 878) where
       unfolding kept
       list-long h = rw (prefix, e, len-so ∙ sym l, lt-leb m 253 h)
 
-      pub list-so : (k : ℕ) → k ≡ m → m ≤ 253 → {r : Bool} → r ≡ kept stringsIn (listIn n (take k (drop 605 s))) → r ≡ publishedValid (nodeAt s)
+      pub list-so : (k : ℕ) → k ≡ m → m ≤ 253 → {r : Bool} → r ≡ kept stringsIn (listIn n (take k (drop 605 s)))
+          → r ≡ publishedValid (nodeAt s)
       list-so k q h f =
           let z : length (take m (drop 605 s)) ≡ m = length-take-le m (drop 605 s) (omega (arith, length-drop 605 s)) in
           let w = len-so ∙ sym l in

@@ -34,7 +34,8 @@ module _ (seen : List ℕ) (i : ℕ) where
   flag-set h = rw (shl-exact {a = 1} 1 (i / 8) 32 (omega arith) (omega arith), one-mul (2 ^ (i / 8)))
 
 -- ---- a key at a place
-coded : (a b : Bool) (i : ℕ → ℕ) → noAdditionalInfo (cond a Absent (cond b (Four (i 0) (i 1) (i 2) (i 3)) (Eight (i 0) (i 1) (i 2) (i 3) (i 4) (i 5) (i 6) (i 7)))) ≡ a
+coded : (a b : Bool) (i : ℕ → ℕ)
+    → noAdditionalInfo (cond a Absent (cond b (Four (i 0) (i 1) (i 2) (i 3)) (Eight (i 0) (i 1) (i 2) (i 3) (i 4) (i 5) (i 6) (i 7)))) ≡ a
 coded true b i = refl
 coded false true i = refl
 coded false false i = refl
@@ -65,12 +66,22 @@ module _ (s : List ℕ) (at : ℕ) where
       ∙ ap (λ (n : ℕ). eqb n 0) (ap (λ (u : List ℕ). getD u 0 0) info-place ∙ byte-at 18)
 
   long-so : at + 27 ≤ length s → length (key .value) ≡ 16
-  long-so h = length-take-le 16 (drop 1 (drop 1 (drop at s))) (omega (arith, length-drop 1 (drop 1 (drop at s)), length-drop 1 (drop at s), length-drop at s))
+  long-so h =
+      length-take-le 16 (drop 1 (drop 1 (drop at s)))
+      (omega (arith, length-drop 1 (drop 1 (drop at s)), length-drop 1 (drop at s), length-drop at s))
 
   valid-so : at + 27 ≤ length s → ¬ (getD s at 0 ≡ 0) → getD s at 0 < 256 → getD s (at + 1) 0 ≤ 14 → validKey key ≡ true
   unfolding validKey
   valid-so h i b u =
-      rw (named-so, used-so, le-leb 1 (getD s at 0) (omega (arith, i)), le-leb (getD s at 0) 255 (omega arith), le-leb (getD s (at + 1) 0) 14 u, eq-eqb (length (key .value)) 16 (long-so h))
+      rw (
+        named-so,
+        used-so,
+        le-leb 1 (getD s at 0) (omega (arith, i)),
+        le-leb (getD s at 0) 255 (omega arith),
+        le-leb (getD s (at + 1) 0)
+            14 u,
+        eq-eqb (length (key .value)) 16 (long-so h),
+      )
 
   nameless : getD s at 0 ≡ 0 → validKey key ≡ false
   unfolding validKey
@@ -85,7 +96,8 @@ module _ (s : List ℕ) (at : ℕ) where
   useless : 14 < getD s (at + 1) 0 → validKey (key s at) ≡ false
   unfolding validKey
   useless h =
-      rw (used-so s at, lt-leb (getD s (at + 1) 0) 14 h) (and-no (leb 1 (key s at .identifier)) (leb (key s at .identifier) 255) (eqb (length (key s at .value)) 16))
+      rw (used-so s at, lt-leb (getD s (at + 1) 0) 14 h)
+      (and-no (leb 1 (key s at .identifier)) (leb (key s at .identifier) 255) (eqb (length (key s at .value)) 16))
 
 module _ (seen : List ℕ) (k : Key) where
   out : validKey k ≡ false → (false ≡ joins seen k) × (seen ≡ noted seen k)

@@ -31,7 +31,8 @@ same-front [] a b = refl
 same-front (y ∷ x) a b = rw (eq-eqb y y refl) (same-front x a b)
 
 -- ---- the list is kept exactly if it is made of what is picked
-made-small : (ps : List Scalar) (n : ℕ) (s : List ℕ) → length s ≤ 253 → leb (length (written ps)) 253 ≡ false → madeOf (picked ps) n s ≡ false
+made-small : (ps : List Scalar) (n : ℕ) (s : List ℕ) → length s ≤ 253 → leb (length (written ps)) 253 ≡ false
+    → madeOf (picked ps) n s ≡ false
 made-small ps n s h e = go (same (written ps) s) refl
   where
     go : (b : Bool) → same (written ps) s ≡ b → madeOf (picked ps) n s ≡ false
@@ -42,7 +43,8 @@ pub kept-so : (n : ℕ) (s : List ℕ) → length s ≤ 253 → kept stringsIn (
 unfolding kept sameAs padded
 kept-so n s h =
     rw (le-leb (length s) 253 h)
-    (ap (λ (u : List ℕ). sameAs (listAnswer (fitting 253 (stringsIn (membersAt n u)))) (listIn n s)) (take-length s) ∙ go (stringsIn (membersAt n s)))
+    (ap (λ (u : List ℕ). sameAs (listAnswer (fitting 253 (stringsIn (membersAt n u)))) (listIn n s)) (take-length s)
+    ∙ go (stringsIn (membersAt n s)))
   where
     by : (ps : List Scalar) (b : Bool) → leb (length (written ps)) 253 ≡ b
         → sameAs (listAnswer (cond b (picked ps) nothing)) (listIn n s) ≡ madeOf (picked ps) n s
@@ -100,7 +102,8 @@ made-step : (b : List ℕ) (q : Picked) (n : ℕ) (t : List ℕ) → 0 < n
 made-step b nothing n t h = refl
 made-step b (picked ps) n t h = rw (eqb-less (length ps) n h, same-front (encode (bytes b)) (written ps) t)
 
-made-bad : (b : List ℕ) (q : Picked) (n : ℕ) (t : List ℕ) → ((r : List ℕ) → t ≡ encode (bytes b) ++ r → ⊥) → madeOf (before (string b ∷ []) q) n t ≡ false
+made-bad : (b : List ℕ) (q : Picked) (n : ℕ) (t : List ℕ) → ((r : List ℕ) → t ≡ encode (bytes b) ++ r → ⊥)
+    → madeOf (before (string b ∷ []) q) n t ≡ false
 made-bad b nothing n t h = refl
 made-bad b (picked ps) n t h = go (same (encode (bytes b) ++ written ps) t) refl
   where
@@ -160,9 +163,11 @@ module _ (laws : ItemLaws) (s : List ℕ) (at left : ℕ) (v : Member) (e : Memb
         ∙ made-bad b rest left (drop at s)
         (λ r z.
         let y : drop at s ≡ shortest 2 a ++ (b ++ r) = z ∙ ap (λ (x : List ℕ). x ++ r) encoded ∙ append-assoc (shortest 2 a) b r in
-        never (shortAt s at a) (sym (short-so s at a) ∙ ap (λ (x : List ℕ). shortIn x a) y ∙ short-all a (b ++ r) (inside .1) (ltb a 24) refl) f)
+        never (shortAt s at a)
+        (sym (short-so s at a) ∙ ap (λ (x : List ℕ). shortIn x a) y ∙ short-all a (b ++ r) (inside .1) (ltb a 24) refl) f)
 
-    answered : (u : List ℕ) → drop at s ≡ shortest 2 a ++ u → mv.Bytes p a ≡ memberOf (valueAnswer (length s) (got (record { major = 2; info = infoOf a; argument = a }) u))
+    answered : (u : List ℕ) → drop at s ≡ shortest 2 a ++ u
+        → mv.Bytes p a ≡ memberOf (valueAnswer (length s) (got (record { major = 2; info = infoOf a; argument = a }) u))
     answered u z =
         let read = ap heading z ∙ laws .head-read 2 a u (omega (arith, inside .1)) in
         let z0 : left ≡ 0 → ⊥ = λ w. omega arith in
@@ -174,10 +179,12 @@ module _ (laws : ItemLaws) (s : List ℕ) (at left : ℕ) (v : Member) (e : Memb
         let l : length s - at ≡ length sh + length u = sym (length-drop at s) ∙ ap (λ (x : List ℕ). length x) z ∙ length-append sh u in
         let w : p ≡ length s - length u = place-of (length s) u (leb a (length u)) refl (answered u z) in
         let q : at + length sh ≡ p = omega arith in
-        let d : drop p s ≡ u = ap (λ (n : ℕ). drop n s) (sym q) ∙ sym (drop-drop (length sh) at s) ∙ ap (drop (length sh)) z ∙ drop-append-seam sh u in
+        let d : drop p s ≡ u = ap (λ (n : ℕ). drop n s) (sym q) ∙ sym (drop-drop (length sh) at s) ∙ ap (drop (length sh)) z
+        ∙ drop-append-seam sh u in
         let t : u ≡ b ++ drop (p + a) s =
         sym d ∙ sym (take-append-drop a (drop p s)) ∙ ap (λ (x : List ℕ). b ++ x) (drop-drop a p s) in
-        z ∙ ap (λ (x : List ℕ). sh ++ x) t ∙ sym (append-assoc sh b (drop (p + a) s)) ∙ ap (λ (x : List ℕ). x ++ drop (p + a) s) (sym encoded)
+        z ∙ ap (λ (x : List ℕ). sh ++ x) t ∙ sym (append-assoc sh b (drop (p + a) s))
+        ∙ ap (λ (x : List ℕ). x ++ drop (p + a) s) (sym encoded)
 
     pub turn-yes : at ≤ length s → shortAt s at a ≡ true → made s at left ≡ made s (p + a) (left - 1)
     turn-yes h f =

@@ -14,7 +14,8 @@ use Rattle.key_image.specs.Key.{keyPart, keySetPart, countedSetPart}
 use Rattle.link_key.specs.Key.{hasNoAdditionalInfo}
 use Rattle.link_key.specs.declared.Key.{Key}
 use Rattle.link_key_counters.specs.declared.CountedSet.{CountedSet}
-use Rattle.link_key.specs.set.KeySet.{keysOf, has, noneTwice, allValid, eachOnce, validKeys, validSet, noAdditionalInfos, additionalInfoAllowed, shares}
+use Rattle.link_key.specs.set.KeySet.{keysOf, has, noneTwice, allValid, eachOnce}
+use Rattle.link_key.specs.set.KeySet.{validKeys, validSet, noAdditionalInfos, additionalInfoAllowed, shares}
 use Rattle.link_key.specs.set.KeyLaws.{KeyLaws}
 use Rattle.link_key.specs.set.Seen.{joins, noted, allJoin, SeenLaws}
 use Rattle.link_key.specs.declared.set.key_set.KeySet.{KeySet}
@@ -26,14 +27,16 @@ pub record Asked (allowed : Bool) (seen₀ : List ℕ) (ks₀ : List Key) (seen 
   pub told : passes allowed seen₀ ks₀ ≡ passes allowed seen ks
   pub after : allNoted seen₀ ks₀ ≡ allNoted seen ks
 
-module _ (allowed : Bool) (seen₀ seen : List ℕ) (ks₀ ks rest : List Key) (k : Key) (n : ks ≡ k ∷ rest) (w : Asked allowed seen₀ ks₀ seen ks) where
+module _ (allowed : Bool) (seen₀ seen : List ℕ) (ks₀ ks rest : List Key) (k : Key) (n : ks ≡ k ∷ rest)
+    (w : Asked allowed seen₀ ks₀ seen ks) where
   pub may-not : (allowed || hasNoAdditionalInfo k) ≡ false → false ≡ passes allowed seen₀ ks₀
   may-not e = sym (w .told ∙ rw (n, e))
 
   pub joins-not : (allowed || hasNoAdditionalInfo k) ≡ true → joins seen k ≡ false → false ≡ passes allowed seen₀ ks₀
   joins-not e f = sym (w .told ∙ rw (n, e, f))
 
-  pub asked-on : (allowed || hasNoAdditionalInfo k) ≡ true → joins seen k ≡ true → {seen′ : List ℕ} → seen′ ≡ noted seen k → Asked allowed seen₀ ks₀ seen′ rest
+  pub asked-on : (allowed || hasNoAdditionalInfo k) ≡ true → joins seen k ≡ true → {seen′ : List ℕ} → seen′ ≡ noted seen k
+      → Asked allowed seen₀ ks₀ seen′ rest
   asked-on e f g = record { told = w .told ∙ rw (n, e, f, g); after = w .after ∙ rw (n, g) }
 
 pub all-asked : (allowed : Bool) (seen₀ seen : List ℕ) (ks₀ ks : List Key) → ks ≡ [] → Asked allowed seen₀ ks₀ seen ks
@@ -66,7 +69,8 @@ module _ (s : List ℕ) (at : ℕ) where
         → r ≡ (leb (setAt .count) 8 && passes allowed seen (keysOf setAt))
     set-told allowed seen f g = rw (keys-so counted f, counted, le-leb n 8 f) g
 
-    pub set-noted : (seen : List ℕ) {x : List ℕ} → n ≤ 8 → x ≡ allNoted seen (gets keyPart n (drop (at + 1) s)) → x ≡ allNoted seen (keysOf setAt)
+    pub set-noted : (seen : List ℕ) {x : List ℕ} → n ≤ 8 → x ≡ allNoted seen (gets keyPart n (drop (at + 1) s))
+        → x ≡ allNoted seen (keysOf setAt)
     set-noted seen f g = g ∙ ap (allNoted seen) (sym (keys-so counted f))
 
 -- ---- one table for two sets
@@ -81,7 +85,8 @@ passes-split : (i : Bool) (seen : List ℕ) (ks : List Key) → passes i seen ks
 passes-split true seen [] = refl
 passes-split false seen [] = refl
 passes-split i seen (k ∷ ks) =
-    rw (passes-split i (noted seen k) ks) (may-more i (hasNoAdditionalInfo k) (joins seen k) (noAdditionalInfos ks) (allJoin (noted seen k) ks))
+    rw (passes-split i (noted seen k) ks)
+    (may-more i (hasNoAdditionalInfo k) (joins seen k) (noAdditionalInfos ks) (allJoin (noted seen k) ks))
 
 and-more : (a b c : Bool) → (a && (b && c)) ≡ ((a && b) && c)
 and-more true b c = refl
@@ -118,13 +123,15 @@ mixed true false false m s = refl
 
 once-both : (keys : KeyLaws) (xs ys : List Key) → eachOnce (xs ++ ys) ≡ (eachOnce xs && (eachOnce ys && not (shares xs ys)))
 once-both keys xs ys =
-    rw (keys .limits-append xs ys, none-twice-both keys xs ys) (mixed (allValid xs) (allValid ys) (noneTwice xs) (noneTwice ys) (not (shares xs ys)))
+    rw (keys .limits-append xs ys, none-twice-both keys xs ys)
+    (mixed (allValid xs) (allValid ys) (noneTwice xs) (noneTwice ys) (not (shares xs ys)))
 
 none-or : (set : KeySet) → length (set .keys) ≡ 8 → noneOrValid set ≡ (leb (set .count) 8 && eachOnce (keysOf set))
 unfolding validSet validKeys
 none-or set e = go (eqb (set .count) 0) refl (leb (set .count) 8) refl
   where
-    go : (a : Bool) → eqb (set .count) 0 ≡ a → (b : Bool) → leb (set .count) 8 ≡ b → noneOrValid set ≡ (leb (set .count) 8 && eachOnce (keysOf set))
+    go : (a : Bool) → eqb (set .count) 0 ≡ a → (b : Bool) → leb (set .count) 8 ≡ b
+        → noneOrValid set ≡ (leb (set .count) 8 && eachOnce (keysOf set))
     go true p b q = rw (eqb-true (set .count) 0 p)
     go false p false q = rw (p, q)
     go false p true q =
@@ -132,8 +139,10 @@ none-or set e = go (eqb (set .count) 0) refl (leb (set .count) 8) refl
         let n : length (keysOf set) ≡ set .count = length-take-le (set .count) (set .keys) (omega arith) in
         rw (p, q, n, q, le-leb 1 (set .count) (omega (arith, eqb-false (set .count) 0 p)))
 
--- i: keys may be allowed; p, q: those of the one set and of the other are plain; l: the other's count; e, s: its keys once, and apart; b: the place
-all-asked-true : (l e s b i p q : Bool) → ((((l && e) && s) && b) && (i || (p && q))) ≡ (((i || p) && true) && ((l && ((i || q) && (e && s))) && b))
+-- i: keys may be allowed; p, q: those of the one set and of the other are plain; l: the other's count; e, s: its keys once, and apart; b:
+-- the place
+all-asked-true : (l e s b i p q : Bool)
+    → ((((l && e) && s) && b) && (i || (p && q))) ≡ (((i || p) && true) && ((l && ((i || q) && (e && s))) && b))
 all-asked-true false e s b true p q = refl
 all-asked-true true false s b true p q = refl
 all-asked-true true true false b true p q = refl
@@ -157,7 +166,8 @@ sorted false a l e s b i p q j h = refl
 sorted true true l e s b i p q j h = rw h (all-asked-true l e s b i p q)
 sorted true false l e s b i p q j h = all-asked-false (i || p) ((l && ((i || q) && j)) && b)
 
-module _ (keys : KeyLaws) (laws : SeenLaws) (allowed border : Bool) (a b : CountedSet) (m : length (a .set .keys) ≡ 8) (n : length (b .set .keys) ≡ 8) where
+module _ (keys : KeyLaws) (laws : SeenLaws) (allowed border : Bool) (a b : CountedSet) (m : length (a .set .keys) ≡ 8)
+    (n : length (b .set .keys) ≡ 8) where
   abbrev zeros : List ℕ
   zeros = replicate 8 0
 
@@ -176,9 +186,11 @@ module _ (keys : KeyLaws) (laws : SeenLaws) (allowed border : Bool) (a b : Count
       let ka = keysOf (a .set) in
       let kb = keysOf (b .set) in
       let both : (eachOnce ka && allJoin (allNoted zeros ka) kb) ≡ (eachOnce ka && (eachOnce kb && not (shares ka kb))) =
-      ap (λ (x : Bool). (x && allJoin (allNoted zeros ka) kb)) (sym (laws .told ka)) ∙ sym (join-append zeros ka kb) ∙ laws .told (ka ++ kb) ∙ once-both keys ka kb in
+      ap (λ (x : Bool). (x && allJoin (allNoted zeros ka) kb)) (sym (laws .told ka)) ∙ sym (join-append zeros ka kb)
+      ∙ laws .told (ka ++ kb) ∙ once-both keys ka kb in
       rw (none-or (a .set) m, none-or (b .set) n, passes-split allowed zeros ka, passes-split allowed (allNoted zeros ka) kb, laws .told ka)
-      (sorted (leb (a .set .count) 8) (eachOnce ka) (leb (b .set .count) 8) (eachOnce kb) (not (shares ka kb)) placed allowed (noAdditionalInfos ka) (noAdditionalInfos kb) (allJoin (allNoted zeros ka) kb) both)
+      (sorted (leb (a .set .count) 8) (eachOnce ka) (leb (b .set .count) 8) (eachOnce kb) (not (shares ka kb)) placed allowed
+      (noAdditionalInfos ka) (noAdditionalInfos kb) (allJoin (allNoted zeros ka) kb) both)
 
   pub first-not : first ≡ false → false ≡ validAs allowed border (twoSets a b)
   first-not e = sym (sets-told ∙ rw e)
@@ -218,7 +230,8 @@ module _ (keys : KeyLaws) (laws : SeenLaws) (allowed border : Bool) (s : List �
       so-far g = ap (λ (x : List ℕ). asked x pending) (sym (f ∙ ap (λ (x : List ℕ). allNoted x (keysOf (active .set))) z)) ∙ g
 
       pub pending-not : asked next pending ≡ false → false ≡ good
-      pending-not g = second-not keys laws allowed border active pending (eight (drop at s)) (eight (drop (at + 249) s)) (clear e) (so-far g)
+      pending-not g =
+          second-not keys laws allowed border active pending (eight (drop at s)) (eight (drop (at + 249) s)) (clear e) (so-far g)
 
       pub both-good : {r : Bool} → asked next pending ≡ true → r ≡ (not border || isNone (pending .set)) → r ≡ good
       both-good g h = both-so keys laws allowed border active pending (eight (drop at s)) (eight (drop (at + 249) s)) (clear e) (so-far g) h

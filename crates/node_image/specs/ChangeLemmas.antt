@@ -106,7 +106,8 @@ module _ (l : RoundTrips nodeImage) (s : List ℕ) (b : AllBytes s) (image : isI
     far = omega (arith, length-append (0x4e ∷ 1 ∷ n .role ∷ []) (attemptPart .put (n .attempt)), attempt-size (n .attempt))
 
     further : length before ≡ 246
-    further = omega (arith, far, length-append front (keySetPart .put (n .sets .active .set)), k .key-set .sized (n .sets .active .set) (fit .0))
+    further =
+        omega (arith, far, length-append front (keySetPart .put (n .sets .active .set)), k .key-set .sized (n .sets .active .set) (fit .0))
 
     pub counters-over : (cs : List ℕ) {e : List ℕ} → Wrote (times 8 (number 4) .put cs) (take (length s - 246) (drop 246 s)) 32 e
         → take 246 s ++ (e ++ drop (length s - 246) (drop 246 s)) ≡ nodeImage .put (recounted n cs)
@@ -168,7 +169,8 @@ module _ (l : RoundTrips nodeImage) (s : List ℕ) (b : AllBytes s) (image : isI
     unfolding bytesOf
     no-set = refl
 
-    pub switched-over : take 29 s ++ (take 249 (drop 278 s) ++ (replicate 249 0 ++ drop 527 s)) ≡ nodeImage .put (keyed n (switched (n .sets)))
+    pub switched-over : take 29 s ++ (take 249 (drop 278 s) ++ (replicate 249 0 ++ drop 527 s))
+        ≡ nodeImage .put (keyed n (switched (n .sets)))
     unfolding bytesOf
     switched-over =
         let head : take 29 s ≡ front = ap (take 29) two-sets ∙ take-at front (active-bytes ++ (pending-bytes ++ held-bytes)) 29 far in
@@ -177,4 +179,5 @@ module _ (l : RoundTrips nodeImage) (s : List ℕ) (b : AllBytes s) (image : isI
         let rest : drop 527 s ≡ held-bytes =
         sym (drop-drop 249 278 s) ∙ ap (drop 249) pending-on ∙ drop-at pending-bytes held-bytes 249 pending-size in
         rw (head, mid, rest, ← no-set)
-        (sym (around-set (0x4e ∷ 1 ∷ n .role ∷ []) (attemptPart .put (n .attempt)) pending-bytes (countedSetPart .put noCounted) held-bytes))
+        (sym (around-set (0x4e ∷ 1 ∷ n .role ∷ []) (attemptPart .put (n .attempt)) pending-bytes (countedSetPart .put noCounted)
+        held-bytes))

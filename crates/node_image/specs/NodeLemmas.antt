@@ -48,7 +48,10 @@ nodeAt s =
           heldOctetsPart .get (drop 565 s),
           (
             heldOctetsPart .get (drop 583 s),
-            (versionPart .get (drop 601 s), (heldListPart .get (drop 602 s), (heldRatePart .get (drop 858 s), errorReportsPart .get (drop 867 s)))),
+            (
+              versionPart .get (drop 601 s),
+              (heldListPart .get (drop 602 s), (heldRatePart .get (drop 858 s), errorReportsPart .get (drop 867 s))),
+            ),
           ),
         ),
       ),

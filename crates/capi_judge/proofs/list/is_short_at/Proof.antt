@@ -27,7 +27,13 @@ byte-or-zero-requires-2 c κs = search needs
 
 returns-3 : tie.Need-returns-3
 returns-3 c =
-    rw (le-ltb _ _ (c .before .before .if1 .left), sym (c .before .before .before .byte-or-zero .ensures), eq-eqb _ _ (c .before .if2 .left), c .byte-or-zero2 .ensures)
+    rw (
+      le-ltb _ _ (c .before .before .if1 .left),
+      sym (c .before .before .before .byte-or-zero .ensures),
+      eq-eqb _ _
+          (c .before .if2 .left),
+      c .byte-or-zero2 .ensures,
+    )
 
 pub is-short-at-spec : {M : Type 1} → statement M
 is-short-at-spec =

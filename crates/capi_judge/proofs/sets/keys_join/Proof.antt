@@ -51,7 +51,8 @@ returns-2 c =
     let a = start .args in
     let s = a .src .now in
     let n = next-gets keyPart s (turn .k) (turn .left) (test .loop-test .taken) in (
-      joins-not (a .allowed) _ _ _ _ _ _ n (turn .inv .1) (granted (asked .info-allowed .ensures) (may .if1 .left)) (denied (joined .key-joins .ensures .0) (c .if2 .taken)),
+      joins-not (a .allowed) _ _ _ _ _ _ n (turn .inv .1) (granted (asked .info-allowed .ensures) (may .if1 .left))
+          (denied (joined .key-joins .ensures .0) (c .if2 .taken)),
       λ e. never false e refl,
     )
 
@@ -76,7 +77,8 @@ loop-again c =
     let s = a .src .now in
     let n = next-gets keyPart s (turn .k) (turn .left) (test .loop-test .taken) in (
       omega (arith, turn .inv .0, test .loop-test .taken),
-      asked-on (a .allowed) _ _ _ _ _ _ n (turn .inv .1) (granted (asked .info-allowed .ensures) (may .if1 .left)) (granted (joined .key-joins .ensures .0) (c .if2 .left))
+      asked-on (a .allowed) _ _ _ _ _ _ n (turn .inv .1) (granted (asked .info-allowed .ensures) (may .if1 .left))
+          (granted (joined .key-joins .ensures .0) (c .if2 .left))
           (joined .key-joins .ensures .1),
     )
 

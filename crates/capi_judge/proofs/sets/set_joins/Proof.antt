@@ -20,8 +20,11 @@ returns : tie.Need-returns
 returns c =
     let read = c .before in
     let start = read .before .before .before in
-    let a = start .args in
-    (too-many (a .src .now) (a .at) (read .as-index .result) (read .as-index .ensures) (omega (arith, start .pre)) (c .if1 .taken) _, λ e. never false e refl)
+    let a = start .args in (
+      too-many (a .src .now) (a .at) (read .as-index .result) (read .as-index .ensures) (omega (arith, start .pre)) (c .if1 .taken) _,
+      λ e.
+          never false e refl,
+    )
 
 add-keys-join : tie.Need-add-keys-join
 add-keys-join c = search needs
@@ -37,7 +40,8 @@ returns-2 c =
     let a = start .args in
     let told = c .keys-join .ensures in
     let h : a .at + 1 ≤ length (a .src .now) = omega (arith, start .pre) in (
-      set-told (a .src .now) (a .at) (read .as-index .result) (read .as-index .ensures) h (a .allowed) (a .seen .now) (few .if1 .left) (told .0),
+      set-told (a .src .now) (a .at) (read .as-index .result) (read .as-index .ensures) h (a .allowed) (a .seen .now) (few .if1 .left)
+          (told .0),
       λ e. set-noted (a .src .now) (a .at) (read .as-index .result) (read .as-index .ensures) h (a .seen .now) (few .if1 .left) (told .1 e),
     )
 

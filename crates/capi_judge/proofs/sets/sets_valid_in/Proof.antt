@@ -74,7 +74,8 @@ returns-3 c =
     let z = made .none-seen .ensures .0 in
     let e = granted (first .set-joins .ensures .0) (yes .if1 .left) in
     let f = first .set-joins .ensures .1 (not-false _ (yes .if1 .left)) in
-    both-good keys laws (a .allowed) (a .border) s (a .at) z e f (granted (second .set-joins2 .ensures .0) (no .if2 .left)) (rw (c .if3 .taken))
+    both-good keys laws (a .allowed) (a .border) s (a .at) z e f (granted (second .set-joins2 .ensures .0) (no .if2 .left))
+    (rw (c .if3 .taken))
 
 returns-4 : tie.Need-returns-4
 returns-4 c =

@@ -31,7 +31,8 @@ returns-2 c =
     let image = at-sets .before in
     let at-node = image .before in
     let start = at-node .before .before in
-    sets-not (start .args .s .now) (granted (at-node .is-node .ensures) (image .if1 .left)) (denied (at-sets .sets-valid .ensures) (c .if2 .taken))
+    sets-not (start .args .s .now) (granted (at-node .is-node .ensures) (image .if1 .left))
+    (denied (at-sets .sets-valid .ensures) (c .if2 .taken))
 
 attempt-at-requires : tie.Need-attempt-at-requires
 attempt-at-requires c κs =
@@ -53,7 +54,8 @@ returns-3 c =
     let image = at-sets .before in
     let at-node = image .before in
     let start = at-node .before .before in
-    attempt-not (start .args .s .now) (granted (at-node .is-node .ensures) (image .if1 .left)) (granted (at-sets .sets-valid .ensures) (sets .if2 .left))
+    attempt-not (start .args .s .now) (granted (at-node .is-node .ensures) (image .if1 .left))
+    (granted (at-sets .sets-valid .ensures) (sets .if2 .left))
     (denied (at-valid .valid .ensures ∙ ap attempt.valid (at-attempt .attempt-at .ensures)) (c .if3 .taken))
 
 held-address-at-requires : tie.Need-held-address-at-requires
@@ -80,10 +82,12 @@ returns-4 c =
     let image = at-sets .before in
     let at-node = image .before in
     let start = at-node .before .before in
-    address-not (start .args .s .now) (granted (at-node .is-node .ensures) (image .if1 .left)) (granted (at-sets .sets-valid .ensures) (sets .if2 .left))
+    address-not (start .args .s .now) (granted (at-node .is-node .ensures) (image .if1 .left))
+    (granted (at-sets .sets-valid .ensures) (sets .if2 .left))
     (granted (at-valid .valid .ensures ∙ ap attempt.valid (at-attempt .attempt-at .ensures)) (attempted .if3 .left))
     (denied (at-valid2 .valid2 .ensures
-    ∙ ap₂ validAddress (ap (λ (a : Attempt). a .clock) (at-attempt .attempt-at .ensures)) (at-address .held-address-at .ensures)) (c .if4 .taken))
+    ∙ ap₂ validAddress (ap (λ (a : Attempt). a .clock) (at-attempt .attempt-at .ensures)) (at-address .held-address-at .ensures))
+    (c .if4 .taken))
 
 others-valid-requires : tie.Need-others-valid-requires
 others-valid-requires c κs =
@@ -105,10 +109,12 @@ returns-5 c =
     let image = at-sets .before in
     let at-node = image .before in
     let start = at-node .before .before in
-    others-so (start .args .s .now) (granted (at-node .is-node .ensures) (image .if1 .left)) (granted (at-sets .sets-valid .ensures) (sets .if2 .left))
+    others-so (start .args .s .now) (granted (at-node .is-node .ensures) (image .if1 .left))
+    (granted (at-sets .sets-valid .ensures) (sets .if2 .left))
     (granted (at-valid .valid .ensures ∙ ap attempt.valid (at-attempt .attempt-at .ensures)) (attempted .if3 .left))
     (granted (at-valid2 .valid2 .ensures
-    ∙ ap₂ validAddress (ap (λ (a : Attempt). a .clock) (at-attempt .attempt-at .ensures)) (at-address .held-address-at .ensures)) (address .if4 .left))
+    ∙ ap₂ validAddress (ap (λ (a : Attempt). a .clock) (at-attempt .attempt-at .ensures)) (at-address .held-address-at .ensures))
+    (address .if4 .left))
     (c .others-valid .ensures)
 
 pub is-valid-node-spec : {M : Type 1} → statement M

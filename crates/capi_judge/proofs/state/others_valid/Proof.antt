@@ -26,7 +26,8 @@ returns-2 c =
     let at-jrc = c .before in
     let at-octets = at-jrc .before in
     let role = at-octets .before in
-    four-2 _ _ _ _ (le-leb _ _ (role .if1 .left)) (denied (at-jrc .valid-jrc .ensures ∙ ap validJrc (at-octets .held-octets-at .ensures)) (c .if2 .taken))
+    four-2 _ _ _ _ (le-leb _ _ (role .if1 .left))
+    (denied (at-jrc .valid-jrc .ensures ∙ ap validJrc (at-octets .held-octets-at .ensures)) (c .if2 .taken))
 
 held-octets-at-requires-2 : tie.Need-held-octets-at-requires-2
 held-octets-at-requires-2 c κs = search needs
@@ -42,7 +43,8 @@ returns-3 c =
     let at-jrc = jrc .before in
     let at-octets = at-jrc .before in
     let role = at-octets .before in
-    four-3 _ _ _ _ (le-leb _ _ (role .if1 .left)) (granted (at-jrc .valid-jrc .ensures ∙ ap validJrc (at-octets .held-octets-at .ensures)) (jrc .if2 .left))
+    four-3 _ _ _ _ (le-leb _ _ (role .if1 .left))
+    (granted (at-jrc .valid-jrc .ensures ∙ ap validJrc (at-octets .held-octets-at .ensures)) (jrc .if2 .left))
     (denied (at-network .valid .ensures ∙ ap validOctets (at-octets2 .held-octets-at2 .ensures)) (c .if3 .taken))
 
 version-valid-requires : tie.Need-version-valid-requires
@@ -57,8 +59,10 @@ returns-4 c =
     let at-jrc = jrc .before in
     let at-octets = at-jrc .before in
     let role = at-octets .before in
-    four-4 _ _ _ _ (le-leb _ _ (role .if1 .left)) (granted (at-jrc .valid-jrc .ensures ∙ ap validJrc (at-octets .held-octets-at .ensures)) (jrc .if2 .left))
-    (granted (at-network .valid .ensures ∙ ap validOctets (at-octets2 .held-octets-at2 .ensures)) (network .if3 .left)) (c .version-valid .ensures)
+    four-4 _ _ _ _ (le-leb _ _ (role .if1 .left))
+    (granted (at-jrc .valid-jrc .ensures ∙ ap validJrc (at-octets .held-octets-at .ensures)) (jrc .if2 .left))
+    (granted (at-network .valid .ensures ∙ ap validOctets (at-octets2 .held-octets-at2 .ensures)) (network .if3 .left))
+    (c .version-valid .ensures)
 
 pub others-valid-spec : {M : Type 1} → statement M
 others-valid-spec =

@@ -48,7 +48,8 @@ returns-3 c =
     let at-prefix = no-prefix .before in
     let start = at-prefix .before .before in
     list-long (start .args .s .now) (start .pre) (is-false (at-prefix .bool-at .ensures) (no-prefix .if1 .left))
-    (granted (at-list .bool-at2 .ensures) (held .if2 .left)) (at-count .as-count .result) (at-len .as-index .result) (at-count .as-count .ensures)
+    (granted (at-list .bool-at2 .ensures) (held .if2 .left)) (at-count .as-count .result) (at-len .as-index .result)
+    (at-count .as-count .ensures)
     (at-len .as-index .ensures) (c .if3 .taken)
 
 add-is-blacklist-in : tie.Need-add-is-blacklist-in
@@ -77,7 +78,8 @@ returns-4 c =
     let at-prefix = no-prefix .before in
     let start = at-prefix .before .before in
     list-so (start .args .s .now) (start .pre) (is-false (at-prefix .bool-at .ensures) (no-prefix .if1 .left))
-    (granted (at-list .bool-at2 .ensures) (held .if2 .left)) (at-count .as-count .result) (at-len .as-index .result) (at-count .as-count .ensures)
+    (granted (at-list .bool-at2 .ensures) (held .if2 .left)) (at-count .as-count .result) (at-len .as-index .result)
+    (at-count .as-count .ensures)
     (at-len .as-index .ensures) ((605 + at-len .as-index .result) - 605) (omega arith) (few .if3 .left) (c .is-blacklist-in .ensures)
 
 pub published-valid-spec : {M : Type 1} → statement M

@@ -24,7 +24,8 @@ returns c =
     let at-version = at-reports .before in
     let start = at-version .before .before in
     reports-not (nodeAt (start .args .s .now))
-    (denied (at-valid .error-reports-valid .ensures ∙ ap₂ errorReportsValid (at-version .version-at .ensures) (at-reports .error-reports-at .ensures))
+    (denied (at-valid .error-reports-valid .ensures
+    ∙ ap₂ errorReportsValid (at-version .version-at .ensures) (at-reports .error-reports-at .ensures))
     (c .if1 .taken))
 
 enum-told : tie.Need-enum-told
@@ -48,7 +49,8 @@ returns-2 c =
     let at-version = at-reports .before in
     let start = at-version .before .before in
     form-draft (nodeAt (start .args .s .now))
-    (granted (at-valid .error-reports-valid .ensures ∙ ap₂ errorReportsValid (at-version .version-at .ensures) (at-reports .error-reports-at .ensures))
+    (granted (at-valid .error-reports-valid .ensures
+    ∙ ap₂ errorReportsValid (at-version .version-at .ensures) (at-reports .error-reports-at .ensures))
     (left .if1 .left))
     (sym (at-version .version-at .ensures) ∙ told .enum-told .given .1) (c .draft-valid .ensures)
 
@@ -61,7 +63,8 @@ returns-3 c =
     let at-version = at-reports .before in
     let start = at-version .before .before in
     form-published (nodeAt (start .args .s .now))
-    (granted (at-valid .error-reports-valid .ensures ∙ ap₂ errorReportsValid (at-version .version-at .ensures) (at-reports .error-reports-at .ensures))
+    (granted (at-valid .error-reports-valid .ensures
+    ∙ ap₂ errorReportsValid (at-version .version-at .ensures) (at-reports .error-reports-at .ensures))
     (left .if1 .left))
     (sym (at-version .version-at .ensures) ∙ told .enum-told2 .given .1) (c .published-valid .ensures)
 

@@ -1,0 +1,5 @@
+mod Ranged
+mod Finding
+mod Serving
+mod Switching
+mod Sending
