@@ -34,7 +34,7 @@ pub(crate) fn in_limits(first: usize, size: usize) -> bool
 }
 
 // Whether range and memory can be a ledger: RANGE comes first, then ROOM.
-pub(crate) fn judge(first: usize, size: usize, len: usize) -> Verdict
+pub fn judge(first: usize, size: usize, len: usize) -> Verdict
     ensures { λ r. ⌜ r ≡ judged first size len ⌝ }
 {
     if in_limits(first, size) {

@@ -1,0 +1,6 @@
+pub mod Remainder
+pub mod Bytes
+pub mod Holding
+pub mod Dues
+pub mod Recording
+pub mod Steps

@@ -1,0 +1,4 @@
+pub mod Journal
+pub mod Laws
+pub mod Damage
+pub mod Example
