@@ -35,12 +35,14 @@ pub length-board : (s : List ℕ) → 16 ≤ length s → length (boardIn s) ≡
 length-board s h = length-take-le 8 (drop 1 s) (rw (length-drop 1 s) (omega arith))
 
 fields-are : (k a : ℕ) (b : List ℕ) → length b ≡ 8
-    → (k ∷ getD b 0 0 ∷ getD b 1 0 ∷ getD b 2 0 ∷ getD b 3 0 ∷ getD b 4 0 ∷ getD b 5 0 ∷ getD b 6 0 ∷ getD b 7 0 ∷ a / 256 ∷ a % 256 ∷ 0 ∷ [])
+    → (k ∷ getD b 0 0 ∷ getD b 1 0 ∷ getD b 2 0 ∷ getD b 3 0 ∷ getD b 4 0 ∷ getD b 5 0 ∷ getD b 6 0 ∷ getD b 7 0 ∷ a / 256 ∷ a % 256 ∷ 0
+    ∷ [])
     ≡ recordFields k b a
 fields-are k a b e = ap (λ (l : List ℕ). k ∷ (l ++ (a / 256 ∷ a % 256 ∷ 0 ∷ []))) (eight b e)
 
 pub check-is : (k a p x : ℕ) (b : List ℕ) → length b ≡ 8
-    → x ≡ crc32 p (k ∷ getD b 0 0 ∷ getD b 1 0 ∷ getD b 2 0 ∷ getD b 3 0 ∷ getD b 4 0 ∷ getD b 5 0 ∷ getD b 6 0 ∷ getD b 7 0 ∷ a / 256 ∷ a % 256 ∷ 0 ∷ [])
+    → x ≡ crc32 p (k ∷ getD b 0 0 ∷ getD b 1 0 ∷ getD b 2 0 ∷ getD b 3 0 ∷ getD b 4 0 ∷ getD b 5 0 ∷ getD b 6 0 ∷ getD b 7 0 ∷ a / 256 ∷
+    a % 256 ∷ 0 ∷ [])
     → x ≡ checkOf k b a p
 unfolding checkOf
 check-is k a p x b e q = q ∙ ap (λ (l : List ℕ). crc32 p l) (fields-are k a b e)

@@ -17,7 +17,8 @@ pub even : (x : ℕ) → (x % 2 ≡ 1 → ⊥) → x / 2 ≡ crcBit x
 unfolding crcBit
 even x h = rw (ne-eqb (x % 2) 1 h)
 
-pub eight-bits : (x b p q r s t u v w : ℕ) → p ≡ crcBit (bitXor x b) → q ≡ crcBit p → r ≡ crcBit q → s ≡ crcBit r → t ≡ crcBit s → u ≡ crcBit t
+pub eight-bits : (x b p q r s t u v w : ℕ) → p ≡ crcBit (bitXor x b) → q ≡ crcBit p → r ≡ crcBit q → s ≡ crcBit r → t ≡ crcBit s → u
+    ≡ crcBit t
     → v ≡ crcBit u → w ≡ crcBit v → w ≡ crcByte x b
 unfolding crcByte
 eight-bits x b p q r s t u v w ep eq er es et eu ev ew = rw (ew, ev, eu, et, es, er, eq, ep)
@@ -27,7 +28,8 @@ pub record Checking (before : ℕ) (s : List ℕ) (x i : ℕ) : Type 0 where
   pub low : i ≤ length s
   pub so-far : crcBytes (bitXor before 0xffffffff) s ≡ crcBytes x (drop i s)
 
-pub turn : (before : ℕ) (s : List ℕ) (x y i : ℕ) → Checking before s x i → i < length s → y ≡ crcByte x (getD s i 0) → Checking before s y (i + 1)
+pub turn : (before : ℕ) (s : List ℕ) (x y i : ℕ) → Checking before s x i → i < length s → y ≡ crcByte x (getD s i 0)
+    → Checking before s y (i + 1)
 unfolding crcBytes
 turn before s x y i k h q = record { low = rw (add-one i) h; so-far = k .so-far ∙ rw (drop-cons s i 0 h, add-one i, q) }
 

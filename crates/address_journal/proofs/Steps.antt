@@ -75,7 +75,8 @@ module _ (l : Ledger) (m : List ℕ) (c : ℕ) (s : List ℕ) (r : ResumeResult)
           → resumed (r .step) (r .ledger) (r .check) m′ ≡ resumeRecord l m c s
       unfolding resumeRecord
       record-taken d f ans l′ m′ o q =
-          let o′ : outcome ans l′ m′ ≡ outcomeHere (kindIn s) l m (boardIn s) = o ∙ ap (λ (x : List ℕ). outcomeHere (kindIn s) l m x) eb in
+          let o′ : outcome ans l′ m′ ≡ outcomeHere (kindIn s) l m (boardIn s) = o ∙ ap (λ (x : List ℕ). outcomeHere
+          (kindIn s) l m x) eb in
           rw (le-ltb _ _ h, ← n, ← entry-is, d, ← f, ← o′, q)
 
       pub record-other : e .due ≡ true → false ≡ same s (e .bytes) → r ≡ told Damaged l c
@@ -110,15 +111,18 @@ module _ (m : List ℕ) (s : List ℕ) (r : ResumeResult) (l : Ledger) (el : l �
     unfolding resumeHeader
     header-zeros b e = rw (le-ltb _ _ h, ← b, e, el)
 
-    pub header-damaged : false ≡ same s zeroRecord → (first : ℕ) → first ≡ twoAt s 6 → (size : ℕ) → size ≡ twoAt s 8 → (w : List ℕ) → w ≡ headerOf first size
+    pub header-damaged : false ≡ same s zeroRecord → (first : ℕ) → first ≡ twoAt s 6 → (size : ℕ) → size ≡ twoAt s 8 → (w : List ℕ) → w
+        ≡ headerOf first size
         → false ≡ same s w → r ≡ told Damaged l 0 → resumed (r .step) (r .ledger) (r .check) m ≡ resumeHeader m s
     unfolding resumeHeader
     header-damaged n first ef size es w ew f e =
         let f′ : false ≡ same s (headerOf (twoAt s 6) (twoAt s 8)) = rw (← ef, ← es, ← ew) f in
         rw (le-ltb _ _ h, ← n, ← f′, e, el)
 
-pub header-taken : (m s : List ℕ) → 16 ≤ length s → false ≡ same s zeroRecord → (first : ℕ) → first ≡ twoAt s 6 → (size : ℕ) → size ≡ twoAt s 8
-    → (w : List ℕ) → w ≡ headerOf first size → true ≡ same s w → (x : Resumed) → x ≡ openedAs (headerCheck first size) m (opened first size m)
+pub header-taken : (m s : List ℕ) → 16 ≤ length s → false ≡ same s zeroRecord → (first : ℕ) → first ≡ twoAt s 6 → (size : ℕ) → size
+    ≡ twoAt s 8
+    → (w : List ℕ) → w ≡ headerOf first size → true ≡ same s w → (x : Resumed) → x ≡ openedAs (headerCheck first size) m
+    (opened first size m)
     → x ≡ resumeHeader m s
 unfolding resumeHeader
 header-taken m s h n first ef size es w ew f x g =

@@ -1,4 +1,5 @@
--- CRC-32 of IEEE 802.3 (ISO 3309, and zlib's `crc32`), bit by bit: the lowest bit first, polynomial EDB88320, complemented before and after.
+-- CRC-32 of IEEE 802.3 (ISO 3309, and zlib's `crc32`), bit by bit: the lowest bit first, polynomial EDB88320, complemented before and
+-- after.
 use Prim.Native.Nat.{ℕ, _/_, _%_}
 use mathlib.Core.Bool.{cond}
 use mathlib.Core.List.{List, [], _∷_}

@@ -22,7 +22,8 @@ headerCheck first size = crc32 0 (headerFields first size)
 unfoldable pub headerOf : ℕ → ℕ → List ℕ
 headerOf first size = headerFields first size ++ fourBytes (headerCheck first size)
 
--- ---- a record: the kind (1 granted, 2 given back), the board, the address, a zero; then the CRC-32 of these twelve bytes, continued from
+-- ---- a record: the kind (1 granted, 2 given back), the board, the address, a zero; then the CRC-32 of these twelve bytes, continued
+-- from
 -- that of the record before it (of the header, for the first record)
 abbrev pub recordFields : ℕ → List ℕ → ℕ → List ℕ
 recordFields kind board address = kind ∷ (board ++ (address / 256 ∷ address % 256 ∷ 0 ∷ []))

@@ -1,4 +1,5 @@
--- Who holds what, as the memory of a ledger shows it; asking changes nothing. RANGE comes first, then ROOM, as for every call of a ledger.
+-- Who holds what, as the memory of a ledger shows it; asking changes nothing. RANGE comes first, then ROOM, as for every call of a
+-- ledger.
 use Prim.Native.Nat.{ℕ, _+_, _-_, _*_}
 use mathlib.Core.Bool.{cond, _&&_}
 use mathlib.Core.List.{List}

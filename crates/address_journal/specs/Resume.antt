@@ -55,7 +55,8 @@ unfoldable pub resumeRecord : Ledger → List ℕ → ℕ → List ℕ → Resum
 resumeRecord l m c r =
     cond (ltb (length r) 16) (resumed Cut l c m)
     (cond (same r zeroRecord) (resumed Cut l c m)
-    (cond (fits l m c r) (taken (entryHere (kindIn r) l m (boardIn r) c) (outcomeHere (kindIn r) l m (boardIn r))) (resumed Damaged l c m)))
+    (cond (fits l m c r) (taken (entryHere (kindIn r) l m (boardIn r) c) (outcomeHere (kindIn r) l m (boardIn r)))
+    (resumed Damaged l c m)))
 
 -- ---- the header: it is what its range is written as, and the range is opened over the memory; RANGE or ROOM where that is refused.
 -- Beside anything but Taken the ledger is the empty one, which every call refuses

@@ -20,7 +20,14 @@ pub struct RecordedCall {
 }
 
 fn recorded(result: CallResult, entry: Entry) -> RecordedCall
-    ensures { λ r. ⌜ r ≡ record { answer = result .answer; ledger = result .ledger; due = entry .due; bytes = entry .bytes; check = entry .check } ⌝ }
+    ensures { λ r. ⌜ r ≡ record {
+      answer = result .answer;
+      ledger = result .ledger;
+      due = entry .due;
+      bytes = entry .bytes;
+      check = entry
+          .check;
+    } ⌝ }
 {
     let answer = result.answer;
     let ledger = result.ledger;

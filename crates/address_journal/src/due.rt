@@ -33,7 +33,8 @@ pub(crate) struct Entry {
 // The address that is granted newly among the first `count` slots.
 fn grant_due_in(ledger: Ledger, count: usize, memory: &[u8], board: &[u8; 8]) -> Due
     requires { ⌜ Usable (ledger .first) (length (now memory)) count ⌝ }
-    ensures { λ r. ⌜ r ≡ newIn (ledger .first) (slotFoundBy (ledger .summary) (now (board .entry)) (slots count (now (memory .entry)))) ⌝ }
+    ensures { λ r. ⌜ r ≡ newIn (ledger .first) (slotFoundBy (ledger .summary) (now (board .entry)) (slots count (now
+        (memory .entry)))) ⌝ }
 {
     let sought = find_slot(memory, count, ledger.summary, board);
     match sought {

@@ -1,4 +1,5 @@
-// The journal of an address ledger: the bytes that a program appends and syncs before it answers a call, and the ledger resumed from them.
+// The journal of an address ledger: the bytes that a program appends and syncs before it answers a call, and the ledger resumed from
+// them.
 mod calls;
 mod crc;
 mod due;

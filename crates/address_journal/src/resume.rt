@@ -170,7 +170,8 @@ fn begin(first: u16, size: u16, memory: &[u8]) -> ResumeResult
 
 // The first 16 bytes of a journal, over the memory in which the ledger is made again.
 pub fn resume_header(memory: &[u8], header: &[u8]) -> ResumeResult
-    ensures { λ r. ⌜ resumed (r .step) (r .ledger) (r .check) (now (memory .entry)) ≡ resumeHeader (now (memory .entry)) (now (header .entry)) ⌝ }
+    ensures { λ r. ⌜ resumed (r .step) (r .ledger) (r .check) (now (memory .entry)) ≡ resumeHeader (now (memory .entry)) (now
+        (header .entry)) ⌝ }
 {
     if header.len() < 16 {
         return stopped(ResumeStep::Cut, empty(), 0);

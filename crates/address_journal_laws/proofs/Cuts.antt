@@ -31,13 +31,15 @@ append-none : (xs : List Change) → xs ++ [] ≡ xs
 append-none [] = refl
 append-none (x ∷ xs) = ap (λ (l : List Change). x ∷ l) (append-none xs)
 
-run-snoc : (first size : ℕ) (s : Moment) (cs : List Change) (k : Change) → run first size s (callsOf (cs ++ (k ∷ []))) ≡ step first size (run first size s (callsOf cs)) (callOf k)
+run-snoc : (first size : ℕ) (s : Moment) (cs : List Change) (k : Change) → run first size s (callsOf (cs ++ (k ∷ [])))
+    ≡ step first size (run first size s (callsOf cs)) (callOf k)
 unfolding callsOf run
 run-snoc first size s [] k = refl
 run-snoc first size s (c ∷ cs) k = run-snoc first size (step first size s (callOf c)) cs k
 
 records-snoc : (first size : ℕ) (cs : List Change) (s : Moment) (c : ℕ) (k : Change)
-    → recordsFrom first size s c (cs ++ (k ∷ [])) ≡ recordsFrom first size s c cs ++ entry (run first size s (callsOf cs)) (checkFrom first size s c cs) k .bytes
+    → recordsFrom first size s c (cs ++ (k ∷ [])) ≡ recordsFrom first size s c cs ++ entry (run first size s (callsOf cs))
+    (checkFrom first size s c cs) k .bytes
 unfolding recordsFrom checkFrom callsOf run
 records-snoc first size [] s c k = append-nil (entry s c k .bytes)
 records-snoc first size (q ∷ cs) s c k =
@@ -51,7 +53,8 @@ check-snoc first size [] s c k = refl
 check-snoc first size (q ∷ cs) s c k = check-snoc first size cs (step first size s (callOf q)) (entry s c q .check) k
 
 -- ---- only the ledger and the memory matter
-entry-alike : (s t : Moment) → s .ledger ≡ t .ledger → s .memory ≡ t .memory → (c d : ℕ) → c ≡ d → (k : Change) → entry s c k ≡ entry t d k
+entry-alike : (s t : Moment) → s .ledger ≡ t .ledger → s .memory ≡ t .memory → (c d : ℕ) → c ≡ d → (k : Change) → entry s c k
+    ≡ entry t d k
 unfolding entry
 entry-alike s t p q c d e (grants b) = rw (p, q, e)
 entry-alike s t p q c d e (backs b) = rw (p, q, e)
@@ -68,7 +71,8 @@ unfolding step
 memory-alike first size s t p q (grants b) = rw (p, q)
 memory-alike first size s t p q (backs b) = rw (p, q)
 
-whole-append : (cs ds : List Change) → wholeBoards (callsOf cs) ≡ true → wholeBoards (callsOf ds) ≡ true → wholeBoards (callsOf (cs ++ ds)) ≡ true
+whole-append : (cs ds : List Change) → wholeBoards (callsOf cs) ≡ true → wholeBoards (callsOf ds) ≡ true
+    → wholeBoards (callsOf (cs ++ ds)) ≡ true
 unfolding callsOf wholeBoards
 whole-append [] ds w v = v
 whole-append (grants b ∷ cs) ds w v =
@@ -98,13 +102,16 @@ module _ (laws : CallLaws) (first size : ℕ) (m : List ℕ) (cs : List Change) 
 
   module _ (d : Program) (s : IsAfter first size m cs d) (k : Change) where
     same-entry : entry (momentOf d) (d .check) k ≡ entry (afterChanges first size m cs) (checkAfter first size m cs) k
-    same-entry = entry-alike (momentOf d) (afterChanges first size m cs) (s .ledger) (s .memory) (d .check) (checkAfter first size m cs) (s .check) k
+    same-entry = entry-alike (momentOf d) (afterChanges first size m cs) (s .ledger) (s .memory) (d .check) (checkAfter first size m cs)
+        (s .check) k
 
-    longer : journalOf first size m cs ++ entry (afterChanges first size m cs) (checkAfter first size m cs) k .bytes ≡ journalOf first size m (cs ++ (k ∷ []))
+    longer : journalOf first size m cs ++ entry (afterChanges first size m cs) (checkAfter first size m cs) k .bytes
+        ≡ journalOf first size m (cs ++ (k ∷ []))
     unfolding after callsOf run
     longer =
         append-assoc (headerOf first size) (recordsFrom first size (after first size m []) (headerCheck first size) cs) _
-        ∙ ap (λ (l : List ℕ). headerOf first size ++ l) (sym (records-snoc first size cs (after first size m []) (headerCheck first size) k))
+        ∙ ap (λ (l : List ℕ). headerOf first size ++ l) (sym (records-snoc first size cs (after first size m [])
+        (headerCheck first size) k))
 
     file-longer : d .file ++ entry (momentOf d) (d .check) k .bytes ≡ journalOf first size m (cs ++ (k ∷ []))
     file-longer =
@@ -118,10 +125,13 @@ module _ (laws : CallLaws) (first size : ℕ) (m : List ℕ) (cs : List Change) 
         let g = run-snoc first size (after first size m []) cs k in
         record {
           ledger =
-              ledger-alike first size (momentOf d) (afterChanges first size m cs) (s .ledger) (s .memory) k ∙ ap (λ (x : Moment). x .ledger) (sym g);
+              ledger-alike first size (momentOf d) (afterChanges first size m cs) (s .ledger) (s .memory) k
+              ∙ ap (λ (x : Moment). x .ledger) (sym g);
           memory =
-              memory-alike first size (momentOf d) (afterChanges first size m cs) (s .ledger) (s .memory) k ∙ ap (λ (x : Moment). x .memory) (sym g);
-          check = ap (λ (e : Entry). e .check) same-entry ∙ sym (check-snoc first size cs (after first size m []) (headerCheck first size) k);
+              memory-alike first size (momentOf d) (afterChanges first size m cs) (s .ledger) (s .memory) k
+              ∙ ap (λ (x : Moment). x .memory) (sym g);
+          check = ap (λ (e : Entry). e .check) same-entry ∙ sym (check-snoc first size cs (after first size m [])
+              (headerCheck first size) k);
           file = file-longer;
         }
 
@@ -143,7 +153,8 @@ module _ (laws : CallLaws) (first size : ℕ) (m : List ℕ) (cs : List Change) 
     zeroed = restarts zeroRecord (d .file ++ zeroRecord) end-zeros (ap (λ (f : List ℕ). f ++ zeroRecord) (s .file))
 
 -- a call whose record is whole in the file was made, though it was not answered
-kept : CallLaws → (first size : ℕ) (m : List ℕ) (cs : List Change) (w : Starts first size m cs) (d : Program) (s : IsAfter first size m cs d) (k : Change)
+kept : CallLaws → (first size : ℕ) (m : List ℕ) (cs : List Change) (w : Starts first size m cs) (d : Program)
+    (s : IsAfter first size m cs d) (k : Change)
     (u : wholeBoards (callsOf (k ∷ [])) ≡ true) (n : ℕ) → 16 ≤ n → Starts first size m (cs ++ (k ∷ []))
     → IsAfter first size m (cs ++ (k ∷ [])) (afterEvent first size m d (cuts k n))
 unfolding afterEvent
@@ -158,12 +169,14 @@ module _ (laws : CallLaws) (first size : ℕ) (m : List ℕ) (w : Starts first s
   begins : (cs : List Change) → wholeBoards (callsOf cs) ≡ true → Starts first size m cs
   begins cs v = record { accepted = w .accepted; fresh = w .fresh; boards = v }
 
-  snoc : (cs : List Change) (k : Change) → wholeBoards (callsOf cs) ≡ true → wholeBoards (callsOf (k ∷ [])) ≡ true → wholeBoards (callsOf (cs ++ (k ∷ []))) ≡ true
+  snoc : (cs : List Change) (k : Change) → wholeBoards (callsOf cs) ≡ true → wholeBoards (callsOf (k ∷ [])) ≡ true
+      → wholeBoards (callsOf (cs ++ (k ∷ []))) ≡ true
   snoc cs k v u = whole-append cs (k ∷ []) v u
 
   abbrev Further : List Event → Type 0
   Further es =
-      (cs : List Change) (d : Program) → IsAfter first size m cs d → wholeBoards (callsOf cs) ≡ true → IsAfter first size m (cs ++ lasting es) (afterEvents first size m d es)
+      (cs : List Change) (d : Program) → IsAfter first size m cs d → wholeBoards (callsOf cs) ≡ true
+      → IsAfter first size m (cs ++ lasting es) (afterEvents first size m d es)
 
   one-more : (es : List Event) (cs : List Change) (k : Change) (d : Program) → IsAfter first size m ((cs ++ (k ∷ [])) ++ lasting es) d
       → IsAfter first size m (cs ++ (k ∷ lasting es)) d
@@ -171,10 +184,12 @@ module _ (laws : CallLaws) (first size : ℕ) (m : List ℕ) (w : Starts first s
 
   cut-by : (es : List Event) → Further es → (cs : List Change) (d : Program) → IsAfter first size m cs d → wholeBoards (callsOf cs) ≡ true
       → (k : Change) → wholeBoards (callsOf (k ∷ [])) ≡ true → (n : ℕ) (v : Bool) → leb 16 n ≡ v
-      → IsAfter first size m (cs ++ cond v (k ∷ lasting es) (lasting es)) (afterEvents first size m (afterEvent first size m d (cuts k n)) es)
+      → IsAfter first size m (cs ++ cond v (k ∷ lasting es) (lasting es)) (afterEvents first size m (afterEvent first size m d
+      (cuts k n)) es)
   cut-by es ih cs d s a k u n true e =
       one-more es cs k _
-      (ih (cs ++ (k ∷ [])) _ (kept laws first size m cs (begins cs a) d s k u n (leb-true 16 n e) (begins (cs ++ (k ∷ [])) (snoc cs k a u))) (snoc cs k a u))
+      (ih (cs ++ (k ∷ [])) _ (kept laws first size m cs (begins cs a) d s k u n (leb-true 16 n e) (begins (cs ++ (k ∷ []))
+      (snoc cs k a u))) (snoc cs k a u))
   cut-by es ih cs d s a k u n false e = ih cs _ (lost laws first size m cs (begins cs a) d s k u n (leb-false 16 n e)) a
 
   further : (es : List Event) → wholeBoards (callsOf (changes es)) ≡ true → Further es
@@ -195,7 +210,8 @@ module _ (laws : CallLaws) (first size : ℕ) (m : List ℕ) (w : Starts first s
   unfolding after callsOf run recordsFrom checkFrom
   new = record { ledger = refl; memory = refl; check = refl; file = sym (append-nil (headerOf first size)) }
 
-either-counts : (v : Bool) (k : Change) (es : List Event) → wholeBoards (callsOf (k ∷ [])) ≡ true → wholeBoards (callsOf (lasting es)) ≡ true
+either-counts : (v : Bool) (k : Change) (es : List Event) → wholeBoards (callsOf (k ∷ [])) ≡ true → wholeBoards (callsOf (lasting es))
+    ≡ true
     → wholeBoards (callsOf (cond v (k ∷ lasting es) (lasting es))) ≡ true
 either-counts true k es u w = whole-append (k ∷ []) (lasting es) u w
 either-counts false k es u w = w
@@ -203,7 +219,8 @@ either-counts false k es u w = w
 lasting-whole : (es : List Event) → wholeBoards (callsOf (changes es)) ≡ true → wholeBoards (callsOf (lasting es)) ≡ true
 unfolding lasting changes
 lasting-whole [] w = w
-lasting-whole (answers k ∷ es) w = let u = first-whole k (changes es) w in whole-append (k ∷ []) (lasting es) (u .0) (lasting-whole es (u .1))
+lasting-whole (answers k ∷ es) w = let u = first-whole k (changes es) w in whole-append (k ∷ []) (lasting es) (u .0) (lasting-whole es
+    (u .1))
 lasting-whole (cuts k n ∷ es) w = let u = first-whole k (changes es) w in either-counts (leb 16 n) k es (u .0) (lasting-whole es (u .1))
 lasting-whole (zeros k ∷ es) w = lasting-whole es (first-whole k (changes es) w .1)
 

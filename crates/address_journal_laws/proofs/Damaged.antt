@@ -7,7 +7,18 @@ use native.Mathlib.Omega.{arith}
 use borrow.Author.Tests.{ltb-true, ltb-false}
 use lib.Dec.{eqb, ltb}
 use lib.ListN.{length, getD, take, drop, set, length-append, length-drop}
-use lib.Seq.{take-at, drop-at, getD-set-same, getD-set-other, drop-set-add, drop-set-lt, take-set-le, take-set-lt, getD-take, length-take-le}
+use lib.Seq.{
+  take-at,
+  drop-at,
+  getD-set-same,
+  getD-set-other,
+  drop-set-add,
+  drop-set-lt,
+  take-set-le,
+  take-set-lt,
+  getD-take,
+  length-take-le,
+}
 use Rattle.lemmas.specs.lists.Same.{same}
 use Rattle.lemmas.specs.lists.SameLemmas.{same-equal}
 use Rattle.lemmas.specs.lists.Digits.{digits}
@@ -93,7 +104,8 @@ Checked c r = drop 12 r ≡ fourBytes (crc32 c (take 12 r))
 checked : (k : ℕ) (b : List ℕ) (a c : ℕ) → length b ≡ 8 → Checked c (recordOf k b a c)
 checked k b a c e = last-four k b a c e ∙ ap (λ (x : List ℕ). fourBytes (crc32 c x)) (sym (first-twelve k b a c e))
 
-due-checked : (k : ℕ) (b : List ℕ) (c : ℕ) (d : Due) (r : List ℕ) → r ≡ entryOf k b c d .bytes → 16 ≤ length r → length b ≡ 8 → Checked c r
+due-checked : (k : ℕ) (b : List ℕ) (c : ℕ) (d : Due) (r : List ℕ) → r ≡ entryOf k b c d .bytes → 16 ≤ length r → length b ≡ 8
+    → Checked c r
 unfolding entryOf
 due-checked k b c (Record a) r q h e = rw q (checked k b a c e)
 due-checked k b c Nothing r q h e = let z = ap length q in absurd (omega (arith, h, z))
@@ -123,7 +135,8 @@ octets-take (suc n) (x ∷ s) o zero = o 0
 octets-take (suc n) (x ∷ s) o (suc i) = octets-take n s (λ j. o (suc j)) i
 
 -- ---- one changed byte
-module _ (l : Ledger) (m : List ℕ) (c : ℕ) (r : List ℕ) (h : c < 0x100000000) (oct : Octets r) (o : Own l m c r) (i v : ℕ) (small : v < 256)
+module _ (l : Ledger) (m : List ℕ) (c : ℕ) (r : List ℕ) (h : c < 0x100000000) (oct : Octets r) (o : Own l m c r) (i v : ℕ)
+    (small : v < 256)
     (p : Own l m c (set r i v)) where
   early : i < 12 → getD r i 0 ≡ v
   early k =
@@ -131,14 +144,16 @@ module _ (l : Ledger) (m : List ℕ) (c : ℕ) (r : List ℕ) (h : c < 0x1000000
       four-same _ _ (sym (own-check l m c r o) ∙ sym (drop-set-lt 12 r i v k) ∙ own-check l m c (set r i v) p) in
       let n = length-take-le 12 r (omega (arith, o .long)) in
       sym (getD-take 12 r i 0 k)
-      ∙ one-changed (take 12 r) c i v h small (octets-take 12 r oct) (omega (arith, n, k)) (g ∙ ap (λ (x : List ℕ). crc32 c x) (take-set-lt 12 r i v k))
+      ∙ one-changed (take 12 r) c i v h small (octets-take 12 r oct) (omega (arith, n, k)) (g
+      ∙ ap (λ (x : List ℕ). crc32 c x) (take-set-lt 12 r i v k))
 
   late : 12 ≤ i → i < 16 → getD r i 0 ≡ v
   late k n =
       let ek : kindIn r ≡ kindIn (set r i v) = sym (getD-set-other r i 0 v 0 (λ z. omega (arith, z, k))) in
       let d : i ≡ 1 + (i - 1) = omega (arith, k) in
       let eb : boardIn r ≡ boardIn (set r i v) =
-      sym (ap (λ (j : ℕ). take 8 (drop 1 (set r j v))) d ∙ ap (λ (x : List ℕ). take 8 x) (drop-set-add 1 r (i - 1) v) ∙ take-set-le 8 (drop 1 r) (i - 1) v (omega (arith, k))) in
+      sym (ap (λ (j : ℕ). take 8 (drop 1 (set r j v))) d ∙ ap (λ (x : List ℕ). take 8 x) (drop-set-add 1 r (i - 1) v)
+      ∙ take-set-le 8 (drop 1 r) (i - 1) v (omega (arith, k))) in
       let z = one l m c r (set r i v) o p ek eb in
       ap (λ (x : List ℕ). getD x i 0) z ∙ getD-set-same r i v 0 (omega (arith, n, o .long))
 
@@ -151,6 +166,7 @@ damage-found =
     record {
       own = λ l m c r e. own l m c r e .bytes;
       one-record = λ l m c r q e f k b. one l m c r q (own l m c r e) (own l m c q f) k b;
-      one-byte = λ l m c r h oct e i v n small other f. other (by-place l m c r h oct (own l m c r e) i v small (own l m c (set r i v) f) _ refl n);
+      one-byte = λ l m c r h oct e i v n small other f. other (by-place l m c r h oct (own l m c r e) i v small (own l m c
+          (set r i v) f) _ refl n);
       unchanged = λ l m c r e. unchanged l m c r e;
     }

@@ -28,7 +28,8 @@ pub example : JournalExample
 unfolding slotAt slots same isFree heldBy lowest has countFree slotFound marked withMark marksOf refreshed freeBy slotFoundBy
     hold freed inLimits judged counted isAddress bytesOf openedBy opened granting grantedBy granted givingBack givenBackBy
     givenBack freeCount listed addressOf enter strike afterAsk afterGive step run after wholeBoards
-    crcBit crcByte crcBytes crc32 headerCheck headerOf checkOf recordWith entryHere outcomeHere resumeRecord begun resumeHeader goOn resumeRecords resume
+    crcBit crcByte crcBytes crc32 headerCheck headerOf checkOf recordWith entryHere outcomeHere resumeRecord begun resumeHeader goOn
+    resumeRecords resume
     bytes.same grantDue backDue entryOf callsOf entry recordsFrom checkFrom afterEvent afterEvents lasting changes
 example =
     record {

@@ -64,7 +64,8 @@ unfolding resume goOn
 opens-then m bytes l c e = rw e
 
 module _ (m h r t : List ℕ) (l : Ledger) (c : ℕ) (e : length h ≡ 16) (g : resumeHeader m h ≡ resumed Taken l c m) where
-  all-bytes : (z : Restart) → resumeRecords (suc (length ((h ++ r) ++ t))) (resumed Taken l c m) 16 (r ++ t) ≡ z → resume m ((h ++ r) ++ t) ≡ z
+  all-bytes : (z : Restart) → resumeRecords (suc (length ((h ++ r) ++ t))) (resumed Taken l c m) 16 (r ++ t) ≡ z
+      → resume m ((h ++ r) ++ t) ≡ z
   all-bytes z w =
       opens-then m ((h ++ r) ++ t) l c (rw (append-assoc h r t, take-at h (r ++ t) 16 e) g)
       ∙ (let d : drop 16 ((h ++ r) ++ t) ≡ r ++ t = rw (append-assoc h r t) (drop-at h (r ++ t) 16 e) in
@@ -78,34 +79,47 @@ whole-resumes laws first size m cs w t e =
     let s = after first size m [] in
     let c = headerCheck first size in
     let r = recordsFrom first size (after first size m []) (headerCheck first size) cs in
-    let n : 16 + length r ≡ length (headerOf first size ++ r) = omega (arith, length-append (headerOf first size) r, header-long first size) in
-    all-bytes m (headerOf first size) r t (opened first size m .ledger) c (header-long first size) (header-opens first size m (w .accepted)) _
+    let n : 16 + length r ≡ length (headerOf first size ++ r) = omega (
+      arith,
+      length-append
+          (headerOf first size) r,
+      header-long first size,
+    ) in
+    all-bytes m (headerOf first size) r t (opened first size m .ledger) c (header-long first size) (header-opens first size m
+    (w .accepted)) _
     (walks laws first size t e cs s c (w .boards) (suc (length ((headerOf first size ++ r) ++ t))) 16 Taken
     (omega (arith, length-append (headerOf first size ++ r) t, length-append (headerOf first size) r, length-append r t))
-    ∙ ap (λ (j : ℕ). restart (resumed Cut (afterChanges first size m cs .ledger) (checkAfter first size m cs) (afterChanges first size m cs .memory)) j) n)
+    ∙ ap (λ (j : ℕ). restart (resumed Cut (afterChanges first size m cs .ledger) (checkAfter first size m cs)
+    (afterChanges first size m cs .memory)) j) n)
 
 -- ---- a part of the records
-pub few-bytes : CallLaws → (first size : ℕ) (s : Moment) (c : ℕ) (k : Change) → wholeBoards (callsOf (k ∷ [])) ≡ true → length (entry s c k .bytes) ≤ 16
+pub few-bytes : CallLaws → (first size : ℕ) (s : Moment) (c : ℕ) (k : Change) → wholeBoards (callsOf (k ∷ [])) ≡ true
+    → length (entry s c k .bytes) ≤ 16
 few-bytes laws first size s c k w =
-    ⊎-elim (λ (y : Quiet first size s c k). let e = ap length (y .bytes) in omega (arith, e)) (λ (y : Loud first size s c k). omega (arith, y .long))
+    ⊎-elim (λ (y : Quiet first size s c k). let e = ap length (y .bytes) in omega (arith, e)) (λ (y : Loud first size s c k). omega
+    (arith, y .long))
     (entries laws first size s c k w)
 
 abbrev Split : ℕ → ℕ → Moment → ℕ → ℕ → List Change → Type 0
 Split first size s c n cs =
-    (t : List ℕ) × ((take n (recordsFrom first size s c cs) ≡ recordsFrom first size s c (wholeFrom first size s c n cs) ++ t) × (length t < 16))
+    (t : List ℕ) × ((take n (recordsFrom first size s c cs) ≡ recordsFrom first size s c (wholeFrom first size s c n cs) ++ t) ×
+    (length t < 16))
 
 module _ (first size : ℕ) (s : Moment) (c : ℕ) (n : ℕ) (k : Change) (cs : List Change) (few : length (entry s c k .bytes) ≤ 16) where
   split-whole : leb (length (entry s c k .bytes)) n ≡ true
-      → Split first size (step first size s (callOf k)) (entry s c k .check) (n - length (entry s c k .bytes)) cs → Split first size s c n (k ∷ cs)
+      → Split first size (step first size s (callOf k)) (entry s c k .check) (n - length (entry s c k .bytes)) cs
+      → Split first size s c n (k ∷ cs)
   unfolding recordsFrom wholeFrom
   split-whole e (t, (p, q)) =
       let b = entry s c k .bytes in
       let r = recordsFrom first size (step first size s (callOf k)) (entry s c k .check) cs in
-      let r′ = recordsFrom first size (step first size s (callOf k)) (entry s c k .check) (wholeFrom first size (step first size s (callOf k)) (entry s c k .check) (n - length b) cs) in
+      let r′ = recordsFrom first size (step first size s (callOf k)) (entry s c k .check) (wholeFrom first size (step first size s
+      (callOf k)) (entry s c k .check) (n - length b) cs) in
       let h = leb-true (length b) n e in
       let d : n ≡ length (entry s c k .bytes) + (n - length (entry s c k .bytes)) = omega (arith, h) in
       let g : take n (b ++ r) ≡ (b ++ r′) ++ t =
-      ap (λ (j : ℕ). take j (b ++ r)) d ∙ take-append-add b r (n - length b) ∙ ap (λ (x : List ℕ). b ++ x) p ∙ sym (append-assoc b r′ t) in
+      ap (λ (j : ℕ). take j (b ++ r)) d ∙ take-append-add b r (n - length b) ∙ ap (λ (x : List ℕ). b ++ x) p
+      ∙ sym (append-assoc b r′ t) in
       (t, (rw e g, q))
 
   split-cut : leb (length (entry s c k .bytes)) n ≡ false → Split first size s c n (k ∷ cs)
@@ -117,11 +131,13 @@ module _ (first size : ℕ) (s : Moment) (c : ℕ) (n : ℕ) (k : Change) (cs : 
       (take n b, (rw e (take-append-le n b r (omega (arith, h))), omega (arith, length-take-le n b (omega (arith, h)), h)))
 
   split-by : (v : Bool) → leb (length (entry s c k .bytes)) n ≡ v
-      → Split first size (step first size s (callOf k)) (entry s c k .check) (n - length (entry s c k .bytes)) cs → Split first size s c n (k ∷ cs)
+      → Split first size (step first size s (callOf k)) (entry s c k .check) (n - length (entry s c k .bytes)) cs
+      → Split first size s c n (k ∷ cs)
   split-by true e ih = split-whole e ih
   split-by false e ih = split-cut e
 
-pub split : CallLaws → (first size : ℕ) (cs : List Change) (s : Moment) (c n : ℕ) → wholeBoards (callsOf cs) ≡ true → Split first size s c n cs
+pub split : CallLaws → (first size : ℕ) (cs : List Change) (s : Moment) (c n : ℕ) → wholeBoards (callsOf cs) ≡ true
+    → Split first size s c n cs
 unfolding recordsFrom wholeFrom
 split laws first size [] s c n w = ([], (take-all n [] (omega arith), omega arith))
 split laws first size (k ∷ cs) s c n w =
@@ -141,20 +157,28 @@ unfolding callsOf wholeBoards
 either-whole true xs w = w
 either-whole false xs w = refl
 
-lasting-whole : (first size : ℕ) (cs : List Change) (s : Moment) (c n : ℕ) → wholeBoards (callsOf cs) ≡ true → wholeBoards (callsOf (wholeFrom first size s c n cs)) ≡ true
+lasting-whole : (first size : ℕ) (cs : List Change) (s : Moment) (c n : ℕ) → wholeBoards (callsOf cs) ≡ true
+    → wholeBoards (callsOf (wholeFrom first size s c n cs)) ≡ true
 unfolding wholeFrom
 lasting-whole first size [] s c n w = w
 lasting-whole first size (k ∷ cs) s c n w =
     either-whole (leb (length (entry s c k .bytes)) n) _
     (more-whole k cs _ w
-    (lasting-whole first size cs (step first size s (callOf k)) (entry s c k .check) (n - length (entry s c k .bytes)) (first-whole k cs w .1)))
+    (lasting-whole first size cs (step first size s (callOf k)) (entry s c k .check) (n - length (entry s c k .bytes))
+    (first-whole k cs w .1)))
 
 module _ (laws : CallLaws) (first size : ℕ) (m : List ℕ) (cs : List Change) (w : Starts first size m cs) (n : ℕ) where
   lasting-begins : Starts first size m (wholeIn first size m n cs)
   lasting-begins =
-      record { accepted = w .accepted; fresh = w .fresh; boards = lasting-whole first size cs (after first size m []) (headerCheck first size) n (w .boards) }
+      record {
+        accepted = w .accepted;
+        fresh = w .fresh;
+        boards = lasting-whole first size cs (after first size m [])
+            (headerCheck first size) n (w .boards);
+      }
 
-  part : (t : List ℕ) × ((take (16 + n) (journalOf first size m cs) ≡ journalOf first size m (wholeIn first size m n cs) ++ t) × (length t < 16))
+  part : (t : List ℕ) × ((take (16 + n) (journalOf first size m cs) ≡ journalOf first size m (wholeIn first size m n cs) ++ t) ×
+      (length t < 16))
   part =
       let x = split laws first size cs (after first size m []) (headerCheck first size) n (w .boards) in
       let h = headerOf first size in
@@ -162,7 +186,11 @@ module _ (laws : CallLaws) (first size : ℕ) (m : List ℕ) (cs : List Change) 
       let r′ = recordsFrom first size (after first size m []) (headerCheck first size) (wholeIn first size m n cs) in
       let d : 16 + n ≡ length (headerOf first size) + n = omega (arith, header-long first size) in (
         x .0,
-        (ap (λ (j : ℕ). take j (h ++ r)) d ∙ take-append-add h r n ∙ ap (λ (y : List ℕ). h ++ y) (x .1 .0) ∙ sym (append-assoc h r′ (x .0)), x .1 .1),
+        (
+          ap (λ (j : ℕ). take j (h ++ r)) d ∙ take-append-add h r n ∙ ap (λ (y : List ℕ). h ++ y) (x .1 .0)
+              ∙ sym (append-assoc h r′ (x .0)),
+          x .1 .1,
+        ),
       )
 
   part-resumes : resume m (take (16 + n) (journalOf first size m cs)) ≡ restarted first size m (wholeIn first size m n cs)
@@ -188,7 +216,13 @@ prefixes laws =
           omega (
             arith,
             length-take-le n (journalOf first size m cs)
-                (omega (arith, h, header-long first size, length-append (headerOf first size) (recordsFrom first size (after first size m []) (headerCheck first size) cs))),
+                (omega (
+                  arith,
+                  h,
+                  header-long first size,
+                  length-append (headerOf first size) (recordsFrom first size
+                      (after first size m []) (headerCheck first size) cs),
+                )),
           ) in
           cut-header m b l (rw (take-all 16 (take n (journalOf first size m cs)) (omega arith), lt-ltb (length b) 16 l));
     }

@@ -41,7 +41,8 @@ bit-lt x h = by-odd (eqb (x % 2) 1) refl
     by-odd true e = rw e (xor-lt 32 (x / 2) 0xedb88320 (omega arith) (omega arith))
     by-odd false e = rw e (omega arith)
 
-bit-by : (x y : ℕ) → x < 0x100000000 → y < 0x100000000 → crcBit x ≡ crcBit y → (v w : Bool) → eqb (x % 2) 1 ≡ v → eqb (y % 2) 1 ≡ w → x ≡ y
+bit-by : (x y : ℕ) → x < 0x100000000 → y < 0x100000000 → crcBit x ≡ crcBit y → (v w : Bool) → eqb (x % 2) 1 ≡ v → eqb (y % 2) 1 ≡ w → x
+    ≡ y
 unfolding crcBit
 bit-by x y h k e true true p q =
     let z : x / 2 ≡ y / 2 = undo (x / 2) (y / 2) 0xedb88320 (rw (p, q) at e) in
@@ -68,7 +69,8 @@ bit x y h k e = bit-by x y h k e _ _ refl refl
 two-bits : (x y : ℕ) → x < 0x100000000 → y < 0x100000000 → crcBit (crcBit x) ≡ crcBit (crcBit y) → x ≡ y
 two-bits x y h k e = bit x y h k (bit (crcBit x) (crcBit y) (bit-lt x h) (bit-lt y k) e)
 
-fourBytes-bits : (x y : ℕ) → x < 0x100000000 → y < 0x100000000 → crcBit (crcBit (crcBit (crcBit x))) ≡ crcBit (crcBit (crcBit (crcBit y))) → x ≡ y
+fourBytes-bits : (x y : ℕ) → x < 0x100000000 → y < 0x100000000 → crcBit (crcBit (crcBit (crcBit x)))
+    ≡ crcBit (crcBit (crcBit (crcBit y))) → x ≡ y
 fourBytes-bits x y h k e =
     two-bits x y h k
     (two-bits (crcBit (crcBit x)) (crcBit (crcBit y)) (bit-lt (crcBit x) (bit-lt x h)) (bit-lt (crcBit y) (bit-lt y k)) e)
@@ -99,7 +101,8 @@ later (b ∷ s) x y h k o e =
     (byte x y b b h k (o 0) (o 0)
     (later s (crcByte x b) (crcByte y b) (byte-lt x b h (o 0)) (byte-lt y b k (o 0)) (λ i. o (suc i)) e))
 
-changed : (s : List ℕ) (x i v : ℕ) → x < 0x100000000 → v < 256 → Octets s → i < length s → crcBytes x s ≡ crcBytes x (set s i v) → getD s i 0 ≡ v
+changed : (s : List ℕ) (x i v : ℕ) → x < 0x100000000 → v < 256 → Octets s → i < length s → crcBytes x s ≡ crcBytes x (set s i v)
+    → getD s i 0 ≡ v
 unfolding crcBytes
 changed [] x i v h k o l e = absurd (omega arith)
 changed (b ∷ s) x zero v h k o l e =
@@ -107,7 +110,8 @@ changed (b ∷ s) x zero v h k o l e =
     (byte x x b v h h (o 0) k (later s (crcByte x b) (crcByte x v) (byte-lt x b h (o 0)) (byte-lt x v h k) (λ i. o (suc i)) e))
 changed (b ∷ s) x (suc i) v h k o l e = changed s (crcByte x b) i v (byte-lt x b h (o 0)) k (λ j. o (suc j)) (omega arith) e
 
-pub one-changed : (s : List ℕ) (c i v : ℕ) → c < 0x100000000 → v < 256 → Octets s → i < length s → crc32 c s ≡ crc32 c (set s i v) → getD s i 0 ≡ v
+pub one-changed : (s : List ℕ) (c i v : ℕ) → c < 0x100000000 → v < 256 → Octets s → i < length s → crc32 c s ≡ crc32 c (set s i v)
+    → getD s i 0 ≡ v
 unfolding crc32
 one-changed s c i v h k o l e =
     changed s (bitXor c 0xffffffff) i v (xor-lt 32 c 0xffffffff h (omega arith)) k o l

@@ -47,7 +47,8 @@ quiet-move : (f k : ℕ) (s s′ : Resumed) → s ≡ s′ → (b r t : List ℕ
     → resumeRecords f s′ k (r ++ t) ≡ restart z (k + length r) → resumeRecords f s k ((b ++ r) ++ t) ≡ restart z (k + length (b ++ r))
 quiet-move f k s s′ p b r t q z h = rw (p, q) h
 
-loud-move : (f k : ℕ) (x : ResumeStep) (l : Ledger) (m : List ℕ) (c : ℕ) (b r t : List ℕ) → length b ≡ 16 → (l′ : Ledger) (c′ : ℕ) (m′ : List ℕ)
+loud-move : (f k : ℕ) (x : ResumeStep) (l : Ledger) (m : List ℕ) (c : ℕ) (b r t : List ℕ) → length b ≡ 16
+    → (l′ : Ledger) (c′ : ℕ) (m′ : List ℕ)
     → resumeRecord l m c b ≡ resumed Taken l′ c′ m′ → (z : Resumed)
     → resumeRecords f (resumed Taken l′ c′ m′) (k + 16) (r ++ t) ≡ restart z (k + 16 + length r)
     → resumeRecords (suc f) (resumed x l c m) k ((b ++ r) ++ t) ≡ restart z (k + length (b ++ r))
@@ -61,14 +62,16 @@ abbrev Walked : ℕ → ℕ → List ℕ → List Change → Moment → ℕ → 
 Walked first size t cs s c =
     (f k : ℕ) (x : ResumeStep) → length (recordsFrom first size s c cs ++ t) < f
     → resumeRecords f (resumed x (s .ledger) c (s .memory)) k (recordsFrom first size s c cs ++ t)
-    ≡ restart (resumed Cut (run first size s (callsOf cs) .ledger) (checkFrom first size s c cs) (run first size s (callsOf cs) .memory)) (k + length (recordsFrom first size s c cs))
+    ≡ restart (resumed Cut (run first size s (callsOf cs) .ledger) (checkFrom first size s c cs) (run first size s
+    (callsOf cs) .memory)) (k + length (recordsFrom first size s c cs))
 
 module _ (first size : ℕ) (t : List ℕ) (q : Change) (cs : List Change) (s : Moment) (c : ℕ)
     (ih : Walked first size t cs (step first size s (callOf q)) (entry s c q .check)) where
   quiet-turn : Quiet first size s c q → Walked first size t (q ∷ cs) s c
   unfolding recordsFrom checkFrom callsOf run
   quiet-turn y f k x h =
-      let same : resumed x (s .ledger) c (s .memory) ≡ resumed x (step first size s (callOf q) .ledger) (entry s c q .check) (step first size s (callOf q) .memory) =
+      let same : resumed x (s .ledger) c (s .memory) ≡ resumed x (step first size s (callOf q) .ledger) (entry s c q .check)
+      (step first size s (callOf q) .memory) =
       rw (y .ledger, y .check, y .memory) in
       let r = recordsFrom first size (step first size s (callOf q)) (entry s c q .check) cs in
       quiet-move f k _ _ same (entry s c q .bytes) r t (y .bytes) _
@@ -81,7 +84,15 @@ module _ (first size : ℕ) (t : List ℕ) (q : Change) (cs : List Change) (s : 
       let r = recordsFrom first size (step first size s (callOf q)) (entry s c q .check) cs in
       loud-move f k x (s .ledger) (s .memory) c (entry s c q .bytes) r t (y .long)
       (step first size s (callOf q) .ledger) (entry s c q .check) (step first size s (callOf q) .memory) (y .taken) _
-      (ih f (k + 16) Taken (omega (arith, h, y .long, length-append (entry s c q .bytes ++ r) t, length-append (entry s c q .bytes) r, length-append r t)))
+      (ih f (k + 16) Taken (omega (
+        arith,
+        h,
+        y .long,
+        length-append (entry s c q .bytes ++ r) t,
+        length-append
+            (entry s c q .bytes) r,
+        length-append r t,
+      )))
 
 pub first-whole : (q : Change) (cs : List Change) → wholeBoards (callsOf (q ∷ cs)) ≡ true
     → (wholeBoards (callsOf (q ∷ [])) ≡ true) × (wholeBoards (callsOf cs) ≡ true)

@@ -21,7 +21,8 @@ lent = replicate 28 7
 abbrev pub holding : ℕ → ℕ → Holding
 holding n a = record { board = board n; address = a }
 
--- two boards get addresses; the power is cut while a third is granted one, with 7 bytes of its record in the file, and it is not answered;
+-- two boards get addresses; the power is cut while a third is granted one, with 7 bytes of its record in the file, and it is not
+-- answered;
 -- then a fourth asks
 abbrev pub start : List Event
 start = answers (grants (board 10)) ∷ answers (grants (board 11)) ∷ []
@@ -42,10 +43,12 @@ pub record JournalExample : Type 0 where
   pub memory : program .memory ≡ (1 ∷ board 10) ++ ((1 ∷ board 11) ++ ((1 ∷ board 13) ++ (7 ∷ [])))
   pub long : length (program .file) ≡ 64
   pub again : granted (program .ledger) (program .memory) (board 10) .answer ≡ Address 0x1000
-  -- of the same cut with the whole record in the file, the third board holds the address though it got no answer; with zeros there, it does not
+  -- of the same cut with the whole record in the file, the third board holds the address though it got no answer; with zeros there, it
+  -- does not
   pub whole : programAfter 0x1000 3 lent (start ++ (cuts (grants (board 12)) 16 ∷ [])) .memory
       ≡ (1 ∷ board 10) ++ ((1 ∷ board 11) ++ ((1 ∷ board 12) ++ (7 ∷ [])))
-  pub blank : programAfter 0x1000 3 lent (start ++ (zeros (grants (board 12)) ∷ [])) .memory ≡ (1 ∷ board 10) ++ ((1 ∷ board 11) ++ replicate 10 7)
+  pub blank : programAfter 0x1000 3 lent (start ++ (zeros (grants (board 12)) ∷ [])) .memory
+      ≡ (1 ∷ board 10) ++ ((1 ∷ board 11) ++ replicate 10 7)
   -- the second record's board with another last byte: damage at offset 32
   pub damage : resume lent (set (program .file) 40 12) .end .step ≡ Damaged
   pub offset : resume lent (set (program .file) 40 12) .whole ≡ 32

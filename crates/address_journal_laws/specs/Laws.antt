@@ -29,7 +29,8 @@ pub record PrefixResumes : Type 0 where
       → (n : ℕ) → resume m (take (16 + n) (journalOf first size m cs)) ≡ restarted first size m (wholeIn first size m n cs)
   -- the prefix is the journal of those calls and fewer than 16 bytes more
   pub whole : (first size : ℕ) (m : List ℕ) (cs : List Change) → Starts first size m cs → (n : ℕ)
-      → (t : List ℕ) × ((take (16 + n) (journalOf first size m cs) ≡ journalOf first size m (wholeIn first size m n cs) ++ t) × (length t < 16))
+      → (t : List ℕ) × ((take (16 + n) (journalOf first size m cs) ≡ journalOf first size m (wholeIn first size m n cs) ++ t) ×
+      (length t < 16))
   -- a cut header: nothing was granted, and nothing is
   pub unopened : (first size : ℕ) (m : List ℕ) (cs : List Change) (n : ℕ) → n < 16
       → resume m (take n (journalOf first size m cs)) ≡ restart (resumed Cut emptyLedger 0 m) 0
@@ -56,7 +57,8 @@ pub record PowerCuts : Type 0 where
   pub again : (first size : ℕ) (m : List ℕ) (es : List Event) → Starts first size m (changes es)
       → (b : List ℕ) → listed b (holdings first size m es) ≡ true
       → granted (programAfter first size m es .ledger) (programAfter first size m es .memory) b
-      ≡ outcome (Address (addressOf b (holdings first size m es))) (programAfter first size m es .ledger) (programAfter first size m es .memory)
+      ≡ outcome (Address (addressOf b (holdings first size m es))) (programAfter first size m es .ledger)
+      (programAfter first size m es .memory)
 
 -- ---- several fixtures, each with its own range, memory and file: what one holds no other holds
 abbrev pub Apart : ℕ → ℕ → ℕ → ℕ → Type 0

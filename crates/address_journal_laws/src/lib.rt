@@ -1,4 +1,5 @@
-// What holds of a journal over whole histories of calls and power cuts: claims about the definitions of `address_journal` and `address_ledger`.
+// What holds of a journal over whole histories of calls and power cuts: claims about the definitions of `address_journal` and
+// `address_ledger`.
 ghost use Rattle.address_journal_laws.specs.Laws.{PrefixResumes, PowerCuts, ApartFixtures};
 ghost use Rattle.address_journal_laws.specs.Damage.{DamageFound};
 ghost use Rattle.address_journal_laws.specs.Example.{JournalExample};

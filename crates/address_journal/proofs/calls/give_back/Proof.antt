@@ -26,7 +26,8 @@ returns c =
     let entry-of-at = c .before .before .before .before .before .entry-of in
     let back-due-at = c .before .before .before .before .before .before .back-due in
     let recorded-at = c .recorded in
-    recorded _ 2 (a .t3) (a .check) _ _ (give-back-at .result) (give-back-at .ensures) (entry-of-at .result) (back-due-at .result) (entry-of-at .ensures) (back-due-at .ensures) (recorded-at .result) (recorded-at .ensures)
+    recorded _ 2 (a .t3) (a .check) _ _ (give-back-at .result) (give-back-at .ensures) (entry-of-at .result) (back-due-at .result)
+    (entry-of-at .ensures) (back-due-at .ensures) (recorded-at .result) (recorded-at .ensures)
 
 pub give-back-spec : {M : Type 1} → statement M
 give-back-spec =

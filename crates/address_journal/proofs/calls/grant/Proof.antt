@@ -26,7 +26,8 @@ returns c =
     let entry-of-at = c .before .before .before .before .before .entry-of in
     let grant-due-at = c .before .before .before .before .before .before .grant-due in
     let recorded-at = c .recorded in
-    recorded _ 1 (a .t3) (a .check) _ _ (grant-at .result) (grant-at .ensures) (entry-of-at .result) (grant-due-at .result) (entry-of-at .ensures) (grant-due-at .ensures) (recorded-at .result) (recorded-at .ensures)
+    recorded _ 1 (a .t3) (a .check) _ _ (grant-at .result) (grant-at .ensures) (entry-of-at .result) (grant-due-at .result)
+    (entry-of-at .ensures) (grant-due-at .ensures) (recorded-at .result) (recorded-at .ensures)
 
 pub grant-spec : {M : Type 1} → statement M
 grant-spec =

@@ -29,7 +29,10 @@ crc-bit-requires-8 c κs = search needs
 
 returns : tie.Need-returns
 returns c =
-    eight-bits _ _ _ _ _ _ _ _ _ _ (c .before .before .before .before .before .before .before .crc-bit .ensures) (c .before .before .before .before .before .before .crc-bit2 .ensures) (c .before .before .before .before .before .crc-bit3 .ensures) (c .before .before .before .before .crc-bit4 .ensures) (c .before .before .before .crc-bit5 .ensures) (c .before .before .crc-bit6 .ensures)
+    eight-bits _ _ _ _ _ _ _ _ _ _ (c .before .before .before .before .before .before .before .crc-bit .ensures)
+    (c .before .before .before .before .before .before .crc-bit2 .ensures)
+    (c .before .before .before .before .before .crc-bit3 .ensures) (c .before .before .before .before .crc-bit4 .ensures)
+    (c .before .before .before .crc-bit5 .ensures) (c .before .before .crc-bit6 .ensures)
     (c .before .crc-bit7 .ensures) (c .crc-bit8 .ensures)
 
 pub crc-byte-spec : {M : Type 1} → statement M

@@ -26,7 +26,8 @@ returns-2 c =
     let a = c .before .before .before .before .args in
     let enum-told-at = c .enum-told in
     let held-address-at = c .before .before .held-address in
-    back-refused (a .ledger) (a .memory .now) (a .board .now) (enum-told-at .given .0 .0) (sym (enum-told-at .given .1) ∙ held-address-at .ensures)
+    back-refused (a .ledger) (a .memory .now) (a .board .now) (enum-told-at .given .0 .0) (sym (enum-told-at .given .1)
+    ∙ held-address-at .ensures)
 
 pub back-due-spec : {M : Type 1} → statement M
 back-due-spec =

@@ -21,7 +21,8 @@ returns c =
     let due-at = c .before .before .before .due in
     let check-of-at = c .before .check-of in
     let record-with-at = c .record-with in
-    entry-record (a .kind) (a .board) (a .previous) (a .due) _ (due-at .given .1) (check-of-at .result) (check-of-at .ensures) (record-with-at .result) (record-with-at .ensures)
+    entry-record (a .kind) (a .board) (a .previous) (a .due) _ (due-at .given .1) (check-of-at .result) (check-of-at .ensures)
+    (record-with-at .result) (record-with-at .ensures)
 
 returns-2 : tie.Need-returns-2
 returns-2 c =

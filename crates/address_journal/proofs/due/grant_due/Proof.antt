@@ -35,7 +35,8 @@ returns c =
     let a = c .before .before .before .before .args in
     let enum-told-at = c .enum-told in
     let judge-at = c .before .before .judge in
-    due-refused (a .ledger) (a .memory .now) (a .board .now) (enum-told-at .given .0 .0) (sym (enum-told-at .given .1) ∙ judge-at .ensures)
+    due-refused (a .ledger) (a .memory .now) (a .board .now) (enum-told-at .given .0 .0) (sym (enum-told-at .given .1)
+    ∙ judge-at .ensures)
 
 returns-2 : tie.Need-returns-2
 returns-2 c =
@@ -47,7 +48,8 @@ returns-2 c =
     let l = a .ledger in
     let accepted = sym (enum-told2-at .given .1) ∙ judge-at .ensures in
     let n = counted-is (l .first) (l .size) (length (a .memory .now)) accepted (count-at .result) (count-at .ensures) in
-    due-accepted (a .ledger) (a .memory .now) (a .board .now) accepted (count-at .result) n (grant-due-in-at .result) (grant-due-in-at .ensures)
+    due-accepted (a .ledger) (a .memory .now) (a .board .now) accepted (count-at .result) n (grant-due-in-at .result)
+    (grant-due-in-at .ensures)
 
 pub grant-due-spec : {M : Type 1} → statement M
 grant-due-spec =

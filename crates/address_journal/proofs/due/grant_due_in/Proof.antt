@@ -24,8 +24,14 @@ add-t8 c =
     let pre = c .before .before .before .before .before .before .pre in
     let sought-at = c .before .before .sought in
     let find-slot-at = c .before .before .before .before .find-slot in
-    let found = sought-is (a .ledger) (a .count) (a .memory .now) (a .board .now) pre _ (sym (sought-at .given .1) ∙ find-slot-at .ensures) in
-    omega (arith, pre .end, free-inside-of (a .ledger .summary) (a .board .now) (a .count) (a .memory .now) (sought-at .given .0 .0) found)
+    let found = sought-is (a .ledger) (a .count) (a .memory .now) (a .board .now) pre _ (sym (sought-at .given .1)
+    ∙ find-slot-at .ensures) in
+    omega (
+      arith,
+      pre .end,
+      free-inside-of (a .ledger .summary) (a .board .now) (a .count) (a .memory .now)
+          (sought-at .given .0 .0) found,
+    )
 
 cast-t9 : tie.Need-cast-t9
 cast-t9 c =
@@ -33,8 +39,14 @@ cast-t9 c =
     let pre = c .before .before .before .before .before .before .pre in
     let sought-at = c .before .before .sought in
     let find-slot-at = c .before .before .before .before .find-slot in
-    let found = sought-is (a .ledger) (a .count) (a .memory .now) (a .board .now) pre _ (sym (sought-at .given .1) ∙ find-slot-at .ensures) in
-    omega (arith, pre .end, free-inside-of (a .ledger .summary) (a .board .now) (a .count) (a .memory .now) (sought-at .given .0 .0) found)
+    let found = sought-is (a .ledger) (a .count) (a .memory .now) (a .board .now) pre _ (sym (sought-at .given .1)
+    ∙ find-slot-at .ensures) in
+    omega (
+      arith,
+      pre .end,
+      free-inside-of (a .ledger .summary) (a .board .now) (a .count) (a .memory .now)
+          (sought-at .given .0 .0) found,
+    )
 
 enum-told-2 : tie.Need-enum-told-2
 enum-told-2 c = search needs

@@ -35,7 +35,8 @@ returns c =
     let a = c .before .before .before .before .before .args in
     let refusal-at = c .before .refusal in
     let judge-at = c .before .before .before .judge in
-    address-refused (a .ledger) (a .memory .now) (a .board .now) (refusal-at .given .0 .0) (sym (refusal-at .given .1) ∙ judge-at .ensures)
+    address-refused (a .ledger) (a .memory .now) (a .board .now) (refusal-at .given .0 .0) (sym (refusal-at .given .1)
+    ∙ judge-at .ensures)
 
 returns-2 : tie.Need-returns-2
 returns-2 c =

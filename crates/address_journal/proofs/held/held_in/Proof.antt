@@ -22,7 +22,8 @@ returns c =
     let pre = c .before .before .before .before .pre in
     let if1-at = c .before .if1 in
     found-there (a .ledger .first) (a .count) (find-board-at .result) _
-    (board-is (a .ledger) (a .count) (a .memory .now) (a .board .now) pre (find-board-at .result) (find-board-at .ensures)) (if1-at .taken)
+    (board-is (a .ledger) (a .count) (a .memory .now) (a .board .now) pre (find-board-at .result) (find-board-at .ensures))
+    (if1-at .taken)
 
 returns-2 : tie.Need-returns-2
 returns-2 c =

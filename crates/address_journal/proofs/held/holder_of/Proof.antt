@@ -37,7 +37,8 @@ returns c =
     let l = a .ledger in
     let accepted = sym (enum-told-at .given .1) ∙ judge-at .ensures in
     let n = counted-is (l .first) (l .size) (length (a .memory .now)) accepted (count-at .result) (count-at .ensures) in
-    holder-below l (a .memory .now) (a .address) (no-holder2-at .result) accepted (count-at .result) n (if1-at .taken) (no-holder2-at .ensures)
+    holder-below l (a .memory .now) (a .address) (no-holder2-at .result) accepted (count-at .result) n (if1-at .taken)
+    (no-holder2-at .ensures)
 
 no-holder-requires-3 : tie.Need-no-holder-requires-3
 no-holder-requires-3 c κs = search needs
@@ -54,7 +55,8 @@ returns-2 c =
     let l = a .ledger in
     let accepted = sym (enum-told-at .given .1) ∙ judge-at .ensures in
     let n = counted-is (l .first) (l .size) (length (a .memory .now)) accepted (count-at .result) (count-at .ensures) in
-    holder-above l (a .memory .now) (a .address) (no-holder3-at .result) accepted (count-at .result) n (if1-at .left) (if2-at .taken) (no-holder3-at .ensures)
+    holder-above l (a .memory .now) (a .address) (no-holder3-at .result) accepted (count-at .result) n (if1-at .left) (if2-at .taken)
+    (no-holder3-at .ensures)
 
 holder-in-requires : tie.Need-holder-in-requires
 holder-in-requires c κs =
@@ -76,7 +78,8 @@ returns-3 c =
     let no-holder-at = c .no-holder in
     let refusal-at = c .before .before .refusal in
     let judge-at = c .before .before .before .before .judge in
-    holder-refused (a .ledger) (a .memory .now) (a .address) (no-holder-at .result) (refusal-at .given .0 .0) (sym (refusal-at .given .1) ∙ judge-at .ensures) (no-holder-at .ensures)
+    holder-refused (a .ledger) (a .memory .now) (a .address) (no-holder-at .result) (refusal-at .given .0 .0) (sym
+    (refusal-at .given .1) ∙ judge-at .ensures) (no-holder-at .ensures)
 
 returns-4 : tie.Need-returns-4
 returns-4 c =
@@ -90,7 +93,8 @@ returns-4 c =
     let l = a .ledger in
     let accepted = sym (enum-told-at .given .1) ∙ judge-at .ensures in
     let n = counted-is (l .first) (l .size) (length (a .memory .now)) accepted (count-at .result) (count-at .ensures) in
-    holder-inside l (a .memory .now) (a .address) (holder-in-at .result) accepted (count-at .result) n (if1-at .left) (if2-at .left) (holder-in-at .ensures)
+    holder-inside l (a .memory .now) (a .address) (holder-in-at .result) accepted (count-at .result) n (if1-at .left) (if2-at .left)
+    (holder-in-at .ensures)
 
 pub holder-of-spec : {M : Type 1} → statement M
 holder-of-spec =

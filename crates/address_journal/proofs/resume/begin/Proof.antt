@@ -32,7 +32,8 @@ returns c =
     let open-at = c .before .before .before .before .«open» in
     let stopped-at = c .stopped in
     let enum-told-at = c .before .enum-told in
-    begun-taken (a .first) (a .size) (a .memory .now) (header-check-at .result) (header-check-at .ensures) (open-at .result) (open-at .ensures) (stopped-at .result) (enum-told-at .given .1) (stopped-at .ensures)
+    begun-taken (a .first) (a .size) (a .memory .now) (header-check-at .result) (header-check-at .ensures) (open-at .result)
+    (open-at .ensures) (stopped-at .result) (enum-told-at .given .1) (stopped-at .ensures)
 
 returns-2 : tie.Need-returns-2
 returns-2 c =
@@ -42,7 +43,9 @@ returns-2 c =
     let stopped2-at = c .stopped2 in
     let verdict-at = c .before .before .before .verdict in
     let empty-at = c .before .empty in
-    begun-refused (a .first) (a .size) (a .memory .now) (header-check-at .result) (header-check-at .ensures) (open-at .result) (open-at .ensures) (stopped2-at .result) (verdict-at .given .0 .0) (verdict-at .given .1) (empty-at .result) (empty-at .ensures) (stopped2-at .ensures)
+    begun-refused (a .first) (a .size) (a .memory .now) (header-check-at .result) (header-check-at .ensures) (open-at .result)
+    (open-at .ensures) (stopped2-at .result) (verdict-at .given .0 .0) (verdict-at .given .1) (empty-at .result) (empty-at .ensures)
+    (stopped2-at .ensures)
 
 pub begin-spec : {M : Type 1} → statement M
 begin-spec =

@@ -17,7 +17,8 @@ returns c =
     let grant-due-at = c .before .grant-due in
     let if1-at = c .before .before .before .if1 in
     let entry-of-at = c .entry-of in
-    here-grant (a .kind) (a .ledger) (a .memory .now) (a .t4) (a .check) _ (grant-due-at .result) (if1-at .taken) (entry-of-at .ensures) (grant-due-at .ensures)
+    here-grant (a .kind) (a .ledger) (a .memory .now) (a .t4) (a .check) _ (grant-due-at .result) (if1-at .taken) (entry-of-at .ensures)
+    (grant-due-at .ensures)
 
 back-due-requires : tie.Need-back-due-requires
 back-due-requires c κs = search needs
@@ -32,7 +33,8 @@ returns-2 c =
     let if1-at = c .before .before .before .before .if1 in
     let if2-at = c .before .before .before .if2 in
     let entry-of2-at = c .entry-of2 in
-    here-back (a .kind) (a .ledger) (a .memory .now) (a .t4) (a .check) _ (back-due-at .result) (if1-at .left) (if2-at .taken) (entry-of2-at .ensures) (back-due-at .ensures)
+    here-back (a .kind) (a .ledger) (a .memory .now) (a .t4) (a .check) _ (back-due-at .result) (if1-at .left) (if2-at .taken)
+    (entry-of2-at .ensures) (back-due-at .ensures)
 
 entry-of-requires-3 : tie.Need-entry-of-requires-3
 entry-of-requires-3 c κs = search needs

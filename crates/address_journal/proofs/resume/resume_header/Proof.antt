@@ -17,7 +17,8 @@ returns c =
     let stopped-at = c .stopped in
     let empty-at = c .before .empty in
     let if1-at = c .before .before .if1 in
-    header-short (a .memory .now) (a .header .now) (stopped-at .result) (empty-at .result) (empty-at .ensures) (if1-at .taken) (stopped-at .ensures)
+    header-short (a .memory .now) (a .header .now) (stopped-at .result) (empty-at .result) (empty-at .ensures) (if1-at .taken)
+    (stopped-at .ensures)
 
 slice-aggregate-same-bytes : tie.Need-slice-aggregate-same-bytes
 slice-aggregate-same-bytes c = search needs

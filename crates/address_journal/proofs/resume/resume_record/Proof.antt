@@ -61,7 +61,8 @@ returns-3 c =
     let entry-here-at = c .before .before .before .entry-here in
     let if3-at = c .before .if3 in
     record-undue (a .ledger) (a .memory .now) (a .check) (a .bytes .now) (stopped3-at .result) (if1-at .left)
-    (sym (if2-at .left) ∙ same-bytes-at .ensures) (board-in-at .result) (board-in-at .ensures) (entry-here-at .result) (entry-here-at .ensures)
+    (sym (if2-at .left) ∙ same-bytes-at .ensures) (board-in-at .result) (board-in-at .ensures) (entry-here-at .result)
+    (entry-here-at .ensures)
     (not-true _ (if3-at .taken)) (stopped3-at .ensures)
 
 slice-aggregate-same-bytes-2 : tie.Need-slice-aggregate-same-bytes-2
@@ -81,20 +82,27 @@ same-length-2 c = search needs
 
 returns-4 : tie.Need-returns-4
 returns-4 c =
-    let a = c .before .before .before .before .before .before .before .before .before .before .before .before .before .before .before .before .before .before .before .before .before .before .args in
+    let a = c .before .before .before .before .before .before .before .before .before .before .before .before .before .before .before
+    .before .before .before .before .before .before .before .args in
     let stopped4-at = c .stopped4 in
-    let if1-at = c .before .before .before .before .before .before .before .before .before .before .before .before .before .before .before .before .before .before .before .if1 in
-    let if2-at = c .before .before .before .before .before .before .before .before .before .before .before .before .before .before .before .before .if2 in
-    let same-bytes-at = c .before .before .before .before .before .before .before .before .before .before .before .before .before .before .before .before .before .same-bytes in
-    let board-in-at = c .before .before .before .before .before .before .before .before .before .before .before .before .before .before .board-in in
+    let if1-at = c .before .before .before .before .before .before .before .before .before .before .before .before .before .before
+    .before .before .before .before .before .if1 in
+    let if2-at = c .before .before .before .before .before .before .before .before .before .before .before .before .before .before
+    .before .before .if2 in
+    let same-bytes-at = c .before .before .before .before .before .before .before .before .before .before .before .before .before .before
+    .before .before .before .same-bytes in
+    let board-in-at = c .before .before .before .before .before .before .before .before .before .before .before .before .before .before
+    .board-in in
     let entry-here-at = c .before .before .before .before .before .before .before .before .before .before .before .before .entry-here in
     let if3-at = c .before .before .before .before .before .before .before .before .before .before .if3 in
     let if4-at = c .before .before .before .before .before .before .if4 in
     let same-bytes2-at = c .before .before .before .before .before .before .before .same-bytes2 in
     let call-here-at = c .before .before .before .before .call-here in
     record-taken (a .ledger) (a .memory .now) (a .check) (a .bytes .now) (stopped4-at .result) (if1-at .left)
-    (sym (if2-at .left) ∙ same-bytes-at .ensures) (board-in-at .result) (board-in-at .ensures) (entry-here-at .result) (entry-here-at .ensures)
-    (not-false _ (if3-at .left)) (sym (if4-at .taken) ∙ same-bytes2-at .ensures) (call-here-at .result .answer) (call-here-at .result .ledger) _
+    (sym (if2-at .left) ∙ same-bytes-at .ensures) (board-in-at .result) (board-in-at .ensures) (entry-here-at .result)
+    (entry-here-at .ensures)
+    (not-false _ (if3-at .left)) (sym (if4-at .taken) ∙ same-bytes2-at .ensures) (call-here-at .result .answer)
+    (call-here-at .result .ledger) _
     (call-here-at .ensures) (stopped4-at .ensures)
 
 stopped-requires-5 : tie.Need-stopped-requires-5
@@ -105,7 +113,8 @@ same-length-3 c = search needs
 
 returns-5 : tie.Need-returns-5
 returns-5 c =
-    let a = c .before .before .before .before .before .before .before .before .before .before .before .before .before .before .before .before .before .args in
+    let a = c .before .before .before .before .before .before .before .before .before .before .before .before .before .before .before
+    .before .before .args in
     let stopped5-at = c .stopped5 in
     let if1-at = c .before .before .before .before .before .before .before .before .before .before .before .before .before .before .if1 in
     let if2-at = c .before .before .before .before .before .before .before .before .before .before .before .if2 in
@@ -116,7 +125,8 @@ returns-5 c =
     let if4-at = c .before .if4 in
     let same-bytes2-at = c .before .before .same-bytes2 in
     record-other (a .ledger) (a .memory .now) (a .check) (a .bytes .now) (stopped5-at .result) (if1-at .left)
-    (sym (if2-at .left) ∙ same-bytes-at .ensures) (board-in-at .result) (board-in-at .ensures) (entry-here-at .result) (entry-here-at .ensures)
+    (sym (if2-at .left) ∙ same-bytes-at .ensures) (board-in-at .result) (board-in-at .ensures) (entry-here-at .result)
+    (entry-here-at .ensures)
     (not-false _ (if3-at .left)) (sym (if4-at .left) ∙ same-bytes2-at .ensures) (stopped5-at .ensures)
 
 pub resume-record-spec : {M : Type 1} → statement M
