@@ -2,14 +2,20 @@
 use crate::answer::put_address;
 use crate::answer::put_bytes;
 use crate::answer::put_free;
+use crate::answer::put_holder;
 use crate::answer::put_ledger;
+use crate::answer::put_list;
 use crate::answer::put_opened;
 use crate::commands::Board;
 use crate::commands::Bytes;
 use crate::commands::Command;
+use crate::journal::Journal;
 use crate::memory::Memory;
 use crate::memory::clear;
 use crate::memory::write_bytes;
+use address_journal::RecordedCall;
+use address_journal::held_address;
+use address_journal::holder_of;
 use address_ledger::CallResult;
 use address_ledger::Ledger;
 use refusal::Verdict;
@@ -22,6 +28,7 @@ pub struct LedgerState {
     pub ledger: Ledger,
     // how many bytes of the memory are lent
     pub lent: usize,
+    pub journal: Journal,
 }
 
 // The fixture after an order, and the output with its answer.
@@ -38,6 +45,16 @@ impl LedgerState {
         LedgerState {
             ledger,
             lent: 36864,
+            journal: Journal::none(),
+        }
+    }
+
+    // The fixture with a journal, and the ledger that was made again from it.
+    pub fn resumed(ledger: Ledger, journal: Journal) -> LedgerState {
+        LedgerState {
+            ledger,
+            lent: 36864,
+            journal,
         }
     }
 }
@@ -59,6 +76,10 @@ pub fn execute(
         };
     }
     let done = fixture.perform(order, board_of(board), memory, hex, out, buffer);
+    let journal = done.state.journal;
+    if journal.failed {
+        return done;
+    }
     done.state.left(done.out.byte(b'\n', buffer))
 }
 
@@ -76,8 +97,34 @@ fn board_of(bytes: &Board) -> [u8; 8] {
 }
 
 impl LedgerState {
-    // Any order but that of an empty line.
+    // Any order but that of an empty line. Bench commands change the memory beside the journal, so a session with one refuses them.
     fn perform(
+        self,
+        order: Command,
+        board: [u8; 8],
+        memory: &mut Memory,
+        hex: &Bytes,
+        out: Output,
+        buffer: &mut Buffer,
+    ) -> Done {
+        let journal = self.journal;
+        if !journal.used {
+            return self.carry_out(order, board, memory, hex, out, buffer);
+        }
+        match order {
+            Command::Open(first, size) => self.open_journal(first, size, memory, out, buffer),
+            Command::Grant => self.grant_recorded(board, memory, out, buffer),
+            Command::Back => self.give_back_recorded(board, memory, out, buffer),
+            Command::Lend(_) => self.left(out.text(b"error journal", buffer)),
+            Command::Write(_, _) => self.left(out.text(b"error journal", buffer)),
+            Command::Clear => self.left(out.text(b"error journal", buffer)),
+            Command::Count(_) => self.left(out.text(b"error journal", buffer)),
+            Command::Marks(_) => self.left(out.text(b"error journal", buffer)),
+            _ => self.carry_out(order, board, memory, hex, out, buffer),
+        }
+    }
+
+    fn carry_out(
         self,
         order: Command,
         board: [u8; 8],
@@ -104,6 +151,9 @@ impl LedgerState {
             Command::Count(count) => self.counted(count).left(out.text(b"set", buffer)),
             Command::Marks(marks) => self.marked(marks).left(out.text(b"set", buffer)),
             Command::Show => self.left(put_ledger(out, self.ledger, buffer)),
+            Command::List => self.left(put_list(out, self.ledger, memory, buffer)),
+            Command::Who => self.who(board, memory, out, buffer),
+            Command::Holds => self.holds(board, memory, out, buffer),
             Command::Wrong(fault) => self.left(put_line_error(out, fault, buffer)),
             Command::Nothing => self.left(out),
         }
@@ -116,9 +166,20 @@ impl LedgerState {
 
     // The fixture with another ledger.
     fn with(self, ledger: Ledger) -> LedgerState {
+        let journal = self.journal;
         LedgerState {
             ledger,
             lent: self.lent,
+            journal,
+        }
+    }
+
+    // The fixture with another ledger and the journal after it.
+    fn after(self, ledger: Ledger, journal: Journal) -> LedgerState {
+        LedgerState {
+            ledger,
+            lent: self.lent,
+            journal,
         }
     }
 
@@ -190,10 +251,119 @@ impl LedgerState {
 
     fn lend(self, count: usize, out: Output, buffer: &mut Buffer) -> Done {
         let ledger = self.ledger;
+        let journal = self.journal;
         let fixture = LedgerState {
             ledger,
             lent: count,
+            journal,
         };
         fixture.left(out.text(b"lent ", buffer).number(count as u64, buffer))
+    }
+
+    // The board that holds an address.
+    fn who(self, board: [u8; 8], memory: &[u8], out: Output, buffer: &mut Buffer) -> Done {
+        let address = number(board[0], board[1]);
+        self.left(put_holder(out, holder_of(self.ledger, memory, address), buffer))
+    }
+
+    // The address that the board holds.
+    fn holds(self, board: [u8; 8], memory: &[u8], out: Output, buffer: &mut Buffer) -> Done {
+        self.left(put_address(
+            out,
+            b"holds ",
+            held_address(self.ledger, memory, &board),
+            buffer,
+        ))
+    }
+}
+
+// The number in two bytes.
+fn number(high: u8, low: u8) -> usize {
+    (high as usize) * 256 + (low as usize)
+}
+
+// With a journal.
+impl LedgerState {
+    // The range of a new journal; of another one the range must be the same.
+    fn open_journal(
+        self,
+        first: usize,
+        size: usize,
+        memory: &[u8],
+        out: Output,
+        buffer: &mut Buffer,
+    ) -> Done {
+        let journal = self.journal;
+        if journal.whole == 0 {
+            return self.begin_journal(first, size, memory, out, buffer);
+        }
+        if self.ledger.first == first && self.ledger.size == size {
+            return self.left(put_opened(out, self.ledger.free(), buffer));
+        }
+        self.left(out.text(b"error range", buffer))
+    }
+
+    // A new journal: its header is in the file before the range is opened.
+    fn begin_journal(
+        self,
+        first: usize,
+        size: usize,
+        memory: &[u8],
+        out: Output,
+        buffer: &mut Buffer,
+    ) -> Done {
+        let opened = Ledger::open(first, size, memory);
+        let verdict = opened.verdict;
+        let ledger = opened.ledger;
+        match verdict {
+            Verdict::Refused(refusal) => self.left(put_refusal(out, refusal, buffer)),
+            Verdict::Accepted => {
+                let journal = self.journal;
+                let begun = journal.begun(ledger);
+                let fixture = self.after(ledger, begun);
+                if begun.failed {
+                    return fixture.left(out);
+                }
+                fixture.left(put_opened(out, ledger.free(), buffer))
+            }
+        }
+    }
+
+    fn grant_recorded(
+        self,
+        board: [u8; 8],
+        memory: &mut [u8],
+        out: Output,
+        buffer: &mut Buffer,
+    ) -> Done {
+        let journal = self.journal;
+        let call = address_journal::grant(self.ledger, memory, board, journal.check);
+        self.recorded(call, b"granted ", out, buffer)
+    }
+
+    fn give_back_recorded(
+        self,
+        board: [u8; 8],
+        memory: &mut [u8],
+        out: Output,
+        buffer: &mut Buffer,
+    ) -> Done {
+        let journal = self.journal;
+        let call = address_journal::give_back(self.ledger, memory, board, journal.check);
+        self.recorded(call, b"freed ", out, buffer)
+    }
+
+    // The record is in the file, and synced, before the answer is written.
+    fn recorded(self, call: RecordedCall, name: &[u8], out: Output, buffer: &mut Buffer) -> Done {
+        let mut journal = self.journal;
+        if call.due {
+            journal = journal.appended(&call.bytes, call.check);
+        }
+        let answer = call.answer;
+        let fixture = self.after(call.ledger, journal);
+        if journal.failed {
+            return fixture.left(out);
+        }
+        fixture.left(put_address(out, name, answer, buffer))
     }
 }

@@ -29,6 +29,12 @@ pub enum Command {
     // a bit for each group
     Marks(u64),
     Show,
+    // every address that is held
+    List,
+    // the board of the address in the buffer's first two bytes
+    Who,
+    // the address of the board, which is not granted one
+    Holds,
 }
 
 // What a line asks for; nothing, if it is empty or a comment.
@@ -51,6 +57,21 @@ pub fn command_of(line: Line) -> Command {
     }
     if command.is(b"show") {
         return bare_command(line, Command::Show);
+    }
+    question(line)
+}
+
+// The commands that ask who holds what.
+fn question(line: Line) -> Command {
+    let command = line.command;
+    if command.is(b"list") {
+        return bare_command(line, Command::List);
+    }
+    if command.is(b"who") {
+        return bytes_command(line, 2, Command::Who);
+    }
+    if command.is(b"holds") {
+        return board_command(line, Command::Holds);
     }
     number_command(line)
 }
@@ -89,10 +110,15 @@ fn bare_command(line: Line, order: Command) -> Command {
 
 // A command with a board of eight bytes after it.
 fn board_command(line: Line, order: Command) -> Command {
+    bytes_command(line, 8, order)
+}
+
+// A command with so many bytes after it.
+fn bytes_command(line: Line, count: usize, order: Command) -> Command {
     if line.words != 2 {
         return Command::Wrong(LineError::Command);
     }
-    if has_bytes(line.board, 8) {
+    if has_bytes(line.board, count) {
         return order;
     }
     Command::Wrong(LineError::Hex)
