@@ -6,7 +6,9 @@ use mathlib.Core.Bool.{true, false}
 use mathlib.Core.List.{List}
 use borrow.Author.Tests.{eq-eqb, ne-eqb}
 use lib.ListN.{length, replicate}
+use Rattle.refusal.specs.Refusal.{numberOf}
 use Rattle.refusal.specs.Verdict.{verdictNumber}
+use Rattle.refusal.specs.declared.Refusal.{Refusal}
 use Rattle.refusal.specs.declared.Verdict.{Verdict}
 use Rattle.refusal.specs.declared.Verdict.the-variants.{Accepted, Refused}
 use Rattle.image.specs.Effects.{onAccept}
@@ -18,6 +20,10 @@ use Rattle.node_laws.specs.Calls.{NodeCall, starting, polling, delivering, aski
 use Rattle.node_laws.specs.Calls.{receiving, reporting, emptyObject, perform, Demand1}
 use Rattle.node_calls.specs.Calls.{performedIn, Tells, Does, Starts, Gives, Changes}
 use Rattle.node_calls.specs.Results.{valueOf, structOf}
+
+-- the number of a refusal
+pub numbered : (v : Verdict) (k : Refusal) {r : ℕ} → v ≡ Refused k → r ≡ numberOf k → r ≡ verdictNumber v
+numbered v k e f = rw e f
 
 empty-value : (c : NodeCall) → valueOf (emptyObject c) ≡ 0
 empty-value (starting time timeout d) = refl

@@ -1,7 +1,7 @@
 -- What each node call answers is what `perform` says of it.
 use Prim.Native.Nat.{ℕ, zero, suc, _<_, _≤_}
 use mathlib.Core.Path.{_≡_, refl, ap, ap₂, sym, _∙_}
-use mathlib.Core.Bool.{true, false, _&&_, and-false}
+use mathlib.Core.Bool.{Bool, true, false, _&&_, and-false}
 use mathlib.Core.List.{List}
 use borrow.Author.Tests.{ne-eqb, le-leb, lt-leb}
 use lib.Dec.{leb}
@@ -9,6 +9,7 @@ use lib.ListN.{length, replicate}
 use Rattle.refusal.specs.Refusal.{numberOf}
 use Rattle.refusal.specs.Verdict.{verdictNumber}
 use Rattle.refusal.specs.declared.Refusal.{Refusal}
+use Rattle.refusal.specs.declared.Refusal.the-variants.{Range}
 use Rattle.refusal.specs.declared.Verdict.{Verdict}
 use Rattle.image.specs.Effects.{onAccept}
 use Rattle.image.specs.Lent.{hands-told}
@@ -17,37 +18,34 @@ use Rattle.cojp.specs.Octets.{copiedFrom}
 use Rattle.protocol_version.specs.declared.Version.{Version}
 use Rattle.protocol_version.specs.declared.Version.the-variants.{Draft, Published}
 use Rattle.node.specs.Delivery.{deliver}
-use Rattle.node.specs.Frames.{sending, send, sendCounter, afterSend, receive, verified}
+use Rattle.node.specs.Frames.{send, sendCounter, afterSend, verified}
 use Rattle.node.specs.Lease.{holds, holdingVerdict, holdingNumber}
 use Rattle.node.specs.Node.{made}
 use Rattle.node.specs.declared.node.MakeResult.{MakeResult}
 use Rattle.node.specs.Timing.{StartDid, poll}
 use Rattle.node.specs.declared.delivery.DeliveryResult.{DeliveryResult}
-use Rattle.node.specs.declared.frames.VerifyResult.{VerifyResult}
-use Rattle.node.specs.declared.frames.SendResult.{SendResult}
 use Rattle.node.specs.declared.lease.LeaseStatus.{LeaseStatus}
 use Rattle.node.specs.declared.lease.LeaseStatus.the-variants as holding
 use Rattle.node.specs.declared.node.Node.{Node}
-use Rattle.node.specs.declared.timing.PollResult.{PollResult}
 use Rattle.node.specs.declared.timing.StartResult.{StartResult}
 use Rattle.node_attempt.specs.Poll.{dueVerdict}
 use Rattle.node_attempt.specs.declared.poll.Due.{Due}
 use Rattle.node_attempt.specs.declared.poll.Due.the-variants as due
 use Rattle.node_attempt.specs.declared.delivery.Delivery.{Delivery}
-use Rattle.node_image.specs.Answers.{dispositionsImage, frameKeyImage}
+use Rattle.node_image.specs.Answers.{dispositionsImage}
 use Rattle.node_image.specs.Node.{nodeImage}
 use Rattle.node_image.specs.Version.{versionOf}
 use Rattle.node_key_sets.specs.Frames.{changeVerdict}
 use Rattle.node_key_sets.specs.declared.frames.Change.{Change}
 use Rattle.node_key_sets.specs.declared.frames.Change.the-variants as change
-use Rattle.node_key_sets.specs.declared.frames.KeyAnswer.{KeyAnswer}
 use Rattle.node_laws.specs.Calls as calls
 use Rattle.node_laws.specs.Calls.{perform, dueObject, holdingObject, changeObject, Demand1}
 use Rattle.node_parameters.specs.Octets.{absentOctets}
 use Rattle.node_parameters.specs.declared.octets.HeldOctets.{HeldOctets}
 use Rattle.node_calls.specs.Calls.{networkOf, madeOf, Makes, Tells, Does, Starts, Gives, Changes}
 use Rattle.node_calls.specs.Results.{dueCode, leaseStatusCode, changeCode, valueOf}
-use Rattle.node_calls.proofs.Answers.{tells, does, starts, gives, changes}
+use Rattle.node_calls.proofs.Answers.{tells-none, does-none, tells, does, starts, changes}
+use Rattle.capi_node.specs.Calls.{nodeIn, dueIn, holdsIn, changeIn, ReceivesIn, SendsIn}
 
 -- ---- codes
 due-value : (d : Due) → dueCode d ≡ valueOf (dueObject d)
@@ -134,37 +132,6 @@ module _ (s : List ℕ) (image : isImage nodeImage s ≡ true) where
         (ap (λ (y : StartResult). y .length) (did .says)))
         (did .holds)
 
-    pub polled : (time : ℕ) (x : PollResult) {v : Verdict} {r w : ℕ} {s′ : List ℕ} → x ≡ poll In time → v ≡ dueVerdict (x .due)
-        → w ≡ dueCode (x .due) → r ≡ verdictNumber v → s′ ≡ onAccept v s (nodeImage .put (x .node)) → Does (calls.polling time) s r s′ w
-    unfolding perform
-    polled time x says e g f h =
-        let told = e ∙ ap (λ (y : PollResult). dueVerdict (y .due)) says in
-        does (calls.polling time) s demand1 image
-        (f ∙ ap verdictNumber told)
-        (h ∙ ap (λ (y : Verdict). onAccept y s (nodeImage .put (x .node))) told
-        ∙ ap (λ (y : PollResult). onAccept (dueVerdict (poll In time .due)) s (nodeImage .put (y .node))) says)
-        (g ∙ ap (λ (y : PollResult). dueCode (y .due)) says ∙ due-value (poll In time .due))
-
-    pub reported : (type identifier : ℕ) (x : VerifyResult) {v : Verdict} {r w : ℕ} {s′ : List ℕ} → x ≡ verified In type identifier
-        → v ≡ changeVerdict (x .change) → w ≡ changeCode (x .change) → r ≡ verdictNumber v → s′ ≡ onAccept v s (nodeImage .put (x .node))
-        → Does (calls.reporting type identifier) s r s′ w
-    unfolding perform
-    reported type identifier x says e g f h =
-        let told = e ∙ ap (λ (y : VerifyResult). changeVerdict (y .change)) says in
-        does (calls.reporting type identifier) s demand1 image
-        (f ∙ ap verdictNumber told)
-        (h ∙ ap (λ (y : Verdict). onAccept y s (nodeImage .put (x .node))) told
-        ∙ ap (λ (y : VerifyResult). onAccept (changeVerdict (verified In type identifier .change)) s (nodeImage .put (y .node))) says)
-        (g ∙ ap (λ (y : VerifyResult). changeCode (y .change)) says ∙ change-value (verified In type identifier .change))
-
-    pub asked : (time : ℕ) (x : LeaseStatus) {r w : ℕ} → x ≡ holds In time → r ≡ holdingNumber x → w ≡ leaseStatusCode x
-        → Tells (calls.asking time) s r w
-    unfolding perform
-    asked time x says f g =
-        tells (calls.asking time) s demand1 image
-        (f ∙ ap holdingNumber says ∙ holding-number (holds In time))
-        (g ∙ ap leaseStatusCode says ∙ holding-value (holds In time))
-
   module _ (w : List ℕ) where
     pub delivered : (d : Delivery) (time : ℕ) (payload : List ℕ) (x : DeliveryResult) {r : ℕ} {s′ w′ : List ℕ} → length w ≡ 17
         → x ≡ deliver d In time payload → r ≡ verdictNumber (x .verdict) → s′ ≡ onAccept (x .verdict) s (nodeImage .put (x .node))
@@ -177,22 +144,81 @@ module _ (s : List ℕ) (image : isImage nodeImage s ≡ true) where
         (f ∙ ap (λ (y : DeliveryResult). onAccept (y .verdict) s (nodeImage .put (y .node))) says)
         (g ∙ ap (λ (y : DeliveryResult). onAccept (y .verdict) (replicate 17 0) (dispositionsImage .put (y .dispositions))) says)
 
-    pub sent : (type : ℕ) (x : SendResult) {r : ℕ} {s′ w′ : List ℕ} → length w ≡ 33 → x ≡ sending In type
-        → r ≡ verdictNumber (x .answer .verdict) → s′ ≡ onAccept (x .answer .verdict) s (nodeImage .put (x .node))
-        → w′ ≡ onAccept (x .answer .verdict) (replicate 33 0) (frameKeyImage .put (x .answer .key, x .counter))
-        → Changes 33 (calls.sending type) s w r s′ w′
-    unfolding perform send sendCounter afterSend
-    sent type x long says e f g =
-        changes 33 (calls.sending type) s w long image
-        (e ∙ ap (λ (y : SendResult). verdictNumber (y .answer .verdict)) says)
-        (f ∙ ap (λ (y : SendResult). onAccept (y .answer .verdict) s (nodeImage .put (y .node))) says)
-        (g ∙ ap (λ (y : SendResult). onAccept (y .answer .verdict) (replicate 33 0) (frameKeyImage .put (y .answer .key, y .counter))) says)
-
-    pub received : (type identifier : ℕ) (x : KeyAnswer) {r : ℕ} {w′ : List ℕ} → length w ≡ 33 → x ≡ receive In type identifier
-        → r ≡ verdictNumber (x .verdict) → w′ ≡ onAccept (x .verdict) (replicate 33 0) (frameKeyImage .put (x .key, 0))
-        → Gives 33 (calls.receiving type identifier) s w r w′
+-- ---- calls on the image: RANGE where there is none, else the node's own answer
+module _ (demand1 : Demand1) (s : List ℕ) where
+  module _ (time : ℕ) where
+    polled-by : (b : Bool) → isImage nodeImage s ≡ b → (x : Due) {v : Verdict} {r w : ℕ} {s′ : List ℕ} → x ≡ dueIn s time → v ≡ dueVerdict x
+        → w ≡ dueCode x → r ≡ verdictNumber v → s′ ≡ onAccept (dueVerdict x) s (nodeImage .put (poll (nodeIn s) time .node))
+        → Does (calls.polling time) s r s′ w
     unfolding perform
-    received type identifier x long says e f =
-        gives 33 (calls.receiving type identifier) s w long image
-        (e ∙ ap (λ (y : KeyAnswer). verdictNumber (y .verdict)) says)
-        (f ∙ ap (λ (y : KeyAnswer). onAccept (y .verdict) (replicate 33 0) (frameKeyImage .put (y .key, 0))) says)
+    polled-by true image x says e g f h =
+        let own : x ≡ poll (nodeIn s) time .due = says ∙ rw image in
+        does (calls.polling time) s demand1 image
+        (f ∙ ap verdictNumber (e ∙ ap dueVerdict own))
+        (h ∙ ap (λ (y : Due). onAccept (dueVerdict y) s (nodeImage .put (poll (nodeIn s) time .node))) own)
+        (g ∙ ap dueCode own ∙ due-value (poll (nodeIn s) time .due))
+    polled-by false image x says e g f h =
+        let none : x ≡ due.Refused Range = says ∙ rw image in
+        rw (
+          f ∙ ap verdictNumber (e ∙ ap dueVerdict none),
+          g ∙ ap dueCode none,
+          h ∙ ap (λ (y : Due). onAccept (dueVerdict y) s (nodeImage .put (poll (nodeIn s) time .node))) none,
+        )
+        (does-none (calls.polling time) s image)
+
+    pub polled : (x : Due) {v : Verdict} {r w : ℕ} {s′ : List ℕ} → x ≡ dueIn s time → v ≡ dueVerdict x → w ≡ dueCode x → r ≡ verdictNumber v
+        → s′ ≡ onAccept (dueVerdict x) s (nodeImage .put (poll (nodeIn s) time .node)) → Does (calls.polling time) s r s′ w
+    polled x = polled-by (isImage nodeImage s) refl x
+
+    asked-by : (b : Bool) → isImage nodeImage s ≡ b → (x : LeaseStatus) {r w : ℕ} → x ≡ holdsIn s time → r ≡ holdingNumber x
+        → w ≡ leaseStatusCode x → Tells (calls.asking time) s r w
+    unfolding perform
+    asked-by true image x says f g =
+        let own : x ≡ holds (nodeIn s) time = says ∙ rw image in
+        tells (calls.asking time) s demand1 image
+        (f ∙ ap holdingNumber own ∙ holding-number (holds (nodeIn s) time))
+        (g ∙ ap leaseStatusCode own ∙ holding-value (holds (nodeIn s) time))
+    asked-by false image x says f g =
+        let none : x ≡ holding.Refused Range = says ∙ rw image in
+        rw (f ∙ ap holdingNumber none, g ∙ ap leaseStatusCode none) (tells-none (calls.asking time) s image)
+
+    pub asked : (x : LeaseStatus) {r w : ℕ} → x ≡ holdsIn s time → r ≡ holdingNumber x → w ≡ leaseStatusCode x
+        → Tells (calls.asking time) s r w
+    asked x = asked-by (isImage nodeImage s) refl x
+
+  module _ (type identifier : ℕ) where
+    abbrev reportedNode : List ℕ
+    reportedNode = nodeImage .put (verified (nodeIn s) type identifier .node)
+
+    reported-by : (b : Bool) → isImage nodeImage s ≡ b → (x : Change) {v : Verdict} {r w : ℕ} {s′ : List ℕ} → x ≡ changeIn s type identifier
+        → v ≡ changeVerdict x → w ≡ changeCode x → r ≡ verdictNumber v → s′ ≡ onAccept (changeVerdict x) s reportedNode
+        → Does (calls.reporting type identifier) s r s′ w
+    unfolding perform
+    reported-by true image x says e g f h =
+        let own : x ≡ verified (nodeIn s) type identifier .change = says ∙ rw image in
+        does (calls.reporting type identifier) s demand1 image
+        (f ∙ ap verdictNumber (e ∙ ap changeVerdict own))
+        (h ∙ ap (λ (y : Change). onAccept (changeVerdict y) s reportedNode) own)
+        (g ∙ ap changeCode own ∙ change-value (verified (nodeIn s) type identifier .change))
+    reported-by false image x says e g f h =
+        let none : x ≡ change.Refused Range = says ∙ rw image in
+        rw (
+          f ∙ ap verdictNumber (e ∙ ap changeVerdict none),
+          g ∙ ap changeCode none,
+          h ∙ ap (λ (y : Change). onAccept (changeVerdict y) s reportedNode) none,
+        )
+        (does-none (calls.reporting type identifier) s image)
+
+    pub reported : (x : Change) {v : Verdict} {r w : ℕ} {s′ : List ℕ} → x ≡ changeIn s type identifier → v ≡ changeVerdict x
+        → w ≡ changeCode x
+        → r ≡ verdictNumber v → s′ ≡ onAccept (changeVerdict x) s reportedNode → Does (calls.reporting type identifier) s r s′ w
+    reported x = reported-by (isImage nodeImage s) refl x
+
+pub sent : (type : ℕ) (s w : List ℕ) {r : ℕ} {s′ w′ : List ℕ} → SendsIn type s w r s′ w′ → Changes 33 (calls.sending type) s w r s′ w′
+unfolding perform send sendCounter afterSend
+sent type s w x = record { gives = x .gives; node = x .node }
+
+pub received : (type identifier : ℕ) (s w : List ℕ) {r : ℕ} {w′ : List ℕ} → ReceivesIn type identifier s w r w′
+    → Gives 33 (calls.receiving type identifier) s w r w′
+unfolding perform
+received type identifier s w x = x

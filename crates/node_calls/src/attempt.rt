@@ -1,5 +1,7 @@
 // The join attempt.
 use crate::store::store_attempt;
+use crate::store::verdict_number;
+use capi_node::poll_in;
 use image::RANGE;
 use node_attempt::Due;
 use node_image::is_node;
@@ -43,14 +45,7 @@ pub fn node_poll(node: &mut [u8], time: u64, due: &mut u32) -> u32
     ensures { λ r. ⌜ Does (polling time) (now (node .entry)) r (now (node .exit)) (now (due .exit)) ⌝ }
 {
     node_laws::demand1();
-    node_image::partial_store_law();
-    if !is_node(node) {
-        *due = 0;
-        return RANGE;
-    }
-    let polled = node_in(node).poll(time);
-    let step = polled.due;
-    let after = polled.node;
+    let step = poll_in(node, time);
     *due = due_code(step);
-    store_attempt(step.verdict(), after, node)
+    verdict_number(step.verdict())
 }

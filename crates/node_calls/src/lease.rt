@@ -1,8 +1,6 @@
 // Whether the short address holds.
-use image::RANGE;
+use capi_node::address_holds_in;
 use node::LeaseStatus;
-use node_image::is_node;
-use node_image::node_in;
 ghost use mathlib.Core.Path.{_≡_};
 ghost use Rattle.node.specs.Lease.{holdingNumber};
 ghost use Rattle.node_laws.specs.Calls.{asking};
@@ -34,9 +32,5 @@ pub fn node_holds(node: &[u8], time: u64, holds: &mut u32) -> u32
     ensures { λ r. ⌜ Tells (asking time) (now (node .entry)) r (now (holds .exit)) ⌝ }
 {
     node_laws::demand1();
-    if !is_node(node) {
-        *holds = 0;
-        return RANGE;
-    }
-    store_lease_status(node_in(node).address_holds(time), holds)
+    store_lease_status(address_holds_in(node, time), holds)
 }

@@ -1,5 +1,6 @@
-// The calls of a node over images: each loads the node that stands in the lent bytes, calls it, and stores what that left. A call answers
-// 0, or the refusal's number.
+// The calls of a node over images. A poll, a question, a frame's key and a report work on the lent bytes (capi_node); a start and a
+// delivery
+// load the node, call it, and store what that left. A call answers 0, or the refusal's number.
 mod attempt;
 mod change;
 mod delivery;

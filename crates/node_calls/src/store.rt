@@ -1,11 +1,8 @@
 // What a call answers, and what it stores, by its verdict.
 use crate::change::put_node_attempt;
-use crate::change::put_node_counters;
 use image::clear;
-use link_key::Key;
 use node::Node;
 use node_image::put_dispositions;
-use node_image::put_frame_key;
 use node_image::put_node;
 use node_parameters::Dispositions;
 use refusal::Verdict;
@@ -15,9 +12,19 @@ ghost use lib.ListN.{length, replicate};
 ghost use Rattle.refusal.specs.Verdict.{verdictNumber};
 ghost use Rattle.image.specs.Effects.{onAccept};
 ghost use Rattle.image.specs.Part.{isImage};
-ghost use Rattle.node_image.specs.Answers.{dispositionsImage, frameKeyImage};
-ghost use Rattle.node_image.specs.Change.{Attempted, Recounted};
+ghost use Rattle.node_image.specs.Answers.{dispositionsImage};
+ghost use Rattle.node_image.specs.Change.{Attempted};
 ghost use Rattle.node_image.specs.Node.{nodeImage};
+
+// The number that a verdict is answered with.
+pub(crate) fn verdict_number(verdict: Verdict) -> u32
+    ensures { λ r. ⌜ r ≡ verdictNumber verdict ⌝ }
+{
+    match verdict {
+        Verdict::Accepted => 0,
+        Verdict::Refused(why) => why.number() as u32,
+    }
+}
 
 // A node as a result.
 pub(crate) fn store_result_node(verdict: Verdict, node: Node, out: &mut [u8]) -> u32
@@ -68,22 +75,6 @@ pub(crate) fn store_attempt(verdict: Verdict, node: Node, image: &mut [u8]) -> u
     }
 }
 
-// The node after a call that changes the counters of its active key set alone.
-pub(crate) fn store_counters(verdict: Verdict, node: Node, image: &mut [u8]) -> u32
-    requires { ⌜ isImage nodeImage (now image) ≡ true ⌝ }
-    requires { ⌜ Recounted (nodeImage .get (now image)) node ⌝ }
-    ensures number { λ r. ⌜ r ≡ verdictNumber verdict ⌝ }
-    ensures image { λ _. ⌜ now (image .exit) ≡ onAccept verdict (now (image .entry)) (nodeImage .put node) ⌝ }
-{
-    match verdict {
-        Verdict::Accepted => {
-            put_node_counters(image, node);
-            0
-        }
-        Verdict::Refused(why) => why.number() as u32,
-    }
-}
-
 // Reports as a result.
 pub(crate) fn store_dispositions(verdict: Verdict, reports: Dispositions, out: &mut [u8]) -> u32
     requires { ⌜ length (now out) ≡ 17 ⌝ }
@@ -93,24 +84,6 @@ pub(crate) fn store_dispositions(verdict: Verdict, reports: Dispositions, out: &
     match verdict {
         Verdict::Accepted => {
             put_dispositions(out, reports);
-            0
-        }
-        Verdict::Refused(why) => {
-            clear(out);
-            why.number() as u32
-        }
-    }
-}
-
-// A frame's key as a result.
-pub(crate) fn store_key(verdict: Verdict, key: Key, counter: u32, out: &mut [u8]) -> u32
-    requires { ⌜ length (now out) ≡ 33 ⌝ }
-    ensures number { λ r. ⌜ r ≡ verdictNumber verdict ⌝ }
-    ensures out { λ _. ⌜ now (out .exit) ≡ onAccept verdict (replicate 33 0) (frameKeyImage .put (key, counter)) ⌝ }
-{
-    match verdict {
-        Verdict::Accepted => {
-            put_frame_key(out, key, counter);
             0
         }
         Verdict::Refused(why) => {
