@@ -7,3 +7,4 @@ mod Rekeys
 mod Playing
 mod ByteLists
 mod Line
+mod Counters

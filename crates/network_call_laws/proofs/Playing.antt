@@ -25,10 +25,10 @@ use Rattle.network_call_laws.specs.Turn.{identifierIn, keyIn, Accepted, 
 use Rattle.network_call_laws.proofs.Networks.{did-length}
 
 -- ---- a call
-record Answered (D : NodeOutput → List ℕ → Type 0) : Type 0 where
-  told : NodeOutput
-  after : List ℕ
-  did : D told after
+pub record Answered (D : NodeOutput → List ℕ → Type 0) : Type 0 where
+  pub told : NodeOutput
+  pub after : List ℕ
+  pub did : D told after
 
 module _ (c : NodeCall) (s : List ℕ) where
   abbrev stored : Verdict → List ℕ
@@ -84,7 +84,7 @@ module _ (c : NodeCall) (s : List ℕ) where
       lent = refl;
     }
 
-call : (c : NodeCall) (s : List ℕ) → Answered (CallDid c s)
+pub call : (c : NodeCall) (s : List ℕ) → Answered (CallDid c s)
 call (starting time timeout d) s =
     let c = starting time timeout d in
     record {

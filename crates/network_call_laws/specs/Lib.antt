@@ -3,3 +3,4 @@ pub mod Network
 pub mod Rekey
 pub mod Playing
 pub mod Line
+pub mod Counters

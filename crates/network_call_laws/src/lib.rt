@@ -1,4 +1,5 @@
 // Laws of a network whose nodes stand in structs and are driven by calls from C.
+ghost use Rattle.network_call_laws.specs.Counters.{CountersRiseInC, CountersInCExample};
 ghost use Rattle.network_call_laws.specs.Line.{LineInC};
 ghost use Rattle.network_call_laws.specs.Network.{NetworkRuns};
 ghost use Rattle.network_call_laws.specs.Playing.{EventsPlay};
@@ -28,6 +29,28 @@ pub fn rekey_law()
     node_call_laws::calls_valid_law();
     pothatch_laws::node_runs_law();
     network::rekey_law();
+}
+
+// From a fresh node on, a board hands back no key with a counter twice while the key stays active, whatever calls come.
+pub fn counters_rise_law()
+    ensures { λ _. ⌜ CountersRiseInC ⌝ }
+{
+    refusal::number_range_law();
+    node_image::laws();
+    node_call_laws::calls_valid_law();
+    pothatch_laws::node_runs_law();
+    node_history_laws::counters::counters_rise_law();
+}
+
+// A border router's board that joins, sends, takes an update and sends again: counters 0 and 1.
+pub fn counters_example()
+    ensures { λ _. ⌜ CountersInCExample ⌝ }
+{
+    refusal::number_range_law();
+    node_image::laws();
+    node_call_laws::calls_valid_law();
+    pothatch_laws::node_runs_law();
+    node_history_laws::counters::counters_example();
 }
 
 // The laws are not empty: a program can play every list of events, whatever stands in the structs.
