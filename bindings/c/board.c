@@ -1,10 +1,10 @@
 /* A board's join and rekey with the library: it makes its node, asks to join, polls until it must send again, gets the answer, checks its
  * address, gets new keys and switches to them at the first verified frame. Each step writes what it was answered, as the desk tool
  * `simulate` does: board.txt is the same story for it. */
-#include "pothatch.h"
+#include "pothatch_inline.h"
 #include <stdio.h>
 
-static struct pothatch_node node;
+static struct pothatch_node node = POTHATCH_NODE_INIT;
 
 static void bytes(const uint8_t *p, size_t n) {
     printf("h'");
@@ -16,15 +16,14 @@ static void bytes(const uint8_t *p, size_t n) {
 static int refused(uint32_t number) {
     uint8_t name[9] = {0};
     if (number == POTHATCH_OK) return 0;
-    pothatch_refusal_name(number, name, 8);
-    printf("refused %u %s\n", (unsigned)number, (const char *)name);
+    if (ph_refusal_name(number, name) == POTHATCH_OK) printf("refused %u %s\n", (unsigned)number, (const char *)name);
     return 1;
 }
 
 static void start(uint64_t time, uint64_t timeout) {
-    uint8_t request[38];
+    uint8_t request[POTHATCH_REQUEST_MOST];
     uint64_t length;
-    if (refused(pothatch_node_start(POTHATCH_LEND(&node), time, timeout, request, sizeof request, &length))) return;
+    if (refused(ph_node_start(&node, time, timeout, request, sizeof request, &length))) return;
     printf("sent ");
     bytes(request, length);
     printf("\n");
@@ -33,28 +32,28 @@ static void start(uint64_t time, uint64_t timeout) {
 static void poll(uint64_t time) {
     static const char *const words[] = {"", "not yet", "send again", "gave up"};
     uint32_t due;
-    if (!refused(pothatch_node_poll(POTHATCH_LEND(&node), time, &due))) printf("%s\n", words[due]);
+    if (!refused(ph_node_poll(&node, time, &due))) printf("%s\n", words[due]);
 }
 
 /* An answer to the join request, or an update. */
 static void deliver(int joining, uint64_t time, const uint8_t *payload, uint64_t payload_len) {
     static const char *const words[] = {"absent", "taken", "discarded"};
     struct pothatch_reports r;
-    if (refused(joining ? pothatch_node_answer(POTHATCH_LEND(&node), time, payload, payload_len, POTHATCH_LEND(&r))
-                        : pothatch_node_update(POTHATCH_LEND(&node), time, payload, payload_len, POTHATCH_LEND(&r)))) return;
+    if (refused(joining ? ph_node_answer(&node, time, payload, payload_len, &r) : ph_node_update(&node, time, payload, payload_len, &r)))
+        return;
     printf("accepted keys=%s address=%s jrc=%s network=%s prefix=%s passed=%u\n", words[r.keys], words[r.address], words[r.jrc],
            words[r.network], words[r.prefix], (unsigned)pothatch_u64(r.passed));
 }
 
 static void holds(uint64_t time) {
     uint32_t holds;
-    if (!refused(pothatch_node_holds(POTHATCH_LEND_IN(&node), time, &holds))) printf("%s\n", holds == POTHATCH_HOLDS ? "yes" : "no");
+    if (!refused(ph_node_holds(&node, time, &holds))) printf("%s\n", holds == POTHATCH_HOLDS ? "yes" : "no");
 }
 
 /* The key that the next data frame is sent with. */
 static void send(void) {
     struct pothatch_frame_key k;
-    if (refused(pothatch_node_send(POTHATCH_LEND(&node), POTHATCH_DATA, POTHATCH_LEND(&k)))) return;
+    if (refused(ph_node_send(&node, POTHATCH_DATA, &k))) return;
     printf("key %u/%u/", k.key.identifier, k.key.usage);
     bytes(k.key.value, sizeof k.key.value);
     printf(" counter=%u\n", (unsigned)pothatch_u32(k.counter));
@@ -63,7 +62,7 @@ static void send(void) {
 /* The radio verified a data frame under the key with this identifier. */
 static void verified(uint8_t identifier) {
     uint32_t change;
-    if (!refused(pothatch_node_verified(POTHATCH_LEND(&node), POTHATCH_DATA, identifier, &change)))
+    if (!refused(ph_node_verified(&node, POTHATCH_DATA, identifier, &change)))
         printf("%s\n", change == POTHATCH_SWITCHED ? "switched" : "kept");
 }
 
@@ -75,7 +74,7 @@ int main(void) {
     /* key 2 */
     static const uint8_t update[] = {0xa1, 0x02, 0x82, 0x02, 0x50, 0x00, 0x01, 0x02, 0x03, 0x04, 0x05, 0x06, 0x07, 0x08, 0x09, 0x0a, 0x0b,
                                      0x0c, 0x0d, 0x0e, 0x0f};
-    if (refused(pothatch_node_make(POTHATCH_DRAFT, POTHATCH_NODE, 1, network, sizeof network, POTHATCH_LEND(&node)))) return 1;
+    if (refused(ph_node_make(POTHATCH_DRAFT, POTHATCH_NODE, 1, network, sizeof network, &node))) return 1;
     printf("made\n");
     poll(0); /* nothing was sent yet: PHASE */
     start(0, 10000);

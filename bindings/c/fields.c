@@ -271,11 +271,60 @@ static void others(void) {
     ALONE(e, s, ended, 0, 1);
 }
 
+/* Ledger, proxy and pledge. */
+static void states(void) {
+    static uint8_t memory[300 * POTHATCH_PLACE];
+    struct pothatch_ledger l;
+    const uint8_t board[8] = {1}, id[8] = {0xA1, 0xA2, 0xA3, 0xA4, 0xA5, 0xA6, 0xA7, 0xA8}, token[3] = {0xC1, 0xC2, 0xC3};
+    uint8_t key[16], body[POTHATCH_BODY];
+    uint16_t address;
+    check("open", pothatch_ledger_open(0x0321, 0x0105, memory, sizeof memory, POTHATCH_LEND(&l)) == 0);
+    check("grant", pothatch_ledger_grant(POTHATCH_LEND(&l), memory, sizeof memory, board, 8, &address) == 0 && address == 0x0321);
+    AT(l, first, "0321");
+    AT(l, size, "0105");
+    AT(l, left, "0104");
+    AT(l, marks, "000000000000001F");
+    struct pothatch_proxy p;
+    struct pothatch_pledge g;
+    unhex("101112131415161718191A1B1C1D1E1F", key);
+    check("make", pothatch_proxy_make(key, 16, POTHATCH_LEND(&p)) == 0);
+    for (int i = 0; i < 3; i++) check("issue", pothatch_proxy_issue(POTHATCH_LEND(&p), id, 8, 0xB1B2, token, 3, body, sizeof body) == 0);
+    AT(p, key, "101112131415161718191A1B1C1D1E1F");
+    AT(p, issued, "0000000000000003");
+    check("judge", pothatch_proxy_judge(POTHATCH_LEND_IN(&p), body, sizeof body, POTHATCH_LEND(&g)) == 0);
+    AT(g, interface_id, "A1A2A3A4A5A6A7A8");
+    AT(g, port, "B1B2");
+    AT(g, token_len, "03");
+    AT(g, token, "C1C2C30000000000");
+    check("heads", l.kind == 'L' && l.layout == 1 && p.kind == 'P' && p.layout == 1 && g.kind == 'G' && g.layout == 1);
+}
+
+/* The first two members of the other structs. */
+static void heads(void) {
+    struct pothatch_request q = request(0, "A1 01 01");
+    struct pothatch_configuration c = configuration(0, "A0");
+    struct pothatch_node n = node(0, 1, "A1");
+    struct pothatch_serial s;
+    start(&n, 0, 10000);
+    struct pothatch_reports r = deliver(&n, 1, 0, "A1 02 82 01 50 00000000000000000000000000000000");
+    struct pothatch_frame_key k;
+    struct pothatch_replayed t;
+    struct pothatch_node none;
+    check("send", pothatch_node_send(POTHATCH_LEND(&n), POTHATCH_DATA, POTHATCH_LEND(&k)) == 0);
+    check("reset", pothatch_serial_reset(POTHATCH_LEND(&s)) == 0);
+    check("replay", pothatch_replay(NULL, 0, POTHATCH_LEND(&none), POTHATCH_LEND(&t)) == 0);
+    check("objects", q.kind == 'Q' && q.layout == 1 && c.kind == 'C' && c.layout == 1 && r.kind == 'R' && r.layout == 1);
+    check("states", n.kind == 'N' && n.layout == 1 && s.kind == 'S' && s.layout == 1);
+    check("results", k.kind == 'K' && k.layout == 1 && t.kind == 'T' && t.layout == 1);
+}
+
 int main(void) {
     requests();
     configurations();
     nodes();
     reports();
     others();
+    states();
+    heads();
     return summary();
 }

@@ -35,29 +35,28 @@ static int as_it_must(const struct slice *s) {
 
 #define R(i) slices[i].at, slices[i].len
 #define W(i) slices[reads + (i)].at, slices[reads + (i)].len
-#define BYTE(i) ((uint8_t)numbers[i])
 
 /* The functions in the order of rust/lend.rs. */
 static uint32_t call(int function, int reads, uint64_t *length, uint32_t *word) {
     switch (function) {
-    case 0: return pothatch_request_read(BYTE(0), BYTE(1), R(0), W(0));
-    case 1: return pothatch_configuration_read(BYTE(0), BYTE(1), R(0), W(0));
-    case 2: return pothatch_request_write(BYTE(0), R(0), W(0), length);
-    case 3: return pothatch_configuration_write(BYTE(0), R(0), W(0), length);
+    case 0: return pothatch_request_read(numbers[0], numbers[1], R(0), W(0));
+    case 1: return pothatch_configuration_read(numbers[0], numbers[1], R(0), W(0));
+    case 2: return pothatch_request_write(numbers[0], R(0), W(0), length);
+    case 3: return pothatch_configuration_write(numbers[0], R(0), W(0), length);
     case 4: return pothatch_configuration_merge(R(0), R(1), W(0));
-    case 5: return pothatch_node_make(BYTE(0), BYTE(1), BYTE(2), R(0), W(0));
+    case 5: return pothatch_node_make(numbers[0], numbers[1], numbers[2], R(0), W(0));
     case 6: return pothatch_node_start(W(0), numbers[0], numbers[1], W(1), length);
     case 7: return pothatch_node_poll(W(0), numbers[0], word);
     case 8: return pothatch_node_answer(W(0), numbers[0], R(0), W(1));
     case 9: return pothatch_node_update(W(0), numbers[0], R(0), W(1));
     case 10: return pothatch_node_holds(R(0), numbers[0], word);
-    case 11: return pothatch_node_send(W(0), BYTE(0), W(1));
-    case 12: return pothatch_node_receive(R(0), BYTE(0), BYTE(1), W(0));
-    case 13: return pothatch_node_verified(W(0), BYTE(0), BYTE(1), word);
+    case 11: return pothatch_node_send(W(0), numbers[0], W(1));
+    case 12: return pothatch_node_receive(R(0), numbers[0], numbers[1], W(0));
+    case 13: return pothatch_node_verified(W(0), numbers[0], numbers[1], word);
     case 14: return pothatch_serial_reset(W(0));
     case 15: return pothatch_serial_part(W(0), W(1), R(0));
-    case 16: return pothatch_serial_end_request(W(0), R(0), BYTE(0), BYTE(1), W(1));
-    case 17: return pothatch_serial_end_configuration(W(0), R(0), BYTE(0), BYTE(1), W(1));
+    case 16: return pothatch_serial_end_request(W(0), R(0), numbers[0], numbers[1], W(1));
+    case 17: return pothatch_serial_end_configuration(W(0), R(0), numbers[0], numbers[1], W(1));
     case 18: return pothatch_replay(R(0), W(0), W(1));
     default: fprintf(stderr, "played: no function %d\n", function); exit(1);
     }

@@ -1,6 +1,7 @@
 /* What the C tests share: counted checks, slices that end before an unmapped page, bytes from hexadecimal digits. */
 #ifndef TEST_H
 #define TEST_H
+#define POTHATCH_MAY_IGNORE
 #include "pothatch.h"
 #include <stdio.h>
 #include <stdlib.h>

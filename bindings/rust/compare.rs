@@ -5,8 +5,6 @@
 mod lend;
 #[allow(dead_code)]
 mod reference;
-#[allow(dead_code)]
-mod pothatch;
 mod random;
 use lend::{Call, Function::*};
 use random::Random;
@@ -48,8 +46,14 @@ impl Comparison {
         (plain, want)
     }
 
+    /// A number that may not fit a byte: often one whose last byte is a code.
+    fn wide(&mut self) -> u64 {
+        let high = self.random.pick(&[0, 1 << 8, 1 << 16, 1 << 32, 1 << 63, u64::MAX << 8]);
+        high | if self.random.one_of(2) { self.random.below(4) } else { self.random.below(256) }
+    }
+
     fn form(&mut self) -> u64 {
-        if self.random.one_of(80) { self.random.below(256) } else { self.random.below(2) }
+        if self.random.one_of(80) { self.wide() } else { self.random.below(2) }
     }
 
     /// Bytes to write over, of about the size that is wanted.
@@ -160,13 +164,16 @@ impl Comparison {
         let held: Vec<u8> = reference::image::node(image).map_or(vec![], |n| {
             n.active.set.held().iter().chain(n.pending.set.held()).map(|k| k.identifier).collect()
         });
-        if held.is_empty() || self.random.one_of(8) { self.random.below(30) } else { self.random.pick(&held) as u64 }
+        if !held.is_empty() && !self.random.one_of(8) {
+            return self.random.pick(&held) as u64;
+        }
+        if self.random.one_of(4) { self.wide() } else { self.random.below(30) }
     }
 
     /// One call on a node; the image afterwards.
     fn on_node(&mut self, node: &[u8], published: bool) -> Vec<u8> {
         let time = self.time(node);
-        let frame_type = if self.random.one_of(20) { self.random.below(256) } else { self.random.below(2) };
+        let frame_type = if self.random.one_of(20) { self.wide() } else { self.random.below(2) };
         // half of the calls are such as belong to the phase
         let which = match (reference::image::node(node).map_or(0, |n| n.attempt.phase), self.random.below(4)) {
             (0 | 3, 0 | 1) => 0,

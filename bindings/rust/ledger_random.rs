@@ -1,6 +1,4 @@
 //! Random runs of calls: the library's ledger against a small one that is written here and shares nothing with it. Prints `N passed, M failed`.
-#[allow(dead_code)]
-mod pothatch;
 use pothatch::{Ledger, Refusal};
 
 /// Which board holds which address, by place.
@@ -12,13 +10,13 @@ struct Plain {
 impl Plain {
     fn grant(&mut self, board: &[u8; 8]) -> Result<u16, Refusal> {
         let held = self.holders.iter().position(|h| *h == Some(*board));
-        let place = held.or_else(|| self.holders.iter().position(|h| h.is_none())).ok_or(Refusal(17))?;
+        let place = held.or_else(|| self.holders.iter().position(|h| h.is_none())).ok_or(Refusal::Full)?;
         self.holders[place] = Some(*board);
         Ok(self.first + place as u16)
     }
 
     fn give_back(&mut self, board: &[u8; 8]) -> Result<u16, Refusal> {
-        let place = self.holders.iter().position(|h| *h == Some(*board)).ok_or(Refusal(18))?;
+        let place = self.holders.iter().position(|h| *h == Some(*board)).ok_or(Refusal::Unknown)?;
         self.holders[place] = None;
         Ok(self.first + place as u16)
     }
@@ -43,11 +41,11 @@ fn run(seed: &mut u64) -> bool {
     let mut guarded = vec![0xA5u8; room + 32];
     guarded[16..16 + room].fill(0);
     let mut plain = Plain { first, holders: vec![None; size as usize] };
-    let Ok(mut ledger) = Ledger::open(first, size, &guarded[16..16 + room]) else { return false };
+    let Ok(mut ledger) = Ledger::open(u64::from(first), u64::from(size), &guarded[16..16 + room]) else { return false };
     for _ in 0..600 {
         let mut board = [0u8; 8];
         board[7] = (next(seed) % (size as u64 + 20)) as u8;
-        let before = (ledger, guarded.clone());
+        let before = (*ledger.image(), guarded.clone());
         let memory = &mut guarded[16..16 + room];
         let (got, want) = if next(seed) % 5 < 3 {
             (ledger.grant(memory, &board), plain.grant(&board))
@@ -57,7 +55,7 @@ fn run(seed: &mut u64) -> bool {
         if got != want || ledger.free() != Ok(plain.free()) {
             return false;
         }
-        if got.is_err() && (ledger != before.0 || guarded != before.1) {
+        if got.is_err() && (*ledger.image() != before.0 || guarded != before.1) {
             return false;
         }
         if guarded[..16].iter().chain(&guarded[16 + room..]).any(|b| *b != 0xA5) {
@@ -65,7 +63,7 @@ fn run(seed: &mut u64) -> bool {
         }
     }
     // the same memory, opened again, has the same count
-    Ledger::open(first, size, &guarded[16..16 + room]).map(|l| l.free()) == Ok(Ok(plain.free()))
+    Ledger::open(u64::from(first), u64::from(size), &guarded[16..16 + room]).map(|l| l.free()) == Ok(Ok(plain.free()))
 }
 
 fn main() {

@@ -1,7 +1,7 @@
 //! A call as data: its numbers and slices. It is made of the library and of the second implementation, and what the two leave is compared:
 //! the number, every byte of what is lent, and guard bytes around each slice.
 use crate::reference::calls;
-use crate::pothatch::sys::*;
+use pothatch::sys::*;
 
 #[derive(Debug, Clone, Copy, PartialEq)]
 pub enum Function {
@@ -84,7 +84,9 @@ impl Call {
     /// What the second implementation answers; what is lent is changed as it says.
     pub fn by_plain(&mut self) -> u32 {
         let (n, r, told) = (&self.numbers, &self.read, &mut self.told);
-        let byte = |i: usize| n[i] as u8;
+        // a code that no byte holds is undefined, as 255 is, and an identifier as 0 is
+        let byte = |i: usize| u8::try_from(n[i]).unwrap_or(255);
+        let identifier = |i: usize| u8::try_from(n[i]).unwrap_or(0);
         let mut w = self.written.iter_mut().map(|v| v.as_mut_slice());
         let mut next = || w.next().unwrap();
         match self.function {
@@ -100,8 +102,8 @@ impl Call {
             Update => calls::node_deliver(false, next(), n[0], &r[0], next()),
             Holds => calls::node_holds(&r[0], n[0], told),
             Send => calls::node_send(next(), byte(0), next()),
-            Receive => calls::node_receive(&r[0], byte(0), byte(1), next()),
-            Verified => calls::node_verified(next(), byte(0), byte(1), told),
+            Receive => calls::node_receive(&r[0], byte(0), identifier(1), next()),
+            Verified => calls::node_verified(next(), byte(0), identifier(1), told),
             Reset => calls::serial_reset(next()),
             Part => calls::serial_part(next(), next(), &r[0]),
             EndRequest => calls::serial_end_request(next(), &r[0], byte(0), byte(1), next()),
@@ -113,7 +115,6 @@ impl Call {
     /// What the library answers; none where a guard byte or a slice that is only read was changed.
     pub fn by_library(&mut self) -> Option<u32> {
         let n = &self.numbers;
-        let byte = |i: usize| n[i] as u8;
         let mut read: Vec<Lent> = self.read.iter().map(|b| Lent::new(b)).collect();
         let mut written: Vec<Lent> = self.written.iter().map(|b| Lent::new(b)).collect();
         let r: Vec<(*const u8, u64)> = read.iter_mut().map(|l| (l.ptr() as *const u8, l.len())).collect();
@@ -121,24 +122,24 @@ impl Call {
         let (mut long, mut word) = (self.told, self.told as u32);
         let number = unsafe {
             match self.function {
-                RequestRead => pothatch_request_read(byte(0), byte(1), r[0].0, r[0].1, w[0].0, w[0].1),
-                ConfigurationRead => pothatch_configuration_read(byte(0), byte(1), r[0].0, r[0].1, w[0].0, w[0].1),
-                RequestWrite => pothatch_request_write(byte(0), r[0].0, r[0].1, w[0].0, w[0].1, &mut long),
-                ConfigurationWrite => pothatch_configuration_write(byte(0), r[0].0, r[0].1, w[0].0, w[0].1, &mut long),
+                RequestRead => pothatch_request_read(n[0], n[1], r[0].0, r[0].1, w[0].0, w[0].1),
+                ConfigurationRead => pothatch_configuration_read(n[0], n[1], r[0].0, r[0].1, w[0].0, w[0].1),
+                RequestWrite => pothatch_request_write(n[0], r[0].0, r[0].1, w[0].0, w[0].1, &mut long),
+                ConfigurationWrite => pothatch_configuration_write(n[0], r[0].0, r[0].1, w[0].0, w[0].1, &mut long),
                 Merge => pothatch_configuration_merge(r[0].0, r[0].1, r[1].0, r[1].1, w[0].0, w[0].1),
-                Make => pothatch_node_make(byte(0), byte(1), byte(2), r[0].0, r[0].1, w[0].0, w[0].1),
+                Make => pothatch_node_make(n[0], n[1], n[2], r[0].0, r[0].1, w[0].0, w[0].1),
                 Start => pothatch_node_start(w[0].0, w[0].1, n[0], n[1], w[1].0, w[1].1, &mut long),
                 Poll => pothatch_node_poll(w[0].0, w[0].1, n[0], &mut word),
                 Answer => pothatch_node_answer(w[0].0, w[0].1, n[0], r[0].0, r[0].1, w[1].0, w[1].1),
                 Update => pothatch_node_update(w[0].0, w[0].1, n[0], r[0].0, r[0].1, w[1].0, w[1].1),
                 Holds => pothatch_node_holds(r[0].0, r[0].1, n[0], &mut word),
-                Send => pothatch_node_send(w[0].0, w[0].1, byte(0), w[1].0, w[1].1),
-                Receive => pothatch_node_receive(r[0].0, r[0].1, byte(0), byte(1), w[0].0, w[0].1),
-                Verified => pothatch_node_verified(w[0].0, w[0].1, byte(0), byte(1), &mut word),
+                Send => pothatch_node_send(w[0].0, w[0].1, n[0], w[1].0, w[1].1),
+                Receive => pothatch_node_receive(r[0].0, r[0].1, n[0], n[1], w[0].0, w[0].1),
+                Verified => pothatch_node_verified(w[0].0, w[0].1, n[0], n[1], &mut word),
                 Reset => pothatch_serial_reset(w[0].0, w[0].1),
                 Part => pothatch_serial_part(w[0].0, w[0].1, w[1].0, w[1].1, r[0].0, r[0].1),
-                EndRequest => pothatch_serial_end_request(w[0].0, w[0].1, r[0].0, r[0].1, byte(0), byte(1), w[1].0, w[1].1),
-                EndConfiguration => pothatch_serial_end_configuration(w[0].0, w[0].1, r[0].0, r[0].1, byte(0), byte(1), w[1].0, w[1].1),
+                EndRequest => pothatch_serial_end_request(w[0].0, w[0].1, r[0].0, r[0].1, n[0], n[1], w[1].0, w[1].1),
+                EndConfiguration => pothatch_serial_end_configuration(w[0].0, w[0].1, r[0].0, r[0].1, n[0], n[1], w[1].0, w[1].1),
                 Replay => pothatch_replay(r[0].0, r[0].1, w[0].0, w[0].1, w[1].0, w[1].1),
             }
         };

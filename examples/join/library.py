@@ -9,7 +9,7 @@ ROOT = os.path.dirname(os.path.dirname(os.path.dirname(os.path.abspath(__file__)
 sys.path.insert(0, os.environ.get("POTHATCH_BINDING", os.path.join(ROOT, "bindings", "python")))
 import pothatch  # noqa: E402
 
-_calls = pothatch.Library(os.environ.get("POTHATCH_LIBRARY", os.path.join(ROOT, "target", "join", "lib", "libpothatch.so.1")))
+_calls = pothatch.Library(os.environ.get("POTHATCH_LIBRARY", os.path.join(ROOT, "target", "join", "lib", "libpothatch.so")))
 _VERSION = {"draft": pothatch.DRAFT, "published": pothatch.PUBLISHED}
 _FRAME = {"beacon": pothatch.BEACON, "data": pothatch.DATA}
 _FIRST_TIMEOUT = 10000  # ms

@@ -11,7 +11,7 @@ ghost use Rattle.address_ledger_laws.specs.Demand1.{asking, returning};
 ghost use Rattle.ledger_calls.specs.Ledger.{Opens, LedgerDid, Counts};
 
 // Opens a ledger over memory that may hold earlier grants.
-pub fn ledger_open(first: u16, size: u16, memory: &[u8], ledger: &mut [u8]) -> u32
+pub fn ledger_open(first: u64, size: u64, memory: &[u8], ledger: &mut [u8]) -> u32
     ensures { λ r. ⌜ Opens first size (now (memory .entry)) (now (ledger .entry)) r (now (ledger .exit)) ⌝ }
 {
     if ledger.len() != 16 {

@@ -9,14 +9,14 @@ ghost use Rattle.payload_calls.specs.Asked.{isVersion, isReading, versio
 ghost use Rattle.payload_calls.specs.Read.{requestAsked, configurationAsked};
 
 // Whether there is such a form.
-pub(crate) fn is_version(form: u8) -> bool
+pub(crate) fn is_version(form: u64) -> bool
     ensures { λ r. ⌜ r ≡ isVersion form ⌝ }
 {
     form <= 1
 }
 
 // Whether there is such a form and such a reading.
-pub fn is_reading(form: u8, reading: u8) -> bool
+pub fn is_reading(form: u64, reading: u64) -> bool
     ensures { λ r. ⌜ r ≡ isReading form reading ⌝ }
 {
     if !is_version(form) {
@@ -26,7 +26,7 @@ pub fn is_reading(form: u8, reading: u8) -> bool
 }
 
 // 0 is document 01's form, 1 that of RFC 9031.
-pub fn version_of(form: u8) -> Version
+pub fn version_of(form: u64) -> Version
     ensures { λ r. ⌜ r ≡ versionOf form ⌝ }
 {
     if form == 0 {
@@ -36,7 +36,7 @@ pub fn version_of(form: u8) -> Version
 }
 
 // Reading 0 is the ordinary one, 1 the strict one.
-pub(crate) fn request_asked(form: u8, reading: u8, payload: &[u8]) -> RequestRead
+pub(crate) fn request_asked(form: u64, reading: u64, payload: &[u8]) -> RequestRead
     ensures { λ r. ⌜ r ≡ requestAsked form reading (now (payload .entry)) ⌝ }
 {
     let version = version_of(form);
@@ -46,7 +46,7 @@ pub(crate) fn request_asked(form: u8, reading: u8, payload: &[u8]) -> RequestRea
     read_request(payload, version, true)
 }
 
-pub(crate) fn configuration_asked(form: u8, reading: u8, payload: &[u8]) -> ConfigurationRead
+pub(crate) fn configuration_asked(form: u64, reading: u64, payload: &[u8]) -> ConfigurationRead
     ensures { λ r. ⌜ r ≡ configurationAsked form reading (now (payload .entry)) ⌝ }
 {
     let version = version_of(form);

@@ -9,7 +9,7 @@ use image::clear;
 ghost use Rattle.payload_calls.specs.Read.{ReadsRequest, ReadsConfiguration};
 
 // Reads a join request.
-pub fn request_read(form: u8, reading: u8, payload: &[u8], out: &mut [u8]) -> u32
+pub fn request_read(form: u64, reading: u64, payload: &[u8], out: &mut [u8]) -> u32
     ensures { λ r. ⌜ ReadsRequest form reading (now (payload .entry)) (now (out .entry)) r (now (out .exit)) ⌝ }
 {
     if out.len() != 296 {
@@ -26,7 +26,7 @@ pub fn request_read(form: u8, reading: u8, payload: &[u8], out: &mut [u8]) -> u3
 }
 
 // Reads a configuration.
-pub fn configuration_read(form: u8, reading: u8, payload: &[u8], out: &mut [u8]) -> u32
+pub fn configuration_read(form: u64, reading: u64, payload: &[u8], out: &mut [u8]) -> u32
     ensures { λ r. ⌜ ReadsConfiguration form reading (now (payload .entry)) (now (out .entry)) r (now (out .exit)) ⌝ }
 {
     if out.len() != 570 {

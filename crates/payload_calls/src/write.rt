@@ -12,7 +12,7 @@ use object_image::request_in;
 ghost use Rattle.payload_calls.specs.Write.{Writes, requestWriting, configurationWriting};
 
 // Writes the join request in an image.
-pub fn request_write(form: u8, object: &[u8], dst: &mut [u8], length: &mut u64) -> u32
+pub fn request_write(form: u64, object: &[u8], dst: &mut [u8], length: &mut u64) -> u32
     ensures { λ r. ⌜ Writes (requestWriting form (now (object .entry))) (now (dst .entry)) r (now (dst .exit)) (now (length .exit)) ⌝ }
 {
     if !is_version(form) {
@@ -28,7 +28,7 @@ pub fn request_write(form: u8, object: &[u8], dst: &mut [u8], length: &mut u64) 
 }
 
 // Writes the configuration in an image.
-pub fn configuration_write(form: u8, object: &[u8], dst: &mut [u8], length: &mut u64) -> u32
+pub fn configuration_write(form: u64, object: &[u8], dst: &mut [u8], length: &mut u64) -> u32
     ensures { λ r. ⌜ Writes (configurationWriting form (now (object .entry))) (now (dst .entry)) r (now (dst .exit))
         (now (length .exit)) ⌝ }
 {

@@ -1,3 +1,5 @@
 mod Sizes
 mod Names
 mod Empties
+mod Usages
+mod Wides

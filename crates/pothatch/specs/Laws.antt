@@ -30,10 +30,12 @@ use Rattle.serial_calls.specs.Laws.{SerialRefusals}
 use Rattle.state_image.specs.Ledger.{ledgerImage}
 use Rattle.state_image.specs.Proxy.{proxyImage, pledgeImage}
 use Rattle.pothatch.specs.Library.{sizeOf, sizeNumber, Names}
+use Rattle.pothatch.specs.Usage.{UsageSpec}
 
 pub record RefusalsKeep : Type 0 where
   pub size : (kind r v : ℕ) → r ≡ sizeNumber kind → v ≡ sizeOf kind → (r ≡ 0 → ⊥) → v ≡ 0
   pub name : (number : ℕ) (s : List ℕ) (r : ℕ) (s′ : List ℕ) → Names number s r s′ → (r ≡ 0 → ⊥) → s′ ≡ zeroed 8 s
+  pub usage : (usage r e m : ℕ) → UsageSpec usage r e m → (r ≡ 0 → ⊥) → (e ≡ 0) × (m ≡ 0)
   pub payload : PayloadRefusals
   pub node : NodeRefusals
   -- an overrun and the end of a payload stay marked in the image though the call is refused

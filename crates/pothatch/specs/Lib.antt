@@ -1,2 +1,4 @@
 pub mod Library
+pub mod Wide
+pub mod Usage
 pub mod Laws

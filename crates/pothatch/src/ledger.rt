@@ -5,8 +5,8 @@ ghost use Rattle.ledger_calls.specs.Ledger.{Opens, LedgerDid, Counts};
 // Opens a ledger over memory that may hold earlier grants.
 #[no_mangle]
 pub extern "C" fn pothatch_ledger_open(
-    first: u16,
-    size: u16,
+    first: u64,
+    size: u64,
     memory: &[u8],
     ledger: &mut [u8],
 ) -> u32

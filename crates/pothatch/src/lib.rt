@@ -10,6 +10,8 @@ mod payload;
 mod proxy;
 mod replay;
 mod serial;
+mod usage;
+mod wide;
 
 ghost use Rattle.pothatch.specs.Laws.{RefusalsKeep, EmptiedIsNone, EmptiedIsEmpty};
 

@@ -12,28 +12,28 @@ pub extern "C" fn pothatch_layout() -> u32
     1
 }
 
-// The size of the struct of a kind, 0 where there is none.
-fn size_of(kind: u8) -> u32
+// The size of the struct of a kind, a letter in ASCII; 0 where there is none.
+fn size_of(kind: u64) -> u32
     ensures { λ r. ⌜ r ≡ sizeOf kind ⌝ }
 {
     match kind {
-        b'Q' => 296,
-        b'C' => 570,
-        b'N' => 878,
-        b'R' => 17,
-        b'K' => 33,
-        b'L' => 16,
-        b'P' => 26,
-        b'G' => 21,
-        b'S' => 6,
-        b'T' => 251,
+        0x51 => 296,
+        0x43 => 570,
+        0x4e => 878,
+        0x52 => 17,
+        0x4b => 33,
+        0x4c => 16,
+        0x50 => 26,
+        0x47 => 21,
+        0x53 => 6,
+        0x54 => 251,
         _ => 0,
     }
 }
 
 // The size of a struct, by its kind.
 #[no_mangle]
-pub extern "C" fn pothatch_size(kind: u8, size: &mut u32) -> u32
+pub extern "C" fn pothatch_size(kind: u64, size: &mut u32) -> u32
     ensures number { λ r. ⌜ r ≡ sizeNumber kind ⌝ }
     ensures size { λ _. ⌜ now (size .exit) ≡ sizeOf kind ⌝ }
 {

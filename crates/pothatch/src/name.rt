@@ -10,7 +10,7 @@ ghost use Rattle.pothatch.specs.Library.{Names};
 
 // The refusal's name in ASCII, with zeros after it.
 #[no_mangle]
-pub extern "C" fn pothatch_refusal_name(number: u32, name: &mut [u8]) -> u32
+pub extern "C" fn pothatch_refusal_name(number: u64, name: &mut [u8]) -> u32
     ensures { λ r. ⌜ Names number (now (name .entry)) r (now (name .exit)) ⌝ }
 {
     refusal::number_range_law();
@@ -30,7 +30,7 @@ pub extern "C" fn pothatch_refusal_name(number: u32, name: &mut [u8]) -> u32
 }
 
 // The refusal that has a number.
-fn refusal_of(number: u32) -> Refusal
+fn refusal_of(number: u64) -> Refusal
     requires { ⌜ (1 ≤ number) × (number ≤ 22) ⌝ }
     ensures { λ r. ⌜ numberOf r ≡ number ⌝ }
 {
@@ -46,7 +46,7 @@ fn refusal_of(number: u32) -> Refusal
     up_to_22(number)
 }
 
-fn up_to_6(number: u32) -> Refusal
+fn up_to_6(number: u64) -> Refusal
     requires { ⌜ (1 ≤ number) × (number ≤ 6) ⌝ }
     ensures { λ r. ⌜ numberOf r ≡ number ⌝ }
 {
@@ -60,7 +60,7 @@ fn up_to_6(number: u32) -> Refusal
     }
 }
 
-fn up_to_12(number: u32) -> Refusal
+fn up_to_12(number: u64) -> Refusal
     requires { ⌜ (7 ≤ number) × (number ≤ 12) ⌝ }
     ensures { λ r. ⌜ numberOf r ≡ number ⌝ }
 {
@@ -74,7 +74,7 @@ fn up_to_12(number: u32) -> Refusal
     }
 }
 
-fn up_to_18(number: u32) -> Refusal
+fn up_to_18(number: u64) -> Refusal
     requires { ⌜ (13 ≤ number) × (number ≤ 18) ⌝ }
     ensures { λ r. ⌜ numberOf r ≡ number ⌝ }
 {
@@ -88,7 +88,7 @@ fn up_to_18(number: u32) -> Refusal
     }
 }
 
-fn up_to_22(number: u32) -> Refusal
+fn up_to_22(number: u64) -> Refusal
     requires { ⌜ (19 ≤ number) × (number ≤ 22) ⌝ }
     ensures { λ r. ⌜ numberOf r ≡ number ⌝ }
 {

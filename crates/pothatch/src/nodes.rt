@@ -1,20 +1,30 @@
-// Nodes.
+// Nodes. The codes come as wide numbers, so that C cuts none off; one that no byte holds is as undefined as the last byte.
+use crate::wide::code_of;
+use crate::wide::identifier_of;
 ghost use Rattle.node_calls.specs.Calls.{Makes, Starts, Does, Changes, Tells, Gives};
 ghost use Rattle.node_attempt.specs.declared.delivery.Delivery.the-variants.{JoinAnswer, Update};
 ghost use Rattle.node_laws.specs.Calls.{polling, delivering, asking, sending, receiving, reporting};
+ghost use Rattle.pothatch.specs.Wide.{codeOf, identifierOf};
 
 // Makes a node, idle.
 #[no_mangle]
 pub extern "C" fn pothatch_node_make(
-    form: u8,
-    role: u8,
-    has_network: u8,
+    form: u64,
+    role: u64,
+    has_network: u64,
     network: &[u8],
     node: &mut [u8],
 ) -> u32
-    ensures { λ r. ⌜ Makes form role «has_network» (now (network .entry)) (now (node .entry)) r (now (node .exit)) ⌝ }
+    ensures { λ r. ⌜ Makes (codeOf form) (codeOf role) (codeOf «has_network») (now (network .entry)) (now (node .entry)) r
+        (now (node .exit)) ⌝ }
 {
-    node_calls::node_make(form, role, has_network, network, node)
+    node_calls::node_make(
+        code_of(form),
+        code_of(role),
+        code_of(has_network),
+        network,
+        node,
+    )
 }
 
 // Starts a join attempt: the join request goes to `dst`.
@@ -78,34 +88,37 @@ pub extern "C" fn pothatch_node_holds(node: &[u8], time: u64, holds: &mut u32) -
 
 // The key to send a frame with, and its counter.
 #[no_mangle]
-pub extern "C" fn pothatch_node_send(node: &mut [u8], frame_type: u8, key: &mut [u8]) -> u32
-    ensures { λ r. ⌜ Changes 33 (sending «frame_type») (now (node .entry)) (now (key .entry)) r (now (node .exit)) (now (key .exit)) ⌝ }
+pub extern "C" fn pothatch_node_send(node: &mut [u8], frame_type: u64, key: &mut [u8]) -> u32
+    ensures { λ r. ⌜ Changes 33 (sending (codeOf «frame_type»)) (now (node .entry)) (now (key .entry)) r (now (node .exit))
+        (now (key .exit)) ⌝ }
 {
-    node_calls::node_send(node, frame_type, key)
+    node_calls::node_send(node, code_of(frame_type), key)
 }
 
 // The key to receive a frame with.
 #[no_mangle]
 pub extern "C" fn pothatch_node_receive(
     node: &[u8],
-    frame_type: u8,
-    identifier: u8,
+    frame_type: u64,
+    identifier: u64,
     key: &mut [u8],
 ) -> u32
-    ensures { λ r. ⌜ Gives 33 (receiving «frame_type» identifier) (now (node .entry)) (now (key .entry)) r (now (key .exit)) ⌝ }
+    ensures { λ r. ⌜ Gives 33 (receiving (codeOf «frame_type») (identifierOf identifier)) (now (node .entry)) (now (key .entry)) r
+        (now (key .exit)) ⌝ }
 {
-    node_calls::node_receive(node, frame_type, identifier, key)
+    node_calls::node_receive(node, code_of(frame_type), identifier_of(identifier), key)
 }
 
 // The radio verified such a frame.
 #[no_mangle]
 pub extern "C" fn pothatch_node_verified(
     node: &mut [u8],
-    frame_type: u8,
-    identifier: u8,
+    frame_type: u64,
+    identifier: u64,
     change: &mut u32,
 ) -> u32
-    ensures { λ r. ⌜ Does (reporting «frame_type» identifier) (now (node .entry)) r (now (node .exit)) (now (change .exit)) ⌝ }
+    ensures { λ r. ⌜ Does (reporting (codeOf «frame_type») (identifierOf identifier)) (now (node .entry)) r (now (node .exit))
+        (now (change .exit)) ⌝ }
 {
-    node_calls::node_verified(node, frame_type, identifier, change)
+    node_calls::node_verified(node, code_of(frame_type), identifier_of(identifier), change)
 }

@@ -6,8 +6,8 @@ ghost use Rattle.payload_calls.specs.Write.{Writes, requestWriting, configurati
 // Reads a join request.
 #[no_mangle]
 pub extern "C" fn pothatch_request_read(
-    form: u8,
-    reading: u8,
+    form: u64,
+    reading: u64,
     payload: &[u8],
     out: &mut [u8],
 ) -> u32
@@ -19,8 +19,8 @@ pub extern "C" fn pothatch_request_read(
 // Reads a configuration.
 #[no_mangle]
 pub extern "C" fn pothatch_configuration_read(
-    form: u8,
-    reading: u8,
+    form: u64,
+    reading: u64,
     payload: &[u8],
     out: &mut [u8],
 ) -> u32
@@ -32,7 +32,7 @@ pub extern "C" fn pothatch_configuration_read(
 // Writes the join request in an image.
 #[no_mangle]
 pub extern "C" fn pothatch_request_write(
-    form: u8,
+    form: u64,
     object: &[u8],
     dst: &mut [u8],
     length: &mut u64,
@@ -45,7 +45,7 @@ pub extern "C" fn pothatch_request_write(
 // Writes the configuration in an image.
 #[no_mangle]
 pub extern "C" fn pothatch_configuration_write(
-    form: u8,
+    form: u64,
     object: &[u8],
     dst: &mut [u8],
     length: &mut u64,

@@ -22,7 +22,7 @@ pub extern "C" fn pothatch_proxy_set_key(proxy: &mut [u8], key: &[u8]) -> u32
 pub extern "C" fn pothatch_proxy_issue(
     proxy: &mut [u8],
     interface_id: &[u8],
-    port: u16,
+    port: u64,
     token: &[u8],
     dst: &mut [u8],
 ) -> u32

@@ -23,8 +23,8 @@ pub extern "C" fn pothatch_serial_part(serial: &mut [u8], store: &mut [u8], part
 pub extern "C" fn pothatch_serial_end_request(
     serial: &mut [u8],
     store: &[u8],
-    form: u8,
-    reading: u8,
+    form: u64,
+    reading: u64,
     out: &mut [u8],
 ) -> u32
     ensures { λ r. ⌜ EndsRequest (now (serial .entry)) (now (store .entry)) form reading (now (out .entry)) r (now (serial .exit))
@@ -38,8 +38,8 @@ pub extern "C" fn pothatch_serial_end_request(
 pub extern "C" fn pothatch_serial_end_configuration(
     serial: &mut [u8],
     store: &[u8],
-    form: u8,
-    reading: u8,
+    form: u64,
+    reading: u64,
     out: &mut [u8],
 ) -> u32
     ensures { λ r. ⌜ EndsConfiguration (now (serial .entry)) (now (store .entry)) form reading (now (out .entry)) r (now (serial .exit))

@@ -32,7 +32,7 @@ use Rattle.join_proxy.specs.declared.proxy.SetKeyResult.{SetKeyResult}
 use Rattle.join_proxy.specs.declared.proxy.Proxy.{Proxy}
 use Rattle.state_image.specs.Proxy as state
 use Rattle.state_image.specs.Proxy.{proxyImage, pledgeImage}
-use Rattle.proxy_calls.specs.Proxy.{keyVerdict, issueOf, Makes, JudgesIn}
+use Rattle.proxy_calls.specs.Proxy.{keyVerdict, issueFits, issueOf, Makes, JudgesIn}
 use Rattle.pothatch_laws.specs.Proxy.{OwnCall, setting, issuing, judging, Call, making, calling, ProxyOutput, proxyOutput}
 use Rattle.pothatch_laws.specs.Proxy.{ProxyMade, KeySet, BodyIssued, BodyJudged, OwnDid, Did, Held, no-proxy, proxy, isKey, fit}
 use Rattle.pothatch_laws.specs.Proxy.{callOf, structOf, lentAfter, ranged, tells, after, shown, callsOf, allOwn, ProxyRuns}
@@ -171,14 +171,14 @@ module _ (lawful : RoundTrips proxyImage) (h : History) (s : List ℕ) (f : prox
 
   module _ (interface : List ℕ) (port : ℕ) (token d : List ℕ) (t : ProxyOutput) (s′ : List ℕ)
       (w : BodyIssued interface port token d s t s′) where
-    issue-step : (b : Bool) → eqb (length interface) 8 ≡ b
+    issue-step : (b : Bool) → issueFits interface port ≡ b
         → Step tells after Stands (calling (issuing interface port token d)) (proxy h) t s′
     issue-step true g =
         let p = h .proxy in
         let q = issuePlan p interface port token (length d) in
         let so : issueOf s interface port token (length d) ≡ q =
         ap (λ (b : Bool). rangeFirst b (issuePlan (proxyImage .get s) interface port token (length d)))
-        (both (eqb (length interface) 8) (isImage proxyImage s) g is)
+        (both (issueFits interface port) (isImage proxyImage s) g is)
         ∙ ap (λ (r : Proxy). issuePlan r interface port token (length d)) got in
         step-fit (issuing interface port token d) h g (issue-told w so)
         (stored (issue-fits p q f)
@@ -201,7 +201,7 @@ module _ (lawful : RoundTrips proxyImage) (h : History) (s : List ℕ) (f : prox
 
   own-step : (c : OwnCall) (t : ProxyOutput) (s′ : List ℕ) → OwnDid c s t s′ → Step tells after Stands (calling c) (proxy h) t s′
   own-step (setting key) t s′ d = set-step key t s′ d (isKey key) refl
-  own-step (issuing interface port token d) t s′ w = issue-step interface port token d t s′ w (eqb (length interface) 8) refl
+  own-step (issuing interface port token d) t s′ w = issue-step interface port token d t s′ w (issueFits interface port) refl
   own-step (judging body) t s′ d = judge-step body t s′ d
 
 -- ---- a call that finds none
@@ -220,7 +220,7 @@ module _ (s : List ℕ) (e : s ≡ replicate 26 0) where
   none-step (issuing interface port token d) t s′ w =
       let so : issueOf s interface port token (length d) ≡ refuse Range =
       ap (λ (b : Bool). rangeFirst b (issuePlan (proxyImage .get s) interface port token (length d)))
-      (neither (eqb (length interface) 8)) in
+      (neither (issueFits interface port)) in
       record { same = issue-told w so; stands = zeros (issue-kept w so ∙ e) }
   none-step (judging body) t s′ d =
       let hands = judge-hands (d .judges) in

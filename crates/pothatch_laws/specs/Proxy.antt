@@ -19,7 +19,7 @@ use Rattle.join_proxy.specs.History.{ProxyCall, History, called, answered}
 use Rattle.join_proxy.specs.Issuing.{issuePlan}
 use Rattle.join_proxy.specs.Judging.{judgeBody}
 use Rattle.state_image.specs.Proxy.{proxyImage, pledgeImage}
-use Rattle.proxy_calls.specs.Proxy.{Makes, SetsKey, IssuesIn, JudgesIn}
+use Rattle.proxy_calls.specs.Proxy.{Makes, SetsKey, issueFits, IssuesIn, JudgesIn}
 use Rattle.pothatch_laws.specs.Runs.{Runs, afterAll, As}
 
 -- the calls that a proxy is handed to
@@ -85,13 +85,13 @@ pub data Held : Type 0 where
   no-proxy : Held
   proxy : History → Held
 
--- a key has sixteen bytes, an interface identifier eight; a call with another length is RANGE
+-- a key has sixteen bytes, an interface identifier eight, a port two; a call with another length or a larger port is RANGE
 abbrev pub isKey : List ℕ → Bool
 isKey key = eqb (length key) 16
 
 abbrev pub fit : OwnCall → Bool
 fit (setting key) = isKey key
-fit (issuing interface port token d) = eqb (length interface) 8
+fit (issuing interface port token d) = issueFits interface port
 fit (judging body) = true
 
 abbrev pub callOf : OwnCall → ProxyCall

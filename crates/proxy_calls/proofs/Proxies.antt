@@ -1,11 +1,12 @@
 -- The join proxy's calls from C are those of the proxy in the image.
-use Prim.Native.Nat.{ℕ}
+use Prim.Native.Nat.{ℕ, _≤_}
 use mathlib.Core.Path.{_≡_, refl, sym, ap, _∙_}
 use mathlib.Core.Bool.{Bool, true, false, _&&_}
 use mathlib.Core.List.{List}
 use native.Mathlib.Omega.{arith}
-use borrow.Author.Tests.{eq-eqb, ne-eqb}
-use lib.Dec.{eqb}
+use borrow.Author.Tests.{eq-eqb, ne-eqb, eqb-true, leb-true}
+use Rattle.lemmas.specs.logic.Tests.{both-left, both-right}
+use lib.Dec.{eqb, leb}
 use lib.ListN.{length, replicate}
 use Rattle.refusal.specs.Refusal.{numberOf}
 use Rattle.refusal.specs.Verdict.{verdictNumber}
@@ -23,7 +24,7 @@ use Rattle.join_proxy.specs.declared.proxy.Proxy.{Proxy}
 use Rattle.state_image.specs.Proxy.{proxyImage, pledgeImage}
 use Rattle.cipher_calls.specs.Cipher.{planVerdict}
 use Rattle.image.specs.Effects.{onAccept}
-use Rattle.proxy_calls.specs.Proxy.{Makes, SetsKey, issueOf, IssuesIn, JudgesIn}
+use Rattle.proxy_calls.specs.Proxy.{Makes, SetsKey, issueFits, issueOf, IssuesIn, JudgesIn}
 
 -- ---- making
 module _ (key s : List ℕ) where
@@ -59,6 +60,30 @@ module _ (s key : List ℕ) where
   key-told k e f a b = record { number = rw (e, ← f) a; proxy = rw (e, ← f) b }
 
 -- ---- issuing
+-- the two lengths
+module _ (interface : List ℕ) (port : ℕ) where
+  pub not-eight : ¬ (length interface ≡ 8) → issueFits interface port ≡ false
+  not-eight h = rw (ne-eqb (length interface) 8 h)
+
+  pub eight-so : {r : Bool} → length interface ≡ 8 → r ≡ leb port 65535 → r ≡ issueFits interface port
+  eight-so h e = rw (eq-eqb (length interface) 8 h) e
+
+  pub eight : issueFits interface port ≡ true → length interface ≡ 8
+  eight e = eqb-true (length interface) 8 (both-left (eqb (length interface) 8) (leb port 65535) e)
+
+  -- and then the image
+  pub first-not : (b : Bool) → issueFits interface port ≡ false → (issueFits interface port && b) ≡ false
+  first-not b e = rw e
+
+  pub then-not : (b : Bool) → issueFits interface port ≡ true → b ≡ false → (issueFits interface port && b) ≡ false
+  then-not b e f = rw (e, f)
+
+  pub then-so : (b : Bool) → issueFits interface port ≡ true → b ≡ true → (issueFits interface port && b) ≡ true
+  then-so b e f = rw (e, f)
+
+  pub two-bytes : issueFits interface port ≡ true → port ≤ 65535
+  two-bytes e = leb-true port 65535 (both-right (eqb (length interface) 8) (leb port 65535) e)
+
 -- by the proxy in the image, and the interface identifier as it was lent
 pub issue-as : {p q : Proxy} {x y : List ℕ} {port : ℕ} {token d d′ : List ℕ} {i : IssueResult} → p ≡ q → x ≡ y
     → Issues p x port token d i d′
@@ -67,7 +92,7 @@ issue-as e f did = rw (e, f) at did
 
 module _ (s interface : List ℕ) (port : ℕ) (token d : List ℕ) where
   abbrev Fits : Bool
-  Fits = (eqb (length interface) 8 && isImage proxyImage s)
+  Fits = (issueFits interface port && isImage proxyImage s)
 
   pub issue-unfit : Fits ≡ false → IssuesIn s interface port token d 13 s d
   issue-unfit e = record { number = rw e; proxy = rw e; dst = rw e }

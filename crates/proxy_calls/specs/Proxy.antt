@@ -1,9 +1,9 @@
 -- The calls of a join proxy from C: the proxy stands in its image.
 use Prim.Native.Nat.{ℕ}
-use mathlib.Core.Bool.{_&&_}
+use mathlib.Core.Bool.{Bool, _&&_}
 use mathlib.Core.List.{List}
 use mathlib.Core.Path.{_≡_}
-use lib.Dec.{eqb}
+use lib.Dec.{eqb, leb}
 use lib.ListN.{length}
 use Rattle.refusal.specs.Verdict.{verdictNumber}
 use Rattle.refusal.specs.declared.Verdict.{Verdict}
@@ -33,10 +33,13 @@ pub record SetsKey (s key : List ℕ) (r : ℕ) (s′ : List ℕ) : Type 0 where
   pub number : r ≡ verdictNumber (keyVerdict s key)
   pub proxy : s′ ≡ onAccept (keyVerdict s key) s (proxyImage .put (setKey (proxyImage .get s) key .proxy))
 
--- ---- issuing: an interface identifier has eight bytes
+-- ---- issuing: an interface identifier has eight bytes, and a port two
+abbrev pub issueFits : List ℕ → ℕ → Bool
+issueFits interface port = (eqb (length interface) 8 && leb port 65535)
+
 abbrev pub issueOf : List ℕ → List ℕ → ℕ → List ℕ → ℕ → Plan
 issueOf s interface port token room =
-    rangeFirst (eqb (length interface) 8 && isImage proxyImage s) (issuePlan (proxyImage .get s) interface port token room)
+    rangeFirst (issueFits interface port && isImage proxyImage s) (issuePlan (proxyImage .get s) interface port token room)
 
 pub record IssuesIn (s interface : List ℕ) (port : ℕ) (token d : List ℕ) (r : ℕ) (s′ d′ : List ℕ) : Type 0 where
   pub number : r ≡ numberIn (answer (issueOf s interface port token (length d)))

@@ -10,7 +10,8 @@ use join_proxy::Proxy;
 use state_image::is_proxy;
 use state_image::proxy_in;
 use state_image::put_proxy;
-ghost use Rattle.proxy_calls.specs.Proxy.{Makes, SetsKey, IssuesIn, JudgesIn};
+ghost use mathlib.Core.Path.{_≡_};
+ghost use Rattle.proxy_calls.specs.Proxy.{Makes, SetsKey, issueFits, IssuesIn, JudgesIn};
 
 // Makes a proxy with this key, nothing issued.
 pub fn proxy_make(key: &[u8], proxy: &mut [u8]) -> u32
@@ -43,24 +44,34 @@ pub fn proxy_set_key(proxy: &mut [u8], key: &[u8]) -> u32
     store_proxy(verdict, after, proxy)
 }
 
+// Whether the interface identifier has eight bytes, and the port two.
+fn issue_fits(interface: &[u8], port: u64) -> bool
+    ensures { λ r. ⌜ r ≡ issueFits (now (interface .entry)) port ⌝ }
+{
+    if interface.len() != 8 {
+        return false;
+    }
+    port <= 65535
+}
+
 // Issues the option body for a pledge's interface identifier, port and token.
 pub fn proxy_issue(
     proxy: &mut [u8],
     interface: &[u8],
-    port: u16,
+    port: u64,
     token: &[u8],
     dst: &mut [u8],
 ) -> u32
     ensures { λ r. ⌜ IssuesIn (now (proxy .entry)) (now (interface .entry)) port (now (token .entry)) (now (dst .entry)) r
         (now (proxy .exit)) (now (dst .exit)) ⌝ }
 {
-    if interface.len() != 8 {
+    if !issue_fits(interface, port) {
         return RANGE;
     }
     if !is_proxy(proxy) {
         return RANGE;
     }
-    let done = proxy_in(proxy).issue(array_8_at(interface, 0), port, token, dst);
+    let done = proxy_in(proxy).issue(array_8_at(interface, 0), port as u16, token, dst);
     let written = done.written;
     let after = done.proxy;
     match written {

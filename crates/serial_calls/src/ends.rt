@@ -19,7 +19,7 @@ ghost use Rattle.payload_calls.specs.Read.{requestAsked, configurationAsked};
 ghost use Rattle.serial_calls.specs.Ends.{mayEnd, EndsRequest, EndsConfiguration};
 
 // Whether there are an image, such a form and such a reading.
-fn may_end(serial: &[u8], form: u8, reading: u8) -> bool
+fn may_end(serial: &[u8], form: u64, reading: u64) -> bool
     ensures { λ r. ⌜ r ≡ mayEnd (now (serial .entry)) form reading ⌝ }
 {
     if !is_serial(serial) {
@@ -32,8 +32,8 @@ fn may_end(serial: &[u8], form: u8, reading: u8) -> bool
 pub fn serial_end_request(
     serial: &mut [u8],
     store: &[u8],
-    form: u8,
-    reading: u8,
+    form: u64,
+    reading: u64,
     out: &mut [u8],
 ) -> u32
     ensures { λ r. ⌜ EndsRequest (now (serial .entry)) (now (store .entry)) form reading (now (out .entry)) r (now (serial .exit))
@@ -55,7 +55,7 @@ pub fn serial_end_request(
     store_request(verdict, request, out)
 }
 
-fn request_end(arrival: SerialState, store: &[u8], form: u8, reading: u8) -> RequestEnd
+fn request_end(arrival: SerialState, store: &[u8], form: u64, reading: u64) -> RequestEnd
     ensures { λ r. ⌜ r ≡ requestEnd (requestAsked form reading) arrival (now (store .entry)) ⌝ }
 {
     let version = version_of(form);
@@ -69,8 +69,8 @@ fn request_end(arrival: SerialState, store: &[u8], form: u8, reading: u8) -> Req
 pub fn serial_end_configuration(
     serial: &mut [u8],
     store: &[u8],
-    form: u8,
-    reading: u8,
+    form: u64,
+    reading: u64,
     out: &mut [u8],
 ) -> u32
     ensures { λ r. ⌜ EndsConfiguration (now (serial .entry)) (now (store .entry)) form reading (now (out .entry)) r (now (serial .exit))
@@ -92,7 +92,12 @@ pub fn serial_end_configuration(
     store_configuration(verdict, configuration, out)
 }
 
-fn configuration_end(arrival: SerialState, store: &[u8], form: u8, reading: u8) -> ConfigurationEnd
+fn configuration_end(
+    arrival: SerialState,
+    store: &[u8],
+    form: u64,
+    reading: u64,
+) -> ConfigurationEnd
     ensures { λ r. ⌜ r ≡ configurationEnd (configurationAsked form reading) arrival (now (store .entry)) ⌝ }
 {
     let version = version_of(form);

@@ -1,7 +1,8 @@
--- The crates of calls promise it for theirs; the library's own two questions say it by their definitions.
+-- The crates of calls promise it for theirs; the library's own three questions say it by their definitions.
 use borrow.Author.Needs.{needs}
 use Rattle.pothatch.proofs.Sizes.{no-size}
 use Rattle.pothatch.proofs.Names.{no-name}
+use Rattle.pothatch.proofs.Usages.{no-usage}
 use Rattle.pothatch.proofs.refusals_keep_law.Statement.{statement}
 use Rattle.pothatch.proofs.refusals_keep_law.Tie as tie
 
@@ -37,6 +38,7 @@ returns c =
     record {
       size = no-size;
       name = no-name;
+      usage = no-usage;
       payload = at-payload .refusals-keep-law .ensures;
       node = at-node .refusals-keep-law2 .ensures;
       serial = at-serial .refusals-keep-law3 .ensures;

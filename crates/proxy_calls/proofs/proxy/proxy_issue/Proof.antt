@@ -1,20 +1,26 @@
--- The interface identifier's length and the image come first; then issuing is the proxy's own.
+-- The interface identifier's length, the port and the image come first; then issuing is the proxy's own.
 use native.Mathlib.Omega.{arith}
 use Rattle.lemmas.specs.logic.Tests.{denied, granted}
 use Rattle.image.specs.Part.{isImage}
 use Rattle.state_image.specs.Proxy.{proxyImage}
+use Rattle.proxy_calls.proofs.Proxies.{eight, first-not, then-not, then-so, two-bytes}
 use Rattle.proxy_calls.proofs.Proxies.{issue-unfit, issue-as, issue-done, issue-refused}
-use Rattle.image.specs.Lent.{whole, long, other-length, then-not, then-so}
+use Rattle.image.specs.Lent.{whole, long}
 use borrow.Author.Needs.{needs}
 use Rattle.proxy_calls.proofs.proxy.proxy_issue.Statement.{statement}
 use Rattle.proxy_calls.proofs.proxy.proxy_issue.Tie as tie
 
+issue-fits-requires : tie.Need-issue-fits-requires
+issue-fits-requires c κs = search needs
+
 returns : tie.Need-returns
 returns c =
-    let start = c .before .before .before .before .before in
+    let at-issue-fits = c .before in
+    let start = at-issue-fits .before .before .before .before .before in
     let a = start .args in
     issue-unfit (a .proxy .now) (a .interface .now) (a .port) (a .token .now) (a .dst .now)
-    (other-length (a .interface .now) 8 (isImage proxyImage (a .proxy .now)) (c .if1 .taken))
+    (first-not (a .interface .now) (a .port) (isImage proxyImage (a .proxy .now))
+    (denied (at-issue-fits .issue-fits .ensures) (c .if1 .taken)))
 
 is-proxy-requires : tie.Need-is-proxy-requires
 is-proxy-requires c κs = search needs
@@ -25,21 +31,32 @@ same-length c = search needs
 returns-2 : tie.Need-returns-2
 returns-2 c =
     let at-is-proxy = c .before in
-    let start = at-is-proxy .before .before .before .before .before .before .before in
+    let at-if1 = at-is-proxy .before .before in
+    let start = at-is-proxy .before .before .before .before .before .before .before .before in
     let a = start .args in
     issue-unfit (a .proxy .now) (a .interface .now) (a .port) (a .token .now) (a .dst .now)
-    (then-not (a .interface .now) 8 (isImage proxyImage (a .proxy .now)) (omega arith)
+    (then-not (a .interface .now) (a .port) (isImage proxyImage (a .proxy .now))
+    (granted (at-if1 .before .issue-fits .ensures) (at-if1 .if1 .left))
     (denied (at-is-proxy .is-proxy .ensures) (c .if2 .taken)))
 
 proxy-in-requires : tie.Need-proxy-in-requires
 proxy-in-requires c κs =
     let at-if2 = c .before in
     let at-is-proxy = at-if2 .before in
-    let start = at-is-proxy .before .before .before .before .before .before .before in
+    let start = at-is-proxy .before .before .before .before .before .before .before .before in
     long proxyImage (start .args .proxy .now) (granted (at-is-proxy .is-proxy .ensures) (at-if2 .if2 .left))
 
 array-8-at-requires : tie.Need-array-8-at-requires
-array-8-at-requires c κs = search needs
+array-8-at-requires c κs =
+    let at-if1 = c .before .before .before .before .before in
+    let a = at-if1 .before .before .before .before .before .before .args in
+    omega (arith, eight (a .interface .now) (a .port) (granted (at-if1 .before .issue-fits .ensures) (at-if1 .if1 .left)))
+
+cast-issue : tie.Need-cast-issue
+cast-issue c =
+    let at-if1 = c .before .before .before .before .before .before in
+    let a = at-if1 .before .before .before .before .before .before .args in
+    omega (arith, two-bytes (a .interface .now) (a .port) (granted (at-if1 .before .issue-fits .ensures) (at-if1 .if1 .left)))
 
 issue-requires : tie.Need-issue-requires
 issue-requires c κs = search needs
@@ -51,7 +68,7 @@ put-proxy-requires : tie.Need-put-proxy-requires
 put-proxy-requires c κs =
     let at-if2 = c .before .before .before .before .before .before .before .before .before .before .before in
     let at-is-proxy = at-if2 .before in
-    let start = at-is-proxy .before .before .before .before .before .before .before in
+    let start = at-is-proxy .before .before .before .before .before .before .before .before in
     long proxyImage (start .args .proxy .now) (granted (at-is-proxy .is-proxy .ensures) (at-if2 .if2 .left))
 
 enum-known-written : tie.Need-enum-known-written
@@ -78,10 +95,12 @@ returns-3 c =
     let at-proxy-in = at-eight-at .before in
     let at-if2 = at-proxy-in .before .before in
     let at-is-proxy = at-if2 .before in
-    let start = at-is-proxy .before .before .before .before .before .before .before in
+    let start = at-is-proxy .before .before .before .before .before .before .before .before in
     let a = start .args in
-    let interface = whole 8 (a .interface .now) (omega arith) (at-eight-at .array-8-at .ensures) in
-    let right = then-so (a .interface .now) 8 (isImage proxyImage (a .proxy .now)) (omega arith)
+    let at-if1 = at-is-proxy .before .before in
+    let fits = granted (at-if1 .before .issue-fits .ensures) (at-if1 .if1 .left) in
+    let interface = whole 8 (a .interface .now) (eight (a .interface .now) (a .port) fits) (at-eight-at .array-8-at .ensures) in
+    let right = then-so (a .interface .now) (a .port) (isImage proxyImage (a .proxy .now)) fits
     (granted (at-is-proxy .is-proxy .ensures) (at-if2 .if2 .left)) in
     let did = issue-as (at-proxy-in .proxy-in .ensures) interface (at-issue .issue .ensures) in
     issue-done (a .proxy .now) (a .interface .now) (a .port) (a .token .now) (a .dst .now) (at-issue .issue .result) _ right did _
@@ -101,10 +120,12 @@ returns-4 c =
     let at-proxy-in = at-eight-at .before in
     let at-if2 = at-proxy-in .before .before in
     let at-is-proxy = at-if2 .before in
-    let start = at-is-proxy .before .before .before .before .before .before .before in
+    let start = at-is-proxy .before .before .before .before .before .before .before .before in
     let a = start .args in
-    let interface = whole 8 (a .interface .now) (omega arith) (at-eight-at .array-8-at .ensures) in
-    let right = then-so (a .interface .now) 8 (isImage proxyImage (a .proxy .now)) (omega arith)
+    let at-if1 = at-is-proxy .before .before in
+    let fits = granted (at-if1 .before .issue-fits .ensures) (at-if1 .if1 .left) in
+    let interface = whole 8 (a .interface .now) (eight (a .interface .now) (a .port) fits) (at-eight-at .array-8-at .ensures) in
+    let right = then-so (a .interface .now) (a .port) (isImage proxyImage (a .proxy .now)) fits
     (granted (at-is-proxy .is-proxy .ensures) (at-if2 .if2 .left)) in
     let did = issue-as (at-proxy-in .proxy-in .ensures) interface (at-issue .issue .ensures) in
     issue-refused (a .proxy .now) (a .interface .now) (a .port) (a .token .now) (a .dst .now) (at-issue .issue .result) _ right did _
@@ -114,12 +135,14 @@ pub proxy-issue-spec : {M : Type 1} → statement M
 proxy-issue-spec =
     tie.close
     (tie.spec
+    issue-fits-requires
     returns
     is-proxy-requires
     same-length
     returns-2
     proxy-in-requires
     array-8-at-requires
+    cast-issue
     issue-requires
     enum-told
     put-proxy-requires

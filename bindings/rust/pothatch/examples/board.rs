@@ -1,7 +1,5 @@
-//! The story of c/board.c through the safe functions; it writes the same lines.
-#[allow(dead_code)]
-mod pothatch;
-use pothatch::{number, Due, Form, FrameKey, FrameType, Node, Refusal, Reports, Role};
+//! A board from its join request to the switch to new keys: the example c/board.c in Rust, which writes the same lines.
+use pothatch::{number, Due, FrameKey, FrameType, Node, Refusal, Reports, Role, Version};
 
 fn hex(bytes: &[u8]) -> String {
     format!("h'{}'", bytes.iter().map(|b| format!("{:02x}", b)).collect::<String>())
@@ -11,7 +9,7 @@ fn hex(bytes: &[u8]) -> String {
 fn told<T>(answer: Result<T, Refusal>, words: impl FnOnce(T) -> String) {
     match answer {
         Ok(value) => println!("{}", words(value)),
-        Err(why) => println!("refused {} {}", why.0, why.name()),
+        Err(why) => println!("refused {} {}", why.number(), why.name()),
     }
 }
 
@@ -43,7 +41,7 @@ fn main() {
     update.extend(0..16u8);
     let yes = |yes: bool| if yes { "yes" } else { "no" }.to_string();
     let switched = |switched: bool| if switched { "switched" } else { "kept" }.to_string();
-    let mut node = Node::make(Form::Draft, Role::Node, Some(&[0xca, 0xfe])).expect("a node");
+    let mut node = Node::new(Version::Draft, Role::Node, Some(&[0xca, 0xfe])).expect("a node");
     println!("made");
     told(node.poll(0), due);
     let mut request = [0; 38];
