@@ -264,9 +264,9 @@ def inline_parameters(call):
 
 
 def inline_header(api):
-    text = "pothatch_inline.h: pothatch.h with types. Each ph_NAME calls pothatch_NAME and does nothing else: structs are passed by pointers of "
-    text += "their own type, buffers of a fixed length without a length, and a result that is not looked at is a warning. Passing a ledger "
-    out = comment(text + "where a node is due does not compile. The rules of pothatch.h hold. Made by bindings/generate.py.")
+    text = "pothatch_inline.h: pothatch.h with types. Each ph_NAME calls pothatch_NAME and does nothing else: structs are passed by "
+    text += "pointers of their own type, buffers of a fixed length without a length, and a result that is not looked at is a warning. "
+    out = comment(text + "Passing a ledger where a node is due does not compile. The rules of pothatch.h hold. Made by bindings/generate.py.")
     out += ["#ifndef POTHATCH_INLINE_H", "#define POTHATCH_INLINE_H", '#include "pothatch.h"', "#ifdef __cplusplus", 'extern "C" {']
     out += ["#endif", ""]
     out += ["#if defined(__GNUC__)", "#define PH_CALL static inline __attribute__((warn_unused_result, unused))"]
@@ -291,6 +291,7 @@ def inline_header(api):
         args = [g + "," for g in given]
         args[-1] = args[-1][:-1] + ");"
         out += wrapped(args, "    return pothatch_%s(" % call.name, "        ") + ["}", ""]
+    out += open(os.path.join(HERE, "c", "reserve.h"), encoding="utf-8").read().rstrip().split("\n") + [""]
     out += ["#ifdef __cplusplus", "}", "#endif", "#endif"]
     return "\n".join(finished(out)) + "\n"
 
@@ -340,7 +341,7 @@ def rust_sys(api):
         out += ["}", "", "image!(%s, %d);" % (camel(s.name), s.size)]
         if s.state:
             out += rust_getters(s)
-    out += ["", "extern \"C\" {"]
+    out += ["", "#[rustfmt::skip]", 'extern "C" {']
     for call in api.calls:
         words = []
         for p in call.params:

@@ -2,8 +2,8 @@
 # install.sh PREFIX: proves and builds the library, and installs it under PREFIX: headers, archive, shared library, pkg-config and CMake
 # files, the Rust crate, the Python package and its wheel, examples, and those of the six tools that are built in target/bin.
 # install.sh --uninstall PREFIX: removes what an installation put there.
-# DESTDIR is put before PREFIX where files are written. RT names the toolchain's command where it is not `rt`; ARCHIVE names an archive that is
-# built already. TOOLS=1 proves and builds the tools too. Nothing that is installed holds PREFIX, so the folder may be moved.
+# DESTDIR is put before PREFIX where files are written. RT names the toolchain's command where it is not `rt`; ARCHIVE names an archive
+# that is built already. TOOLS=1 proves and builds the tools too. Nothing that is installed holds PREFIX, so the folder may be moved.
 set -eu
 if [ "${1:-}" = --uninstall ]; then
   root=${DESTDIR:-}${2:?"use: install.sh --uninstall PREFIX"}

@@ -39,6 +39,7 @@
  *
  * COUNTERS AND NONCES. No counter or number is used twice under a key as long as each call gets the image that the call before it left.
  *   So store the new image of a node or proxy BEFORE the frame or the option body leaves the board, and never return to an older image.
+ *   To store a node once for many frames, reserve their counters with ph_node_reserve (pothatch_inline.h), which says what to store when.
  *   Never make a proxy with a key, or set a key, that a proxy had before: keep its image across restarts. Never give a node that was
  *   made anew keys that it had before, and never send with a replayed node, whose counters are 0. pothatch_seal does not remember
  *   nonces: use each once under a key.

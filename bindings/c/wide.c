@@ -1,5 +1,5 @@
-/* Numbers that no byte, or no two bytes, hold: none is cut off on the way, through the typed functions of pothatch_inline.h. What is allowed
- * of NULL and of overlap is tried too. Prints `N passed, M failed`. */
+/* Numbers that no byte, or no two bytes, hold: none is cut off on the way, through the typed functions of pothatch_inline.h. What is
+ * allowed of NULL and of overlap is tried too. Prints `N passed, M failed`. */
 #include "test.h"
 #include "pothatch_inline.h"
 
@@ -110,7 +110,7 @@ static void allowed(void) {
     const uint8_t key[16] = {1};
     uint8_t sealed[24], opened[16];
     uint64_t length;
-    check("one buffer as key, nonce, data and text", ph_seal(key, key, key, 16, key, 16, sealed, sizeof sealed, &length) == 0 && length == 24);
+    check("one buffer, read four times", ph_seal(key, key, key, 16, key, 16, sealed, sizeof sealed, &length) == 0 && length == 24);
     check("opened", ph_unseal(key, key, key, 16, sealed, 24, opened, sizeof opened, &length) == 0 && !memcmp(opened, key, 16));
     check("nothing, from NULL", ph_seal(key, key, NULL, 0, NULL, 0, sealed, 8, &length) == 0 && length == 8);
     check("nothing, into NULL", ph_unseal(key, key, NULL, 0, sealed, 8, NULL, 0, &length) == 0 && length == 0);

@@ -62,6 +62,10 @@ def integers(lib):
     raises("a bool", TypeError, lib.node_poll, node, True)
     raises("None", TypeError, lib.node_poll, node, None)
     check("the node stays", bytes(node) == before)
+    image = lib.node_reserve(node, FrameType.DATA, 3)
+    sent = [p.number(lib.node_send(n, FrameType.DATA).counter) for n in (node, node, node, p.Node.from_buffer_copy(image))]
+    check("reserved counters", sent == [0, 1, 2, 3])
+    raises("a negative count", ValueError, lib.node_reserve, node, FrameType.DATA, -1)
     check("a code by its name", lib.node_send(node, FrameType.DATA).key.identifier == 1)
 
 
@@ -102,7 +106,7 @@ def words(lib):
     refused("key usage", "RANGE", lib.key_usage, 15)
     raises("put", OverflowError, p.put, p.Address().lease, 2**64)
     names = {n for n, _ in inspect.getmembers(p.Library, inspect.isfunction) if not n.startswith("_")}
-    check("all functions", names == set(p._api.SIGNATURES) | {"call"})
+    check("all functions", names == set(p._api.SIGNATURES) | {"call", "node_reserve"})
     for name in sorted(names):
         method = getattr(p.Library, name)
         hints = set(inspect.signature(method).parameters) - {"self", "words"} <= set(method.__annotations__)

@@ -22,7 +22,7 @@ from __future__ import annotations
 
 import ctypes
 import os
-from typing import Optional, Tuple, TypeVar, Union
+from typing import NamedTuple, Optional, Tuple, TypeVar, Union
 
 from . import _api
 from ._api import (
@@ -86,16 +86,11 @@ class LayoutError(ImportError):
     """The shared library has another layout, or other sizes, than this package."""
 
 
-class KeyUsage(Tuple[bool, int]):
+class KeyUsage(NamedTuple):
     """What a key's usage means for the radio: whether frames are encrypted, and the length of their MIC in bytes."""
 
-    @property
-    def encrypted(self) -> bool:
-        return self[0]
-
-    @property
-    def mic_length(self) -> int:
-        return self[1]
+    encrypted: bool
+    mic_length: int
 
 
 def number(field: "ctypes.Array[ctypes.c_uint8]") -> int:
@@ -253,7 +248,7 @@ class Library:
         """What a key's usage means for the radio."""
         encrypted, mic_length = ctypes.c_uint32(), ctypes.c_uint32()
         self._judged(self.call("key_usage", usage, encrypted, mic_length))
-        return KeyUsage((encrypted.value == 1, mic_length.value))
+        return KeyUsage(encrypted.value == 1, mic_length.value)
 
     # ---- payloads; `version` is a Version, `reading` a Reading
     def request_read(self, version: int, reading: int, payload: Readable) -> Request:
@@ -304,6 +299,16 @@ class Library:
     def node_send(self, node: Node, frame_type: int) -> FrameKey:
         """The key and the counter to send a frame with; the counter rises in the node."""
         return self._returned(FrameKey, "node_send", node, frame_type)
+
+    def node_reserve(self, node: Node, frame_type: int, count: int) -> bytes:
+        """Reserves the counters of the next `count` frames of a type, so that the node is stored once for so many frames: returns the image
+        of the node as it is after these sendings. Store it; then send up to `count` frames of this type. After a restart continue with the
+        stored image: it uses none of these counters again. Reserve and store anew before the next frame when the frames are used up, when a
+        frame of the other type is due, and when an accepted start, answer, update or verified frame has changed the node."""
+        stored = Node.from_buffer_copy(bytes(node))
+        for _ in range(_integer("count", count)):
+            self.node_send(stored, frame_type)
+        return bytes(stored)
 
     def node_receive(self, node: Node, frame_type: int, identifier: int) -> FrameKey:
         """The key to receive a frame with."""

@@ -1,3 +1,4 @@
 mod Moves
 mod Rising
+mod Reserved
 mod Example

@@ -266,6 +266,18 @@ impl Node {
         judged(number, key)
     }
 
+    /// Reserves the counters of the next `count` frames of a type, so that the node is stored once for so many frames: returns the image of
+    /// the node as it is after these sendings. Store it; then send up to `count` frames of this type. After a restart continue with the
+    /// stored image: it uses none of these counters again. Reserve and store anew before the next frame when the frames are used up, when a
+    /// frame of the other type is due, and when an accepted start, answer, update or verified frame has changed the node.
+    pub fn reserve(&self, frame_type: FrameType, count: u64) -> Result<[u8; 878], Refusal> {
+        let mut stored = Node::from_image(self.image());
+        for _ in 0..count {
+            stored.send(frame_type)?;
+        }
+        Ok(*stored.image())
+    }
+
     /// The key to receive a frame with.
     pub fn receive(&self, frame_type: FrameType, identifier: u8) -> Result<FrameKey, Refusal> {
         let mut key = FrameKey::zeroed();
@@ -315,8 +327,8 @@ impl Ledger {
     }
 }
 
-/// Seals `text` with AES-CCM-16-64-128 into `dst` and returns the length, that of the text and [`TAG`](crate::TAG) bytes more. Use each nonce
-/// once under a key.
+/// Seals `text` with AES-CCM-16-64-128 into `dst` and returns the length, that of the text and [`TAG`](crate::TAG) bytes more. Use each
+/// nonce once under a key.
 pub fn seal(key: &[u8; 16], nonce: &[u8; 13], associated: &[u8], text: &[u8], dst: &mut [u8]) -> Result<usize, Refusal> {
     let ((data, m), (from, n), (to, room), mut length) = (lent(associated), lent(text), lent_mut(dst), 0);
     let number = unsafe { pothatch_seal(key.as_ptr(), 16, nonce.as_ptr(), 13, data, m, from, n, to, room, &mut length) };

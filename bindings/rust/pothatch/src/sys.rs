@@ -599,6 +599,7 @@ pub struct Replayed {
 
 image!(Replayed, 251);
 
+#[rustfmt::skip]
 extern "C" {
     /// The layout number of the images that the library was built with.
     pub fn pothatch_layout() -> u32;

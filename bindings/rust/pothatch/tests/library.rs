@@ -70,6 +70,17 @@ fn a_node_goes_on_from_its_image() {
 }
 
 #[test]
+fn reserved_counters_are_not_used_again() {
+    let mut node = joined();
+    assert_eq!(node.reserve(FrameType::Data, 1), Err(Refusal::Silent));
+    node.verified(FrameType::Data, 1).unwrap();
+    let stored = node.reserve(FrameType::Data, 3).unwrap();
+    let sent: Vec<u64> = (0..3).map(|_| number(&node.send(FrameType::Data).unwrap().counter)).collect();
+    assert_eq!(sent, [0, 1, 2]);
+    assert_eq!(number(&Node::from_image(&stored).send(FrameType::Data).unwrap().counter), 3);
+}
+
+#[test]
 fn objects_are_read_written_and_merged() {
     let read = Configuration::read(Version::Draft, Reading::Strict, &answer()).unwrap();
     let mut dst = [0; PAYLOAD_MOST];

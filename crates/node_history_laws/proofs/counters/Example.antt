@@ -1,7 +1,7 @@
 -- The calls are computed, and the law is applied to their answers.
 use mathlib.Core.Path.{_≡_, refl}
 use mathlib.Core.Bool.{true}
-use mathlib.Core.List.{List·Memᴰ·head as at, List·Memᴰ·tail as past}
+use mathlib.Core.List.{[], _∷_, List·Memᴰ·head as at, List·Memᴰ·tail as past}
 use Rattle.lemmas.specs.lists.Same.{same as same-bytes}
 use Rattle.link_key.specs.Key.{validKey, hasNoAdditionalInfo, sameKey, sameSecret, covers}
 use Rattle.link_key.specs.set.KeySet.{validKeys, validSet}
@@ -35,6 +35,7 @@ use Rattle.node.specs.Frames as node
 use Rattle.node.specs.Frames.{send, sendCounter, afterSend}
 use Rattle.node_laws.specs.Calls.{perform}
 use Rattle.node_attempt.specs.delivery.Delivery.{mayCome}
+use Rattle.node_history_laws.specs.counters.Reserved.{sendings, CountersReserved}
 use Rattle.node_history_laws.specs.counters.Rising.{after, Answers, Stays, CountersRise}
 use Rattle.node_history_laws.specs.counters.Example.{cafe, key, joining, joined, sent, kept, left, CountersExample}
 
@@ -69,11 +70,26 @@ same : sameSecret key key ≡ true
 unfolding computing
 same = refl
 
-pub witness : CountersRise → CountersExample
-witness law = record {
+third : Answers (after joined (sendings (1 ∷ 1 ∷ []))) 1 key 2
+unfolding computing
+third = record { accepted = refl; object = refl }
+
+held : Stays key (after joined (sendings (1 ∷ 1 ∷ 1 ∷ []))) []
+unfolding computing
+held = record { key = key; member = at refl; same = refl }
+
+from-copy : Answers (after joined (sendings (1 ∷ 1 ∷ 1 ∷ []))) 1 key 3
+unfolding computing
+from-copy = record { accepted = refl; object = refl }
+
+pub witness : CountersRise → CountersReserved → CountersExample
+witness law reserved = record {
   first = first;
   stays = stays;
   second = second;
   higher = law .rises Draft 1 cafe joining 1 key 0 first kept stays 1 key 1 second same;
+  third = third;
+  from-copy = from-copy;
+  apart = reserved .higher Draft 1 cafe joining (1 ∷ 1 ∷ []) 1 [] key 2 third [] held 1 key 3 from-copy same;
   again = again;
 }

@@ -13,6 +13,7 @@ use Rattle.node_parameters.specs.declared.octets.HeldOctets.{HeldOctets}
 use Rattle.node.specs.Node.{made}
 use Rattle.node.specs.declared.node.Node.{Node}
 use Rattle.node_laws.specs.Calls.{NodeCall, starting, delivering, sending, perform}
+use Rattle.node_history_laws.specs.counters.Reserved.{sendings}
 use Rattle.node_history_laws.specs.counters.Rising.{after, Answers, Stays}
 
 abbrev pub cafe : HeldOctets
@@ -52,5 +53,9 @@ pub record CountersExample : Type 0 where
   pub second : Answers (after sent kept) 1 key 1
   -- by the law
   pub higher : 0 < 1
+  -- three frames are reserved: the third of them, and the first from the stored copy
+  pub third : Answers (after joined (sendings (1 ∷ 1 ∷ []))) 1 key 2
+  pub from-copy : Answers (after joined (sendings (1 ∷ 1 ∷ 1 ∷ []))) 1 key 3
+  pub apart : 2 < 3
   -- the key that left: the law does not speak of it
   pub again : Answers (after sent left) 1 key 0
