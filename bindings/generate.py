@@ -462,6 +462,15 @@ def compare_library(api, path):
     return bad
 
 
+def versions(api):
+    """VERSION is LAYOUT.INTERFACE.PATCH, and crate and package have the same."""
+    version = open(os.path.join(HERE, "..", "VERSION"), encoding="ascii").read().strip()
+    found = {"VERSION": version.rsplit(".", 1)[0] == "%d.%d" % (api.numbers["layout"], api.numbers["interface"])}
+    for name, line in (("rust/pothatch/Cargo.toml", 'version = "%s"'), ("python/pothatch/__init__.py", '__version__ = "%s"')):
+        found[name] = line % version in open(os.path.join(HERE, name), encoding="utf-8").read().split("\n")
+    return [name for name, right in found.items() if not right]
+
+
 def main():
     api = Api(os.path.join(HERE, "api.txt"))
     files = {
@@ -483,6 +492,9 @@ def main():
         if not os.path.exists(path) or open(path, encoding="utf-8").read() != text:
             bad += 1
             print("api: %s is not what generate.py writes" % name)
+    for name in versions(api):
+        bad += 1
+        print("api: %s has another version" % name)
     source, table = source_declarations(), table_declarations(api)
     for name in sorted(set(source) | set(table)):
         if source.get(name) != table.get(name):

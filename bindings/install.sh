@@ -69,10 +69,25 @@ put "$work/$wheel" "share/pothatch/$wheel"
 put bindings/c/board.c share/pothatch/examples/board.c
 put LICENSE share/pothatch/LICENSE
 put VERSION share/pothatch/VERSION
+
+# manual TOOL: a manual page from what the tool says of itself
+manual() {
+  printf '.TH POTHATCH-%s 1 "" "pothatch %s"\n.SH NAME\n' "$(echo "$1" | tr a-z A-Z)" "$version"
+  "target/bin/$1" --help | sed -e 's/\\/\\e/g; s/-/\\-/g; s/^\([.'"'"']\)/\\\&\1/' |
+    sed -e "1s/^$1: \(.*\) (docs.TOOLS.md)\.\$/pothatch\\\\-$1 \\\\- \1/" -e '1a .SH DESCRIPTION' -e '2,$s/$/\n.br/'
+}
+
 missing=
 for tool in $tools; do
-  if [ -x "target/bin/$tool" ]; then put "target/bin/$tool" "bin/pothatch-$tool" 755; else missing="$missing $tool"; fi
+  if [ -x "target/bin/$tool" ]; then
+    put "target/bin/$tool" "bin/pothatch-$tool" 755
+    manual "$tool" >"$work/manual"
+    put "$work/manual" "share/man/man1/pothatch-$tool.1"
+  else
+    missing="$missing $tool"
+  fi
 done
+put docs/TOOLS.md share/pothatch/TOOLS.md
 if [ -n "$missing" ]; then echo "tools that are not built and so not installed (TOOLS=1 builds them):$missing"; fi
 echo share/pothatch/installed >>"$installed"
 echo "installed $version in $root"
