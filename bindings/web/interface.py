@@ -45,7 +45,10 @@ def members(body, sizes):
 
 def interface(text):
     bare = re.sub(r"/\*.*?\*/", "", text, flags=re.S)
-    functions = {name: parameters(words) for name, words in re.findall(r"^uint32_t pothatch_(\w+)\(([^)]*)\);", bare, re.M)}
+    functions = {
+        name: parameters(words)
+        for name, words in re.findall(r"^uint32_t pothatch_(\w+)\(([^)]*)\)(?: POTHATCH_CHECKED)?;", bare, re.M)
+    }
     structs, sizes = {}, {}
     for name, body in re.findall(r"^struct pothatch_(\w+) \{(.*?)^\};", bare, re.M | re.S):
         structs[name], sizes[name] = members(body, sizes)
