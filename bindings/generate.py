@@ -200,7 +200,7 @@ def c_header(api):
         if name == "limit":
             out += ["#define POTHATCH_%s %du" % (n, v) + " /* %s */" % t for n, v, t in entries] + [""]
             continue
-        out.append("enum {")
+        out.append("enum pothatch_%s {" % name)
         out += (["    POTHATCH_OK = 0,"] if name == "refusal" else [])
         out += [("    POTHATCH_%s = %d," % (n, v)).ljust(32) + " /* %s */" % t for n, v, t in entries]
         out[-1] = out[-1].replace(",", " ", 1)

@@ -88,6 +88,7 @@ for tool in $tools; do
   fi
 done
 put docs/TOOLS.md share/pothatch/TOOLS.md
+put docs/FIRMWARE.md share/pothatch/FIRMWARE.md
 if [ -n "$missing" ]; then echo "tools that are not built and so not installed (TOOLS=1 builds them):$missing"; fi
 echo share/pothatch/installed >>"$installed"
 echo "installed $version in $root"

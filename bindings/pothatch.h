@@ -47,7 +47,7 @@
  * SIDE CHANNELS. AES uses a table of 256 bytes and is not constant-time: on a processor with a data cache its time may depend on key and
  *   data. Comparing a tag does not stop at the first byte that differs. Other calls make no promise about time either.
  *
- * STACK. The stack that each call needs is in docs/PERFORMANCE.md. */
+ * STACK. The stack that each call needs is in docs/PERFORMANCE.md; docs/FIRMWARE.md says what a board stores, and when. */
 #ifndef POTHATCH_H
 #define POTHATCH_H
 #include <stdint.h>
@@ -59,7 +59,7 @@ extern "C" {
 #define POTHATCH_LAYOUT 1u
 
 /* The papers' numbers for why a call was refused. */
-enum {
+enum pothatch_refusal {
     POTHATCH_OK = 0,
     POTHATCH_CUT = 1,            /* the payload ends inside a data item */
     POTHATCH_FORM = 2,           /* the payload has a CBOR head that is not supported */
@@ -86,32 +86,32 @@ enum {
 };
 
 /* Which document a payload or node follows. */
-enum {
+enum pothatch_version {
     POTHATCH_DRAFT = 0,          /* draft-ietf-6tisch-minimal-security-06 */
     POTHATCH_PUBLISHED = 1       /* RFC 9031 */
 };
 
 /* How strict a reading is. */
-enum {
+enum pothatch_reading {
     POTHATCH_READ_ANY = 0,       /* accepts any CBOR head */
     POTHATCH_READ_STRICT = 1     /* accepts shortest heads only, else LOOSE */
 };
 
 /* A node's role. */
-enum {
+enum pothatch_role {
     POTHATCH_NODE = 0,           /* ordinary node */
     POTHATCH_BORDER = 1          /* border router (6LBR) */
 };
 
 /* What became of a parameter. In a node's members: 0 none, 1 held. */
-enum {
+enum pothatch_report {
     POTHATCH_ABSENT = 0,         /* not in the payload */
     POTHATCH_TAKEN = 1,          /* taken */
     POTHATCH_DISCARDED = 2       /* discarded; in RFC 9031 malformed and reported */
 };
 
 /* Where a join attempt is. */
-enum {
+enum pothatch_phase {
     POTHATCH_IDLE = 0,           /* not started */
     POTHATCH_WAITING = 1,        /* waiting for the join answer */
     POTHATCH_JOINED = 2,         /* joined */
@@ -119,26 +119,26 @@ enum {
 };
 
 /* The type of a frame; an acknowledgement counts as data. */
-enum {
+enum pothatch_frame_type {
     POTHATCH_BEACON = 0,         /* beacon */
     POTHATCH_DATA = 1            /* data or acknowledgement */
 };
 
 /* What pothatch_node_poll returns; 0 beside a refusal. */
-enum {
+enum pothatch_due {
     POTHATCH_DUE_NOT_YET = 1,    /* nothing */
     POTHATCH_DUE_SEND = 2,       /* send the join request again */
     POTHATCH_DUE_GAVE_UP = 3     /* the attempt was given up */
 };
 
 /* What pothatch_node_holds returns; 0 beside a refusal. */
-enum {
+enum pothatch_holds {
     POTHATCH_HOLDS = 1,          /* the short address holds */
     POTHATCH_LAPSED = 2          /* no short address, or its lease is over */
 };
 
 /* What pothatch_node_verified returns; 0 beside a refusal. */
-enum {
+enum pothatch_change {
     POTHATCH_KEPT = 1,           /* the keys stay */
     POTHATCH_SWITCHED = 2        /* the pending set became the active one */
 };
