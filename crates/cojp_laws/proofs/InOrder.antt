@@ -34,13 +34,13 @@ abbrev pub Numbered : {S : Type 0} → ℕ → (S → Type 0) → Reading S → 
 Numbered n P (refused k) = n ≡ numberOf k
 Numbered n P (read s) = (n ≡ 0) × P s
 
--- where a known label stands: it came before or it did not
+-- the status of a known label: seen before or not
 abbrev pub stood : Bool → LabelStatus
 stood true = Repeated
 stood false = First
 
 abbrev pub standing : Bool → Bool → LabelStatus
-standing known came = cond known (stood came) Unknown
+standing known repeated = cond known (stood repeated) Unknown
 
 -- a label that is passed over
 abbrev pub isPassed : Tests → Label → Bool

@@ -1,4 +1,4 @@
--- A configuration: its parameters tell which labels have come; a value of the draft is refused by its kind or content, one of the published
+-- A configuration: its parameters tell which labels were seen; a value of the draft is refused by its kind or content, one of the published
 -- form never.
 use Prim.Native.Nat.{ℕ}
 use mathlib.Core.Path.{_≡_, refl, sym, subst}
@@ -15,7 +15,8 @@ use Rattle.lemmas.specs.logic.Tests.{never}
 use Rattle.link_key.specs.declared.set.key_set.KeySet.{KeySet}
 use Rattle.cojp.specs.Address.{addressJudged, addressConcluded}
 use Rattle.cojp.specs.Configuration.{emptyConfiguration, withKeys, withAddress, withJrc, withNetwork, withPrefix, withBlacklist, withRate}
-use Rattle.cojp.specs.Configuration.{labelStatusFor, configurationPassing, noted, configurationTaking, configurationForm, configurationAnswer}
+use Rattle.cojp.specs.Configuration.{labelStatusFor, configurationPassing, noted}
+use Rattle.cojp.specs.Configuration.{configurationTaking, configurationForm, configurationAnswer}
 use Rattle.cojp.specs.KeySet.{noKeysParameter, keysJudgedAs, keysConcluded}
 use Rattle.cojp.specs.Lists.{listParameter, noListParameter, listTaken, listAnswer, fitting, inArray, stringsIn, blacklistTaken}
 use Rattle.cojp.specs.Octets.{octetsJudged, noOctetsParameter, octetsParameter}
@@ -42,8 +43,8 @@ use Rattle.cojp_laws.specs.ReadingOrder.{isAmong, payloadNumbers, kindNu
 use Rattle.cojp_laws.specs.ReadingOrder.{configurationTests, configurationNumber}
 use Rattle.cojp_laws.proofs.InOrder.{Numbered, stood, standing, payload-numbered}
 
--- ---- which labels have come
-record Came (v : Version) (seen : List ℕ) (c : Configuration) : Type 0 where
+-- ---- which labels were seen
+record Seen (v : Version) (seen : List ℕ) (c : Configuration) : Type 0 where
   keys : labelStatusOf (c .keys .disposition) ≡ stood (isAmong 2 seen)
   address : labelStatusOf (c .address .disposition) ≡ stood (isAmong 3 seen)
   jrc : labelStatusOf (c .jrc .disposition) ≡ stood (isAmong 4 seen)
@@ -52,14 +53,14 @@ record Came (v : Version) (seen : List ℕ) (c : Configuration) : Type 0 where
   blacklist : labelStatusOf (c .blacklist .disposition) ≡ stood (byVersion v false (isAmong 6 seen))
   rate : labelStatusOf (c .rate .disposition) ≡ stood (byVersion v false (isAmong 7 seen))
 
-none-came : (v : Version) → Came v [] emptyConfiguration
-none-came Draft =
+none-seen : (v : Version) → Seen v [] emptyConfiguration
+none-seen Draft =
     record { keys = refl; address = refl; jrc = refl; network = refl; prefix = refl; blacklist = refl; rate = refl }
-none-came Published =
+none-seen Published =
     record { keys = refl; address = refl; jrc = refl; network = refl; prefix = refl; blacklist = refl; rate = refl }
 
-passed-came : (v : Version) (seen : List ℕ) (c : Configuration) → Came v seen c → Came v seen (configurationPassing c)
-passed-came v seen c h = record {
+passed-seen : (v : Version) (seen : List ℕ) (c : Configuration) → Seen v seen c → Seen v seen (configurationPassing c)
+passed-seen v seen c h = record {
   keys = h .keys;
   address = h .address;
   jrc = h .jrc;
@@ -70,9 +71,9 @@ passed-came v seen c h = record {
 }
 
 -- one label more
-module _ (v : Version) (seen : List ℕ) (c : Configuration) (h : Came v seen c) where
-  keys-came : (p : KeysParameter) → labelStatusOf (p .disposition) ≡ Repeated → Came v (2 ∷ seen) (noted v 2 (withKeys c p))
-  keys-came p met = record {
+module _ (v : Version) (seen : List ℕ) (c : Configuration) (h : Seen v seen c) where
+  keys-seen : (p : KeysParameter) → labelStatusOf (p .disposition) ≡ Repeated → Seen v (2 ∷ seen) (noted v 2 (withKeys c p))
+  keys-seen p met = record {
     keys = met;
     address = h .address;
     jrc = h .jrc;
@@ -82,8 +83,8 @@ module _ (v : Version) (seen : List ℕ) (c : Configuration) (h : Came v seen c)
     rate = h .rate;
   }
 
-  address-came : (p : AddressParameter) → labelStatusOf (p .disposition) ≡ Repeated → Came v (3 ∷ seen) (noted v 3 (withAddress c p))
-  address-came p met = record {
+  address-seen : (p : AddressParameter) → labelStatusOf (p .disposition) ≡ Repeated → Seen v (3 ∷ seen) (noted v 3 (withAddress c p))
+  address-seen p met = record {
     keys = h .keys;
     address = met;
     jrc = h .jrc;
@@ -93,8 +94,8 @@ module _ (v : Version) (seen : List ℕ) (c : Configuration) (h : Came v seen c)
     rate = h .rate;
   }
 
-  jrc-came : (p : OctetsParameter) → labelStatusOf (p .disposition) ≡ Repeated → Came v (4 ∷ seen) (noted v 4 (withJrc c p))
-  jrc-came p met = record {
+  jrc-seen : (p : OctetsParameter) → labelStatusOf (p .disposition) ≡ Repeated → Seen v (4 ∷ seen) (noted v 4 (withJrc c p))
+  jrc-seen p met = record {
     keys = h .keys;
     address = h .address;
     jrc = met;
@@ -104,9 +105,9 @@ module _ (v : Version) (seen : List ℕ) (c : Configuration) (h : Came v seen c)
     rate = h .rate;
   }
 
-module _ (seen : List ℕ) (c : Configuration) (h : Came Draft seen c) where
-  network-came : (p : OctetsParameter) → labelStatusOf (p .disposition) ≡ Repeated → Came Draft (5 ∷ seen) (noted Draft 5 (withNetwork c p))
-  network-came p met = record {
+module _ (seen : List ℕ) (c : Configuration) (h : Seen Draft seen c) where
+  network-seen : (p : OctetsParameter) → labelStatusOf (p .disposition) ≡ Repeated → Seen Draft (5 ∷ seen) (noted Draft 5 (withNetwork c p))
+  network-seen p met = record {
     keys = h .keys;
     address = h .address;
     jrc = h .jrc;
@@ -116,8 +117,8 @@ module _ (seen : List ℕ) (c : Configuration) (h : Came Draft seen c) where
     rate = h .rate;
   }
 
-  prefix-came : (p : OctetsParameter) → labelStatusOf (p .disposition) ≡ Repeated → Came Draft (6 ∷ seen) (noted Draft 6 (withPrefix c p))
-  prefix-came p met = record {
+  prefix-seen : (p : OctetsParameter) → labelStatusOf (p .disposition) ≡ Repeated → Seen Draft (6 ∷ seen) (noted Draft 6 (withPrefix c p))
+  prefix-seen p met = record {
     keys = h .keys;
     address = h .address;
     jrc = h .jrc;
@@ -127,10 +128,10 @@ module _ (seen : List ℕ) (c : Configuration) (h : Came Draft seen c) where
     rate = h .rate;
   }
 
-module _ (seen : List ℕ) (c : Configuration) (h : Came Published seen c) where
-  blacklist-came : (p : ListParameter) → labelStatusOf (p .disposition) ≡ Repeated →
-      Came Published (6 ∷ seen) (noted Published 6 (withBlacklist c p))
-  blacklist-came p met = record {
+module _ (seen : List ℕ) (c : Configuration) (h : Seen Published seen c) where
+  blacklist-seen : (p : ListParameter) → labelStatusOf (p .disposition) ≡ Repeated →
+      Seen Published (6 ∷ seen) (noted Published 6 (withBlacklist c p))
+  blacklist-seen p met = record {
     keys = h .keys;
     address = h .address;
     jrc = h .jrc;
@@ -140,8 +141,8 @@ module _ (seen : List ℕ) (c : Configuration) (h : Came Published seen c) where
     rate = h .rate;
   }
 
-  rate-came : (p : RateParameter) → labelStatusOf (p .disposition) ≡ Repeated → Came Published (7 ∷ seen) (noted Published 7 (withRate c p))
-  rate-came p met = record {
+  rate-seen : (p : RateParameter) → labelStatusOf (p .disposition) ≡ Repeated → Seen Published (7 ∷ seen) (noted Published 7 (withRate c p))
+  rate-seen p met = record {
     keys = h .keys;
     address = h .address;
     jrc = h .jrc;
@@ -234,7 +235,7 @@ each-of : (P : ℕ → Type 0) (n a b c d e : ℕ) → P a → P b → P c → P
 each-of P n a b c d e p q r s t others =
     at-label P n a p (λ u. at-label P n b q (λ w. at-label P n c r (λ x. at-label P n d s (λ y. at-label P n e t (λ z. others u w x y z)))))
 
-stands : (v : Version) (seen : List ℕ) (c : Configuration) → Came v seen c → (n : ℕ) →
+stands : (v : Version) (seen : List ℕ) (c : Configuration) → Seen v seen c → (n : ℕ) →
     labelStatusFor c (parameterOf v n) ≡ standing (configurationTests v .known n) (isAmong n seen)
 unfolding parameterOf laterParameter
 stands Draft seen c h n =
@@ -249,32 +250,32 @@ stands Published seen c h n =
 abbrev Takes : Version → List ℕ → Configuration → View → ℕ → Type 0
 Takes v seen c x n =
     configurationTests v .known n ≡ true →
-    Numbered (inOrder (configurationTests v .kind n x ∷ configurationTests v .content n x ∷ [])) (Came v (n ∷ seen))
+    Numbered (inOrder (configurationTests v .kind n x ∷ configurationTests v .content n x ∷ [])) (Seen v (n ∷ seen))
     (configurationTaking v c n x)
 
-takes : (v : Version) (seen : List ℕ) (c : Configuration) → Came v seen c → (x : View) (n : ℕ) → Takes v seen c x n
+takes : (v : Version) (seen : List ℕ) (c : Configuration) → Seen v seen c → (x : View) (n : ℕ) → Takes v seen c x n
 unfolding parameterOf laterParameter configurationTaking
 takes Draft seen c h x n =
     each-of (Takes Draft seen c x) n 2 3 4 5 6
-    (λ k. keys-numbered Draft (Came Draft (2 ∷ seen)) (noted Draft 2) (withKeys c) (keys-came Draft seen c h) (keysJudgedAs false x))
-    (λ k. address-numbered Draft (Came Draft (3 ∷ seen)) (noted Draft 3) (withAddress c) (address-came Draft seen c h) (addressJudged x))
-    (λ k. octets-numbered Draft (Came Draft (4 ∷ seen)) (noted Draft 4) (withJrc c) (jrc-came Draft seen c h) (octetsJudged 16 x))
-    (λ k. octets-numbered Draft (Came Draft (5 ∷ seen)) (noted Draft 5) (withNetwork c) (network-came seen c h) (octetsJudged 0 x))
-    (λ k. octets-numbered Draft (Came Draft (6 ∷ seen)) (noted Draft 6) (withPrefix c) (prefix-came seen c h) (octetsJudged 0 x))
+    (λ k. keys-numbered Draft (Seen Draft (2 ∷ seen)) (noted Draft 2) (withKeys c) (keys-seen Draft seen c h) (keysJudgedAs false x))
+    (λ k. address-numbered Draft (Seen Draft (3 ∷ seen)) (noted Draft 3) (withAddress c) (address-seen Draft seen c h) (addressJudged x))
+    (λ k. octets-numbered Draft (Seen Draft (4 ∷ seen)) (noted Draft 4) (withJrc c) (jrc-seen Draft seen c h) (octetsJudged 16 x))
+    (λ k. octets-numbered Draft (Seen Draft (5 ∷ seen)) (noted Draft 5) (withNetwork c) (network-seen seen c h) (octetsJudged 0 x))
+    (λ k. octets-numbered Draft (Seen Draft (6 ∷ seen)) (noted Draft 6) (withPrefix c) (prefix-seen seen c h) (octetsJudged 0 x))
     (λ a b d e f k. never (configurationTests Draft .known n) k (rw (a, b, d, e, f)))
 takes Published seen c h x n =
     each-of (Takes Published seen c x) n 2 3 4 6 7
     (λ k.
-    keys-numbered Published (Came Published (2 ∷ seen)) (noted Published 2) (withKeys c) (keys-came Published seen c h)
+    keys-numbered Published (Seen Published (2 ∷ seen)) (noted Published 2) (withKeys c) (keys-seen Published seen c h)
     (keysJudgedAs true x))
     (λ k.
-    address-numbered Published (Came Published (3 ∷ seen)) (noted Published 3) (withAddress c) (address-came Published seen c h)
+    address-numbered Published (Seen Published (3 ∷ seen)) (noted Published 3) (withAddress c) (address-seen Published seen c h)
     (addressJudged x))
     (λ k.
-    octets-numbered Published (Came Published (4 ∷ seen)) (noted Published 4) (withJrc c) (jrc-came Published seen c h)
+    octets-numbered Published (Seen Published (4 ∷ seen)) (noted Published 4) (withJrc c) (jrc-seen Published seen c h)
     (octetsJudged 16 x))
-    (λ k. (refl, blacklist-came seen c h (blacklistTaken x) (list-met (listAnswer (fitting 253 (inArray stringsIn x))))))
-    (λ k. (refl, rate-came seen c h (rateTaken x) (rate-met x)))
+    (λ k. (refl, blacklist-seen seen c h (blacklistTaken x) (list-met (listAnswer (fitting 253 (inArray stringsIn x))))))
+    (λ k. (refl, rate-seen seen c h (rateTaken x) (rate-met x)))
     (λ a b d e f k. never (configurationTests Published .known n) k (rw (a, b, d, e, f)))
 
 -- ---- the whole payload
@@ -288,7 +289,7 @@ pub configurations-in-order : (v : Version) (strict : Bool) (p : List ℕ) →
 configurations-in-order v strict p =
     answered v (inOrder (payloadNumbers (configurationTests v) strict p)) _
     (payloadReadBy (configurationForm v) (headBy strict) emptyConfiguration p)
-    (payload-numbered (configurationForm v) (configurationTests v) (λ (seen : List ℕ) (ps : Pairs) (c : Configuration). Came v seen c)
-    (λ seen ps c h n. stands v seen c h n) (λ seen k x ps c h e. passed-came v seen c h)
+    (payload-numbered (configurationForm v) (configurationTests v) (λ (seen : List ℕ) (ps : Pairs) (c : Configuration). Seen v seen c)
+    (λ seen ps c h n. stands v seen c h n) (λ seen k x ps c h e. passed-seen v seen c h)
     (λ seen k x ps c h n q known fresh. takes v seen c h (viewOf x) n known)
-    emptyConfiguration strict p (none-came v))
+    emptyConfiguration strict p (none-seen v))

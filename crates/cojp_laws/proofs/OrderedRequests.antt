@@ -1,4 +1,4 @@
--- A join request: role, network identifier and list of reports tell which labels have come, and role and identifier are what the pairs say.
+-- A join request: role, network identifier and list of reports tell which labels were seen, and role and identifier are what the pairs say.
 use Prim.Native.Nat.{ℕ}
 use mathlib.Core.Path.{_≡_, refl, ap, sym, _∙_, subst}
 use mathlib.Core.Bool.{Bool, true, false, cond, not, _&&_}
@@ -18,11 +18,13 @@ use Rattle.cbor.specs.declared.value.Label.{Label}
 use Rattle.cbor.specs.declared.value.Label.the-variants as label
 use Rattle.lemmas.specs.logic.Tests.{never, neither-left, neither-right}
 use Rattle.cojp.specs.DispositionLemmas.{by-disposition}
-use Rattle.cojp.specs.Lists.{listParameter, noListParameter, unsupportedTaken, listTaken, listAnswer, fitting, inArray, atLeastOne, errorReportsIn}
+use Rattle.cojp.specs.Lists.{errorReportsIn, atLeastOne, inArray, fitting, listAnswer}
+use Rattle.cojp.specs.Lists.{listParameter, noListParameter, listTaken, unsupportedTaken}
 use Rattle.cojp.specs.Octets.{octetsJudged, noOctetsParameter, octetsParameter}
 use Rattle.cojp.specs.Reading.{Reading, refused, read, bind, mapReading, Judgement, broken, unfit, good, concluded, byVersionOf, ifTaken}
 use Rattle.cojp.specs.Request.{emptyRequestState, roleJudged, roleLabelStatus, requestLabelStatus, requestPassing, withRole, withNetwork}
-use Rattle.cojp.specs.Request.{withUnsupported, withError, roleGathered, listGathered, requestTaking, requestForm, owing, settled, requestAnswer}
+use Rattle.cojp.specs.Request.{withUnsupported, withError, roleGathered, listGathered, requestTaking, requestForm}
+use Rattle.cojp.specs.Request.{owing, settled, requestAnswer}
 use Rattle.cojp.specs.Walk.{labelStatusOf, payloadReadBy}
 use Rattle.cojp.specs.declared.disposition.Disposition.{Disposition}
 use Rattle.cojp.specs.declared.disposition.Disposition.the-variants.{Absent, Taken, Discarded}
@@ -49,7 +51,7 @@ later-value n k v ps e = ap (λ (b : Bool). cond b (some (viewOf v)) (valueOf n 
 first-value : (n : ℕ) (k v : Item) (ps : Pairs) → isLabel n (labelOf k) ≡ true → valueOf n (pair k v ps) ≡ some (viewOf v)
 first-value n k v ps e = ap (λ (b : Bool). cond b (some (viewOf v)) (valueOf n ps)) e
 
--- ---- what came: ps are the pairs still to come, whole all of them
+-- ---- which labels were seen: ps are the pairs still to come, whole all of them
 module _ (version : Version) (whole : Pairs) where
   record Asked (seen : List ℕ) (ps : Pairs) (g : RequestState) : Type 0 where
     named : roleLabelStatus (g .named) ≡ stood (isAmong 1 seen)
@@ -289,8 +291,8 @@ module _ (version : Version) (whole : Pairs) where
           subst (Taking seen k v ps g) (sym m) (list-goal (published version refl m known))
 
       by-one : (b : Bool) → eqb n 1 ≡ b →
-          Numbered (inOrder (requestTests version .kind n (viewOf v) ∷ requestTests version .content n (viewOf v) ∷ [])) (Asked (n ∷ seen) ps)
-          (requestTaking version g n (viewOf v))
+          Numbered (inOrder (requestTests version .kind n (viewOf v) ∷ requestTests version .content n (viewOf v) ∷ []))
+          (Asked (n ∷ seen) ps) (requestTaking version g n (viewOf v))
       by-one true e = subst (Taking seen k v ps g) (sym (eqb-true n 1 e)) (take-role seen k v ps g h) q fresh
       by-one false e = by-five e (eqb n 5) refl q fresh
 

@@ -65,9 +65,9 @@ abbrev pub isAmong : ℕ → List ℕ → Bool
 isAmong n ms = anyOf (λ m. eqb n m) ms
 
 module _ (T : Tests) where
-  -- a known label that came before, or did not, and its value
+  -- a known label, repeated or not, and its value
   abbrev pub knownNumbers : Bool → ℕ → View → List ℕ
-  knownNumbers came n x = refusedIf came 6 ∷ T .kind n x ∷ T .content n x ∷ []
+  knownNumbers repeated n x = refusedIf repeated 6 ∷ T .kind n x ∷ T .content n x ∷ []
 
   -- one pair, the known labels of the pairs before it being given
   abbrev pub pairNumbers : List ℕ → Label → View → List ℕ

@@ -24,7 +24,8 @@ clashing = 0xA1 ∷ 0x02 ∷ 0x82 ∷ 0x01 ∷ 0x50 ∷ replicate 16 0x33
 abbrev pub jrcAlone : List ℕ
 jrcAlone = 0xA1 ∷ 0x04 ∷ 0x50 ∷ replicate 16 0x20
 
--- before: the far node, which is of the published form, accepts the clashing update without its key set, the one in the middle a JRC address
+-- before: the far node, which is of the published form, accepts the clashing update without its key set; the one in the middle accepts a
+-- JRC address
 abbrev pub firstAmid : List Event
 firstAmid =
     turning 0 1 1 ∷ calling 2 (delivering Update 13000 clashing) ∷ calling 1 (delivering Update 13000 jrcAlone) ∷ turning 2 1 1 ∷ []

@@ -56,8 +56,8 @@ pub fn rekey_example()
     rekey_law();
 }
 
-// Nor with more in it: sets of several keys for different frames, a join answer that brings the new set, and a second list with starts, polls
-// and refused deliveries.
+// Nor with more in it: sets of several keys for different frames, a join answer that brings the new set, and a second list with starts,
+// polls and refused deliveries.
 pub fn wide_rekey_example()
     ensures { λ r. ⌜ WideRekeyExample ⌝ }
 {

@@ -50,7 +50,8 @@ unfolding payloadBy decodeBy heading argument next digits members pairs majorOf 
     requestInRange requestPlan
     takeCounter sameSecret inheritCounters sets.valid sets.validAs install receivingKey verifiedIn attempt.valid mayStart
     stepped polling.poll
-    made versionValid valid requestOf startVerdict startPlan start poll dispositionsOf fitted configured apply mayCome deliverVerdict deliver
+    made versionValid valid requestOf startVerdict startPlan start poll dispositionsOf fitted configured apply mayCome deliverVerdict
+    deliver
     receive verified
     number blank layout.newNode delivery layout.verified fields entry
     callOf statisticsOf reading parseFrom parse replay

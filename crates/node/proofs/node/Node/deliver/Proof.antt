@@ -129,7 +129,8 @@ returns-5 c =
     c .undelivered5 .ensures
     ∙ apply-clash (a .delivery) (a .self) (a .time) (configurationIn got)
     (is-false (other .before .owes-identifier .ensures) (other .if2 .left))
-    (asked .is-taken .ensures) (placing .before .before .if3 .taken) (decided (isBorder (a .self)) (a .self .sets) (configurationIn got .keys .value) _ (placing .decide-install .ensures))
+    (asked .is-taken .ensures) (placing .before .before .if3 .taken)
+    (decided (isBorder (a .self)) (a .self .sets) (configurationIn got .keys .value) _ (placing .decide-install .ensures))
     (c .before .before .before .before .place .given .1)
     (c .before .enum-told3 .given .1)
     ∙ read-so got
@@ -152,9 +153,13 @@ met m =
     let taken = asked .is-taken .ensures in
     ⊎-elim
     (λ w.
-    rw (w .9, w .10, w .8 .ensures) (set-discarded d n t c owes taken (w .0 .taken) (decided (isBorder n) (n .sets) (c .keys .value) _ (w .2 .ensures)) (w .4 .given .1) (w .7 .given .1)))
+    rw (w .9, w .10, w .8 .ensures)
+    (set-discarded d n t c owes taken (w .0 .taken) (decided (isBorder n) (n .sets) (c .keys .value) _ (w .2 .ensures)) (w .4 .given .1)
+    (w .7 .given .1)))
     (⊎-elim
-    (λ w. rw (w .7, w .8, w .6 .ensures) (set-placed d n t c owes taken (w .0 .taken) (decided (isBorder n) (n .sets) (c .keys .value) _ (w .2 .ensures)) (w .4 .given .1)))
+    (λ w.
+    rw (w .7, w .8, w .6 .ensures)
+    (set-placed d n t c owes taken (w .0 .taken) (decided (isBorder n) (n .sets) (c .keys .value) _ (w .2 .ensures)) (w .4 .given .1)))
     (λ w. rw (w .1, w .2) (none-placed d n t c owes taken (w .0 .left))))
     (m .if3 .came)
 
