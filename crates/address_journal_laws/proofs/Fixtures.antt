@@ -23,5 +23,4 @@ unfolding ApartFixtures
 apart-fixtures holder first size m es w first′ size′ m′ es′ w′ apart g h i j e =
     let p = inside holder first size m es w g i in
     let q = inside holder first′ size′ m′ es′ w′ h j in
-    ⊎-elim (λ (k : first + size ≤ first′). omega (arith, p .1, q .0, e, k)) (λ (k : first′ + size′ ≤ first). omega
-    (arith, p .0, q .1, e, k)) apart
+    ⊎-elim (λ k. omega (arith, p .1, q .0, e, k)) (λ k. omega (arith, p .0, q .1, e, k)) apart

@@ -46,6 +46,9 @@ fn begin(file: i32, memory: &[u8]) -> Resuming {
         return failed();
     }
     let len = io::count(got, &bytes);
+    if 0 < len && !may_be_header(&bytes) {
+        return damaged();
+    }
     let result = resume_header(memory, tool_text::first(&bytes, len));
     after(result, 0, len, follows(file, 16))
 }
@@ -125,6 +128,25 @@ fn at(reading: Reading, ledger: Ledger, check: u32, whole: usize, cut: usize) ->
         whole,
         cut,
     }
+}
+
+// Whether bytes that a header was cut to could be one, with zeros after them: no other file is cut to nothing.
+fn may_be_header(bytes: &[u8; 16]) -> bool {
+    is_or_none(bytes[0], 0x50)
+        && is_or_none(bytes[1], 0x48)
+        && is_or_none(bytes[2], 0x4c)
+        && is_or_none(bytes[3], 0x4a)
+}
+
+fn is_or_none(byte: u8, letter: u8) -> bool {
+    byte == letter || byte == 0
+}
+
+// A file of another kind.
+fn damaged() -> Resuming {
+    let opened = Ledger::open(0, 0, b"");
+    let ledger = opened.ledger;
+    at(Reading::Refused(address_journal::DAMAGED), ledger, 0, 0, 0)
 }
 
 fn failed() -> Resuming {
