@@ -1,7 +1,7 @@
 -- One turn of each loop over the bytes or the places: what is left from here is one thing and what is left from the next on.
 use Prim.Native.Nat.{ℕ, zero, suc, _+_, _-_, _*_, _≤_, _<_}
-use mathlib.Core.Path.{_≡_, refl, ap}
-use mathlib.Core.Bool.{Bool, true, false, _&&_}
+use mathlib.Core.Path.{_≡_, refl, sym, ap}
+use mathlib.Core.Bool.{Bool, true, false, _&&_, and-false}
 use mathlib.Core.List.{List, [], _∷_}
 use native.Mathlib.Omega.{arith}
 use native.Mathlib.Nat.{add-zero, zero-add}
@@ -30,6 +30,19 @@ unfolding same
 same-end at i m b h =
     let e : 8 - i ≡ 0 = omega arith in
     rw e
+
+same-differs : (n i : ℕ) (s b : List ℕ) → i < n → (getD s i 0 ≡ getD b i 0 → ⊥) → same n s b ≡ false
+unfolding same
+same-differs zero i s b h d = absurd (omega arith)
+same-differs (suc n) zero s b h d = rw (ne-eqb (getD s 0 0) (getD b 0 0) d)
+same-differs (suc n) (suc i) s b h d =
+    let e : 1 + i ≡ suc i = omega arith in
+    rw (same-differs n i (drop 1 s) (drop 1 b) (omega arith) (rw (getD-drop 1 s i 0, getD-drop 1 b i 0, e) d))
+    (and-false (eqb (getD s 0 0) (getD b 0 0)))
+
+-- the last byte differs
+pub last-differs : (at : ℕ) (m b : List ℕ) → (getD m (at + 7) 0 ≡ getD b 7 0 → ⊥) → false ≡ same 8 (drop at m) b
+last-differs at m b d = sym (same-differs 8 7 (drop at m) b (omega arith) (rw (getD-drop at m 7 0) d))
 
 same-take : (n : ℕ) (s b : List ℕ) → same n (take n s) b ≡ same n s b
 unfolding same

@@ -18,11 +18,14 @@ pub enum SlotFound {
     Nothing,
 }
 
-// Whether the board's bytes stand from `at` on.
+// Whether the board's bytes stand from `at` on. The last byte is compared first: boards of one maker have the same first bytes.
 fn is_board(memory: &[u8], at: usize, board: &[u8; 8]) -> bool
     requires { ⌜ at + 8 ≤ length (now memory) ⌝ }
     ensures { λ r. ⌜ r ≡ same 8 (drop at (now (memory .entry))) (now (board .entry)) ⌝ }
 {
+    if memory[at + 7] != board[7] {
+        return false;
+    }
     let mut i: usize = 0;
     while i < 8 {
         if memory[at + i] != board[i] {
