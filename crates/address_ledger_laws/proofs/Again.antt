@@ -80,7 +80,8 @@ module _ (l : Ledger) (m c : List ℕ) (f : Accepted ≡ judgedOf l m) (y : has 
   module _ (a : ℕ) (d : Freed l m a) where
     found : (r : Refusal) → granted l m c .answer ≡ Refused r → ⊥
     found r e =
-        some-marked 64 ((a - l .first) / 64) (l .summary) 0 (placesOf l m) (omega (arith, d .below, in-use l m f .size)) (d .mark) (d .vacant)
+        let inside : (a - l .first) / 64 < 64 = omega (arith, d .below, in-use l m f .size) in
+        some-marked 64 ((a - l .first) / 64) (l .summary) 0 (placesOf l m) inside (d .mark) (d .vacant)
         (refused-by r (freeBy 64 (l .summary) 0 (placesOf l m)) (rw led at e))
 
     found-lowest : l .first + lowest isFree (placesOf l m) ≡ a → granted l m c .answer ≡ Address a

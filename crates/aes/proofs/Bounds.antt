@@ -95,7 +95,8 @@ times-byte : (count a b : ℕ) → b < 256 → times count a b < 256
 unfolding times
 times-byte zero a b h = omega arith
 times-byte (suc count) a b h =
-    xor-byte (a % 2 * b) (times count (a / 2) (xtime b)) (scaled (a % 2) b (omega arith) h) (times-byte count (a / 2) (xtime b) (times-x b h))
+    xor-byte (a % 2 * b) (times count (a / 2) (xtime b)) (scaled (a % 2) b (omega arith) h)
+    (times-byte count (a / 2) (xtime b) (times-x b h))
 
 product : (a b : ℕ) → b < 256 → a • b < 256
 unfolding _•_

@@ -39,7 +39,8 @@ fn turn_thrice(w: u32) -> u32
     w % 256 * 16777216 + w / 256
 }
 
-// One column after a round, which over a right table is SubBytes, MixColumns and AddRoundKey: a to d are the columns from which ShiftRows takes its rows.
+// One column after a round, which over a right table is SubBytes, MixColumns and AddRoundKey: a to d are the columns from which ShiftRows
+// takes its rows.
 pub(crate) fn column(t: &[u32; 256], a: u32, b: u32, c: u32, d: u32, k: u32) -> u32
     ensures { λ r. ⌜ bytesOf r ≡ plus (picked (spreadBy (now (t .entry))) a b c d) (bytesOf k) ⌝ }
 {

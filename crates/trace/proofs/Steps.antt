@@ -27,8 +27,8 @@ isEnd end = 1
 isEnd bad = 0
 isEnd (got r) = 0
 
-clash : (g : Reading) → g ≡ end → isEnd g ≡ 1
-clash g z = rw z
+not-end : (g : Reading) → isEnd g ≡ 0 → g ≡ end → ⊥
+not-end g e z = let f : isEnd g ≡ 1 = ap isEnd z in omega arith
 
 module _ (law : EntriesSay) (trace : List ℕ) (at : ℕ) (s : State) where
   further : (g : Reading) → reading (drop at trace) ≡ g → (g ≡ end → ⊥) → at < length trace
@@ -38,12 +38,12 @@ module _ (law : EntriesSay) (trace : List ℕ) (at : ℕ) (s : State) where
       → StepSays trace at s (advance (got r) at s)
   unfolding advance
   by-record r true a e = rw a (record {
-    complete = sym (lt-leb (length trace) at (further (got r) e (λ (z : got r ≡ end). let e : _≡_ {A = ℕ} 0 1 = clash (got r) z in omega arith)));
+    complete = sym (lt-leb (length trace) at (further (got r) e (not-end (got r) refl)));
     stays = λ (h : true ≡ false). (cc, cc);
     goes = λ h. ap (λ (k : ℕ). at + recordSize k) (sym (first-byte law (drop at trace) r e));
   })
   by-record r false a e = rw a (record {
-    complete = sym (lt-leb (length trace) at (further (got r) e (λ (z : got r ≡ end). let e : _≡_ {A = ℕ} 0 1 = clash (got r) z in omega arith)));
+    complete = sym (lt-leb (length trace) at (further (got r) e (not-end (got r) refl)));
     stays = λ h. (refl, refl);
     goes = λ (h : false ≡ true). cc;
   })
@@ -56,7 +56,7 @@ module _ (law : EntriesSay) (trace : List ℕ) (at : ℕ) (s : State) where
     goes = λ (h : false ≡ true). cc;
   }
   by-reading bad e t = record {
-    complete = sym (lt-leb (length trace) at (further bad e (λ (z : bad ≡ end). let e : _≡_ {A = ℕ} 0 1 = clash bad z in omega arith)));
+    complete = sym (lt-leb (length trace) at (further bad e (not-end bad refl)));
     stays = λ h. (refl, refl);
     goes = λ (h : false ≡ true). cc;
   }

@@ -86,8 +86,8 @@ module _ (b : List ℕ) where
       let from2 = cond (eqb k 2) (start b) from3 in
       either (Says k) (eqb k 1) (newNode b) from2 (of-kind k 1 (newNode b) new-says) (λ _.
       either (Says k) (eqb k 2) (start b) from3 (of-kind k 2 (start b) (λ n. record { kind-is = refl; numbers = refl })) (λ _.
-      either (Says k) (eqb k 3) (delivery (deliveryOf false) b) from4 (of-kind k 3 (delivery (deliveryOf false) b) (delivery-says false)) (λ _.
-      either (Says k) (eqb k 4) (delivery (deliveryOf true) b) from5 (of-kind k 4 (delivery (deliveryOf true) b) (delivery-says true)) (λ _.
+      either (Says k) (eqb k 3) (delivery (deliveryOf false) b) from4 (of-kind k 3 _ (delivery-says false)) (λ _.
+      either (Says k) (eqb k 4) (delivery (deliveryOf true) b) from5 (of-kind k 4 _ (delivery-says true)) (λ _.
       either (Says k) (eqb k 5) (verified b) from6 (of-kind k 5 (verified b) verified-says) (λ _.
       either (Says k) (eqb k 6) (poll b) Bad (of-kind k 6 (poll b) (λ n. record { kind-is = refl; numbers = refl })) (λ _. bad-says k))))))
 
