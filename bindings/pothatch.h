@@ -44,8 +44,9 @@
  *   made anew keys that it had before, and never send with a replayed node, whose counters are 0. pothatch_seal does not remember
  *   nonces: use each once under a key.
  *
- * SIDE CHANNELS. AES uses a table of 256 bytes and is not constant-time: on a processor with a data cache its time may depend on key and
- *   data. Comparing a tag does not stop at the first byte that differs. Other calls make no promise about time either.
+ * SIDE CHANNELS. AES looks up tables of 256 entries by bytes that depend on the key, so it is not constant-time: on a processor with a
+ *   data cache its time may depend on key and data. Comparing a tag or a proxy's key does not stop at the first byte that differs;
+ *   comparing link keys does. No call promises anything about time.
  *
  * STACK. The stack that each call needs is in docs/PERFORMANCE.md; docs/FIRMWARE.md says what a board stores, and when. */
 #ifndef POTHATCH_H

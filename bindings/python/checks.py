@@ -111,6 +111,9 @@ def words(lib):
         method = getattr(p.Library, name)
         hints = set(inspect.signature(method).parameters) - {"self", "words"} <= set(method.__annotations__)
         check("%s is described" % name, method.__doc__ and hints and "return" in method.__annotations__)
+    p.LAYOUT += 1
+    raises("a library of another layout", p.LayoutError, p.Library, *sys.argv[1:2])
+    p.LAYOUT -= 1
     for struct in p.KINDS.values():
         check("alignment", ctypes.alignment(struct) == 1)
 
