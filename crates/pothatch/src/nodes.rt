@@ -1,4 +1,4 @@
-// Nodes. The codes come as wide numbers, so that C cuts none off; one that no byte holds is as undefined as the last byte.
+// Nodes. Codes are wide numbers, so that C truncates none; a number that does not fit a byte is an undefined code.
 use crate::wide::code_of;
 use crate::wide::identifier_of;
 ghost use Rattle.node_calls.specs.Calls.{Makes, Starts, Does, Changes, Tells, Gives};

@@ -71,7 +71,8 @@ pub fn proxy_issue(
     if !is_proxy(proxy) {
         return RANGE;
     }
-    let done = proxy_in(proxy).issue(array_8_at(interface, 0), port as u16, token, dst);
+    let number = port as u16;
+    let done = proxy_in(proxy).issue(array_8_at(interface, 0), number, token, dst);
     let written = done.written;
     let after = done.proxy;
     match written {

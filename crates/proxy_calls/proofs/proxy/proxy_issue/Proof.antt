@@ -39,6 +39,12 @@ returns-2 c =
     (granted (at-if1 .before .issue-fits .ensures) (at-if1 .if1 .left))
     (denied (at-is-proxy .is-proxy .ensures) (c .if2 .taken)))
 
+cast-number : tie.Need-cast-number
+cast-number c =
+    let at-if1 = c .before .before .before in
+    let a = at-if1 .before .before .before .before .before .before .args in
+    omega (arith, two-bytes (a .interface .now) (a .port) (granted (at-if1 .before .issue-fits .ensures) (at-if1 .if1 .left)))
+
 proxy-in-requires : tie.Need-proxy-in-requires
 proxy-in-requires c κs =
     let at-if2 = c .before in
@@ -51,12 +57,6 @@ array-8-at-requires c κs =
     let at-if1 = c .before .before .before .before .before in
     let a = at-if1 .before .before .before .before .before .before .args in
     omega (arith, eight (a .interface .now) (a .port) (granted (at-if1 .before .issue-fits .ensures) (at-if1 .if1 .left)))
-
-cast-issue : tie.Need-cast-issue
-cast-issue c =
-    let at-if1 = c .before .before .before .before .before .before in
-    let a = at-if1 .before .before .before .before .before .before .args in
-    omega (arith, two-bytes (a .interface .now) (a .port) (granted (at-if1 .before .issue-fits .ensures) (at-if1 .if1 .left)))
 
 issue-requires : tie.Need-issue-requires
 issue-requires c κs = search needs
@@ -140,9 +140,9 @@ proxy-issue-spec =
     is-proxy-requires
     same-length
     returns-2
+    cast-number
     proxy-in-requires
     array-8-at-requires
-    cast-issue
     issue-requires
     enum-told
     put-proxy-requires
