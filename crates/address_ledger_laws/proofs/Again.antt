@@ -1,14 +1,14 @@
 -- A freed address is granted again: giving back marks its group, whatever the summary said before, so a board that holds none is led to a
 -- free place; and where every lower address is held, the lowest free place is in that group, and it is the freed one.
 use Prim.Native.Nat.{ℕ, _+_, _-_, _*_, _/_, _≤_, _<_}
-use mathlib.Core.Path.{_≡_, refl, sym, ap, _∙_}
+use mathlib.Core.Path.{_≡_, refl, sym, _∙_}
 use mathlib.Core.Bool.{Bool, true, false}
 use mathlib.Core.List.{List}
 use native.Mathlib.Omega.{arith}
 use native.Mathlib.Nat.{zero-add}
 use borrow.Author.Tests.{ltb-true, ltb-false}
 use lib.Dec.{ltb}
-use lib.ListN.{length, drop, set}
+use lib.ListN.{drop}
 use Rattle.address_slots.specs.SlotLemmas.{length-slots}
 use Rattle.refusal.specs.declared.Refusal.{Refusal}
 use Rattle.refusal.specs.declared.Verdict.the-variants.{Accepted}

@@ -8,7 +8,7 @@ use native.Mathlib.Omega.{arith}
 use native.Mathlib.Nat.{zero-add}
 use borrow.Author.Tests.{lt-ltb, le-ltb, ltb-true, ltb-false}
 use lib.ListN.{length, take, drop, set, length-take, length-drop}
-use Rattle.address_slots.specs.Slot.{Slot, slots, isFree, lowest, has, slotFound}
+use Rattle.address_slots.specs.Slot.{Slot, isFree, lowest, has, slotFound}
 use Rattle.address_slots.specs.Marks.{marked, groupAt, marksOf, freeBy, slotFoundBy}
 use Rattle.address_slots.specs.declared.slot.SlotFound.{SlotFound}
 use Rattle.address_slots.specs.declared.slot.SlotFound.the-variants.{Free, Nothing}

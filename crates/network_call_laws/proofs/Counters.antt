@@ -1,15 +1,13 @@
 -- The board's struct holds the node all along, and what it hands back is what the node answers: so the node's law speaks of it.
-use Prim.Native.Nat.{ℕ, _<_}
+use Prim.Native.Nat.{ℕ}
 use mathlib.Core.Path.{_≡_, refl, ap, sym, _∙_, subst}
-use mathlib.Core.Bool.{true}
 use mathlib.Core.List.{List, [], _∷_, append-nil}
 use native.Mathlib.Omega.{arith}
 use Rattle.refusal.specs.Refusal.{Numbered}
 use Rattle.refusal.specs.Verdict.{verdictNumber}
-use Rattle.refusal.specs.declared.Verdict.the-variants as verdict
 use Rattle.byte_io.specs.BigEndian.{digits, bytesOf}
 use Rattle.cojp.specs.Octets.{padded}
-use Rattle.image.specs.Part.{AllBytes, RoundTrips}
+use Rattle.image.specs.Part.{RoundTrips}
 use Rattle.link_key.specs.declared.Key.{Key}
 use Rattle.protocol_version.specs.declared.Version.the-variants.{Draft}
 use Rattle.node.specs.Frames.{send, sendCounter}
@@ -17,7 +15,7 @@ use Rattle.node.specs.Node.{made}
 use Rattle.node.specs.declared.node.Node.{Node}
 use Rattle.node_image.specs.Answers.{frameKeyImage}
 use Rattle.node_image.specs.Node.{nodeImage}
-use Rattle.node_laws.specs.Calls.{NodeCall, sending, Object, counted, perform}
+use Rattle.node_laws.specs.Calls.{NodeCall, sending, counted, perform}
 use Rattle.node_call_laws.specs.Fits.{Callable, CallsFit}
 use Rattle.node_history_laws.specs.counters.Example as example
 use Rattle.node_history_laws.specs.counters.Example.{cafe, key, joining, kept, alone, beside, CountersExample}
@@ -29,7 +27,7 @@ use Rattle.network_call_laws.specs.Turn.{Accepted}
 use Rattle.network_call_laws.proofs.Boards.{Holds, makes, from-image, load}
 use Rattle.network_call_laws.proofs.ByteLists.{bytes-by}
 use Rattle.network_call_laws.proofs.Playing.{call}
-use Rattle.network_call_laws.proofs.Turns.{Sent, send-number, sends}
+use Rattle.network_call_laws.proofs.Turns.{send-number, sends}
 
 -- ---- any calls can be made, one after the other
 abbrev AllCallable : List NodeCall → Type 0

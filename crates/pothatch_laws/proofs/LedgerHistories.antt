@@ -1,11 +1,11 @@
 -- A shift in C is a history of the ledger in which each call is handed the count and the summary of its struct; a board of another length
 -- is refused and is left out of it. So the ledger's laws speak of what the program was answered.
-use Prim.Native.Nat.{ℕ, _+_, _*_, _<_}
+use Prim.Native.Nat.{ℕ, _+_}
 use mathlib.Core.Path.{_≡_, refl, ap, ap₂, sym, _∙_, subst}
 use mathlib.Core.Bool.{Bool, true, false}
 use mathlib.Core.List.{List, [], _∷_, _++_, List·Memᴰ}
 use native.Mathlib.Omega.{arith}
-use borrow.Author.Tests.{eqb-true, eq-eqb, ne-eqb}
+use borrow.Author.Tests.{eq-eqb, ne-eqb}
 use lib.Dec.{eqb}
 use lib.ListN.{length}
 use Rattle.lemmas.specs.logic.Tests.{both-true}
@@ -30,7 +30,7 @@ use Rattle.address_ledger_laws.specs.Laws.{HeldAndFree, OneHolder, SameAgain}
 use Rattle.state_image.specs.Ledger.{ledgerImage}
 use Rattle.ledger_calls.specs.Ledger.{LedgerDid, boardFits}
 use Rattle.pothatch_laws.specs.LedgerHistory.{OfRange, BoardCall, asks, gives, callOf, heldAfter, Shift, over, then}
-use Rattle.pothatch_laws.specs.LedgerHistory.{FreshMemory, AfterShift, LedgerHistories}
+use Rattle.pothatch_laws.specs.LedgerHistory.{FreshMemory, LedgerHistories}
 
 -- ---- a refusal's number is not 0
 some-number : (k : Refusal) → numberOf k ≡ 0 → ⊥

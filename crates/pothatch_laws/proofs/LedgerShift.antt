@@ -1,9 +1,8 @@
 -- The shift of the example, computed call by call.
-use Prim.Native.Nat.{ℕ, zero, suc, _*_, _<_}
+use Prim.Native.Nat.{ℕ, zero, suc, _*_}
 use mathlib.Core.Path.{_≡_, refl}
 use mathlib.Core.List.{List, _∷_, _++_}
 use native.Mathlib.Omega.{arith}
-use borrow.Author.Tests.{eqb-false}
 use lib.ListN.{getD, replicate}
 use Rattle.byte_io.specs.BigEndian.{digits, bytesOf}
 use Rattle.short_address.specs.Address as address

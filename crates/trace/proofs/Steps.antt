@@ -1,6 +1,6 @@
 -- A step by what is read at its place: the trace's end is read where no byte is left and nowhere else, and a record's first byte tells
 -- how far it goes.
-use Prim.Native.Nat.{ℕ, _+_, _≤_, _<_}
+use Prim.Native.Nat.{ℕ, _+_, _<_}
 use mathlib.Core.Path.{_≡_, refl, sym, ap}
 use mathlib.Core.Bool.{Bool, true, false}
 use mathlib.Core.List.{List, [], _∷_}
