@@ -1,8 +1,8 @@
 -- The node of an image is read at its places, and judged test after test.
-use Prim.Native.Nat.{ℕ, _+_, _<_, _≤_}
-use mathlib.Core.Path.{_≡_, refl, ap, sym, _∙_}
-use mathlib.Core.Bool.{Bool, true, false, not, _&&_, and-false}
-use mathlib.Core.List.{List, [], _∷_}
+use Prim.Native.Nat.{ℕ, _<_, _≤_}
+use mathlib.Core.Path.{_≡_, ap, sym, _∙_}
+use mathlib.Core.Bool.{Bool, true, false, _&&_}
+use mathlib.Core.List.{List}
 use borrow.Author.Tests.{lt-leb}
 use lib.ListN.{length, take, drop, getD, length-drop}
 use lib.Seq.{drop-drop, getD-drop, take-length, take-take, length-take-le}
@@ -16,18 +16,16 @@ use Rattle.capi_judge.specs.Kept.{listIn}
 use Rattle.node_image.specs.Held.{heldListPart}
 use Rattle.object_image.specs.Codes.{boolPart}
 use Rattle.cojp.specs.ErrorReports.{errorReportsValid}
-use Rattle.protocol_version.specs.Version.{byVersion, allowsAdditionalInfo}
-use Rattle.protocol_version.specs.declared.Version.{Version}
+use Rattle.protocol_version.specs.Version.{allowsAdditionalInfo}
 use Rattle.protocol_version.specs.declared.Version.the-variants.{Draft, Published}
 use Rattle.key_image.specs.Key.{countedSetPart}
-use Rattle.node.specs.Node.{isBorder, clockOf, validRole}
+use Rattle.node.specs.Node.{isBorder, clockOf}
 use Rattle.node.specs.Range.{draftValid, publishedValid, versionValid, othersValid, valid}
 use Rattle.node.specs.declared.node.Node.{Node}
 use Rattle.node_attempt.specs.Attempt as attempt
-use Rattle.node_image.specs.Node.{setsPart, nodeImage}
+use Rattle.node_image.specs.Node.{nodeImage}
 use Rattle.node_key_sets.specs.Sets as sets
 use Rattle.node_parameters.specs.Lease.{validAddress}
-use Rattle.node_parameters.specs.Octets.{validOctets, validJrc}
 use Rattle.node_image.specs.NodeLemmas.{nodeAt, node-at}
 
 -- ---- three tests in a row, and four; the first that fails tells

@@ -1,22 +1,20 @@
 -- What the code reads of a key where it stands, and what the key's definitions say of it.
 use Prim.Native.Nat.{ℕ, zero, suc, _+_, _*_, _/_, _%_, _^_, _<_, _≤_}
-use mathlib.Core.Path.{_≡_, refl, ap, sym, _∙_}
-use mathlib.Core.Bool.{Bool, true, false, not, cond, _&&_, _||_}
+use mathlib.Core.Path.{_≡_, refl, ap, _∙_}
+use mathlib.Core.Bool.{Bool, true, false, not, cond, _&&_}
 use mathlib.Core.List.{List}
 use native.Mathlib.Omega.{arith}
 use native.Mathlib.Nat.{one-mul}
-use borrow.Author.Tests.{eq-eqb, ne-eqb, le-leb, lt-leb}
+use borrow.Author.Tests.{eq-eqb, le-leb, lt-leb}
 use lib.Bits.{bitOr}
 use lib.Dec.{leb, eqb}
 use lib.ListN.{length, take, drop, getD, set, length-drop}
 use lib.Pow.{shl-exact}
 use lib.Seq.{getD-drop, drop-drop, length-take-le}
-use Rattle.key_image.specs.AdditionalInfo.{additionalInfoPart}
 use Rattle.key_image.specs.Key.{keyPart}
 use Rattle.link_key.specs.AdditionalInfo.{noAdditionalInfo}
 use Rattle.link_key.specs.Key.{validKey, hasNoAdditionalInfo}
 use Rattle.link_key.specs.declared.Key.{Key}
-use Rattle.link_key.specs.declared.additional_info.AdditionalInfo.{AdditionalInfo}
 use Rattle.link_key.specs.declared.additional_info.AdditionalInfo.the-variants.{Absent, Four, Eight}
 use Rattle.link_key.specs.set.Seen.{flagged, flag, joins, noted}
 

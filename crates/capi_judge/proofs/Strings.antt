@@ -1,13 +1,13 @@
 -- Byte strings with shortest heads, one after the other, are what is written of them.
-use Prim.Native.Nat.{ℕ, zero, suc, _+_, _-_, _*_, _/_, _%_, _^_, _<_, _≤_}
+use Prim.Native.Nat.{ℕ, zero, suc, _+_, _-_, _%_, _<_, _≤_}
 use mathlib.Core.Path.{_≡_, refl, ap, sym, _∙_}
 use mathlib.Core.Bool.{Bool, true, false, cond, _&&_, and-false}
 use mathlib.Core.List.{List, [], _∷_, _++_, append-assoc}
 use native.Mathlib.Omega.{arith}
-use borrow.Author.Tests.{eq-eqb, ne-eqb, eqb-true, eqb-false, ltb-true, ltb-false, lt-ltb, le-leb, lt-leb, leb-true, leb-false}
+use borrow.Author.Tests.{eq-eqb, ne-eqb, eqb-true, eqb-false, ltb-false, lt-ltb, le-leb, lt-leb, leb-false}
 use lib.Dec.{leb, eqb, ltb}
-use lib.ListN.{length, take, drop, getD, length-append, length-take, length-drop, take-append-drop, drop-of-length-le}
-use lib.Seq.{drop-append-seam, drop-cons, getD-drop, drop-drop, take-length, take-append-seam, length-take-le}
+use lib.ListN.{length, take, drop, getD, length-append, length-drop, take-append-drop}
+use lib.Seq.{drop-append-seam, getD-drop, drop-drop, take-length, take-append-seam, length-take-le}
 use Rattle.lemmas.specs.lists.Same.{same}
 use Rattle.lemmas.specs.lists.SameLemmas.{same-equal}
 use Rattle.cbor.specs.Decode.{Outcome, got, refused, heading, decode, majorOf}
@@ -16,12 +16,12 @@ use Rattle.cbor.specs.Encode.{infoOf, extraOf, shortest, encode}
 use Rattle.cbor.specs.Item.{Item, bytes}
 use Rattle.cbor.specs.View.{Scalar, number, minus, string, other, scalarAt, andOn, valueAnswer}
 use Rattle.cbor.specs.Laws.{ItemLaws}
-use Rattle.cojp.specs.Bytes.{membersAt, memberOf, memberAnswer, Neither, MemberAt, MemberSpec}
+use Rattle.cojp.specs.Bytes.{membersAt, memberOf, Neither, MemberAt, MemberSpec}
 use Rattle.cojp.specs.Lists.{Picked, nothing, picked, before, fitting, written, stringsIn, listAnswer, sameAs, kept}
 use Rattle.cojp.specs.Octets.{padded}
 use Rattle.cojp.specs.declared.members.Member.{Member}
 use Rattle.cojp.specs.declared.members.Member.the-variants as mv
-use Rattle.lemmas.specs.logic.Tests.{both-left, both-right, both, never}
+use Rattle.lemmas.specs.logic.Tests.{both-left, both-right, never}
 use Rattle.capi_judge.specs.Kept.{listIn, shortAt, madeOf}
 
 -- ---- bytes compared

@@ -20,7 +20,6 @@ use Rattle.link_key.specs.set.KeySet.{keysOf, findKey}
 use Rattle.node_image.specs.Node.{setsPart}
 use Rattle.node_image.specs.PlaceLemmas.{first-at}
 use Rattle.node_key_sets.specs.Frames.{withKey, withoutKey, orElse, heldKey, receivingKey}
-use Rattle.node_key_sets.specs.declared.frames.KeyAnswer.{KeyAnswer}
 use Rattle.node_key_sets.specs.declared.sets.KeySets.{KeySets}
 use Rattle.refusal.specs.declared.Refusal.the-variants as refusal
 

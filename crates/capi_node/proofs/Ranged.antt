@@ -11,10 +11,9 @@ use Rattle.image.specs.Part.{isImage}
 use Rattle.lemmas.specs.logic.Tests.{both-left, both-right, never}
 use Rattle.node.specs.Frames as frames
 use Rattle.node.specs.Lease.{holds}
-use Rattle.node.specs.Node.{attempting, keyed}
+use Rattle.node.specs.Node.{attempting}
 use Rattle.node.specs.Range.{valid}
 use Rattle.node.specs.Timing.{poll, polled, polledBy}
-use Rattle.node.specs.declared.frames.VerifyResult.{VerifyResult}
 use Rattle.node.specs.declared.lease.LeaseStatus.{LeaseStatus}
 use Rattle.node.specs.declared.lease.LeaseStatus.the-variants as lease
 use Rattle.node.specs.declared.node.Node.{Node}

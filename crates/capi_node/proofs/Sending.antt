@@ -2,7 +2,7 @@
 use Prim.Native.Nat.{ℕ, _+_, _<_, _≤_}
 use mathlib.Core.Bool.{Bool, true, false, cond, _&&_}
 use mathlib.Core.List.{List}
-use mathlib.Core.Option.{Option, none, some}
+use mathlib.Core.Option.{none, some}
 use mathlib.Core.Path.{_≡_, refl, ap, sym, subst, _∙_}
 use borrow.Author.Tests.{eq-eqb, ne-eqb, le-leb, lt-leb, lt-ltb, le-ltb}
 use lib.ListN.{length, drop, set, replicate}
@@ -11,8 +11,7 @@ use Rattle.image.specs.Lent.{hands-unfit, hands-none, hands-told}
 use Rattle.image.specs.Part.{AllBytes, RoundTrips, isImage}
 use Rattle.key_image.specs.Key.{countedSetPart}
 use Rattle.lemmas.specs.logic.Tests.{never}
-use Rattle.link_key_counters.specs.Counters.{Slot, takeCounter, takenCounterOn, firstServing}
-use Rattle.link_key_counters.specs.declared.CountedSet.{CountedSet}
+use Rattle.link_key_counters.specs.Counters.{takeCounter, firstServing}
 use Rattle.node.specs.Frames.{sending, sentBy, unsent, receive, verified, reported, reportedBy}
 use Rattle.node.specs.Node.{keyed}
 use Rattle.node.specs.Range.{valid}
@@ -32,7 +31,6 @@ use Rattle.node_key_sets.specs.declared.frames.KeyAnswer.{KeyAnswer}
 use Rattle.node_key_sets.specs.declared.sets.KeySets.{KeySets}
 use Rattle.refusal.specs.Verdict.{verdictNumber}
 use Rattle.refusal.specs.declared.Refusal.the-variants as refusal
-use Rattle.refusal.specs.declared.Verdict.{Verdict}
 use Rattle.capi_node.specs.Calls.{nodeIn, changeIn, ReceivesIn, SendsIn}
 use Rattle.capi_node.specs.Slots.{keyAt, counterAt, slotAt}
 use Rattle.capi_node.proofs.Ranged.{out-of-range, judged, image-so, valid-so}

@@ -15,14 +15,13 @@ use Rattle.link_key.specs.declared.FoundKey.{FoundKey}
 use Rattle.link_key.specs.declared.Key.{Key}
 use Rattle.link_key.specs.set.KeyLaws.{KeyLaws}
 use Rattle.link_key.specs.set.KeySet.{has, findKey}
-use Rattle.node_key_sets.specs.Frames.{Effect, switched, effect, effectBy, verifiedIn, receivingKey, hasSwitched}
+use Rattle.node_key_sets.specs.Frames.{switched, effect, verifiedIn, receivingKey, hasSwitched}
 use Rattle.node_key_sets.specs.Sets.{activeIn}
 use Rattle.node_key_sets.specs.declared.frames.Change.{Change}
 use Rattle.node_key_sets.specs.declared.frames.Change.the-variants as change
 use Rattle.node_key_sets.specs.declared.frames.KeyAnswer.{KeyAnswer}
 use Rattle.node_key_sets.specs.declared.sets.KeySets.{KeySets}
 use Rattle.refusal.specs.declared.Refusal.{Refusal}
-use Rattle.refusal.specs.declared.Verdict.{Verdict}
 use Rattle.refusal.specs.declared.Verdict.the-variants as verdict
 
 -- ---- copying

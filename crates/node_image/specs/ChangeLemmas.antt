@@ -1,19 +1,18 @@
 -- Lemmas: nothing here has to be believed.
 -- What stands in an image is what its node is put as; so where a part is written anew, the bytes before and behind it are already right.
-use Prim.Native.Nat.{ℕ, suc, _+_, _*_, _-_, _<_, _≤_}
+use Prim.Native.Nat.{ℕ, suc, _+_, _*_, _-_, _<_}
 use mathlib.Core.Bool.{true}
 use mathlib.Core.List.{List, [], _∷_, _++_, append-assoc}
 use mathlib.Core.Path.{_≡_, refl, ap, sym, _∙_}
 use native.Mathlib.Omega.{arith}
 use lib.Dec.{eqb}
-use lib.ListN.{length, take, drop, getD, set, replicate, length-append, length-take, length-drop}
+use lib.ListN.{length, take, drop, getD, set, replicate, length-append, length-take}
 use lib.Seq.{take-all, take-at, drop-at, drop-drop}
 use Rattle.byte_io.specs.BigEndian.{bytesOf}
 use Rattle.byte_io.specs.BigEndianLemmas.{length-bytesOf}
 use Rattle.byte_io.specs.Write.{Wrote}
-use Rattle.image.specs.CodecLaws.{number-lawful, times-lawful}
 use Rattle.image.specs.Lent.{long}
-use Rattle.image.specs.Part.{AllBytes, RoundTrips, Fits, number, puts, times, isImage}
+use Rattle.image.specs.Part.{AllBytes, RoundTrips, number, puts, times, isImage}
 use Rattle.image.specs.PartLemmas.{puts-set, puts-split, over}
 use Rattle.key_image.specs.Key.{keySetPart, countedSetPart}
 use Rattle.key_image.specs.Laws.{KeyImages}
@@ -108,14 +107,6 @@ module _ (l : RoundTrips nodeImage) (s : List ℕ) (b : AllBytes s) (image : isI
     further : length before ≡ 246
     further =
         omega (arith, far, length-append front (keySetPart .put (n .sets .active .set)), k .key-set .sized (n .sets .active .set) (fit .0))
-
-    pub counters-over : (cs : List ℕ) {e : List ℕ} → Wrote (times 8 (number 4) .put cs) (take (length s - 246) (drop 246 s)) 32 e
-        → take 246 s ++ (e ++ drop (length s - 246) (drop 246 s)) ≡ nodeImage .put (recounted n cs)
-    counters-over cs w =
-        over before (times 8 (number 4) .put counters) behind (times 8 (number 4) .put cs)
-        (stands ∙ grouped counters) further
-        (times-lawful (number 4) (number-lawful 4) 8 .sized counters (fit .1)) w
-        ∙ sym (grouped cs)
 
     -- one counter of the active set
     module _ (i : ℕ) (few : i < 8) (x : ℕ) where

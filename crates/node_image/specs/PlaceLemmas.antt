@@ -7,7 +7,6 @@ use mathlib.Core.Path.{_≡_, ap, ap₂, sym, _∙_}
 use native.Mathlib.Omega.{arith}
 use lib.ListN.{drop, getD}
 use lib.Seq.{drop-drop, getD-drop}
-use Rattle.byte_io.specs.Write.{Wrote}
 use Rattle.image.specs.Fields.{and-good}
 use Rattle.image.specs.Part.{Part, both}
 

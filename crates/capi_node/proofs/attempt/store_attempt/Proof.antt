@@ -1,5 +1,4 @@
 -- The attempt is written over the one in the image, and the other bytes are already right.
-use mathlib.Core.Path.{_∙_, ap, sym}
 use native.Mathlib.Omega.{arith}
 use Rattle.image.specs.Lent.{long}
 use Rattle.node_image.specs.ChangeLemmas.{attempt-over}

@@ -1,7 +1,6 @@
 -- The active set is searched first.
 use native.Mathlib.Omega.{arith}
 use Rattle.capi_node.proofs.Finding.{held-active, held-pending}
-use borrow.Author.Needs.{needs}
 use Rattle.capi_node.proofs.find.held_key_in.Statement.{statement}
 use Rattle.capi_node.proofs.find.held_key_in.Tie as tie
 

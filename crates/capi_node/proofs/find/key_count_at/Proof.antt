@@ -1,5 +1,4 @@
 -- The count is the first byte; over 8 all eight keys are meant.
-use Prim.Native.Nat.{_≤_}
 use native.Mathlib.Omega.{arith}
 use Rattle.capi_node.proofs.Finding.{few-keys, all-keys}
 use borrow.Author.Needs.{needs}

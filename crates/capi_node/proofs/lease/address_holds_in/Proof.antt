@@ -1,5 +1,5 @@
 -- The node is judged first; then the clock decides, and the address.
-use mathlib.Core.Path.{ap, ap₂, _∙_}
+use mathlib.Core.Path.{ap₂, _∙_}
 use native.Mathlib.Omega.{arith}
 use Rattle.image.specs.Lent.{long}
 use Rattle.lemmas.specs.logic.Tests.{denied, granted}
