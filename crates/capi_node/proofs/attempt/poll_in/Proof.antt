@@ -61,7 +61,8 @@ returns-2 c =
       poll-due (start .args .node .now) (start .args .time) valid (at-poll .poll .result) (at-attempt-at .attempt-at .result)
           (at-attempt-at .attempt-at .ensures) (at-poll .poll .ensures),
       poll-node (start .args .node .now) (start .args .time) valid (at-poll .poll .result) (at-attempt-at .attempt-at .result)
-          (at-attempt-at .attempt-at .ensures) (at-poll .poll .ensures) (at-verdict .verdict .ensures) (at-store-attempt .store-attempt .ensures),
+          (at-attempt-at .attempt-at .ensures) (at-poll .poll .ensures) (at-verdict .verdict .ensures)
+          (at-store-attempt .store-attempt .ensures),
     )
 
 pub poll-in-spec : {M : Type 1} → statement M

@@ -57,8 +57,8 @@ loop-again c =
     let start = at-key-count-at .before .before in (
       omega (arith, at-loop-test .loop-test .taken),
       not-serving (start .args .s .now) (start .args .frame-type)
-          (at-key-count-at .key-count-at .result) (at-loop .loop .i) (at-loop-test .loop-test .taken) (at-key-count-at .key-count-at .ensures .0)
-          (at-loop .loop .inv .1) (at-serves-at .serves-at .ensures) (c .if1 .left),
+          (at-key-count-at .key-count-at .result) (at-loop .loop .i) (at-loop-test .loop-test .taken)
+          (at-key-count-at .key-count-at .ensures .0) (at-loop .loop .inv .1) (at-serves-at .serves-at .ensures) (c .if1 .left),
     )
 
 returns-2 : tie.Need-returns-2 Inv-loop μ-loop
