@@ -29,8 +29,9 @@ static double now(void) {
     return t.tv_sec * 1e9 + t.tv_nsec;
 }
 static void board_of(size_t number, uint8_t *board) {
-    uint64_t mixed = (number + 1) * 0x9e3779b97f4a7c15u;
-    memcpy(board, &mixed, 8);
+    /* the EUI-64s of one maker: only the last two bytes differ */
+    const uint8_t maker[8] = {0x00, 0x12, 0x4b, 0x00, 0x14, 0xb5, (uint8_t)(number >> 8), (uint8_t)number};
+    memcpy(board, maker, 8);
 }
 static void call(uint8_t kind, size_t number) {
     script[9 * calls] = kind;

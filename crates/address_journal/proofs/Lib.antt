@@ -4,3 +4,4 @@ pub mod Holding
 pub mod Dues
 pub mod Recording
 pub mod Steps
+pub mod Shares

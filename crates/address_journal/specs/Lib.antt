@@ -4,3 +4,4 @@ pub mod Held
 pub mod Entry
 pub mod EntryLemmas
 pub mod Resume
+pub mod Share

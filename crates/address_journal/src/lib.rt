@@ -6,6 +6,7 @@ mod due;
 mod format;
 mod held;
 mod resume;
+mod share;
 
 pub use calls::RecordedCall;
 pub use calls::give_back;
@@ -22,3 +23,5 @@ pub use resume::ResumeResult;
 pub use resume::ResumeStep;
 pub use resume::resume_header;
 pub use resume::resume_record;
+pub use share::Part;
+pub use share::part_of;

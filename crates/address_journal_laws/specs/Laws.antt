@@ -10,6 +10,7 @@ use Rattle.address_ledger.specs.declared.answer.AddressAnswer.the-variants.{Add
 use Rattle.address_ledger_laws.specs.History.{Holding, listed, addressOf, Begins}
 use Rattle.address_journal.specs.declared.resume.ResumeStep.the-variants.{Cut}
 use Rattle.address_journal.specs.Resume.{Restart, restart, resumed, resume}
+use Rattle.address_journal.specs.Share.{partOf}
 use Rattle.address_journal_laws.specs.Journal.{Change, callsOf, afterChanges, journalOf, checkAfter, wholeIn}
 use Rattle.address_journal_laws.specs.Journal.{Event, Program, programAfter, lasting, changes}
 
@@ -71,3 +72,9 @@ ApartFixtures =
     → Apart first size first′ size′
     → (g h : Holding) → List·Memᴰ g (holdings first size m es) → List·Memᴰ h (holdings first′ size′ m′ es′)
     → g .address ≡ h .address → ⊥
+
+-- ---- the parts of a range that fixtures share do not meet, whatever is asked for
+unfoldable pub SharesApart : Type 0
+SharesApart =
+    (first size n j k : ℕ) → j < k
+    → Apart (partOf first size j n .first) (partOf first size j n .size) (partOf first size k n .first) (partOf first size k n .size)

@@ -1,6 +1,6 @@
 // What holds of a journal over whole histories of calls and power cuts: claims about the definitions of `address_journal` and
 // `address_ledger`.
-ghost use Rattle.address_journal_laws.specs.Laws.{PrefixResumes, PowerCuts, ApartFixtures};
+ghost use Rattle.address_journal_laws.specs.Laws.{PrefixResumes, PowerCuts, ApartFixtures, SharesApart};
 ghost use Rattle.address_journal_laws.specs.Damage.{DamageFound};
 ghost use Rattle.address_journal_laws.specs.Example.{JournalExample};
 
@@ -30,6 +30,11 @@ pub fn apart_fixtures_law()
 {
     address_ledger_laws::one_holder_law();
 }
+
+// The parts of a range that several fixtures share do not meet.
+pub fn shares_apart_law()
+    ensures { λ _. ⌜ SharesApart ⌝ }
+{}
 
 // A record is taken only where its call appends it; with one changed byte it is not taken.
 pub fn damage_found_law()
