@@ -13,7 +13,6 @@ gcc -O2 -o "$work/peer" bench/journal.c -lsqlite3
     echo "open 4096 4096"
     for ((i = 0; i < grants; i++)); do printf 'grant 00124b0014b5%04x\n' "$i"; done
 } >"$work/script"
-least() { sort -n | head -n 1; }
 ours() {
     rm -f "$work/journal"
     local begun ended
@@ -27,6 +26,12 @@ theirs() {
     rm -f "$work"/table*
     "$work/peer" "$work/table" "$1" "$grants"
 }
-echo "ledger --journal      $(for r in 1 2 3 4 5; do ours; done | least) us"
-echo "SQLite, rollback      $(for r in 1 2 3 4 5; do theirs delete; done | least) us"
-echo "SQLite, WAL           $(for r in 1 2 3 4 5; do theirs wal; done | least) us"
+for round in 1 2 3 4 5; do
+    ours >>"$work/ours"
+    theirs delete >>"$work/rollback"
+    theirs wal >>"$work/wal"
+done
+least() { sort -n "$work/$1" | head -n 1; }
+echo "ledger --journal      $(least ours) us"
+echo "SQLite, rollback      $(least rollback) us"
+echo "SQLite, WAL           $(least wal) us"

@@ -25,10 +25,10 @@ def board(n):
     return "00124b0014b5%04x" % n
 
 
-def run(path, lines, **options):
+def run(path, lines, words=(), **options):
     """What the tool prints, line by line, and what it writes to standard error."""
     text = "".join(line + "\n" for line in lines)
-    done = subprocess.run([LEDGER, "--journal", path], input=text, capture_output=True, text=True, timeout=60, **options)
+    done = subprocess.run([LEDGER, "--journal", path, *words], input=text, capture_output=True, text=True, timeout=60, **options)
     return done.stdout.splitlines(), done.stderr
 
 
@@ -282,6 +282,21 @@ def commands(folder, data):
         fail("after the second process:", shown)
 
 
+def fixtures(folder):
+    given = []
+    for k in range(1, 5):
+        shown, _ = run(os.path.join(folder, "fixture%d" % k), ["open 4096 601"] + ["grant " + board(n) for n in range(151)], ["--fixture", str(k), "4"])
+        if shown[0] != "opened 150" or shown[-1] != "refused 17 FULL":
+            fail("fixture", k, ":", shown[0], shown[-1])
+        given += shown[1:-1]
+    if len(set(given)) != 600:
+        fail("four fixtures granted", len(set(given)), "addresses")
+    for k in ("0", "5", "x"):
+        shown, _ = run(os.path.join(folder, "fixture"), ["open 4096 600"], ["--fixture", k, "4"])
+        if shown != ["refused 13 RANGE"]:
+            fail("fixture", k, "of 4:", shown)
+
+
 def main():
     if not os.path.exists(LEDGER):
         sys.exit("target/bin/ledger is not built")
@@ -292,6 +307,7 @@ def main():
         cuts(folder, data)
         changes(folder, data)
         full_disk(folder)
+        fixtures(folder)
         other_files(folder, data)
         kills(folder)
     finally:

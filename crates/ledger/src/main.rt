@@ -85,7 +85,7 @@ fn plain_session(buffer: &mut Buffer) -> ToolState {
         b"ledger: short addresses granted to boards and given back (docs/TOOLS.md).\n\
 open FIRST SIZE, grant BOARD, back BOARD, free, list, who ADDRESS, holds BOARD,\n\
 lend N, read PLACE N, write PLACE HEX, clear, count N, marks G.., show\n\
---journal FILE, before --echo, keeps every change in FILE and resumes from it.\n",
+--journal FILE keeps every change in FILE and resumes from it; --echo or --fixture K N may follow.\n",
         buffer,
     );
     ToolState {

@@ -9,6 +9,7 @@ use crate::resuming::Resuming;
 use crate::resuming::resume;
 use address_ledger::Ledger;
 use address_ledger::range::count;
+use tool_numerals::decimal::Decimal;
 use tool_text::output::Buffer;
 use tool_text::output::Output;
 use tool_text::word::Word;
@@ -44,6 +45,38 @@ pub fn journal_path(path: &mut Path) -> usize {
 // Whether the lines are to be written too.
 pub fn is_echo_asked() -> bool {
     os::arg_count() == 4 && argument(3).is(b"--echo")
+}
+
+// Which fixture this is, of how many that share a range.
+pub struct Share {
+    pub fixture: usize,
+    pub fixtures: usize,
+}
+
+// The numbers after `--fixture`, the third argument; without it the range is not shared.
+pub fn share_asked() -> Share {
+    if os::arg_count() == 6 && argument(3).is(b"--fixture") {
+        return Share {
+            fixture: number(4),
+            fixtures: number(5),
+        };
+    }
+    Share {
+        fixture: 1,
+        fixtures: 1,
+    }
+}
+
+// The argument as a number; 0 if it is none.
+fn number(i: usize) -> usize {
+    let mut digits = [0u8; 16];
+    let len = os::arg(i, &mut digits);
+    let none = Decimal::Empty;
+    let read = none.more(&digits[..len]);
+    match read {
+        Decimal::Number(n) => n as usize,
+        _ => 0,
+    }
 }
 
 fn argument(i: usize) -> Word {

@@ -13,9 +13,11 @@ use crate::journal::Journal;
 use crate::memory::Memory;
 use crate::memory::clear;
 use crate::memory::write_bytes;
+use crate::start::share_asked;
 use address_journal::RecordedCall;
 use address_journal::held_address;
 use address_journal::holder_of;
+use address_journal::part_of;
 use address_ledger::CallResult;
 use address_ledger::Ledger;
 use refusal::Verdict;
@@ -284,7 +286,7 @@ fn number(high: u8, low: u8) -> usize {
 
 // With a journal.
 impl LedgerState {
-    // The range of a new journal; of another one the range must be the same.
+    // The range of a new journal, or a fixture's part of it; of another journal the range must be the same.
     fn open_journal(
         self,
         first: usize,
@@ -293,11 +295,13 @@ impl LedgerState {
         out: Output,
         buffer: &mut Buffer,
     ) -> Done {
+        let share = share_asked();
+        let part = part_of(first, size, share.fixture, share.fixtures);
         let journal = self.journal;
         if journal.whole == 0 {
-            return self.begin_journal(first, size, memory, out, buffer);
+            return self.begin_journal(part.first, part.size, memory, out, buffer);
         }
-        if self.ledger.first == first && self.ledger.size == size {
+        if self.ledger.first == part.first && self.ledger.size == part.size {
             return self.left(put_opened(out, self.ledger.free(), buffer));
         }
         self.left(out.text(b"error range", buffer))
