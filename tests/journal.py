@@ -100,7 +100,7 @@ def killed_once(path, shift, chance, first):
         fail("the tool began with", repr(line))
     if not first and int(line.split("held=")[1].split()[0]) < len(shift.told):
         fail("grants were lost:", line, len(shift.told), "boards were told an address")
-    for _ in range(chance.randrange(3)):
+    for _ in range(chance.randrange(8)):
         command = shift.command(chance)
         tool.stdin.write(command + "\n")
         tool.stdin.flush()
@@ -134,7 +134,7 @@ def kills(folder):
             fail("the grant of", address, "to", owner, "was lost")
     if len(set(pairs.values())) != len(listed):
         fail("an address is listed twice")
-    if len(shift.told) < 300:
+    if len(shift.told) < 200:
         fail("the shift was too short:", len(shift.told), "boards")
     boards = [board(n) for n in range(SIZE)]
     shown, _ = run(path, ["grant " + owner for owner in boards])
