@@ -12,6 +12,7 @@ import sys
 HERE = os.path.dirname(os.path.abspath(__file__))
 C_NUMBERS = {"u8": "uint8_t", "u16": "uint16_t", "u32": "uint32_t", "u64": "uint64_t"}
 USES = ("number", "in", "state", "dst", "result")
+BY_HAND = ("request", "configuration")  # the objects that a caller may make
 WIDTH = 140
 
 
@@ -190,7 +191,7 @@ def c_member(m, width=36):
 
 def c_header(api):
     out = ["/* pothatch.h: the proved join and rekey software of a 6TiSCH thermostat, for C. Layout %d." % api.numbers["layout"]]
-    out += [" * Made by bindings/generate.py. Each function is the proved function of the same name in crates/pothatch/src.", " *"]
+    out += [" * Made by bindings/generate.py. Each function is the proved function of the same name in the sources' crate pothatch.", " *"]
     out += [(" * " + line).rstrip() for line in open(os.path.join(HERE, "rules.txt"), encoding="utf-8").read().splitlines()]
     out[-1] += " */"
     out += ["#ifndef POTHATCH_H", "#define POTHATCH_H", "#include <stdint.h>", "#ifdef __cplusplus", 'extern "C" {', "#endif", ""]
@@ -226,10 +227,12 @@ def c_attributes():
     out = ["/* A refusal must not be overlooked. Define POTHATCH_MAY_IGNORE before the include where that is not wanted. */"]
     out += ["#if defined(__GNUC__) && !defined(POTHATCH_MAY_IGNORE)", "#define POTHATCH_CHECKED __attribute__((warn_unused_result))"]
     out += ["#else", "#define POTHATCH_CHECKED", "#endif", ""]
-    text = "Passes a struct, or all of an array, as a pointer and its length: pothatch_node_poll(POTHATCH_LEND(&node), time, &due). The "
-    out += comment(text + "functions of pothatch_inline.h take typed pointers instead.")
-    out += ["#define POTHATCH_LEND(p) ((uint8_t *)(void *)(p)), sizeof *(p)"]
-    return out + ["#define POTHATCH_LEND_IN(p) ((const uint8_t *)(const void *)(p)), sizeof *(p)", ""]
+    text = "Passes a struct, or all of an array, as a pointer and its length: pothatch_node_poll(POTHATCH_LEND(&node), time, &due). An "
+    text += "array needs the & too: POTHATCH_LEND(&text). Without it, and for a pointer to bytes, the size would be 1, which does not "
+    out += comment(text + "compile; a single byte is passed as a pointer and 1. The functions of pothatch_inline.h take typed pointers instead.")
+    out += ["#define POTHATCH_LENGTH(p) (sizeof *(p) * sizeof(char[sizeof *(p) > 1 ? 1 : -1]))"]
+    out += ["#define POTHATCH_LEND(p) ((uint8_t *)(void *)(p)), POTHATCH_LENGTH(p)"]
+    return out + ["#define POTHATCH_LEND_IN(p) ((const uint8_t *)(const void *)(p)), POTHATCH_LENGTH(p)", ""]
 
 
 def c_asserts(api):
@@ -263,20 +266,31 @@ def inline_parameters(call):
     return words, given
 
 
+def inline_initial(api, plus):
+    """The _INIT macro of each struct that has a kind; C++ (plus) warns of members that are left out."""
+    out = []
+    for s in api.structs.values():
+        value = "{}" if plus else "{ 0 }"
+        if s.name in BY_HAND:
+            rest = ", ".join("0" if m.base == "u8" and not m.dims else "{}" for m in s.members[2:])
+            value = "{ '%s', POTHATCH_LAYOUT, %s }" % (s.kind, rest) if plus else "{ .kind = '%s', .layout = POTHATCH_LAYOUT }" % s.kind
+        if s.kind:
+            out.append("#define POTHATCH_%s_INIT %s" % (s.name.upper(), value))
+    return out
+
+
 def inline_header(api):
-    text = "pothatch_inline.h: pothatch.h with types. Each ph_NAME calls pothatch_NAME and does nothing else: structs are passed by "
-    text += "pointers of their own type, buffers of a fixed length without a length, and a result that is not looked at is a warning. "
-    out = comment(text + "Passing a ledger where a node is due does not compile. The rules of pothatch.h hold. Made by bindings/generate.py.")
+    text = "pothatch_inline.h: pothatch.h with types. Each ph_NAME but ph_node_reserve calls pothatch_NAME and does nothing else: structs "
+    text += "are passed by pointers of their own type, buffers of a fixed length without a length, and a result that is not looked at is "
+    text += "a warning. ph_node_reserve is made of calls of ph_node_send. Passing a ledger where a node is due is an error in C++. In C it "
+    text += "may be a warning only: compile with -Werror=incompatible-pointer-types (and for gcc -Werror=discarded-qualifiers) to make it an "
+    out = comment(text + "error. The rules of pothatch.h hold. Made by bindings/generate.py.")
     out += ["#ifndef POTHATCH_INLINE_H", "#define POTHATCH_INLINE_H", '#include "pothatch.h"', "#ifdef __cplusplus", 'extern "C" {']
     out += ["#endif", ""]
     out += ["#if defined(__GNUC__)", "#define PH_CALL static inline __attribute__((warn_unused_result, unused))"]
     out += ["#else", "#define PH_CALL static inline", "#endif", ""]
     out += ["/* What a struct holds before it is used: zeros, and for an object that is made by hand its kind and layout. */"]
-    for s in api.structs.values():
-        if s.kind and not s.state and s.name in ("request", "configuration"):
-            out.append("#define POTHATCH_%s_INIT { .kind = '%s', .layout = POTHATCH_LAYOUT }" % (s.name.upper(), s.kind))
-        elif s.kind:
-            out.append("#define POTHATCH_%s_INIT { 0 }" % s.name.upper())
+    out += ["#ifdef __cplusplus"] + inline_initial(api, True) + ["#else"] + inline_initial(api, False) + ["#endif"]
     out += ["", "/* The refusal's name and meaning, for logs. */", "static inline const char *pothatch_strerror(uint32_t refusal) {"]
     out += ["    switch (refusal) {", '    case POTHATCH_OK: return "OK";']
     out += ['    case POTHATCH_%s: return "%s: %s";' % (n, n, t) for n, _, t in api.refusals()]

@@ -1,9 +1,12 @@
 /* pothatch.h: the proved join and rekey software of a 6TiSCH thermostat, for C. Layout 1.
- * Made by bindings/generate.py. Each function is the proved function of the same name in crates/pothatch/src.
+ * Made by bindings/generate.py. Each function is the proved function of the same name in the sources' crate pothatch.
  *
  * RETURN VALUES. A call returns 0, or a refusal's number (POTHATCH_CUT to POTHATCH_STALE); pothatch_layout alone returns a layout
  *   number. A call never traps, blocks or allocates memory, and keeps no pointer. Every integer argument is 64 bits wide and is judged
- *   by the call: one that does not fit is refused, so the caller checks nothing first.
+ *   by the call: one that does not fit is refused, so the caller checks nothing first. Every time fits: a negative number that is passed
+ *   as a time becomes one of the largest (-1 becomes 2^64 - 1) and is accepted, after which every smaller time is refused with CLOCK.
+ *
+ * LANGUAGE. C11 or later, or C++11 or later; <stdint.h> is the only header needed.
  *
  * PARAMETERS. Each pointer parameter is one of four kinds, named in brackets at each function:
  *   [in]     read, never written.
@@ -26,20 +29,26 @@
  *
  * IMAGES are structs of bytes (alignment 1, no padding, the same on every machine). Numbers of several bytes are big-endian:
  *   pothatch_u16, _u32 and _u64 read them, pothatch_put16, _put32 and _put64 write them. A request or a configuration may be made by
- *   hand: clear the struct, then set kind, layout and members. The image of a state (node, ledger, proxy, serial) is made by its _make,
- *   _open or _reset call, a node's also by pothatch_replay, and changed by calls only; its members may be read. A buffer that is not a
- *   valid image (wrong length, kind or layout, undefined code) is refused with RANGE before any other check. There is no checksum:
- *   damage that gives another valid image is not noticed. Equal states have equal bytes, except for unused places such as the keys after
- *   the first `count`.
+ *   hand: clear the struct, then set kind, layout and members. A parameter is written only if its `report` (that of the keys is
+ *   `keys_report`) is POTHATCH_TAKEN: otherwise its codes are judged, but it is left out. A lease is written only if `leased` is 1. The
+ *   image of a state (node, ledger, proxy, serial) is made by its _make, _open or _reset call, a node's also by pothatch_replay, and
+ *   changed by calls only; its members may be read. A buffer that is not a valid image (wrong length, kind or layout, undefined code) is refused
+ *   with RANGE before any other check. There is no checksum: damage that gives another valid image is not noticed. Equal states have
+ *   equal bytes, except for unused places such as the keys after the first `count`.
  *
  * STORING IMAGES. An image may be stored (a ledger's together with its memory) and used later by a library with the same layout number.
  *   A call that a reset interrupts may leave an image half written: keep two copies and switch after the call. A node's clock continues
  *   from its last time: after a restart pass times that do so too. Images of nodes and proxies, configurations, frame keys, payloads,
  *   serial stores and traces contain keys, and so does the stack after a call: protect and erase them as keys.
  *
- * COUNTERS AND NONCES. No counter or number is used twice under a key as long as each call gets the image that the call before it left.
- *   So store the new image of a node or proxy BEFORE the frame or the option body leaves the board, and never return to an older image.
- *   To store a node once for many frames, reserve their counters with ph_node_reserve (pothatch_inline.h), which says what to store when.
+ * COUNTERS AND NONCES. Let each call get the image that the call before it left. Then a node uses no counter twice under a key while
+ *   that key, by identifier and value, stays in the active set, and a proxy issues no number twice under a key until a key is set. A
+ *   link key that left the active set and comes back begins at counter 0 again, and so does the same value under another identifier: a
+ *   node does not remember keys that it no longer holds. So a JRC must never hand out a key value again.
+ *   Store the new image of a node or proxy BEFORE the frame or the option body leaves the board, and never return to an older image.
+ *   The same holds for a ledger with its memory: store both before the address leaves, and never return to an older pair, which could
+ *   grant an address to a second board. To store a node once for many frames, reserve their counters with ph_node_reserve
+ *   (pothatch_inline.h), which says what to store when.
  *   Never make a proxy with a key, or set a key, that a proxy had before: keep its image across restarts. Never give a node that was
  *   made anew keys that it had before, and never send with a replayed node, whose counters are 0. pothatch_seal does not remember
  *   nonces: use each once under a key.
@@ -48,7 +57,8 @@
  *   data cache its time may depend on key and data. Comparing a tag or a proxy's key does not stop at the first byte that differs;
  *   comparing link keys does. No call promises anything about time.
  *
- * STACK. The stack that each call needs is in docs/PERFORMANCE.md; docs/FIRMWARE.md says what a board stores, and when. */
+ * FURTHER. FIRMWARE.md (installed in share/pothatch, in the sources in docs) says what a board stores, and when. PERFORMANCE.md beside it
+ *   has the stack that each call needs. */
 #ifndef POTHATCH_H
 #define POTHATCH_H
 #include <stdint.h>
@@ -132,7 +142,7 @@ enum pothatch_due {
     POTHATCH_DUE_GAVE_UP = 3     /* the attempt was given up */
 };
 
-/* What pothatch_node_holds returns; 0 beside a refusal. */
+/* What pothatch_node_holds returns; 0 beside a refusal. Neither is 0: compare with HOLDS. */
 enum pothatch_holds {
     POTHATCH_HOLDS = 1,          /* the short address holds */
     POTHATCH_LAPSED = 2          /* no short address, or its lease is over */
@@ -169,22 +179,22 @@ struct pothatch_key_set {
 
 /* A JRC address, network identifier or prefix. 18 bytes. */
 struct pothatch_octets {
-    uint8_t report;
+    uint8_t report;                  /* written only if TAKEN */
     uint8_t len;                     /* 0 to 16, a JRC address 16; an empty one is not an absent one */
     uint8_t bytes[16];
 };
 
 /* A short address and its lease. 12 bytes. */
 struct pothatch_address {
-    uint8_t report;
+    uint8_t report;                  /* written only if TAKEN */
     uint8_t bytes[2];                /* FFFE and FFFF are not addresses */
-    uint8_t leased;                  /* 0: no end, 1: for `lease` */
+    uint8_t leased;                  /* 0: no end, and `lease` is not written; 1: for `lease` */
     uint8_t lease[8];                /* seconds; in RFC 9031 hours. Ask pothatch_node_holds rather than converting it */
 };
 
 /* The members of a CBOR array, in shortest heads, one after another. 256 bytes. */
 struct pothatch_list {
-    uint8_t report;
+    uint8_t report;                  /* written only if TAKEN */
     uint8_t count;                   /* members */
     uint8_t len;                     /* bytes, 0 to 253 */
     uint8_t bytes[253];
@@ -192,7 +202,7 @@ struct pothatch_list {
 
 /* A join rate. 9 bytes. */
 struct pothatch_rate {
-    uint8_t report;
+    uint8_t report;                  /* written only if TAKEN */
     uint8_t value[8];                /* bytes a second */
 };
 
@@ -202,7 +212,7 @@ struct pothatch_faults {
     uint8_t entry[5][2];             /* error code (0 unsupported, 1 malformed), label */
 };
 
-/* A join request. 296 bytes. */
+/* A join request. A parameter is written only if its report is TAKEN. 296 bytes. */
 struct pothatch_request {
     uint8_t kind;                    /* 'Q' */
     uint8_t layout;
@@ -213,11 +223,11 @@ struct pothatch_request {
     uint8_t passed[8];               /* number of unknown labels */
 };
 
-/* A configuration. 570 bytes. */
+/* A configuration. A parameter is written only if its report (keys_report) is TAKEN, a lease only if leased is 1. 570 bytes. */
 struct pothatch_configuration {
     uint8_t kind;                    /* 'C' */
     uint8_t layout;
-    uint8_t keys_report;
+    uint8_t keys_report;             /* TAKEN: the keys are written */
     struct pothatch_key_set keys;
     struct pothatch_address address;
     struct pothatch_octets jrc;
@@ -341,10 +351,12 @@ struct pothatch_replayed {
 #define POTHATCH_CHECKED
 #endif
 
-/* Passes a struct, or all of an array, as a pointer and its length: pothatch_node_poll(POTHATCH_LEND(&node), time, &due). The functions of
- * pothatch_inline.h take typed pointers instead. */
-#define POTHATCH_LEND(p) ((uint8_t *)(void *)(p)), sizeof *(p)
-#define POTHATCH_LEND_IN(p) ((const uint8_t *)(const void *)(p)), sizeof *(p)
+/* Passes a struct, or all of an array, as a pointer and its length: pothatch_node_poll(POTHATCH_LEND(&node), time, &due). An array needs
+ * the & too: POTHATCH_LEND(&text). Without it, and for a pointer to bytes, the size would be 1, which does not compile; a single byte is
+ * passed as a pointer and 1. The functions of pothatch_inline.h take typed pointers instead. */
+#define POTHATCH_LENGTH(p) (sizeof *(p) * sizeof(char[sizeof *(p) > 1 ? 1 : -1]))
+#define POTHATCH_LEND(p) ((uint8_t *)(void *)(p)), POTHATCH_LENGTH(p)
+#define POTHATCH_LEND_IN(p) ((const uint8_t *)(const void *)(p)), POTHATCH_LENGTH(p)
 
 /* ---- The library. */
 /* The layout number of the images that the library was built with. */
@@ -413,7 +425,8 @@ uint32_t pothatch_node_answer(uint8_t *node, uint64_t node_len, uint64_t time, c
 uint32_t pothatch_node_update(uint8_t *node, uint64_t node_len, uint64_t time, const uint8_t *payload, uint64_t payload_len,
     uint8_t *reports, uint64_t reports_len) POTHATCH_CHECKED;
 
-/* Whether the short address holds: POTHATCH_HOLDS or POTHATCH_LAPSED. CLOCK. [in] node: a struct pothatch_node; [result] holds */
+/* Whether the short address holds: POTHATCH_HOLDS or POTHATCH_LAPSED. LAPSED is 2 and so true in an `if`: compare with POTHATCH_HOLDS.
+ * CLOCK. [in] node: a struct pothatch_node; [result] holds */
 uint32_t pothatch_node_holds(const uint8_t *node, uint64_t node_len, uint64_t time, uint32_t *holds) POTHATCH_CHECKED;
 
 /* The key to send a frame with, and its counter, which rises by one in the node. RANGE: an undefined frame type; SILENT. [state] node: a

@@ -1,6 +1,8 @@
-/* pothatch_inline.h: pothatch.h with types. Each ph_NAME calls pothatch_NAME and does nothing else: structs are passed by pointers of their
- * own type, buffers of a fixed length without a length, and a result that is not looked at is a warning. Passing a ledger where a node is
- * due does not compile. The rules of pothatch.h hold. Made by bindings/generate.py. */
+/* pothatch_inline.h: pothatch.h with types. Each ph_NAME but ph_node_reserve calls pothatch_NAME and does nothing else: structs are passed
+ * by pointers of their own type, buffers of a fixed length without a length, and a result that is not looked at is a warning.
+ * ph_node_reserve is made of calls of ph_node_send. Passing a ledger where a node is due is an error in C++. In C it may be a warning only:
+ * compile with -Werror=incompatible-pointer-types (and for gcc -Werror=discarded-qualifiers) to make it an error. The rules of pothatch.h
+ * hold. Made by bindings/generate.py. */
 #ifndef POTHATCH_INLINE_H
 #define POTHATCH_INLINE_H
 #include "pothatch.h"
@@ -15,6 +17,18 @@ extern "C" {
 #endif
 
 /* What a struct holds before it is used: zeros, and for an object that is made by hand its kind and layout. */
+#ifdef __cplusplus
+#define POTHATCH_REQUEST_INIT { 'Q', POTHATCH_LAYOUT, 0, {}, {}, {}, {} }
+#define POTHATCH_CONFIGURATION_INIT { 'C', POTHATCH_LAYOUT, 0, {}, {}, {}, {}, {}, {}, {}, {}, {} }
+#define POTHATCH_REPORTS_INIT {}
+#define POTHATCH_FRAME_KEY_INIT {}
+#define POTHATCH_NODE_INIT {}
+#define POTHATCH_LEDGER_INIT {}
+#define POTHATCH_PROXY_INIT {}
+#define POTHATCH_PLEDGE_INIT {}
+#define POTHATCH_SERIAL_INIT {}
+#define POTHATCH_REPLAYED_INIT {}
+#else
 #define POTHATCH_REQUEST_INIT { .kind = 'Q', .layout = POTHATCH_LAYOUT }
 #define POTHATCH_CONFIGURATION_INIT { .kind = 'C', .layout = POTHATCH_LAYOUT }
 #define POTHATCH_REPORTS_INIT { 0 }
@@ -25,6 +39,7 @@ extern "C" {
 #define POTHATCH_PLEDGE_INIT { 0 }
 #define POTHATCH_SERIAL_INIT { 0 }
 #define POTHATCH_REPLAYED_INIT { 0 }
+#endif
 
 /* The refusal's name and meaning, for logs. */
 static inline const char *pothatch_strerror(uint32_t refusal) {
@@ -204,16 +219,28 @@ PH_CALL uint32_t ph_replay(const uint8_t *trace, uint64_t trace_len, struct poth
     return pothatch_replay(trace, trace_len, (uint8_t *)node, sizeof *node, (uint8_t *)out, sizeof *out);
 }
 
+/* The most frames that one reservation covers: it takes a call of pothatch_node_send for each. */
+#define POTHATCH_RESERVE_MOST 65536u
+
 /* Reserves the counters of the next `count` frames of a type, so that the node is stored once for so many frames: `stored` becomes the node
- * as it is after these sendings. Store it; then send up to `count` frames of this type with `node`. After a restart continue with the
- * stored node: it uses none of these counters again (crates/node_history_laws: counters_reserved_law). Reserve and store anew before the
- * next frame when the frames are used up, when a frame of the other type is due, and when an accepted start, answer, update or verified
- * frame has changed `node`. SILENT: not so many counters are left, and `stored` is zeroed. It takes `count` calls of pothatch_node_send. */
+ * as it is after these sendings, and `node` stays. It is no function of the library: it calls ph_node_send on `stored` for each frame.
+ * Store `stored`; then send up to `count` frames of this type with `node`. After a restart continue with the stored node: it uses none of
+ * these counters again (the law CountersReserved of the sources), while the key stays active. Reserve and store anew before the next frame
+ * when the frames are used up, when a frame of the other type is due, and when an accepted start, answer, update or verified frame has
+ * changed `node`. RANGE: not a node, an undefined frame type (both with count 0 too), a count over POTHATCH_RESERVE_MOST. SILENT: no key,
+ * or not so many counters are left. Refused: `stored` is zeroed. RANGE also if `stored` is `node`, which then stays. The two may not
+ * overlap otherwise. */
 PH_CALL uint32_t ph_node_reserve(const struct pothatch_node *node, uint64_t frame_type, uint64_t count, struct pothatch_node *stored) {
     struct pothatch_frame_key key;
-    uint32_t refusal = POTHATCH_OK;
+    uint32_t refusal = POTHATCH_RANGE;
+    if (stored == node) return refusal;
     *stored = *node;
-    for (; refusal == POTHATCH_OK && count > 0; count--) refusal = ph_node_send(stored, frame_type, &key);
+    if (count <= POTHATCH_RESERVE_MOST) refusal = ph_node_send(stored, frame_type, &key);
+    if (count == 0 && refusal != POTHATCH_RANGE) { /* that was a trial */
+        *stored = *node;
+        refusal = POTHATCH_OK;
+    }
+    for (uint64_t i = 1; refusal == POTHATCH_OK && i < count; i++) refusal = ph_node_send(stored, frame_type, &key);
     for (uint64_t i = 0; refusal != POTHATCH_OK && i < sizeof *stored; i++) ((uint8_t *)stored)[i] = 0;
     for (uint64_t i = 0; i < sizeof key; i++) ((volatile uint8_t *)&key)[i] = 0;
     return refusal;

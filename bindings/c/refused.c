@@ -17,7 +17,18 @@ uint32_t lines(struct pothatch_node *node, const struct pothatch_node *kept, str
 #elif LINE == 5 /* a number of another width for the result */
     uint64_t due;
     return ph_node_poll(node, 0, &due);
+#elif LINE == 6 /* an array without its & */
+    static const uint8_t trace[] = {1, 2, 3};
+    return pothatch_replay(POTHATCH_LEND_IN(trace), POTHATCH_LEND(node), POTHATCH_LEND(ledger));
+#elif LINE == 7 /* the same where the call writes */
+    uint8_t name[8];
+    return pothatch_refusal_name(1, POTHATCH_LEND(name));
 #else
-    return ph_node_poll(node, 0, word) + ph_node_holds(kept, 0, word);
+    uint8_t name[8];
+    struct pothatch_configuration c = POTHATCH_CONFIGURATION_INIT;
+    struct pothatch_request r = POTHATCH_REQUEST_INIT;
+    struct pothatch_proxy p = POTHATCH_PROXY_INIT;
+    return ph_node_poll(node, 0, word) + ph_node_holds(kept, 0, word) + pothatch_refusal_name(1, POTHATCH_LEND(&name)) + c.kind + r.layout
+        + p.kind;
 #endif
 }

@@ -65,5 +65,18 @@ int main(void) {
     check("one more", ph_node_reserve(&full, type, 6, &flash) == POTHATCH_SILENT && all_zero((const uint8_t *)&flash, sizeof flash));
     check("no frames", ph_node_reserve(&node, type, 0, &flash) == 0 && !memcmp(&flash, &node, sizeof node));
     check("no such type", ph_node_reserve(&node, 257, 1, &flash) == POTHATCH_RANGE);
+    check("no such type, no frames", ph_node_reserve(&node, 2, 0, &flash) == POTHATCH_RANGE);
+    check("zeroed", all_zero((const uint8_t *)&flash, sizeof flash));
+    check("the most frames", ph_node_reserve(&node, type, POTHATCH_RESERVE_MOST, &flash) == 0);
+    check("one over the most", ph_node_reserve(&node, type, POTHATCH_RESERVE_MOST + 1, &flash) == POTHATCH_RANGE);
+    check("-1 frames", ph_node_reserve(&node, type, (uint64_t)-1, &flash) == POTHATCH_RANGE);
+    check("zeroed", all_zero((const uint8_t *)&flash, sizeof flash));
+    full = node;
+    check("into itself", ph_node_reserve(&node, type, 1, &node) == POTHATCH_RANGE && !memcmp(&full, &node, sizeof node));
+    full.kind = 'L';
+    check("not a node, no frames", ph_node_reserve(&full, type, 0, &flash) == POTHATCH_RANGE);
+    check("a fresh node", ph_node_make(POTHATCH_DRAFT, POTHATCH_NODE, 1, network, sizeof network, &full) == 0);
+    check("no key, no frames", ph_node_reserve(&full, type, 0, &flash) == 0 && !memcmp(&flash, &full, sizeof full));
+    check("no key", ph_node_reserve(&full, type, 1, &flash) == POTHATCH_SILENT);
     return summary();
 }

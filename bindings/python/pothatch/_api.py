@@ -90,7 +90,7 @@ class Due(enum.IntEnum):
 
 
 class Holds(enum.IntEnum):
-    """What pothatch_node_holds returns; 0 beside a refusal."""
+    """What pothatch_node_holds returns; 0 beside a refusal. Neither is 0: compare with HOLDS."""
 
     HOLDS = 1  # the short address holds
     LAPSED = 2  # no short address, or its lease is over
@@ -164,7 +164,7 @@ class Octets(ctypes.Structure):
     """A JRC address, network identifier or prefix. 18 bytes."""
 
     _fields_ = [
-        ("report", _U8),
+        ("report", _U8),  # written only if TAKEN
         ("len", _U8),  # 0 to 16, a JRC address 16; an empty one is not an absent one
         ("bytes", _U8 * 16),
     ]
@@ -174,9 +174,9 @@ class Address(ctypes.Structure):
     """A short address and its lease. 12 bytes."""
 
     _fields_ = [
-        ("report", _U8),
+        ("report", _U8),  # written only if TAKEN
         ("bytes", _U8 * 2),  # FFFE and FFFF are not addresses
-        ("leased", _U8),  # 0: no end, 1: for `lease`
+        ("leased", _U8),  # 0: no end, and `lease` is not written; 1: for `lease`
         ("lease", _U8 * 8),  # seconds; in RFC 9031 hours. Ask pothatch_node_holds rather than converting it
     ]
 
@@ -185,7 +185,7 @@ class List(ctypes.Structure):
     """The members of a CBOR array, in shortest heads, one after another. 256 bytes."""
 
     _fields_ = [
-        ("report", _U8),
+        ("report", _U8),  # written only if TAKEN
         ("count", _U8),  # members
         ("len", _U8),  # bytes, 0 to 253
         ("bytes", _U8 * 253),
@@ -196,7 +196,7 @@ class Rate(ctypes.Structure):
     """A join rate. 9 bytes."""
 
     _fields_ = [
-        ("report", _U8),
+        ("report", _U8),  # written only if TAKEN
         ("value", _U8 * 8),  # bytes a second
     ]
 
@@ -211,7 +211,7 @@ class Faults(ctypes.Structure):
 
 
 class Request(ctypes.Structure):
-    """A join request. 296 bytes."""
+    """A join request. A parameter is written only if its report is TAKEN. 296 bytes."""
 
     _fields_ = [
         ("kind", _U8),  # 'Q'
@@ -225,12 +225,12 @@ class Request(ctypes.Structure):
 
 
 class Configuration(ctypes.Structure):
-    """A configuration. 570 bytes."""
+    """A configuration. A parameter is written only if its report (keys_report) is TAKEN, a lease only if leased is 1. 570 bytes."""
 
     _fields_ = [
         ("kind", _U8),  # 'C'
         ("layout", _U8),
-        ("keys_report", _U8),
+        ("keys_report", _U8),  # TAKEN: the keys are written
         ("keys", KeySet),
         ("address", Address),
         ("jrc", Octets),

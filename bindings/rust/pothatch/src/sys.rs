@@ -109,7 +109,7 @@ image!(KeySet, 217);
 #[repr(C)]
 #[derive(Clone, Copy, PartialEq, Eq)]
 pub struct Octets {
-    /// Report.
+    /// written only if TAKEN.
     pub report: u8,
     /// 0 to 16, a JRC address 16; an empty one is not an absent one.
     pub len: u8,
@@ -125,11 +125,11 @@ image!(Octets, 18);
 #[repr(C)]
 #[derive(Clone, Copy, PartialEq, Eq)]
 pub struct Address {
-    /// Report.
+    /// written only if TAKEN.
     pub report: u8,
     /// FFFE and FFFF are not addresses.
     pub bytes: [u8; 2],
-    /// 0: no end, 1: for `lease`.
+    /// 0: no end, and `lease` is not written; 1: for `lease`.
     pub leased: u8,
     /// seconds; in RFC 9031 hours. Ask pothatch_node_holds rather than converting it.
     pub lease: [u8; 8],
@@ -143,7 +143,7 @@ image!(Address, 12);
 #[repr(C)]
 #[derive(Clone, Copy, PartialEq, Eq)]
 pub struct List {
-    /// Report.
+    /// written only if TAKEN.
     pub report: u8,
     /// members.
     pub count: u8,
@@ -161,7 +161,7 @@ image!(List, 256);
 #[repr(C)]
 #[derive(Clone, Copy, PartialEq, Eq)]
 pub struct Rate {
-    /// Report.
+    /// written only if TAKEN.
     pub report: u8,
     /// bytes a second.
     pub value: [u8; 8],
@@ -183,7 +183,7 @@ pub struct Faults {
 
 image!(Faults, 11);
 
-/// A join request.
+/// A join request. A parameter is written only if its report is TAKEN.
 ///
 /// 296 bytes, all public.
 #[repr(C)]
@@ -207,7 +207,7 @@ pub struct Request {
 
 image!(Request, 296);
 
-/// A configuration.
+/// A configuration. A parameter is written only if its report (keys_report) is TAKEN, a lease only if leased is 1.
 ///
 /// 570 bytes, all public.
 #[repr(C)]
@@ -217,7 +217,7 @@ pub struct Configuration {
     pub kind: u8,
     /// Layout.
     pub layout: u8,
-    /// Keys report.
+    /// TAKEN: the keys are written.
     pub keys_report: u8,
     /// Keys.
     pub keys: KeySet,
@@ -640,7 +640,8 @@ extern "C" {
     /// Delivers a parameter update, once joined. Refused as pothatch_node_answer is, without OWED.
     pub fn pothatch_node_update(node: *mut u8, node_len: u64, time: u64, payload: *const u8, payload_len: u64, reports: *mut u8,
         reports_len: u64) -> u32;
-    /// Whether the short address holds: POTHATCH_HOLDS or POTHATCH_LAPSED. CLOCK.
+    /// Whether the short address holds: POTHATCH_HOLDS or POTHATCH_LAPSED. LAPSED is 2 and so true in an `if`: compare with POTHATCH_HOLDS.
+    /// CLOCK.
     pub fn pothatch_node_holds(node: *const u8, node_len: u64, time: u64, holds: *mut u32) -> u32;
     /// The key to send a frame with, and its counter, which rises by one in the node. RANGE: an undefined frame type; SILENT.
     pub fn pothatch_node_send(node: *mut u8, node_len: u64, frame_type: u64, key: *mut u8, key_len: u64) -> u32;
