@@ -229,7 +229,8 @@ def c_attributes():
     out += ["#else", "#define POTHATCH_CHECKED", "#endif", ""]
     text = "Passes a struct, or all of an array, as a pointer and its length: pothatch_node_poll(POTHATCH_LEND(&node), time, &due). An "
     text += "array needs the & too: POTHATCH_LEND(&text). Without it, and for a pointer to bytes, the size would be 1, which does not "
-    out += comment(text + "compile; a single byte is passed as a pointer and 1. The functions of pothatch_inline.h take typed pointers instead.")
+    text += "compile; a single byte is passed as a pointer and 1. "
+    out += comment(text + "The functions of pothatch_inline.h take typed pointers instead.")
     out += ["#define POTHATCH_LENGTH(p) (sizeof *(p) * sizeof(char[sizeof *(p) > 1 ? 1 : -1]))"]
     out += ["#define POTHATCH_LEND(p) ((uint8_t *)(void *)(p)), POTHATCH_LENGTH(p)"]
     return out + ["#define POTHATCH_LEND_IN(p) ((const uint8_t *)(const void *)(p)), POTHATCH_LENGTH(p)", ""]
@@ -280,11 +281,11 @@ def inline_initial(api, plus):
 
 
 def inline_header(api):
-    text = "pothatch_inline.h: pothatch.h with types. Each ph_NAME but ph_node_reserve calls pothatch_NAME and does nothing else: structs "
-    text += "are passed by pointers of their own type, buffers of a fixed length without a length, and a result that is not looked at is "
-    text += "a warning. ph_node_reserve is made of calls of ph_node_send. Passing a ledger where a node is due is an error in C++. In C it "
-    text += "may be a warning only: compile with -Werror=incompatible-pointer-types (and for gcc -Werror=discarded-qualifiers) to make it an "
-    out = comment(text + "error. The rules of pothatch.h hold. Made by bindings/generate.py.")
+    text = "pothatch_inline.h: pothatch.h with types. Each ph_NAME but ph_node_reserve calls pothatch_NAME and does nothing else: "
+    text += "structs are passed by pointers of their own type, buffers of a fixed length without a length, and a result that is not "
+    text += "looked at is a warning. ph_node_reserve is made of calls of ph_node_send. Passing a ledger where a node is due is an error in "
+    text += "C++. In C it may be a warning only: compile with -Werror=incompatible-pointer-types (and for gcc -Werror=discarded-qualifiers) "
+    out = comment(text + "to make it an error. The rules of pothatch.h hold. Made by bindings/generate.py.")
     out += ["#ifndef POTHATCH_INLINE_H", "#define POTHATCH_INLINE_H", '#include "pothatch.h"', "#ifdef __cplusplus", 'extern "C" {']
     out += ["#endif", ""]
     out += ["#if defined(__GNUC__)", "#define PH_CALL static inline __attribute__((warn_unused_result, unused))"]
@@ -398,18 +399,23 @@ def rust_refusal(api):
 # ---- Python
 def python_api(api):
     out = ['"""Codes, structs and signatures of the library. Made by bindings/generate.py."""', "from __future__ import annotations", ""]
-    out += ["import ctypes", "import enum", "from typing import Optional, Tuple", "", "LAYOUT = %d" % api.numbers["layout"]]
-    out += ["_U8 = ctypes.c_uint8", ""]
+    out += ["import ctypes", "import enum", "from typing import Any, Dict, Optional, Tuple, Type, TypeVar, Union"]
+    out += ["", "LAYOUT = %d" % api.numbers["layout"]]
+    out += open(os.path.join(HERE, "python", "members.py"), encoding="utf-8").read().rstrip().split("\n")[1:] + [""]
     for name, text, entries in api.codes:
         out += ["", "class %s(enum.IntEnum):" % camel(name), '    """%s"""' % text, ""]
         out += ["    %s = %d  # %s" % (n, v, t) for n, v, t in entries] + [""]
     out += ["", "MEANINGS = {"] + ['    %d: "%s",' % (v, t) for n, v, t in api.refusals()] + ["}", ""]
     for s in api.structs.values():
-        out += ["", "class %s(ctypes.Structure):" % camel(s.name), '    """%s %d bytes."""' % (s.text, s.size), "", "    _fields_ = ["]
+        base = "_Object" if s.name in BY_HAND else "_Image" if s.kind else "_Members"
+        out += ["", "class %s(%s):" % (camel(s.name), base), '    """%s %d bytes."""' % (s.text, s.size), ""]
+        out += (['    KIND = "%s"' % s.kind] if s.kind else []) + ["    _fields_ = ["]
         for m in s.members:
-            kind = "_U8" if m.base == "u8" else camel(m.base)
-            for d in reversed(m.dims):
-                kind = "(%s) * %d" % (kind, d) if " " in kind else "%s * %d" % (kind, d)
+            kind, dims = ("_U8", list(m.dims)) if m.base == "u8" else (camel(m.base), list(m.dims))
+            if m.base == "u8" and dims:
+                kind = "_octets(%d)" % dims.pop()
+            for d in reversed(dims):
+                kind = "%s * %d" % (kind, d)
             out.append('        ("%s", %s),%s' % (m.name, kind, "  # " + m.text if m.text else ""))
         out += ["    ]", ""]
     out += ["", "# the struct of each kind", "KINDS = {"]

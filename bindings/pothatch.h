@@ -32,9 +32,9 @@
  *   hand: clear the struct, then set kind, layout and members. A parameter is written only if its `report` (that of the keys is
  *   `keys_report`) is POTHATCH_TAKEN: otherwise its codes are judged, but it is left out. A lease is written only if `leased` is 1. The
  *   image of a state (node, ledger, proxy, serial) is made by its _make, _open or _reset call, a node's also by pothatch_replay, and
- *   changed by calls only; its members may be read. A buffer that is not a valid image (wrong length, kind or layout, undefined code) is refused
- *   with RANGE before any other check. There is no checksum: damage that gives another valid image is not noticed. Equal states have
- *   equal bytes, except for unused places such as the keys after the first `count`.
+ *   changed by calls only; its members may be read. A buffer that is not a valid image (wrong length, kind or layout, undefined code)
+ *   is refused with RANGE before any other check. There is no checksum: damage that gives another valid image is not noticed. Equal
+ *   states have equal bytes, except for unused places such as the keys after the first `count`.
  *
  * STORING IMAGES. An image may be stored (a ledger's together with its memory) and used later by a library with the same layout number.
  *   A call that a reset interrupts may leave an image half written: keep two copies and switch after the call. A node's clock continues

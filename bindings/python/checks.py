@@ -5,6 +5,7 @@
 import ctypes
 import doctest
 import inspect
+import pickle
 import sys
 
 import pothatch as p
@@ -63,7 +64,7 @@ def integers(lib):
     raises("None", TypeError, lib.node_poll, node, None)
     check("the node stays", bytes(node) == before)
     image = lib.node_reserve(node, FrameType.DATA, 3)
-    sent = [p.number(lib.node_send(n, FrameType.DATA).counter) for n in (node, node, node, p.Node.from_buffer_copy(image))]
+    sent = [p.number(lib.node_send(n, FrameType.DATA).counter) for n in (node, node, node, p.Node.load(image))]
     check("reserved counters", sent == [0, 1, 2, 3])
     raises("a negative count", ValueError, lib.node_reserve, node, FrameType.DATA, -1)
     check("a code by its name", lib.node_send(node, FrameType.DATA).key.identifier == 1)
@@ -92,15 +93,82 @@ def buffers(lib):
     check("written in place", lib.unseal(key, nonce, b"", bytes(view[8:24]), view[24:32]) == 8 and both[24:32] == both[:8])
     check("in a part of the memory", lib.ledger_grant(ledger, memoryview(memory), board) == 1 and memory[0] == 1)
     refused("no room", "ROOM", lib.seal, key, nonce, b"", b"text", bytearray(11))
-    one = p.Configuration(kind=ord("C"), layout=p.LAYOUT)
+    one = p.Configuration.new()
     check("one configuration twice", bytes(lib.configuration_merge(one, one)) == bytes(one))
     raises("too few arguments", TypeError, lib.call, "node_poll", node)
+    raises("a result of another width", TypeError, lib.call, "node_poll", node, 2, ctypes.c_uint8())
+    raises("a result that is no ctypes integer", TypeError, lib.call, "node_poll", node, 2, 0)
+    word, room = ctypes.c_uint32(), (ctypes.c_uint64 * 3)()
+    raises("one result twice", ValueError, lib.call, "key_usage", 1, word, word)
+    inside = ctypes.c_uint64.from_buffer(room, 8)
+    raises("a result in the destination", ValueError, lib.call, "seal", key, nonce, b"", b"text", memoryview(room).cast("B"), inside)
+    raises("a result out of line", ValueError, lib.call, "key_usage", 1, word, ctypes.c_uint32.from_buffer(room, 2))
+    check("results side by side", lib.call("key_usage", 1, word, ctypes.c_uint32.from_buffer(room, 4)) == 0)
+
+
+def members(lib):
+    c, before = p.Configuration.new(), bytes(p.Configuration.new())
+    for value in (256, 257, -1):
+        raises("a byte", ValueError, setattr, c.keys.keys[0], "identifier", value)
+        raises("an item", ValueError, c.address.bytes.__setitem__, 0, value)
+        raises("items", ValueError, c.address.bytes.__setitem__, slice(None), [0, value])
+        raises("a whole member", ValueError, setattr, c.address, "bytes", (0, value))
+        raises("when it is made", ValueError, lambda n: p.Key(identifier=n), value)
+        raises("an error's code", ValueError, c.came.entry[1].__setitem__, 0, value)
+    raises("a float", TypeError, setattr, c.address, "leased", 1.0)
+    raises("a bool", TypeError, setattr, c.address, "leased", True)
+    raises("a misspelt member", AttributeError, setattr, c.address, "leases", 1)
+    raises("a misspelt member when it is made", AttributeError, lambda: p.Configuration(knid=1))
+    check("nothing was set", bytes(c) == before)
+    c.keys.keys[7].identifier, c.address.bytes = 255, (1, 2)
+    c.keys.keys[7].value[:], c.keys.keys[7].value[15] = bytes(range(16)), 255
+    check("set", bytes(c.keys.keys[7])[:18] == b"\xff\0" + bytes(range(15)) + b"\xff" and bytes(c.address.bytes) == b"\1\2")
+    dst = bytearray(Limit.PAYLOAD_MOST)
+    check("not taken, not written", lib.configuration_write(Version.DRAFT, c, dst) == 1 and dst[0] == 0xA0)
+    c.address.report = p.Report.TAKEN
+    p.put(c.address.lease, 9)
+    check("no lease", dst[: lib.configuration_write(Version.DRAFT, c, dst)] == bytes.fromhex("a10381420102"))
+    c.address.leased = 1
+    check("a lease", dst[: lib.configuration_write(Version.DRAFT, c, dst)] == bytes.fromhex("a1038242010209"))
+    check("an empty request", bytes(p.Request.new())[:3] == b"Q\x01\0")
+
+
+def images(lib):
+    node, ledger = joined(lib), lib.ledger_open(1, 3, bytearray(27))
+    for state in (node, ledger):
+        check("loaded", bytes(type(state).load(bytes(state))) == bytes(state))
+    image = bytes(node)
+    raises("too short", ValueError, p.Node.load, image[:-1])
+    raises("too long", ValueError, p.Node.load, image + b"\0")
+    raises("another kind", ValueError, p.Node.load, b"L" + image[1:])
+    raises("another layout", ValueError, p.Node.load, image[:1] + b"\2" + image[2:])
+    raises("a ledger as a node", ValueError, p.Node.load, bytes(ledger))
+    for count in (0, 1):
+        refused("no such type", "RANGE", lib.node_reserve, node, 2, count)
+        refused("not a node", "RANGE", lib.node_reserve, p.Node(), FrameType.DATA, count)
+    refused("too many", "RANGE", lib.node_reserve, node, FrameType.DATA, p.RESERVE_MOST + 1)
+    fresh = lib.node_make(Version.DRAFT, Role.NODE, b"ab")
+    check("nothing reserved", lib.node_reserve(node, FrameType.DATA, 0) == image and lib.node_reserve(fresh, 1, 0) == bytes(fresh))
+    refused("no key", "SILENT", lib.node_reserve, fresh, FrameType.DATA, 1)
+
+
+def counters(lib):
+    """A key value that comes back, under its own identifier or another one, counts from 0 again."""
+    node, seen = joined(lib), []
+    for time, identifier in ((2, 2), (3, 1)):
+        seen.append([p.number(lib.node_send(node, FrameType.DATA).counter) for _ in range(2)])
+        lib.node_update(node, time, bytes([0xA1, 2, 0x82, identifier, 0x50]) + bytes(16))
+        check("switched", lib.node_verified(node, FrameType.DATA, identifier) == p.Change.SWITCHED)
+    check("from 0 again", seen == [[0, 1], [0, 1]] and p.number(lib.node_send(node, FrameType.DATA).counter) == 0)
 
 
 def words(lib):
     for number in range(1, 23):
         e = p.Refused(number)
         check("name", lib.refusal_name(number) == e.name and str(e) == "%d %s: %s" % (number, e.name, e.meaning))
+        again = pickle.loads(pickle.dumps(e))
+        check("pickled", type(again) is p.Refused and (again.number, str(again)) == (number, str(e)))
+    check("an unknown number", p.Refused(23).name == "OTHER" and pickle.loads(pickle.dumps(p.Refused(23))).number == 23)
     check("key usage", [lib.key_usage(u) for u in (0, 7, 14)] == [(True, 4), (False, 8), (True, 16)])
     check("by name", lib.key_usage(3).encrypted is False and lib.key_usage(3).mic_length == 4)
     refused("key usage", "RANGE", lib.key_usage, 15)
@@ -122,6 +190,9 @@ def main():
     lib = p.Library(*sys.argv[1:2])
     integers(lib)
     buffers(lib)
+    members(lib)
+    images(lib)
+    counters(lib)
     words(lib)
     if not sys.argv[1:]:
         check("the docstring's example", doctest.testmod(p).failed == 0)

@@ -18,8 +18,8 @@ NONCE = bytes(13)
 
 def configuration(address):
     """One key and the address for an hour."""
-    c = p.Configuration(kind=ord("C"), layout=p.LAYOUT, keys_report=Report.TAKEN)
-    c.keys.count = 1
+    c = p.Configuration.new()
+    c.keys_report, c.keys.count = Report.TAKEN, 1
     c.keys.keys[0].identifier = 1
     c.keys.keys[0].value[:] = LINK_KEY
     c.address.report, c.address.leased = Report.TAKEN, 1

@@ -15,14 +15,27 @@ length, or buffers that overlap.
     Traceback (most recent call last):
     pothatch.Refused: 13 RANGE: an argument outside its limits
 
-Structs are those of pothatch.h: `number(x)` reads a member of several bytes, `put(x, n)` writes it. A node, ledger, proxy or serial is a
-state: calls change it in place. `bytes(state)` is its image; `Node.from_buffer_copy(image)` loads one. Store the new image before a frame
-or an option body leaves the board, and never return to an older one."""
+Structs are those of pothatch.h: `number(x)` reads a member of several bytes, `put(x, n)` writes it. A member that a struct does not have
+raises AttributeError, a number over 255 in a member of one byte ValueError. `Configuration.new()` and `Request.new()` make empty objects. A
+parameter is written only if its report is TAKEN, and a lease only if `leased` is 1:
+
+    >>> c = pothatch.Configuration.new()
+    >>> c.address.report, c.address.leased = pothatch.Report.TAKEN, 1
+    >>> pothatch.put(c.address.bytes, 0x1234)
+    >>> pothatch.put(c.address.lease, 3600)
+    >>> payload = bytearray(pothatch.Limit.PAYLOAD_MOST)
+    >>> payload[: lib.configuration_write(pothatch.Version.DRAFT, c, payload)].hex()
+    'a10382421234190e10'
+
+A node, ledger, proxy or serial is a state: calls change it in place. `bytes(state)` is its image; `Node.load(image)` loads one and raises
+ValueError for another length, kind or layout. Store the new image before a frame or an option body leaves the board (a ledger's, with its
+memory, before the address does), and never return to an older one. A link key that left a node's active set and comes back counts from 0
+again: never hand out a key value twice."""
 from __future__ import annotations
 
 import ctypes
 import os
-from typing import NamedTuple, Optional, Tuple, TypeVar, Union
+from typing import Any, Dict, NamedTuple, Optional, Tuple, TypeVar, Union
 
 from . import _api
 from ._api import (
@@ -61,7 +74,7 @@ from ._api import (
 )
 
 __version__ = "1.2.0"
-__all__ = ["Library", "Refused", "LayoutError", "KeyUsage", "number", "put", "LAYOUT", "KINDS"]
+__all__ = ["Library", "Refused", "LayoutError", "KeyUsage", "number", "put", "LAYOUT", "KINDS", "RESERVE_MOST"]
 __all__ += ["Change", "Due", "FrameType", "Holds", "Limit", "Phase", "Reading", "Refusal", "Report", "Role", "Version"]
 __all__ += ["Address", "Attempt", "Configuration", "CountedSet", "Faults", "FrameKey", "Key", "KeySet", "Ledger", "List", "Node", "Octets"]
 __all__ += ["Pledge", "Proxy", "Rate", "Replayed", "Reports", "Request", "Serial"]
@@ -69,7 +82,8 @@ __all__ += ["Pledge", "Proxy", "Rate", "Replayed", "Reports", "Request", "Serial
 Readable = Union[bytes, bytearray, memoryview]
 Writable = Union[bytearray, memoryview]
 _Struct = TypeVar("_Struct", bound=ctypes.Structure)
-_NUMBERS = {"u16": ctypes.c_uint16, "u32": ctypes.c_uint32, "u64": ctypes.c_uint64}
+RESERVE_MOST = 65536  # the most frames that one reservation covers
+_NUMBERS: Dict[Optional[str], Any] = {"u16": ctypes.c_uint16, "u32": ctypes.c_uint32, "u64": ctypes.c_uint64}
 
 
 class Refused(Exception):
@@ -77,9 +91,13 @@ class Refused(Exception):
 
     def __init__(self, number: int) -> None:
         self.number = number
-        self.name = Refusal(number).name
-        self.meaning = _api.MEANINGS[number]
+        known = number in _api.MEANINGS
+        self.name = Refusal(number).name if known else "OTHER"
+        self.meaning = _api.MEANINGS[number] if known else "a refusal that this version of the package does not know"
         super().__init__("%d %s: %s" % (number, self.name, self.meaning))
+
+    def __reduce__(self) -> Tuple[type, Tuple[int]]:
+        return type(self), (self.number,)
 
 
 class LayoutError(ImportError):
@@ -132,6 +150,17 @@ def _struct(name: str, value: object, kind: str) -> ctypes.Structure:
     return value
 
 
+def _number_result(name: str, value: object, kind: str) -> Tuple[int, int]:
+    """Address and length of a number that a call returns."""
+    wanted = _NUMBERS[kind]
+    if not isinstance(value, wanted):
+        raise TypeError("%s must be a %s, not %s" % (name, wanted.__name__, type(value).__name__))
+    at, length = ctypes.addressof(value), ctypes.sizeof(wanted)
+    if at % length:
+        raise ValueError("%s must be aligned to %d bytes" % (name, length))
+    return at, length
+
+
 def _address(view: memoryview) -> int:
     """Where the bytes of a writable view are."""
     return ctypes.addressof(ctypes.c_uint8.from_buffer(view)) if len(view) else 0
@@ -169,8 +198,8 @@ class Library:
         return [ctypes.c_void_p] if kind in _NUMBERS else [ctypes.c_void_p, ctypes.c_uint64]
 
     def call(self, name: str, *words: object) -> int:
-        """Calls a function of pothatch.h by its name without the prefix, with checked arguments, and returns its number. A number that the
-        call returns is handed a ctypes integer, a struct that it returns an instance."""
+        """Calls a function of pothatch.h by its name without the prefix, with checked arguments, and returns its number. For a number that
+        the call returns pass a ctypes integer of its width (c_uint16, c_uint32, c_uint64), for a struct an instance."""
         signature = _api.SIGNATURES[name]
         if len(words) != len(signature):
             raise TypeError("%s takes %d arguments" % (name, len(signature)))
@@ -181,7 +210,9 @@ class Library:
             if use == "number":
                 given.append(_integer(param, value))
             elif kind in _NUMBERS:
-                given.append(ctypes.addressof(value))  # type: ignore[arg-type]
+                at, length = _number_result(param, value, kind)
+                given.append(at)
+                spans.append((at, at + length, True, param))
             else:
                 at, length = self._lend(param, use, kind or "bytes", count, value, held)
                 given += [at, length]
@@ -304,9 +335,16 @@ class Library:
         """Reserves the counters of the next `count` frames of a type, so that the node is stored once for so many frames: returns the image
         of the node as it is after these sendings. Store it; then send up to `count` frames of this type. After a restart continue with the
         stored image: it uses none of these counters again. Reserve and store anew before the next frame when the frames are used up, when a
-        frame of the other type is due, and when an accepted start, answer, update or verified frame has changed the node."""
-        stored = Node.from_buffer_copy(bytes(node))
-        for _ in range(_integer("count", count)):
+        frame of the other type is due, and when an accepted start, answer, update or verified frame has changed the node. RANGE: not a
+        node, an undefined frame type (both with count 0 too), a count over RESERVE_MOST; SILENT: not so many counters are left."""
+        if _integer("count", count) > RESERVE_MOST:
+            raise Refused(Refusal.RANGE)
+        stored = Node.from_buffer_copy(_struct("node", node, "Node"))
+        if count == 0:
+            refusal = self.call("node_send", stored, frame_type, FrameKey())  # a trial
+            self._judged(refusal if refusal == Refusal.RANGE else 0)
+            return bytes(node)
+        for _ in range(count):
             self.node_send(stored, frame_type)
         return bytes(stored)
 

@@ -3,10 +3,86 @@ from __future__ import annotations
 
 import ctypes
 import enum
-from typing import Optional, Tuple
+from typing import Any, Dict, Optional, Tuple, Type, TypeVar, Union
 
 LAYOUT = 1
 _U8 = ctypes.c_uint8
+_Any = TypeVar("_Any", bound="_Image")
+_ARRAYS: Dict[int, Any] = {}
+
+
+def _octet(name: str, value: object) -> int:
+    if isinstance(value, bool) or not isinstance(value, int):
+        raise TypeError("%s must be an int, not %s" % (name, type(value).__name__))
+    if not 0 <= value <= 255:
+        raise ValueError("%s is one byte: it must be within 0 to 255, not %d" % (name, value))
+    return value
+
+
+def _octets(count: int) -> Any:
+    """The type of a member of so many bytes, which refuses what is not a byte. ctypes alone would cut it off."""
+
+    def __setitem__(self: Any, at: Any, value: Any) -> None:
+        if isinstance(at, slice):
+            value = value if isinstance(value, (bytes, bytearray)) else [_octet("an item", v) for v in value]
+        else:
+            value = _octet("an item", value)
+        plain.__setitem__(self, at, value)
+
+    if count not in _ARRAYS:
+        plain: Any = _U8 * count
+        _ARRAYS[count] = type("Octets%d" % count, (plain,), {"__setitem__": __setitem__})
+    return _ARRAYS[count]
+
+
+class _Members(ctypes.Structure):
+    """A struct of bytes: a member that it does not have is refused with AttributeError, a number that is not a byte with ValueError."""
+
+    def __setattr__(self, name: str, value: Any) -> None:
+        kind = self._kinds.get(name)
+        if kind is None:
+            raise AttributeError("%s has no member %s" % (type(self).__name__, name))
+        if kind is _U8:
+            value = _octet(name, value)
+        elif isinstance(value, tuple):
+            value = kind(*value)
+        super().__setattr__(name, value)
+
+    def __init_subclass__(cls, **words: Any) -> None:
+        super().__init_subclass__(**words)
+        cls._kinds = dict(cls.__dict__.get("_fields_", ()))
+
+    _kinds: Dict[str, Any] = {}
+
+
+class _Image(_Members):
+    """A struct with a kind and a layout."""
+
+    KIND = ""
+
+    @classmethod
+    def load(cls: Type[_Any], image: Union[bytes, bytearray, memoryview]) -> _Any:
+        """The struct of a stored image; ValueError for another length, kind or layout. The calls judge the members."""
+        data = bytes(image)
+        if len(data) != ctypes.sizeof(cls):
+            raise ValueError("the image of a %s has %d bytes, not %d" % (cls.__name__, ctypes.sizeof(cls), len(data)))
+        if data[0] != ord(cls.KIND):
+            raise ValueError("the image of a %s begins with %r, not %r" % (cls.__name__, cls.KIND.encode(), data[:1]))
+        if data[1] != LAYOUT:
+            raise ValueError("the image has layout %d, this package %d" % (data[1], LAYOUT))
+        return cls.from_buffer_copy(data)
+
+
+_Made = TypeVar("_Made", bound="_Object")
+
+
+class _Object(_Image):
+    """A struct that a caller may make by hand."""
+
+    @classmethod
+    def new(cls: Type[_Made]) -> _Made:
+        """An empty one, with its kind and layout. A parameter is written only if its report is set to Report.TAKEN."""
+        return cls(kind=ord(cls.KIND), layout=LAYOUT)
 
 
 class Refusal(enum.IntEnum):
@@ -139,19 +215,19 @@ MEANINGS = {
 }
 
 
-class Key(ctypes.Structure):
+class Key(_Members):
     """One link-layer key. 27 bytes."""
 
     _fields_ = [
         ("identifier", _U8),  # 1 to 255
         ("usage", _U8),  # 0 to 14; pothatch_key_usage says what it means
-        ("value", _U8 * 16),
+        ("value", _octets(16)),
         ("info_len", _U8),  # length of the additional information (RFC 9031): 0, 4 or 8
-        ("info", _U8 * 8),  # zeros after the first info_len
+        ("info", _octets(8)),  # zeros after the first info_len
     ]
 
 
-class KeySet(ctypes.Structure):
+class KeySet(_Members):
     """A set of keys. 217 bytes."""
 
     _fields_ = [
@@ -160,59 +236,60 @@ class KeySet(ctypes.Structure):
     ]
 
 
-class Octets(ctypes.Structure):
+class Octets(_Members):
     """A JRC address, network identifier or prefix. 18 bytes."""
 
     _fields_ = [
         ("report", _U8),  # written only if TAKEN
         ("len", _U8),  # 0 to 16, a JRC address 16; an empty one is not an absent one
-        ("bytes", _U8 * 16),
+        ("bytes", _octets(16)),
     ]
 
 
-class Address(ctypes.Structure):
+class Address(_Members):
     """A short address and its lease. 12 bytes."""
 
     _fields_ = [
         ("report", _U8),  # written only if TAKEN
-        ("bytes", _U8 * 2),  # FFFE and FFFF are not addresses
+        ("bytes", _octets(2)),  # FFFE and FFFF are not addresses
         ("leased", _U8),  # 0: no end, and `lease` is not written; 1: for `lease`
-        ("lease", _U8 * 8),  # seconds; in RFC 9031 hours. Ask pothatch_node_holds rather than converting it
+        ("lease", _octets(8)),  # seconds; in RFC 9031 hours. Ask pothatch_node_holds rather than converting it
     ]
 
 
-class List(ctypes.Structure):
+class List(_Members):
     """The members of a CBOR array, in shortest heads, one after another. 256 bytes."""
 
     _fields_ = [
         ("report", _U8),  # written only if TAKEN
         ("count", _U8),  # members
         ("len", _U8),  # bytes, 0 to 253
-        ("bytes", _U8 * 253),
+        ("bytes", _octets(253)),
     ]
 
 
-class Rate(ctypes.Structure):
+class Rate(_Members):
     """A join rate. 9 bytes."""
 
     _fields_ = [
         ("report", _U8),  # written only if TAKEN
-        ("value", _U8 * 8),  # bytes a second
+        ("value", _octets(8)),  # bytes a second
     ]
 
 
-class Faults(ctypes.Structure):
+class Faults(_Members):
     """Error reports of parameters, in payload order. 11 bytes."""
 
     _fields_ = [
         ("count", _U8),  # 0 to 5
-        ("entry", (_U8 * 2) * 5),  # error code (0 unsupported, 1 malformed), label
+        ("entry", _octets(2) * 5),  # error code (0 unsupported, 1 malformed), label
     ]
 
 
-class Request(ctypes.Structure):
+class Request(_Object):
     """A join request. A parameter is written only if its report is TAKEN. 296 bytes."""
 
+    KIND = "Q"
     _fields_ = [
         ("kind", _U8),  # 'Q'
         ("layout", _U8),
@@ -220,13 +297,14 @@ class Request(ctypes.Structure):
         ("network", Octets),
         ("unsupported", List),  # label 8 (RFC 9031): for each report its code, its label and null
         ("faults", Faults),  # what was bad in this request (RFC 9031)
-        ("passed", _U8 * 8),  # number of unknown labels
+        ("passed", _octets(8)),  # number of unknown labels
     ]
 
 
-class Configuration(ctypes.Structure):
+class Configuration(_Object):
     """A configuration. A parameter is written only if its report (keys_report) is TAKEN, a lease only if leased is 1. 570 bytes."""
 
+    KIND = "C"
     _fields_ = [
         ("kind", _U8),  # 'C'
         ("layout", _U8),
@@ -239,13 +317,14 @@ class Configuration(ctypes.Structure):
         ("blacklist", List),  # byte strings (RFC 9031)
         ("rate", Rate),  # join rate (RFC 9031)
         ("came", Faults),  # RFC 9031: each known label of the payload, good or bad, in payload order, with code 1
-        ("passed", _U8 * 8),  # number of unknown labels
+        ("passed", _octets(8)),  # number of unknown labels
     ]
 
 
-class Reports(ctypes.Structure):
+class Reports(_Image):
     """What a node made of each parameter. 17 bytes."""
 
+    KIND = "R"
     _fields_ = [
         ("kind", _U8),  # 'R'
         ("layout", _U8),
@@ -256,45 +335,47 @@ class Reports(ctypes.Structure):
         ("prefix", _U8),
         ("blacklist", _U8),
         ("rate", _U8),
-        ("passed", _U8 * 8),  # number of unknown labels
+        ("passed", _octets(8)),  # number of unknown labels
     ]
 
 
-class FrameKey(ctypes.Structure):
+class FrameKey(_Image):
     """The key for a frame. 33 bytes."""
 
+    KIND = "K"
     _fields_ = [
         ("kind", _U8),  # 'K'
         ("layout", _U8),
         ("key", Key),
-        ("counter", _U8 * 4),  # the counter to send with; 0 for receiving
+        ("counter", _octets(4)),  # the counter to send with; 0 for receiving
     ]
 
 
-class CountedSet(ctypes.Structure):
+class CountedSet(_Members):
     """A key set with the next frame counter of each key. 249 bytes."""
 
     _fields_ = [
         ("set", KeySet),
-        ("counters", (_U8 * 4) * 8),
+        ("counters", _octets(4) * 8),
     ]
 
 
-class Attempt(ctypes.Structure):
+class Attempt(_Members):
     """A join attempt; times in milliseconds. 26 bytes."""
 
     _fields_ = [
         ("phase", _U8),
-        ("clock", _U8 * 8),  # the last accepted time
-        ("sent", _U8 * 8),  # when the request was last sent
-        ("timeout", _U8 * 8),  # how long after that the next step is due
+        ("clock", _octets(8)),  # the last accepted time
+        ("sent", _octets(8)),  # when the request was last sent
+        ("timeout", _octets(8)),  # how long after that the next step is due
         ("count", _U8),  # retransmissions made, 0 to 4
     ]
 
 
-class Node(ctypes.Structure):
+class Node(_Image):
     """A node. 878 bytes."""
 
+    KIND = "N"
     _fields_ = [
         ("kind", _U8),  # 'N'
         ("layout", _U8),
@@ -303,7 +384,7 @@ class Node(ctypes.Structure):
         ("active", CountedSet),
         ("pending", CountedSet),
         ("address", Address),
-        ("received", _U8 * 8),  # when the address was received
+        ("received", _octets(8)),  # when the address was received
         ("jrc", Octets),
         ("network", Octets),
         ("prefix", Octets),
@@ -314,67 +395,72 @@ class Node(ctypes.Structure):
     ]
 
 
-class Ledger(ctypes.Structure):
+class Ledger(_Image):
     """A ledger; its addresses are in lent memory, nine bytes each. 16 bytes."""
 
+    KIND = "L"
     _fields_ = [
         ("kind", _U8),  # 'L'
         ("layout", _U8),
-        ("first", _U8 * 2),  # lowest address of the range
-        ("size", _U8 * 2),  # number of addresses
-        ("left", _U8 * 2),  # free addresses
-        ("marks", _U8 * 8),  # a bit for each 64 addresses, the lowest in the last byte's lowest bit: whether one is free
+        ("first", _octets(2)),  # lowest address of the range
+        ("size", _octets(2)),  # number of addresses
+        ("left", _octets(2)),  # free addresses
+        ("marks", _octets(8)),  # a bit for each 64 addresses, the lowest in the last byte's lowest bit: whether one is free
     ]
 
 
-class Proxy(ctypes.Structure):
+class Proxy(_Image):
     """A join proxy. 26 bytes."""
 
+    KIND = "P"
     _fields_ = [
         ("kind", _U8),  # 'P'
         ("layout", _U8),
-        ("key", _U8 * 16),
-        ("issued", _U8 * 8),  # numbers issued under this key, 0 to 4294967296
+        ("key", _octets(16)),
+        ("issued", _octets(8)),  # numbers issued under this key, 0 to 4294967296
     ]
 
 
-class Pledge(ctypes.Structure):
+class Pledge(_Image):
     """Where a join response goes. 21 bytes."""
 
+    KIND = "G"
     _fields_ = [
         ("kind", _U8),  # 'G'
         ("layout", _U8),
-        ("interface_id", _U8 * 8),
-        ("port", _U8 * 2),
+        ("interface_id", _octets(8)),
+        ("port", _octets(2)),
         ("token_len", _U8),
-        ("token", _U8 * 8),
+        ("token", _octets(8)),
     ]
 
 
-class Serial(ctypes.Structure):
+class Serial(_Image):
     """A payload that arrives in parts; its bytes are in a lent store of 256. 6 bytes."""
 
+    KIND = "S"
     _fields_ = [
         ("kind", _U8),  # 'S'
         ("layout", _U8),
-        ("arrived", _U8 * 2),  # bytes that arrived, 0 to 256
+        ("arrived", _octets(2)),  # bytes that arrived, 0 to 256
         ("overrun", _U8),  # 1: a part passed 256
         ("ended", _U8),  # 1: the end was marked
     ]
 
 
-class Replayed(ctypes.Structure):
+class Replayed(_Image):
     """What a replay found. 251 bytes."""
 
+    KIND = "T"
     _fields_ = [
         ("kind", _U8),  # 'T'
         ("layout", _U8),
-        ("kinds", (_U8 * 8) * 6),  # records by kind, 1 first
-        ("refusals", (_U8 * 8) * 22),  # refusals by number, 1 first
-        ("switches", _U8 * 8),  # from pending to active
-        ("longest", _U8 * 8),  # longest wait from an accepted start to its accepted join answer, ms
+        ("kinds", _octets(8) * 6),  # records by kind, 1 first
+        ("refusals", _octets(8) * 22),  # refusals by number, 1 first
+        ("switches", _octets(8)),  # from pending to active
+        ("longest", _octets(8)),  # longest wait from an accepted start to its accepted join answer, ms
         ("stopped", _U8),  # 0: the whole trace was walked; 1: it stopped at `place`
-        ("place", _U8 * 8),  # offset of that record; else the trace's length
+        ("place", _octets(8)),  # offset of that record; else the trace's length
     ]
 
 
