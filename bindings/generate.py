@@ -283,9 +283,9 @@ def inline_initial(api, plus):
 def inline_header(api):
     text = "pothatch_inline.h: pothatch.h with types. Each ph_NAME but ph_node_reserve calls pothatch_NAME and does nothing else: "
     text += "structs are passed by pointers of their own type, buffers of a fixed length without a length, and a result that is not "
-    text += "looked at is a warning. ph_node_reserve is made of calls of ph_node_send. Passing a ledger where a node is due is an error in "
-    text += "C++. In C it may be a warning only: compile with -Werror=incompatible-pointer-types (and for gcc -Werror=discarded-qualifiers) "
-    out = comment(text + "to make it an error. The rules of pothatch.h hold. Made by bindings/generate.py.")
+    text += "looked at is a warning. ph_node_reserve is made of calls of ph_node_send. Passing a ledger where a node is due is an error "
+    text += "in C++. In C it may be a warning only: compile with -Werror=incompatible-pointer-types (and for gcc "
+    out = comment(text + "-Werror=discarded-qualifiers) to make it an error. The rules of pothatch.h hold. Made by bindings/generate.py.")
     out += ["#ifndef POTHATCH_INLINE_H", "#define POTHATCH_INLINE_H", '#include "pothatch.h"', "#ifdef __cplusplus", 'extern "C" {']
     out += ["#endif", ""]
     out += ["#if defined(__GNUC__)", "#define PH_CALL static inline __attribute__((warn_unused_result, unused))"]

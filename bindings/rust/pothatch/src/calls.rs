@@ -63,6 +63,22 @@ pub fn number(bytes: &[u8]) -> u64 {
     bytes.iter().fold(0, |n, b| n << 8 | u64::from(*b))
 }
 
+/// Writes a number to a member of several bytes. `Range`: it does not fit, and the member stays.
+pub fn put(bytes: &mut [u8], number: u64) -> Result<(), Refusal> {
+    if bytes.len() < 8 && number >> (8 * bytes.len()) != 0 {
+        return Err(Refusal::Range);
+    }
+    let mut rest = number;
+    for byte in bytes.iter_mut().rev() {
+        *byte = rest as u8;
+        rest >>= 8;
+    }
+    Ok(())
+}
+
+/// The most frames that one reservation covers ([`Node::reserve`]).
+pub const RESERVE_MOST: u64 = 65_536;
+
 /// What was returned, or the refusal.
 fn judged<T>(number: u32, value: T) -> Result<T, Refusal> {
     match Refusal::from_number(number) {
@@ -115,7 +131,7 @@ pub fn key_usage(usage: u8) -> Result<KeyUsage, Refusal> {
 }
 
 impl Request {
-    /// An empty join request, to be filled in and written.
+    /// An empty join request, to be filled in and written. A parameter is written only if its report is [`TAKEN`].
     pub fn new() -> Request {
         Request { kind: b'Q', layout: LAYOUT as u8, ..Request::zeroed() }
     }
@@ -144,7 +160,8 @@ impl Default for Request {
 }
 
 impl Configuration {
-    /// An empty configuration, to be filled in and written.
+    /// An empty configuration, to be filled in and written. A parameter is written only if its report is [`TAKEN`], and a lease only if
+    /// `leased` is 1.
     pub fn new() -> Configuration {
         Configuration { kind: b'C', layout: LAYOUT as u8, ..Configuration::zeroed() }
     }
@@ -269,9 +286,20 @@ impl Node {
     /// Reserves the counters of the next `count` frames of a type, so that the node is stored once for so many frames: returns the image of
     /// the node as it is after these sendings. Store it; then send up to `count` frames of this type. After a restart continue with the
     /// stored image: it uses none of these counters again. Reserve and store anew before the next frame when the frames are used up, when a
-    /// frame of the other type is due, and when an accepted start, answer, update or verified frame has changed the node.
+    /// frame of the other type is due, and when an accepted start, answer, update or verified frame has changed the node. `Range`: not a
+    /// valid node (with `count` 0 too), or a count over [`RESERVE_MOST`]. `Silent`: no key, or not so many counters are left.
     pub fn reserve(&self, frame_type: FrameType, count: u64) -> Result<[u8; 878], Refusal> {
+        if count > RESERVE_MOST {
+            return Err(Refusal::Range);
+        }
         let mut stored = Node::from_image(self.image());
+        if count == 0 {
+            // a trial
+            return match stored.send(frame_type) {
+                Err(Refusal::Range) => Err(Refusal::Range),
+                _ => Ok(*self.image()),
+            };
+        }
         for _ in 0..count {
             stored.send(frame_type)?;
         }

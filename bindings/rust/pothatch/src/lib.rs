@@ -6,7 +6,8 @@
 //!
 //! [`Node`], [`Ledger`], [`Proxy`] and [`Serial`] are states. They are neither `Copy` nor `Clone`: a copy of a node or proxy would use
 //! frame counters and nonces twice. `image` and `from_image` store and load one; store the new image *before* the frame or the option body
-//! leaves the board, and never return to an older one.
+//! leaves the board (a ledger's, with its memory, before the address does), and never return to an older one. A link key that left a node's
+//! active set and comes back counts from 0 again: a JRC must never hand out a key value twice.
 //!
 //! ```
 //! use pothatch::{Ledger, Refusal, PLACE};
@@ -15,6 +16,22 @@
 //! let mut ledger = Ledger::open(0x1000, 100, &memory)?;
 //! assert_eq!(ledger.grant(&mut memory, &[0x00, 0x12, 0x4b, 0x00, 0x14, 0xb5, 0xd3, 0x01])?, 0x1000);
 //! assert_eq!(Ledger::open(0x11000, 100, &memory).err(), Some(Refusal::Range));
+//! # Ok::<(), Refusal>(())
+//! ```
+//!
+//! A configuration is filled in by hand: a parameter is written only if its report is [`TAKEN`], and a lease only if `leased` is 1. Members
+//! of several bytes are big-endian: [`number`] reads them, [`put`] writes them.
+//!
+//! ```
+//! use pothatch::{put, Configuration, Refusal, Version, PAYLOAD_MOST, TAKEN};
+//!
+//! let mut c = Configuration::new();
+//! (c.address.report, c.address.leased) = (TAKEN, 1);
+//! put(&mut c.address.bytes, 0x1234)?;
+//! put(&mut c.address.lease, 3600)?;
+//! let mut payload = [0; PAYLOAD_MOST];
+//! let n = c.write(Version::Draft, &mut payload)?;
+//! assert_eq!(&payload[..n], [0xa1, 0x03, 0x82, 0x42, 0x12, 0x34, 0x19, 0x0e, 0x10]);
 //! # Ok::<(), Refusal>(())
 //! ```
 #![no_std]
@@ -64,6 +81,7 @@ pub use sys::{
     Address, Attempt, Configuration, CountedSet, Faults, FrameKey, Key, KeySet, Ledger, List, Node, Octets, Pledge, Proxy, Rate, Replayed,
     Reports, Request, Serial,
 };
+pub use sys::{ABSENT, DISCARDED, TAKEN};
 pub use sys::{BODY, PAYLOAD_MOST, PLACE, REQUEST_MOST, TAG};
 
 impl core::fmt::Display for Refusal {

@@ -78,6 +78,42 @@ fn reserved_counters_are_not_used_again() {
     let sent: Vec<u64> = (0..3).map(|_| number(&node.send(FrameType::Data).unwrap().counter)).collect();
     assert_eq!(sent, [0, 1, 2]);
     assert_eq!(number(&Node::from_image(&stored).send(FrameType::Data).unwrap().counter), 3);
+    assert_eq!(node.reserve(FrameType::Data, RESERVE_MOST + 1), Err(Refusal::Range));
+    assert_eq!(node.reserve(FrameType::Data, 0), Ok(*node.image()));
+    assert_eq!(joined().reserve(FrameType::Data, 0), Ok(*joined().image()));
+    assert_eq!(Node::from_image(&[0; 878]).reserve(FrameType::Data, 0), Err(Refusal::Range));
+}
+
+#[test]
+fn a_key_value_that_comes_back_counts_from_0() {
+    let mut node = joined();
+    node.verified(FrameType::Data, 1).unwrap();
+    for (time, identifier) in [(2, 2), (3, 1)] {
+        assert_eq!(number(&node.send(FrameType::Data).unwrap().counter), 0);
+        let mut update = vec![0xa1, 0x02, 0x82, identifier, 0x50];
+        update.extend([7; 16]);
+        node.update(time, &update).unwrap();
+        assert_eq!(node.verified(FrameType::Data, identifier), Ok(true));
+    }
+    assert_eq!(number(&node.send(FrameType::Data).unwrap().counter), 0);
+}
+
+#[test]
+fn a_configuration_is_filled_in() {
+    let (mut c, mut dst) = (Configuration::new(), [0; PAYLOAD_MOST]);
+    c.keys.count = 1;
+    c.keys.keys[0].identifier = 1;
+    c.keys.keys[0].value = [7; 16];
+    put(&mut c.address.bytes, 0x1234).unwrap();
+    put(&mut c.address.lease, 3600).unwrap();
+    assert_eq!(c.write(Version::Draft, &mut dst), Ok(1));
+    (c.keys_report, c.address.report, c.address.leased) = (TAKEN, TAKEN, 1);
+    let n = c.write(Version::Draft, &mut dst).unwrap();
+    assert_eq!(&dst[..n], &answer()[..]);
+    assert_eq!(put(&mut c.address.bytes, 65_536), Err(Refusal::Range));
+    assert_eq!(c.address.bytes, [0x12, 0x34]);
+    assert_eq!((put(&mut c.address.lease, u64::MAX), number(&c.address.lease)), (Ok(()), u64::MAX));
+    assert_eq!((ABSENT, DISCARDED), (0, 2));
 }
 
 #[test]
