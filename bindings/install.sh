@@ -1,6 +1,6 @@
 #!/bin/sh
 # install.sh PREFIX: proves and builds the library, and installs it under PREFIX: headers, archive, shared library, pkg-config and CMake
-# files, the Rust crate, the Python package and its wheel, examples, and those of the six tools that are built in target/bin.
+# files, the Rust crate, the Python package and its wheel, examples, a README, and those of the six tools that are built in target/bin.
 # install.sh --uninstall PREFIX: removes what an installation put there.
 # DESTDIR is put before PREFIX where files are written. RT names the toolchain's command where it is not `rt`; ARCHIVE names an archive
 # that is built already. TOOLS=1 proves and builds the tools too. Nothing that is installed holds PREFIX, so the folder may be moved.
@@ -77,9 +77,14 @@ manual() {
     sed -e "1s/^$1: \(.*\) (docs.TOOLS.md)\.\$/pothatch\\\\-$1 \\\\- \1/" -e '1a .SH DESCRIPTION' -e '2,$s/$/\n.br/'
 }
 
+put bindings/package/README.md share/pothatch/README.md
+put docs/FIRMWARE.md share/pothatch/FIRMWARE.md
+put docs/PERFORMANCE.md share/pothatch/PERFORMANCE.md
 missing=
+found=
 for tool in $tools; do
   if [ -x "target/bin/$tool" ]; then
+    found=1
     put "target/bin/$tool" "bin/pothatch-$tool" 755
     manual "$tool" >"$work/manual"
     put "$work/manual" "share/man/man1/pothatch-$tool.1"
@@ -87,8 +92,7 @@ for tool in $tools; do
     missing="$missing $tool"
   fi
 done
-put docs/TOOLS.md share/pothatch/TOOLS.md
-put docs/FIRMWARE.md share/pothatch/FIRMWARE.md
+if [ -n "$found" ]; then put docs/TOOLS.md share/pothatch/TOOLS.md; fi
 if [ -n "$missing" ]; then echo "tools that are not built and so not installed (TOOLS=1 builds them):$missing"; fi
 echo share/pothatch/installed >>"$installed"
 echo "installed $version in $root"

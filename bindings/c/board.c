@@ -1,6 +1,6 @@
 /* A board's join and rekey with the library: it makes its node, asks to join, polls until it must send again, gets the answer, checks its
  * address, gets new keys and switches to them at the first verified frame. Each step writes what it was answered, as the desk tool
- * `simulate` does: board.txt is the same story for it. */
+ * `simulate` does: in the sources, bindings/c/board.txt is the same story for it. */
 #include "pothatch_inline.h"
 #include <stdio.h>
 
