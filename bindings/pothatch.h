@@ -368,8 +368,9 @@ uint32_t pothatch_size(uint64_t kind, uint32_t *size) POTHATCH_CHECKED;
 /* The refusal's name in ASCII, padded with zeros. RANGE: an undefined number. [result] name (8 bytes) */
 uint32_t pothatch_refusal_name(uint64_t number, uint8_t *name, uint64_t name_len) POTHATCH_CHECKED;
 
-/* What a key's usage means for the radio: whether frames are encrypted (1) or only authenticated (0), and the length of their MIC in bytes
- * (4, 8 or 16). RANGE: a usage over 14. [result] encrypted, mic_length */
+/* What a key's usage means for the radio: whether data frames and acknowledgements are encrypted (1) or only authenticated (0), and the
+ * length of a frame's MIC in bytes (4, 8 or 16). Beacons are never encrypted, whatever the usage. RANGE: a usage over 14. [result]
+ * encrypted, mic_length */
 uint32_t pothatch_key_usage(uint64_t usage, uint32_t *encrypted, uint32_t *mic_length) POTHATCH_CHECKED;
 
 /* ---- Payloads. `form` is a version. */

@@ -1,6 +1,5 @@
--- Which damage is found. A record is taken only where its call appends it; of one kind and one board there is one such record, whatever
--- its
--- check; and a record with one changed byte is never taken. More changed bytes of kind and board rest on CRC-32: 1 of 2^32 changes fits.
+-- Which damage is found. A record is taken only where its call appends it; after one check, of one kind and one board, there is one such
+-- record; and a record with one changed byte is never taken. More changed bytes of kind and board rest on CRC-32: 1 of 2^32 changes fits.
 use Prim.Native.Nat.{ℕ, _≤_, _<_}
 use mathlib.Core.Path.{_≡_}
 use mathlib.Core.List.{List}

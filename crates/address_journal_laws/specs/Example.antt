@@ -52,7 +52,7 @@ pub record JournalExample : Type 0 where
   -- the second record's board with another last byte: damage at offset 32
   pub damage : resume lent (set (program .file) 40 12) .end .step ≡ Damaged
   pub offset : resume lent (set (program .file) 40 12) .whole ≡ 32
-  -- the first record taken out, and the second where it was: the checks are chained
+  -- the first record taken out, and the second where it was: neither its check nor its address fits there
   pub missing : resume lent (take 16 (program .file) ++ drop 32 (program .file)) .end .step ≡ Damaged
   -- a second fixture with the next range grants one of the same boards another address
   pub second : holdings 0x1003 3 lent start ≡ holding 10 0x1003 ∷ holding 11 0x1004 ∷ []

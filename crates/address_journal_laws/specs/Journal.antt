@@ -57,7 +57,8 @@ wholeFrom first size s c n (k ∷ ks) =
 abbrev pub wholeIn : ℕ → ℕ → List ℕ → ℕ → List Change → List Change
 wholeIn first size m n cs = wholeFrom first size (after first size m []) (headerCheck first size) n cs
 
--- ---- histories with power cuts
+-- ---- histories with power cuts. Several cuts in a row are several events; a plain restart, and a cut while a cut record is dropped, are
+-- cuts with no byte in the file
 pub data Event : Type 0 where
   -- a call is made, its record is synced, and it is answered
   answers : Change → Event

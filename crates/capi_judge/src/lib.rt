@@ -1,6 +1,5 @@
-// Whether the node in a lent image may be handed in, judged where it stands: no part but the join attempt, the short address and byte
-// strings
-// is copied. One table of flags serves both key sets.
+// Whether the node in a lent image may be handed in, judged where it stands: only the join attempt, the short address, byte strings and
+// error reports are copied. One table of flags serves both key sets.
 mod flags;
 mod list;
 mod octet;

@@ -1,6 +1,5 @@
-// The calls of a node on its lent image: each judges the node where it stands, reads the parts that it needs and writes the part that
-// changes.
-// No call loads the whole node, so that none needs the stack for one.
+// Five calls of a node on its lent image (poll, lease question, send, receive, verified): each judges the node where it stands, reads the
+// parts that it needs and writes the part that changes. None loads the whole node, so that none needs the stack for one.
 mod attempt;
 mod find;
 mod frames;

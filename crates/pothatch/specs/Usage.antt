@@ -1,4 +1,5 @@
--- What a key's usage means for the radio, by document 01's usage list: whether frames are encrypted, and the bytes of their MIC.
+-- What a key's usage means for the radio, by document 01's usage list (004, Table 3): whether data frames and acknowledgements are
+-- encrypted, and the bytes of a frame's MIC. Beacons are never encrypted.
 use Prim.Native.Nat.{ℕ, _/_}
 use mathlib.Core.Path.{_≡_}
 use Rattle.link_key.specs.declared.usage.Entry.{Entry}
@@ -8,7 +9,7 @@ use Rattle.link_key.specs.declared.usage.Family.the-variants.{K1K2Encrypted, K1
 use Rattle.link_key.specs.usage.Usage.{entryAt, entrySays}
 use Rattle.pothatch.specs.Wide.{codeOf}
 
--- 1 with encryption, 0 without
+-- of data frames and acknowledgements: 1 with encryption, 0 without
 abbrev pub encryption : Family → ℕ
 encryption K1K2Encrypted = 1
 encryption K1K2 = 0

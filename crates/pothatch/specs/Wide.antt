@@ -4,8 +4,8 @@ use Prim.Native.Nat.{ℕ}
 use mathlib.Core.Bool.{cond}
 use lib.Dec.{leb}
 
--- a version, a role, a frame type, or whether there is a network identifier: 0 and 1 are defined, so a number that no byte holds is
--- undefined as 255 is
+-- a version, a role, a frame type, whether there is a network identifier (0 and 1 are defined), or a usage (0 to 14): a number that no
+-- byte holds is undefined as 255 is
 abbrev pub codeOf : ℕ → ℕ
 codeOf n = cond (leb n 255) n 255
 

@@ -1,5 +1,5 @@
-// The library that C links: each function is that of its name in a crate of calls, which loads what stands in the lent bytes, calls the
-// proved function behind it, and stores what that left.
+// The library that C links: each function is that of its name in a crate of calls, which works on the lent bytes, or loads what they hold,
+// calls the proved function behind it, and stores the result.
 // Numbers and byte slices alone cross; state and results are structs of bytes, images. A call answers 0, or the refusal's number.
 mod cipher;
 mod ledger;

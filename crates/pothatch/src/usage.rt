@@ -1,4 +1,4 @@
-// What a key's usage means for the radio.
+// What a key's usage means for the radio. Beacons are never encrypted (004, Table 3: K1 is used without encryption).
 use crate::wide::code_of;
 use link_key::usage::Entry;
 use link_key::usage::Family;
@@ -18,7 +18,7 @@ fn encryption_of(family: Family) -> u32
     }
 }
 
-// Whether frames under a key of this usage are encrypted, and the length of their MIC in bytes.
+// Whether data frames and acknowledgements under a key of this usage are encrypted, and the length of a frame's MIC in bytes.
 #[no_mangle]
 pub extern "C" fn pothatch_key_usage(usage: u64, encrypted: &mut u32, mic_length: &mut u32) -> u32
     ensures { λ r. ⌜ UsageSpec usage r (now (encrypted .exit)) (now («mic_length» .exit)) ⌝ }

@@ -607,8 +607,8 @@ extern "C" {
     pub fn pothatch_size(kind: u64, size: *mut u32) -> u32;
     /// The refusal's name in ASCII, padded with zeros. RANGE: an undefined number.
     pub fn pothatch_refusal_name(number: u64, name: *mut u8, name_len: u64) -> u32;
-    /// What a key's usage means for the radio: whether frames are encrypted (1) or only authenticated (0), and the length of their MIC in
-    /// bytes (4, 8 or 16). RANGE: a usage over 14.
+    /// What a key's usage means for the radio: whether data frames and acknowledgements are encrypted (1) or only authenticated (0), and
+    /// the length of a frame's MIC in bytes (4, 8 or 16). Beacons are never encrypted, whatever the usage. RANGE: a usage over 14.
     pub fn pothatch_key_usage(usage: u64, encrypted: *mut u32, mic_length: *mut u32) -> u32;
     /// Reads a join request. RANGE: an undefined form or reading; then as the papers order (LONG first; LOOSE in a strict reading).
     pub fn pothatch_request_read(form: u64, reading: u64, payload: *const u8, payload_len: u64, out: *mut u8, out_len: u64) -> u32;
