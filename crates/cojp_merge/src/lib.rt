@@ -62,8 +62,8 @@ fn merge_parameters(first: Configuration, second: Configuration) -> Configuratio
     }
 }
 
-// Whether a configuration is one of the draft: within the draft's limits, and no known label noted, as a reading in the published form does.
-// A lease that was read there is in hours.
+// Whether a configuration is one of the draft: within the draft's limits, and no known label noted, as a reading in the published form
+// does. A lease that was read there is in hours.
 fn is_of_draft(configuration: Configuration) -> bool
     ensures { λ r. ⌜ r ≡ ofDraft configuration ⌝ }
 {
@@ -73,8 +73,8 @@ fn is_of_draft(configuration: Configuration) -> bool
     configuration.labels.count == 0
 }
 
-// Joins two configurations of the draft. RANGE where either was read in the published form and met a known label, or holds a taken parameter
-// outside its limits, even one that the other overrides.
+// Joins two configurations of the draft. RANGE where either was read in the published form and met a known label, or holds a taken
+// parameter outside its limits, even one that the other overrides.
 pub fn merge(first: Configuration, second: Configuration) -> MergeResult
     ensures { λ r. ⌜ r ≡ mergeAnswer first second ⌝ }
 {

@@ -69,7 +69,8 @@ impl Journal {
         Journal::of(self.file, whole + 16, check)
     }
 
-    // The journal after a write or a sync that failed. A failed sync is not tried again: the system may have dropped what it could not write.
+    // The journal after a write or a sync that failed. A failed sync is not tried again: the system may have dropped what it could not
+    // write.
     fn stopped(self) -> Journal {
         os::fail(
             b"ledger: the journal was not written, the last command is not answered, and the session ends",

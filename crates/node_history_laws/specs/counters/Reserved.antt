@@ -1,6 +1,6 @@
--- Counters that a board reserves, so that it stores its node once for many frames (document 02, request 9: no counter is used twice with one
--- key). Before the frames it stores a copy of the node on which the sendings of their types were called; then it sends the frames with the
--- node itself, in that order. After a restart it continues with the stored copy, whether all frames were sent or only some.
+-- Counters that a board reserves, so that it stores its node once for many frames (document 02, request 9: no counter is used twice with
+-- one key). Before the frames it stores a copy of the node on which the sendings of their types were called; then it sends the frames with
+-- the node itself, in that order. After a restart it continues with the stored copy, whether all frames were sent or only some.
 use Prim.Native.Nat.{ℕ, _<_}
 use mathlib.Core.Path.{_≡_}
 use mathlib.Core.Bool.{true}
@@ -20,8 +20,8 @@ sendings [] = []
 sendings (t ∷ ts) = sending t ∷ sendings ts
 
 pub record CountersReserved : Type 0 where
-  -- any node that calls lead to; frames `sent` of the reserved ones, then a frame under the key k, `left` are not sent; the stored copy, any
-  -- calls on it while the key stays, and a sending under that key: its counter is higher
+  -- any node that calls lead to; frames `sent` of the reserved ones, then a frame under the key k, `left` are not sent; the stored copy,
+  -- any calls on it while the key stays, and a sending under that key: its counter is higher
   pub higher :
       (version : Version) (role : ℕ) (network : HeldOctets) (before : List NodeCall) (sent : List ℕ) (type : ℕ) (left : List ℕ) (k : Key)
       (counter : ℕ) →

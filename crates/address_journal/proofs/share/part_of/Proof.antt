@@ -36,7 +36,8 @@ returns-3 c =
     let if2-at = c .before .before .if2 in
     let if3-at = c .before .if3 in
     let no-part3-at = c .no-part3 in
-    fixture-none (a .first) (a .size) (a .fixture) (a .fixtures) (if1-at .left) (if2-at .left) (if3-at .taken) (no-part3-at .result) (no-part3-at .ensures)
+    fixture-none (a .first) (a .size) (a .fixture) (a .fixtures) (if1-at .left) (if2-at .left) (if3-at .taken) (no-part3-at .result)
+    (no-part3-at .ensures)
 
 no-part-requires-4 : tie.Need-no-part-requires-4
 no-part-requires-4 c κs = search needs
@@ -49,7 +50,8 @@ returns-4 c =
     let if3-at = c .before .before .if3 in
     let if4-at = c .before .if4 in
     let no-part4-at = c .no-part4 in
-    fixture-over (a .first) (a .size) (a .fixture) (a .fixtures) (if1-at .left) (if2-at .left) (if3-at .left) (if4-at .taken) (no-part4-at .result) (no-part4-at .ensures)
+    fixture-over (a .first) (a .size) (a .fixture) (a .fixtures) (if1-at .left) (if2-at .left) (if3-at .left) (if4-at .taken)
+    (no-part4-at .result) (no-part4-at .ensures)
 
 div-each : tie.Need-div-each
 div-each c = search needs

@@ -7,7 +7,8 @@ use borrow.Author.Needs.{needs}
 use Rattle.cojp.specs.Request.{requestState, requestForm, emptyRequestState}
 use Rattle.cojp_map.specs.Pairs.{walkAt}
 use Rattle.cojp_map.proofs.Maps.{Walking, walk-start, walk-done, turn-stops, turn-goes}
-use Rattle.cojp_read.proofs.request.Requests.{Turn, turn-role, turn-network, turn-unsupported, turn-passed, answerTo, settle-owing, settle-given}
+use Rattle.cojp_read.proofs.request.Requests.{Turn, turn-role, turn-network, turn-unsupported, turn-passed}
+use Rattle.cojp_read.proofs.request.Requests.{answerTo, settle-owing, settle-given}
 use Rattle.cojp_read.proofs.request.take_pairs.Statement.{statement}
 use Rattle.cojp_read.proofs.request.take_pairs.Tie as tie
 use Rattle.cojp_read.proofs.request.take_pairs.Reads as reads
