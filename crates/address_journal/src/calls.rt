@@ -7,7 +7,7 @@ use crate::due::{Entry, back_due, entry_of, grant_due};
 use address_ledger::{AddressAnswer, CallResult, Ledger};
 
 // What a call answered, and the ledger as it left it. Where a record is due the answer waits until its bytes are in the file and synced.
-#[derive(Drop)]
+#[derive(Clone, Copy)]
 pub struct RecordedCall {
     pub answer: AddressAnswer,
     pub ledger: Ledger,

@@ -14,14 +14,14 @@ use address_slots::{SlotFound, find_slot};
 use refusal::Verdict;
 
 // What a call would append: a record with this address, or nothing.
-#[derive(Drop)]
+#[derive(Clone, Copy)]
 pub enum Due {
     Record(u16),
     Nothing,
 }
 
 // Whether a record is due, its bytes (zeros where none is), and the check afterwards.
-#[derive(Drop)]
+#[derive(Clone, Copy)]
 pub(crate) struct Entry {
     pub(crate) due: bool,
     pub(crate) bytes: [u8; 16],

@@ -32,7 +32,7 @@ pub fn held_address(ledger: Ledger, memory: &[u8], board: &[u8; 8]) -> AddressAn
 }
 
 // The board that holds an address, or why there is none, and zeros.
-#[derive(Drop)]
+#[derive(Clone, Copy)]
 pub struct Holder {
     pub verdict: Verdict,
     pub board: [u8; 8],

@@ -16,7 +16,7 @@ pub const DAMAGED: u8 = 23;
 
 // What came of the next 16 bytes. Taken: they are in the ledger. Cut: a record that was never whole, which may only end a journal.
 // Damaged: another program or a fault wrote them. Refused: the header's range does not open over the memory.
-#[derive(Drop)]
+#[derive(Clone, Copy)]
 pub enum ResumeStep {
     Taken,
     Cut,
@@ -25,7 +25,7 @@ pub enum ResumeStep {
 }
 
 // The ledger so far, and the check that the next record continues.
-#[derive(Drop)]
+#[derive(Clone, Copy)]
 pub struct ResumeResult {
     pub step: ResumeStep,
     pub ledger: Ledger,

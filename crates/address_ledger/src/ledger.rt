@@ -13,7 +13,7 @@ use address_slots::{SLOT, SlotFound, find_board, find_slot, hold_slot, refresh_g
 use refusal::{Refusal, Verdict};
 
 // A range of short addresses, the first one and how many there are, how many of them are free, and where. Its memory is lent at each call.
-#[derive(Drop)]
+#[derive(Clone, Copy)]
 pub struct Ledger {
     pub first: usize,
     pub size: usize,

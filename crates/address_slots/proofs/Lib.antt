@@ -2,7 +2,7 @@ pub mod Scan
 pub mod Fit
 pub mod Runs
 pub mod Bits
-pub mod Summary
+pub mod SummaryLaws
 pub mod Passing
 pub mod Write
 pub mod Found

@@ -10,7 +10,7 @@ pub(crate) const GROUP: usize = 64;
 pub(crate) const GROUPS: usize = 64;
 
 // How many places are free, and which groups have a free one.
-#[derive(Drop)]
+#[derive(Clone, Copy)]
 pub struct Summary {
     pub free: usize,
     pub bitmap: u64,

@@ -10,7 +10,7 @@ pub(crate) const PLACES_MOST: usize = 4096;
 const HELD: u8 = 1;
 
 // What the places have for a board: the lowest one that it holds, else the free one that was looked for.
-#[derive(Drop)]
+#[derive(Clone, Copy)]
 pub enum SlotFound {
     Held(usize),
     Free(usize),

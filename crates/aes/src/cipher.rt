@@ -8,7 +8,7 @@ use crate::expansion::expand;
 use crate::tables::round_table;
 
 // The state: a word for each column.
-#[derive(Drop)]
+#[derive(Clone, Copy)]
 pub(crate) struct State {
     pub a: u32,
     pub b: u32,

@@ -16,7 +16,7 @@ use stream::{crypt_into, put};
 use tag::same_tag;
 
 // What a call answers: how many bytes it wrote, or why it wrote none.
-#[derive(Drop)]
+#[derive(Clone, Copy)]
 pub enum WriteResult {
     Refused(Refusal),
     Length(usize),

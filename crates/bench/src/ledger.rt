@@ -2,7 +2,7 @@
 use address_ledger::{AddressAnswer, CallResult, FreeAnswer, Ledger};
 
 // The ledger after a call, and what was answered so far, summed.
-#[derive(Drop)]
+#[derive(Clone, Copy)]
 struct Played {
     ledger: Ledger,
     sum: u64,

@@ -3,12 +3,14 @@
 #![tactic(auto)]
 
 mod compare;
+mod copy;
 
 pub use compare::same_bytes;
+pub use copy::copy_bytes;
 use refusal::Refusal;
 
 // How many bytes were written. A refusal has changed no byte.
-#[derive(Drop)]
+#[derive(Clone, Copy)]
 pub enum WriteResult {
     Refused(Refusal),
     Length(usize),

@@ -9,7 +9,7 @@ ghost use Rattle.cbor.specs.Strict.{is_short, head_by};
 use refusal::Refusal;
 
 // A head, whether it is the shortest that holds its argument, and the place where the bytes go on after it.
-#[derive(Drop)]
+#[derive(Clone, Copy)]
 pub struct Head {
     pub major: u8,
     pub info: u8,
@@ -19,7 +19,7 @@ pub struct Head {
 }
 
 // What reading a head answers.
-#[derive(Drop)]
+#[derive(Clone, Copy)]
 pub enum HeadResult {
     Refused(Refusal),
     Got(Head),

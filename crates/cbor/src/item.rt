@@ -2,14 +2,14 @@
 use refusal::Refusal;
 
 // What passing over answers: the place where the bytes go on.
-#[derive(Drop)]
+#[derive(Clone, Copy)]
 pub enum SkipResult {
     Refused(Refusal),
     Next(usize),
 }
 
 // A scanned payload: its outermost item is a map of `count` pairs that begin at `start`, or none.
-#[derive(Drop)]
+#[derive(Clone, Copy)]
 pub enum OpenResult {
     Refused(Refusal),
     NoMap,

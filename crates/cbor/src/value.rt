@@ -4,7 +4,7 @@ ghost use Rattle.cbor.specs.View.{ValueSpec};
 use crate::head::{HeadResult, read_head};
 
 // A map's label: an integer, or something else.
-#[derive(Drop)]
+#[derive(Clone, Copy)]
 pub enum Label {
     NoInteger,
     Negative,
@@ -13,7 +13,7 @@ pub enum Label {
 
 // A value: an unsigned number and where the bytes go on, a byte string, an array whose members begin at `start`, something else, or the
 // negative number -1 - `number`.
-#[derive(Drop)]
+#[derive(Clone, Copy)]
 pub enum Value {
     Number { number: u64, next: usize },
     Bytes { start: usize, len: usize },

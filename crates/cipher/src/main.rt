@@ -17,7 +17,7 @@ use verb::{Verb, shape_of, verb_of};
 pub type Destination = [u8; 512];
 
 // What is kept from line to line, beside the destination: the session, and how much of the destination is lent.
-#[derive(Drop)]
+#[derive(Clone, Copy)]
 struct Cipher {
     session: Session,
     room: usize,

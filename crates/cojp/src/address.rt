@@ -11,7 +11,7 @@ use refusal::{Refusal, Verdict};
 use short_address::is_address;
 
 // An address that is not leased has no end; its lease is 0 in a value that we make.
-#[derive(Drop)]
+#[derive(Clone, Copy)]
 pub struct ShortAddress {
     pub bytes: [u8; 2],
     pub leased: bool,
@@ -19,14 +19,14 @@ pub struct ShortAddress {
 }
 
 // The value counts where it is taken.
-#[derive(Drop)]
+#[derive(Clone, Copy)]
 pub struct AddressParameter {
     pub disposition: Disposition,
     pub value: ShortAddress,
 }
 
 // `next` is where the bytes go on after the value. Beside a refusal the parameter is absent and `next` is 0.
-#[derive(Drop)]
+#[derive(Clone, Copy)]
 pub struct AddressRead {
     pub verdict: Verdict,
     pub parameter: AddressParameter,

@@ -13,7 +13,7 @@ use refusal::Verdict;
 
 // What does not belong to a form (crate::version) is absent in it. `came` has the known labels of a published payload in their order, each
 // as the report that it would get; `unknown` labels were passed over.
-#[derive(Drop)]
+#[derive(Clone, Copy)]
 pub struct Configuration {
     pub keys: KeysParameter,
     pub address: AddressParameter,
@@ -27,7 +27,7 @@ pub struct Configuration {
 }
 
 // Beside a refusal stands the empty configuration.
-#[derive(Drop)]
+#[derive(Clone, Copy)]
 pub struct ConfigurationRead {
     pub verdict: Verdict,
     pub configuration: Configuration,

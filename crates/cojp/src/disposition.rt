@@ -3,7 +3,7 @@ ghost use Rattle.std.specs.Prelude.{◌≡◌, true, false};
 ghost use Rattle.cojp.specs.Reading.{if_taken};
 
 // Not in the payload, taken from it, or in it and discarded: in the published form that is a bad one, which is reported.
-#[derive(Drop)]
+#[derive(Clone, Copy)]
 pub enum Disposition {
     Absent,
     Taken,

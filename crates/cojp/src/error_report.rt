@@ -3,14 +3,14 @@ ghost use Rattle.std.specs.Prelude.{◌≤◌, ◌≡◌, length};
 ghost use Rattle.cojp.specs.ErrorReports.{error_report_of, no_error_reports, error_report_list, added};
 
 // RFC 9031's code of the error (0 unsupported, 1 malformed), and the parameter's label.
-#[derive(Drop)]
+#[derive(Clone, Copy)]
 pub struct ErrorReport {
     pub code: u8,
     pub label: u8,
 }
 
 // The first `count` of them; an object has at most five parameters.
-#[derive(Drop)]
+#[derive(Clone, Copy)]
 pub struct ErrorReports {
     pub count: usize,
     pub reports: [ErrorReport; 5],

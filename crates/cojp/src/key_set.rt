@@ -8,14 +8,14 @@ use link_key::set::key_set::no_keys;
 use refusal::Verdict;
 
 // The value counts where it is taken.
-#[derive(Drop)]
+#[derive(Clone, Copy)]
 pub struct KeysParameter {
     pub disposition: Disposition,
     pub value: KeySet,
 }
 
 // Beside a refusal the parameter is absent, and `next`, where the bytes go on after the value, is 0.
-#[derive(Drop)]
+#[derive(Clone, Copy)]
 pub struct KeysRead {
     pub verdict: Verdict,
     pub parameter: KeysParameter,

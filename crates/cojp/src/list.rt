@@ -5,7 +5,7 @@ ghost use Rattle.cojp.specs.Lists.{no_list_parameter};
 use crate::disposition::Disposition;
 
 // `count` members in the first `len` bytes, shortest heads one after another.
-#[derive(Drop)]
+#[derive(Clone, Copy)]
 pub struct ItemList {
     pub count: u64,
     pub len: usize,
@@ -13,14 +13,14 @@ pub struct ItemList {
 }
 
 // Beside a list that is not good stands the empty one.
-#[derive(Drop)]
+#[derive(Clone, Copy)]
 pub struct ListRead {
     pub good: bool,
     pub value: ItemList,
 }
 
 // The value counts where it is taken. It stands first, where its numbers are aligned: a report before it makes each copy dearer.
-#[derive(Drop)]
+#[derive(Clone, Copy)]
 pub struct ListParameter {
     pub value: ItemList,
     pub disposition: Disposition,

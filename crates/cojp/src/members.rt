@@ -4,7 +4,7 @@ ghost use Rattle.cojp.specs.Bytes.{MemberSpec};
 use cbor::{Value, value_at};
 
 // A member: an unsigned number and where the bytes go on, a byte string, or no such member.
-#[derive(Drop)]
+#[derive(Clone, Copy)]
 pub enum Member {
     Number { number: u64, next: usize },
     Bytes { start: usize, len: usize },

@@ -10,21 +10,21 @@ use cbor::{Value, value_at};
 use refusal::{Refusal, Verdict};
 
 // The first `len` bytes; zeros stand after them in a value that we make.
-#[derive(Drop)]
+#[derive(Clone, Copy)]
 pub struct Octets {
     pub len: usize,
     pub bytes: [u8; 16],
 }
 
 // A parameter that is a byte string; the value counts where it is taken.
-#[derive(Drop)]
+#[derive(Clone, Copy)]
 pub struct OctetsParameter {
     pub disposition: Disposition,
     pub value: Octets,
 }
 
 // `next` is where the bytes go on after the value. Beside a refusal the parameter is absent and `next` is 0.
-#[derive(Drop)]
+#[derive(Clone, Copy)]
 pub struct OctetsRead {
     pub verdict: Verdict,
     pub parameter: OctetsParameter,

@@ -5,7 +5,7 @@ ghost use Rattle.cojp.specs.Parameter.{parameter_of, later_parameter};
 use protocol_version::Version;
 
 // What a label names; Unknown where the form knows no such label.
-#[derive(Drop)]
+#[derive(Clone, Copy)]
 pub enum Parameter {
     Keys,
     Address,

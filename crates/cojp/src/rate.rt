@@ -7,7 +7,7 @@ use crate::disposition::Disposition;
 use cbor::{Value, value_at};
 
 // The value counts where it is taken.
-#[derive(Drop)]
+#[derive(Clone, Copy)]
 pub struct RateParameter {
     pub disposition: Disposition,
     pub value: u64,

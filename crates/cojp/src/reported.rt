@@ -21,7 +21,7 @@ fn is_bad(report: Disposition) -> bool
 }
 
 // Which parameters of a published configuration were bad.
-#[derive(Drop)]
+#[derive(Clone, Copy)]
 struct Bad {
     keys: bool,
     address: bool,

@@ -12,7 +12,7 @@ use refusal::Verdict;
 
 // Role 0 is an ordinary node, 1 the border router (6LBR). In the published form `unsupported` has what a node could not act on, and
 // `faults` what was bad in this request; in the draft both are empty. `unknown` labels were passed over.
-#[derive(Drop)]
+#[derive(Clone, Copy)]
 pub struct JoinRequest {
     pub role: u8,
     pub network: OctetsParameter,
@@ -22,14 +22,14 @@ pub struct JoinRequest {
 }
 
 // Beside a refusal stands the empty request.
-#[derive(Drop)]
+#[derive(Clone, Copy)]
 pub struct RequestRead {
     pub verdict: Verdict,
     pub request: JoinRequest,
 }
 
 // What was read so far, and whether a role was among it.
-#[derive(Drop)]
+#[derive(Clone, Copy)]
 pub struct RequestState {
     pub named: bool,
     pub request: JoinRequest,

@@ -1,7 +1,7 @@
 // The labels of a map.
 
 // How a label stands to what was read before it.
-#[derive(Drop)]
+#[derive(Clone, Copy)]
 pub enum LabelStatus {
     Unknown,
     First,

@@ -7,7 +7,7 @@ ghost use Rattle.cojp_key_set.specs.Groups.{additional_info_answer};
 use link_key::AdditionalInfo;
 
 // What a byte string is: additional information, or not, and then it is absent.
-#[derive(Drop)]
+#[derive(Clone, Copy)]
 pub struct AdditionalInfoRead {
     pub good: bool,
     pub info: AdditionalInfo,

@@ -10,7 +10,7 @@ use cojp::{Member, member_at};
 // A group: where its value stands in the part, and where the part goes on after the group, with how many members. Of additional
 // information `extra` tells how many bytes it has: 4 or 8, right before `next`, or 0 where there is none. It is read where the key is made:
 // carried here it would be copied with its unused bytes from answer to answer, which takes longer than reading it again.
-#[derive(Drop)]
+#[derive(Clone, Copy)]
 pub enum Group {
     Broken,
     Closed {

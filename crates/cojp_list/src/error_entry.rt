@@ -8,7 +8,7 @@ use cbor::scan::skip_item;
 use cbor::{SkipResult, Value, value_at};
 
 // An integer, and where the bytes go on after it: -1 - `number` where it is negative.
-#[derive(Drop)]
+#[derive(Clone, Copy)]
 enum Integer {
     NoInteger,
     At {
@@ -19,14 +19,14 @@ enum Integer {
 }
 
 // Where the bytes go on, and how many members are left there.
-#[derive(Drop)]
+#[derive(Clone, Copy)]
 struct Position {
     next: usize,
     left: u64,
 }
 
 // A report: its code, its label, and where the bytes go on after it.
-#[derive(Drop)]
+#[derive(Clone, Copy)]
 pub(crate) enum ErrorEntry {
     Broken,
     Group {

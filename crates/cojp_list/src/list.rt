@@ -5,7 +5,7 @@ ghost use Rattle.cojp.specs.Lists.{nothing, list_answer, list_taken};
 use cojp::{Disposition, ItemList, ListParameter, ListRead, no_list};
 
 // What gathering comes to: how many members and bytes, or a broken pattern or too little room.
-#[derive(Drop)]
+#[derive(Clone, Copy)]
 pub(crate) enum GatherResult {
     Bad,
     Kept { members: u64, len: usize },

@@ -9,7 +9,7 @@ use refusal::Refusal;
 pub const PAYLOAD_BYTES: usize = 256;
 
 // How many pairs the map has, and where the first begins.
-#[derive(Drop)]
+#[derive(Clone, Copy)]
 pub enum PayloadResult {
     Refused(Refusal),
     Pairs { count: u64, start: usize },

@@ -12,7 +12,7 @@ pub const MEMBER_LEVELS: u8 = 7;
 
 // A pair's label, and where its value begins; beside a refusal the number is 0 and the place the payload's end.
 // A negative label has the number 0, which no object knows either.
-#[derive(Drop)]
+#[derive(Clone, Copy)]
 pub struct LabelResult {
     pub verdict: Verdict,
     pub label: u64,

@@ -20,7 +20,7 @@ use protocol_version::Version;
 use refusal::{Refusal, Verdict};
 
 // Beside a refusal stands the empty configuration.
-#[derive(Drop)]
+#[derive(Clone, Copy)]
 pub struct MergeResult {
     pub verdict: Verdict,
     pub configuration: Configuration,

@@ -6,7 +6,7 @@ use crate::state::{PartDecision, SerialState};
 use refusal::{Refusal, Verdict};
 
 // What a part is answered, and the arrival afterwards.
-#[derive(Drop)]
+#[derive(Clone, Copy)]
 pub struct PartResult {
     pub verdict: Verdict,
     pub state: SerialState,
@@ -33,7 +33,7 @@ pub fn part(arrival: SerialState, store: &mut [u8], sent: &[u8]) -> PartResult
         PartDecision::Ended => refused_part(Refusal::Phase, arrival),
         PartDecision::Open => {
             let at = arrival.arrived;
-            let n = bytes::copy(sent, &mut store[at..]);
+            let n = byte_io::copy_bytes(sent, &mut store[at..]);
             let grown = SerialState {
                 arrived: at + n,
                 overrun: arrival.overrun,

@@ -11,7 +11,7 @@ use protocol_version::Version;
 use refusal::{Refusal, Verdict};
 
 // The answer of the reading, or the refusal beside the empty request; and the arrival afterwards.
-#[derive(Drop)]
+#[derive(Clone, Copy)]
 pub struct RequestEnd {
     pub read: RequestRead,
     pub state: SerialState,

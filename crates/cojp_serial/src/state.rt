@@ -3,7 +3,7 @@ ghost use Rattle.std.specs.Prelude.{◌≡◌};
 ghost use Rattle.cojp_serial.specs.State.{empty_state, decision_of, overran, end_marked};
 
 // `arrived` bytes stand in the store; a part passed the 256; the end was marked.
-#[derive(Drop)]
+#[derive(Clone, Copy)]
 pub struct SerialState {
     pub arrived: usize,
     pub overrun: bool,
@@ -11,7 +11,7 @@ pub struct SerialState {
 }
 
 // How a call finds what it is handed: outside the limits (RANGE), overrun (LONG), ended (PHASE), or open to it.
-#[derive(Drop)]
+#[derive(Clone, Copy)]
 pub enum PartDecision {
     Outside,
     Overrun,

@@ -5,14 +5,14 @@ use tool_text::line::Line;
 use tool_text::word::Word;
 
 // An object, in which form, and whether its heads must be the shortest.
-#[derive(Drop)]
+#[derive(Clone, Copy)]
 pub struct Reading {
     pub is_request: bool,
     pub version: Version,
     pub strict: bool,
 }
 
-#[derive(Drop)]
+#[derive(Clone, Copy)]
 pub enum Command {
     // no command
     Wrong,
@@ -30,7 +30,7 @@ pub enum Command {
 }
 
 // What is asked of HEX.
-#[derive(Drop)]
+#[derive(Clone, Copy)]
 pub enum Asking {
     // the head at the first byte
     Head,
@@ -43,7 +43,7 @@ pub enum Asking {
 }
 
 // Whether a word names a reading, and which.
-#[derive(Drop)]
+#[derive(Clone, Copy)]
 enum Named {
     Nothing,
     As(Reading),

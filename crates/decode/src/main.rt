@@ -44,7 +44,7 @@ fn empty_store() -> Store {
 }
 
 // What is kept from line to line.
-#[derive(Drop)]
+#[derive(Clone, Copy)]
 struct ToolState {
     session: Session,
     serial: SerialInput,

@@ -7,7 +7,7 @@ use refusal::Verdict;
 use tool_text::output::{Buffer, Output};
 
 // What has come, and how much of the store is lent.
-#[derive(Drop)]
+#[derive(Clone, Copy)]
 pub struct SerialInput {
     pub state: SerialState,
     pub lent: usize,

@@ -15,7 +15,7 @@ pub fn put_array_2(dst: &mut [u8], value: [u8; 2])
     requires { 2 ≤ length dst.old }
     ensures { Wrote value dst.old 2 dst.new }
 {
-    bytes::copy(&value, dst);
+    byte_io::copy_bytes(&value, dst);
 }
 
 // Writes eight bytes.
@@ -23,7 +23,7 @@ pub fn put_array_8(dst: &mut [u8], value: [u8; 8])
     requires { 8 ≤ length dst.old }
     ensures { Wrote value dst.old 8 dst.new }
 {
-    bytes::copy(&value, dst);
+    byte_io::copy_bytes(&value, dst);
 }
 
 // Writes sixteen bytes.
@@ -31,7 +31,7 @@ pub fn put_array_16(dst: &mut [u8], value: [u8; 16])
     requires { 16 ≤ length dst.old }
     ensures { Wrote value dst.old 16 dst.new }
 {
-    bytes::copy(&value, dst);
+    byte_io::copy_bytes(&value, dst);
 }
 
 // Writes 253 bytes.
@@ -39,7 +39,7 @@ pub fn put_array_253(dst: &mut [u8], value: [u8; 253])
     requires { 253 ≤ length dst.old }
     ensures { Wrote value dst.old 253 dst.new }
 {
-    bytes::copy(&value, dst);
+    byte_io::copy_bytes(&value, dst);
 }
 
 // Writes zeros to all of it.
@@ -59,7 +59,7 @@ pub fn array_2_at(s: &[u8], at: usize) -> [u8; 2]
     ensures { result ≡ take 2 (drop at s.now) }
 {
     let mut out = [0u8; 2];
-    bytes::copy(&s[at..at + 2], &mut out);
+    byte_io::copy_bytes(&s[at..at + 2], &mut out);
     out
 }
 
@@ -69,7 +69,7 @@ pub fn array_8_at(s: &[u8], at: usize) -> [u8; 8]
     ensures { result ≡ take 8 (drop at s.now) }
 {
     let mut out = [0u8; 8];
-    bytes::copy(&s[at..at + 8], &mut out);
+    byte_io::copy_bytes(&s[at..at + 8], &mut out);
     out
 }
 
@@ -79,7 +79,7 @@ pub fn array_13_at(s: &[u8], at: usize) -> [u8; 13]
     ensures { result ≡ take 13 (drop at s.now) }
 {
     let mut out = [0u8; 13];
-    bytes::copy(&s[at..at + 13], &mut out);
+    byte_io::copy_bytes(&s[at..at + 13], &mut out);
     out
 }
 
@@ -89,7 +89,7 @@ pub fn array_16_at(s: &[u8], at: usize) -> [u8; 16]
     ensures { result ≡ take 16 (drop at s.now) }
 {
     let mut out = [0u8; 16];
-    bytes::copy(&s[at..at + 16], &mut out);
+    byte_io::copy_bytes(&s[at..at + 16], &mut out);
     out
 }
 
@@ -99,6 +99,6 @@ pub fn array_253_at(s: &[u8], at: usize) -> [u8; 253]
     ensures { result ≡ take 253 (drop at s.now) }
 {
     let mut out = [0u8; 253];
-    bytes::copy(&s[at..at + 253], &mut out);
+    byte_io::copy_bytes(&s[at..at + 253], &mut out);
     out
 }

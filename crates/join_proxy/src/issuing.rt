@@ -8,7 +8,7 @@ use aes_ccm::WriteResult;
 use refusal::Refusal;
 
 // What issuing answers, and the proxy after it.
-#[derive(Drop)]
+#[derive(Clone, Copy)]
 pub struct IssueResult {
     pub written: WriteResult,
     pub proxy: Proxy,

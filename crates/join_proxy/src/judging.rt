@@ -9,7 +9,7 @@ use aes_ccm::WriteResult;
 use refusal::{Refusal, Verdict};
 
 // Whom a body names: the pledge by its interface identifier and port, and the token of its request, zeros after its length.
-#[derive(Drop)]
+#[derive(Clone, Copy)]
 pub struct Pledge {
     pub interface: [u8; 8],
     pub port: u16,
@@ -18,7 +18,7 @@ pub struct Pledge {
 }
 
 // Accepted means forwarded, to this pledge; with a refusal all of it is zero.
-#[derive(Drop)]
+#[derive(Clone, Copy)]
 pub struct JudgeResult {
     pub verdict: Verdict,
     pub pledge: Pledge,

@@ -5,14 +5,14 @@ ghost use Rattle.join_proxy.specs.Keys.{fresh, set_key};
 
 use refusal::{Refusal, Verdict};
 
-#[derive(Drop)]
+#[derive(Clone, Copy)]
 pub struct Proxy {
     pub key: [u8; 16],
     pub issued: Issued,
 }
 
 // How many numbers were issued with the key.
-#[derive(Drop)]
+#[derive(Clone, Copy)]
 pub enum Issued {
     // so many, 0 up to the one before; it is the next number
     Count(u32),
@@ -21,7 +21,7 @@ pub enum Issued {
 }
 
 // What setting a key answers, and the proxy after it.
-#[derive(Drop)]
+#[derive(Clone, Copy)]
 pub struct SetKeyResult {
     pub verdict: Verdict,
     pub proxy: Proxy,

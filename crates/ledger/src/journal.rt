@@ -5,7 +5,7 @@ use address_ledger::Ledger;
 // No journal is longer, in bytes.
 pub const LONGEST: usize = 1099511627776;
 
-#[derive(Drop)]
+#[derive(Clone, Copy)]
 pub struct Journal {
     // whether the session has one
     pub used: bool,

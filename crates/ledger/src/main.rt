@@ -18,7 +18,7 @@ use tool_text::output::Buffer;
 use tool_text::session::Session;
 
 // What is kept from line to line, beside the memory.
-#[derive(Drop)]
+#[derive(Clone, Copy)]
 struct ToolState {
     session: Session,
     state: LedgerState,

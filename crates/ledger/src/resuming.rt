@@ -5,7 +5,7 @@ use address_journal::{ResumeResult, ResumeStep, resume_header, resume_record};
 use address_ledger::Ledger;
 
 // How far reading has come.
-#[derive(Drop)]
+#[derive(Clone, Copy)]
 pub enum Reading {
     GoesOn,
     Ended,
@@ -15,7 +15,7 @@ pub enum Reading {
     Refused(u8),
 }
 
-#[derive(Drop)]
+#[derive(Clone, Copy)]
 pub struct Resuming {
     pub reading: Reading,
     pub ledger: Ledger,

@@ -44,7 +44,7 @@ pub fn is_echo_asked() -> bool {
 }
 
 // Which fixture this is, of how many that share a range.
-#[derive(Drop)]
+#[derive(Clone, Copy)]
 pub struct Share {
     pub fixture: usize,
     pub fixtures: usize,
@@ -83,7 +83,7 @@ fn argument(i: usize) -> Word {
 }
 
 // The lock of a journal: a folder that only one process can make, and how much of a path names it, and the folder that it is in.
-#[derive(Drop)]
+#[derive(Clone, Copy)]
 pub struct Lock {
     pub taken: bool,
     named: usize,

@@ -13,7 +13,7 @@ use tool_notation::put_refusal;
 use tool_text::line_error::put_line_error;
 use tool_text::output::{Buffer, Output};
 
-#[derive(Drop)]
+#[derive(Clone, Copy)]
 pub struct LedgerState {
     pub ledger: Ledger,
     // how many bytes of the memory are lent

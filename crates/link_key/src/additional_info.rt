@@ -6,7 +6,7 @@ ghost use Rattle.link_key.specs.AdditionalInfo.{additional_info_bytes, padded_by
 use byte_io::same_bytes;
 
 // None, 4 bytes (key identification mode 2) or 8 bytes (mode 3). There is no other value, so nothing to refuse.
-#[derive(Drop)]
+#[derive(Clone, Copy)]
 pub enum AdditionalInfo {
     Absent,
     Four(u8, u8, u8, u8),
@@ -14,7 +14,7 @@ pub enum AdditionalInfo {
 }
 
 // The first `len` bytes, and zeros after them.
-#[derive(Drop)]
+#[derive(Clone, Copy)]
 pub struct PaddedBytes {
     pub len: usize,
     pub bytes: [u8; 8],

@@ -16,7 +16,7 @@ pub use additional_info::{AdditionalInfo, PaddedBytes, additional_info_bytes};
 use byte_io::same_bytes;
 use refusal::Refusal;
 
-#[derive(Drop)]
+#[derive(Clone, Copy)]
 pub struct Key {
     // The key index that frames carry.
     pub identifier: u8,
@@ -28,7 +28,7 @@ pub struct Key {
 }
 
 // What a search for a key gives. The key is all zero where none was found.
-#[derive(Drop)]
+#[derive(Clone, Copy)]
 pub struct FoundKey {
     pub found: bool,
     pub key: Key,

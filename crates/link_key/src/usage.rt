@@ -6,7 +6,7 @@ use refusal::Refusal;
 
 // Which of the keys K1 (beacons) and K2 (data, acknowledgements) of document 004 a usage stands for, and whether frames are encrypted.
 // K1 is never used with encryption.
-#[derive(Drop)]
+#[derive(Clone, Copy)]
 pub enum Family {
     K1K2Encrypted,
     K1K2,
@@ -16,7 +16,7 @@ pub enum Family {
 }
 
 // An entry of the usage list. All of them use AES-CCM-128.
-#[derive(Drop)]
+#[derive(Clone, Copy)]
 pub struct Usage {
     pub family: Family,
     // The size of the MIC in bits: 32, 64 or 128.
@@ -24,14 +24,14 @@ pub struct Usage {
 }
 
 // The entry of a usage number.
-#[derive(Drop)]
+#[derive(Clone, Copy)]
 pub enum Entry {
     Refused(Refusal),
     Listed(Usage),
 }
 
 // Whether a key covers a frame type.
-#[derive(Drop)]
+#[derive(Clone, Copy)]
 pub enum Coverage {
     Refused(Refusal),
     Covered(bool),

@@ -12,7 +12,7 @@ use link_key::set::KeySet;
 use link_key::set::key_set::no_keys;
 use link_key::{Key, no_key};
 
-#[derive(Drop)]
+#[derive(Clone, Copy)]
 pub struct CountedSet {
     pub set: KeySet,
     // The next counter of the key at the same place of the set.
@@ -20,7 +20,7 @@ pub struct CountedSet {
 }
 
 // What a frame is sent with, and the set after it. Where no key serves, the key is all zero, the counter 0, and the set as it was.
-#[derive(Drop)]
+#[derive(Clone, Copy)]
 pub struct TakenCounter {
     pub found: bool,
     pub key: Key,

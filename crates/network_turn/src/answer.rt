@@ -4,7 +4,7 @@ use refusal::Refusal;
 
 // How a turn ended: refused by the sender or the receiver, failed because their keys differ, or verified;
 // then the receiver kept its active set or switched to the pending one.
-#[derive(Drop)]
+#[derive(Clone, Copy)]
 pub enum Answer {
     Refused(Refusal),
     Failed,
@@ -13,7 +13,7 @@ pub enum Answer {
 }
 
 // Both nodes as the turn left them.
-#[derive(Drop)]
+#[derive(Clone, Copy)]
 pub struct TurnResult {
     pub sender: Node,
     pub receiver: Node,

@@ -17,7 +17,7 @@ use protocol_version::Version;
 use refusal::{Refusal, Verdict};
 
 // Beside a refusal stand the empty report and the node as it was.
-#[derive(Drop)]
+#[derive(Clone, Copy)]
 pub struct DeliveryResult {
     pub verdict: Verdict,
     pub dispositions: Dispositions,

@@ -11,14 +11,14 @@ use refusal::Refusal;
 
 // What a frame is sent with: the key and its counter, and the node with that counter one higher. Beside a refusal stand 0 and the node as
 // it was. The node stands first: with a gap before it, the compiler copies it.
-#[derive(Drop)]
+#[derive(Clone, Copy)]
 pub struct SendResult {
     pub node: Node,
     pub answer: KeyAnswer,
     pub counter: u32,
 }
 
-#[derive(Drop)]
+#[derive(Clone, Copy)]
 pub struct VerifyResult {
     pub change: Change,
     pub node: Node,

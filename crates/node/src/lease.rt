@@ -6,7 +6,7 @@ use crate::node::Node;
 use refusal::Refusal;
 
 // The answer to the question whether the address holds. No: its lease has run out, or there is no address.
-#[derive(Drop)]
+#[derive(Clone, Copy)]
 pub enum LeaseStatus {
     Refused(Refusal),
     Valid,

@@ -15,7 +15,7 @@ use node_parameters::{HeldAddress, HeldList, HeldOctets, HeldRate};
 use protocol_version::Version;
 use refusal::{Refusal, Verdict};
 
-#[derive(Drop)]
+#[derive(Clone, Copy)]
 pub struct Node {
     // 0 ordinary, 1 border (6LBR).
     pub role: u8,
@@ -34,14 +34,14 @@ pub struct Node {
 }
 
 // A node that was made; beside a refusal stands the empty node.
-#[derive(Drop)]
+#[derive(Clone, Copy)]
 pub struct MakeResult {
     pub verdict: Verdict,
     pub node: Node,
 }
 
 // The limits of a join attempt: its first timeout in milliseconds, and how often the request is sent again.
-#[derive(Drop)]
+#[derive(Clone, Copy)]
 pub struct AttemptLimits {
     pub least: u64,
     pub most: u64,

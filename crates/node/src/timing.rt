@@ -13,14 +13,14 @@ use node_attempt::{Attempt, Due, Phase};
 use refusal::{Refusal, Verdict};
 
 // A start wrote `length` bytes of the join request; beside a refusal stand 0 and the node as it was.
-#[derive(Drop)]
+#[derive(Clone, Copy)]
 pub struct StartResult {
     pub verdict: Verdict,
     pub length: usize,
     pub node: Node,
 }
 
-#[derive(Drop)]
+#[derive(Clone, Copy)]
 pub struct PollResult {
     pub due: Due,
     pub node: Node,

@@ -5,7 +5,7 @@ ghost use Rattle.node_attempt.specs.Attempt.{is_waiting, is_joined, idle, first_
 use refusal::{Refusal, Verdict};
 
 // Where the node stands with its join attempt.
-#[derive(Drop)]
+#[derive(Clone, Copy)]
 pub enum Phase {
     Idle,
     Waiting,
@@ -13,7 +13,7 @@ pub enum Phase {
     GaveUp,
 }
 
-#[derive(Drop)]
+#[derive(Clone, Copy)]
 pub struct Attempt {
     pub phase: Phase,
     // The last accepted time, in milliseconds, as all times are.

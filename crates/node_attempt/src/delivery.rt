@@ -10,7 +10,7 @@ use refusal::{Refusal, Verdict};
 // A longer payload is LONG.
 const PAYLOAD_MOST: usize = 256;
 
-#[derive(Drop)]
+#[derive(Clone, Copy)]
 pub enum Delivery {
     JoinAnswer,
     Update,

@@ -6,7 +6,7 @@ use crate::attempt::{Attempt, Phase, is_waiting};
 use refusal::{Refusal, Verdict};
 
 // What a poll tells the caller to do.
-#[derive(Drop)]
+#[derive(Clone, Copy)]
 pub enum Due {
     Refused(Refusal),
     NotYet,
@@ -29,7 +29,7 @@ impl Due {
 }
 
 // What was due, and the attempt afterwards; beside a refusal the attempt as it was.
-#[derive(Drop)]
+#[derive(Clone, Copy)]
 pub struct AttemptResult {
     pub due: Due,
     pub attempt: Attempt,

@@ -12,14 +12,14 @@ use link_key_counters::none_counted;
 use refusal::{Refusal, Verdict};
 
 // Beside a refusal stands the key that is all zero.
-#[derive(Drop)]
+#[derive(Clone, Copy)]
 pub struct KeyAnswer {
     pub verdict: Verdict,
     pub key: Key,
 }
 
 // What a frame is sent with: the key and its counter, and the sets with that counter one higher.
-#[derive(Drop)]
+#[derive(Clone, Copy)]
 pub struct SendKeyResult {
     pub answer: KeyAnswer,
     pub counter: u32,
@@ -27,7 +27,7 @@ pub struct SendKeyResult {
 }
 
 // What a verified frame did to the key sets.
-#[derive(Drop)]
+#[derive(Clone, Copy)]
 pub enum Change {
     Refused(Refusal),
     Switched,

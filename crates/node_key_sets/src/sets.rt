@@ -8,7 +8,7 @@ use link_key_counters::{CountedSet, none_counted};
 use refusal::{Refusal, Verdict};
 
 // A set whose count is 0 stands for no set.
-#[derive(Drop)]
+#[derive(Clone, Copy)]
 pub struct KeySets {
     pub active: CountedSet,
     pub pending: CountedSet,
@@ -16,21 +16,21 @@ pub struct KeySets {
 
 // The sets after a new one came; beside a refusal they are as they were. The definitions' answer: the code gives the place alone, and the
 // node changes its sets where they stand.
-#[derive(Drop)]
+#[derive(Clone, Copy)]
 pub struct InstallResult {
     pub verdict: Verdict,
     pub sets: KeySets,
 }
 
 // Where a new set goes: it is the active one at once, it is the one that is active already, or it waits.
-#[derive(Drop)]
+#[derive(Clone, Copy)]
 pub enum InstallSlot {
     Active,
     Same,
     Pending,
 }
 
-#[derive(Drop)]
+#[derive(Clone, Copy)]
 pub enum InstallDecision {
     Refused(Refusal),
     At(InstallSlot),

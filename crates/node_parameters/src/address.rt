@@ -7,7 +7,7 @@ use protocol_version::Version;
 use short_address::is_address;
 
 // A short address and when it was received; without one neither counts.
-#[derive(Drop)]
+#[derive(Clone, Copy)]
 pub struct HeldAddress {
     pub held: bool,
     pub value: ShortAddress,

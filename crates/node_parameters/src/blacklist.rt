@@ -6,7 +6,7 @@ use cojp::{Disposition, ItemList, ListParameter, is_taken, no_list};
 use cojp_list::is_blacklist;
 
 // Without one the value does not count. An empty one is not an absent one.
-#[derive(Drop)]
+#[derive(Clone, Copy)]
 pub struct HeldList {
     pub held: bool,
     pub value: ItemList,

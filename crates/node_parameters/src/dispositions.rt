@@ -5,7 +5,7 @@ ghost use Rattle.node_parameters.specs.Dispositions.{no_dispositions, discarded,
 use cojp::{Configuration, Disposition};
 
 // `unknown` labels were passed over.
-#[derive(Drop)]
+#[derive(Clone, Copy)]
 pub struct Dispositions {
     pub keys: Disposition,
     pub address: Disposition,

@@ -5,7 +5,7 @@ ghost use Rattle.node_parameters.specs.Octets.{absent_octets, known_octets, vali
 use cojp::{Disposition, Octets, OctetsParameter, is_taken, no_octets};
 
 // Without one the value does not count. An empty one is not an absent one.
-#[derive(Drop)]
+#[derive(Clone, Copy)]
 pub struct HeldOctets {
     pub held: bool,
     pub value: Octets,

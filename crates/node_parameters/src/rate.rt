@@ -5,7 +5,7 @@ ghost use Rattle.node_parameters.specs.Rate.{absent_rate, rate_after};
 use cojp::{RateParameter, is_taken};
 
 // Bytes a second; without one the value does not count.
-#[derive(Drop)]
+#[derive(Clone, Copy)]
 pub struct HeldRate {
     pub held: bool,
     pub value: u64,

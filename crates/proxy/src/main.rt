@@ -18,7 +18,7 @@ use verb::{Verb, shape_of, verb_of};
 pub type Destination = [u8; 64];
 
 // What is kept from line to line, beside the destination: the proxies, and how much of the destination is lent.
-#[derive(Drop)]
+#[derive(Clone, Copy)]
 struct ToolState {
     session: Session,
     proxies: Proxies,

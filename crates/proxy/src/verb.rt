@@ -3,7 +3,7 @@ use tool_text::line_error::LineError;
 use tool_text::word::Word;
 use tool_words::shape::{Kind, Shape, of_words};
 
-#[derive(Drop)]
+#[derive(Clone, Copy)]
 pub enum Verb {
     // a line that is no command
     Wrong(LineError),

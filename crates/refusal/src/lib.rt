@@ -6,7 +6,7 @@ ghost use Rattle.std.specs.Prelude.{◌≡◌};
 ghost use Rattle.refusal.specs.Refusal.{number_of, name_of, Numbered};
 
 // Why a call was refused, in the order of the documents' numbers.
-#[derive(Drop)]
+#[derive(Clone, Copy)]
 pub enum Refusal {
     Cut,
     Form,
@@ -33,7 +33,7 @@ pub enum Refusal {
 }
 
 // What a call that hands back an object beside it answers.
-#[derive(Drop)]
+#[derive(Clone, Copy)]
 pub enum Verdict {
     Accepted,
     Refused(Refusal),

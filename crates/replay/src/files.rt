@@ -24,7 +24,7 @@ pub fn answer_files(trace: &mut Trace, buffer: &mut Buffer) {
 }
 
 // A file as far as it was read.
-#[derive(Drop)]
+#[derive(Clone, Copy)]
 enum Read {
     // there is no such file, or it cannot be read
     Nothing,

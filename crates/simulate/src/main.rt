@@ -12,7 +12,7 @@ use tool_text::output::Buffer;
 use tool_text::session::Session;
 
 // What is kept from line to line.
-#[derive(Drop)]
+#[derive(Clone, Copy)]
 struct Simulation {
     session: Session,
     nodes: Nodes,

@@ -11,7 +11,7 @@ use tool_simulate_reply::Reply;
 pub type Nodes = [Node; 16];
 
 // The nodes after a command, and what it is answered.
-#[derive(Drop)]
+#[derive(Clone, Copy)]
 pub struct Executed {
     pub nodes: Nodes,
     pub reply: Reply,

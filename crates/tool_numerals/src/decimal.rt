@@ -3,7 +3,7 @@ ghost use Rattle.std.specs.Prelude.{◌≡◌, List, ℕ};
 ghost use Rattle.tool_numerals.specs.Decimal.{number_with, stepped, read_on, number_of};
 
 // What the characters of a word stand for.
-#[derive(Drop)]
+#[derive(Clone, Copy)]
 pub enum Decimal {
     // There are none yet.
     Empty,

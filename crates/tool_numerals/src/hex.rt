@@ -15,7 +15,7 @@ const VALUES: [u8; 256] = *b"\
     \x11\x11\x11\x11\x11\x11\x11\x11\x11\x11\x11\x11\x11\x11\x11\x11\x11\x11\x11\x11\x11\x11\x11\x11\x11\x11\x11\x11\x11\x11\x11\x11";
 
 // What was read so far.
-#[derive(Drop)]
+#[derive(Clone, Copy)]
 pub struct Hex {
     // how many bytes were written to the buffer; where it is full, later ones are passed over
     pub len: usize,
@@ -27,7 +27,7 @@ pub struct Hex {
 }
 
 // What HEX stands for.
-#[derive(Drop)]
+#[derive(Clone, Copy)]
 pub enum Payload {
     // so many bytes of the buffer
     Bytes(usize),

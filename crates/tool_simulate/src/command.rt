@@ -10,7 +10,7 @@ use tool_text::line_error::LineError;
 // Which of the nodes 0 to 15 are made.
 pub type Made = [bool; 16];
 
-#[derive(Drop)]
+#[derive(Clone, Copy)]
 pub struct Command {
     pub verb: Verb,
     // its numbers in order; 0 where there is none, or where a word is no number

@@ -1,7 +1,7 @@
 // The bench command `set I FIELD VALUE`: what it puts into a node.
 use tool_text::word::Word;
 
-#[derive(Drop)]
+#[derive(Clone, Copy)]
 pub enum Edit {
     // there is no such field, or no such value of it
     Unknown,

@@ -5,7 +5,7 @@ use tool_text::line::Line;
 use tool_text::line_error::LineError;
 use tool_text::word::Word;
 
-#[derive(Drop)]
+#[derive(Clone, Copy)]
 pub enum Verb {
     // an empty line or a comment
     Nothing,
@@ -29,7 +29,7 @@ pub enum Verb {
 }
 
 // What is asked of a word as a number.
-#[derive(Drop)]
+#[derive(Clone, Copy)]
 pub enum Number {
     // nothing: there is no such word, or it is none
     No,
@@ -38,7 +38,7 @@ pub enum Number {
 }
 
 // What is asked of a word, or of the line's rest, as bytes.
-#[derive(Drop)]
+#[derive(Clone, Copy)]
 pub enum Bytes {
     No,
     // HEX to the line's end
@@ -48,7 +48,7 @@ pub enum Bytes {
 }
 
 // What is asked of the words of a line.
-#[derive(Drop)]
+#[derive(Clone, Copy)]
 pub struct Shape {
     // how many there are before HEX, the command among them; for what is no command, 0
     pub words: usize,

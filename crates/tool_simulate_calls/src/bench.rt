@@ -91,7 +91,7 @@ fn with_sets(mut node: Node, edit: Edit) -> Node {
 }
 
 // The node with this next counter at its key with the identifier, active or else pending; found is false where it has no such key.
-#[derive(Drop)]
+#[derive(Clone, Copy)]
 pub struct Recounted {
     pub found: bool,
     pub node: Node,

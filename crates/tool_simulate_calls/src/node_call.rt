@@ -12,7 +12,7 @@ use tool_simulate_reply::{Reply, delivery_reply, start_reply};
 use tool_text::line_error::LineError;
 
 // The node as the command left it, and what it is answered.
-#[derive(Drop)]
+#[derive(Clone, Copy)]
 pub struct Done {
     pub node: Node,
     pub reply: Reply,

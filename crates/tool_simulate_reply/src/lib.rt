@@ -9,7 +9,7 @@ use refusal::{Refusal, Verdict};
 use tool_simulate::command::{Made, index};
 use tool_text::line_error::LineError;
 
-#[derive(Drop)]
+#[derive(Clone, Copy)]
 pub enum Reply {
     // an empty line or a comment is not answered
     Nothing,

@@ -1,7 +1,7 @@
 // What a tool's arguments ask for.
 use crate::word::Word;
 
-#[derive(Drop)]
+#[derive(Clone, Copy)]
 pub enum Mode {
     // answers alone
     Answers,

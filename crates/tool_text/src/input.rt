@@ -5,14 +5,14 @@ ghost use Rattle.tool_text.specs.Line.{Within};
 use libc::STDIN_FILENO;
 
 // Which bytes of the buffer were read and not yet taken.
-#[derive(Drop)]
+#[derive(Clone, Copy)]
 pub struct Input {
     pub at: usize,
     pub end: usize,
 }
 
 // What the buffer has of a line: from where to where, where the input goes on, and whether the line ends there.
-#[derive(Drop)]
+#[derive(Clone, Copy)]
 pub struct Part {
     pub from: usize,
     pub to: usize,

@@ -7,7 +7,7 @@ use tool_numerals::decimal::Decimal;
 use tool_numerals::hex::Hex;
 
 // The words before the one at which HEX begins.
-#[derive(Drop)]
+#[derive(Clone, Copy)]
 pub struct Head {
     // how many have begun
     pub words: usize,
@@ -24,7 +24,7 @@ pub struct Head {
 }
 
 // The line from the word on at which HEX begins.
-#[derive(Drop)]
+#[derive(Clone, Copy)]
 pub struct Tail {
     // that word by itself: its letters, its number, whether it has ended, and whether another comes after it
     pub word: Word,
@@ -39,7 +39,7 @@ pub struct Tail {
 }
 
 // A word by its number, whether it has begun and ended, and whether another comes after it.
-#[derive(Drop)]
+#[derive(Clone, Copy)]
 pub struct Next {
     pub number: Decimal,
     begun: bool,
@@ -48,7 +48,7 @@ pub struct Next {
 }
 
 // What the lines of a tool look like.
-#[derive(Drop)]
+#[derive(Clone, Copy)]
 pub struct Form {
     // the word at which HEX begins, the command being word 0
     pub hex_at: usize,
@@ -58,14 +58,14 @@ pub struct Form {
     pub apart: Word,
 }
 
-#[derive(Drop)]
+#[derive(Clone, Copy)]
 pub struct Line {
     pub head: Head,
     pub tail: Tail,
 }
 
 // The head after a part, and where in the part HEX begins, or goes on: at its end, where it does not.
-#[derive(Drop)]
+#[derive(Clone, Copy)]
 struct HeadRead {
     head: Head,
     at: usize,

@@ -2,7 +2,7 @@
 use crate::output::{Buffer, Output};
 
 // In the order in which they are looked for.
-#[derive(Drop)]
+#[derive(Clone, Copy)]
 pub enum LineError {
     // the command is unknown, or a word is missing or too many
     Command,

@@ -1,7 +1,7 @@
 // HEX that a word `+` parts in two: what is needed beside HEX itself to tell the two apart.
 use tool_numerals::hex::Hex;
 
-#[derive(Drop)]
+#[derive(Clone, Copy)]
 pub struct Parting {
     // whether a word may begin here, and whether a `+` has begun one that may go on
     fresh: bool,
@@ -14,14 +14,14 @@ pub struct Parting {
 }
 
 // HEX and its parting.
-#[derive(Drop)]
+#[derive(Clone, Copy)]
 pub struct Parted {
     pub hex: Hex,
     pub parting: Parting,
 }
 
 // What HEX comes to where a `+` is to part it.
-#[derive(Drop)]
+#[derive(Clone, Copy)]
 pub enum Parts {
     // there is none
     One,

@@ -4,7 +4,7 @@ use crate::input::Part;
 use crate::output::Buffer;
 use crate::session::Session;
 
-#[derive(Drop)]
+#[derive(Clone, Copy)]
 pub struct Reading {
     pub session: Session,
     // whether the line has a first byte

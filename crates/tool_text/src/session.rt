@@ -16,7 +16,7 @@ pub struct Session {
 }
 
 // A line, and the session after it.
-#[derive(Drop)]
+#[derive(Clone, Copy)]
 pub struct Asked {
     pub line: Line,
     pub session: Session,

@@ -1,7 +1,7 @@
 // A word's first letters, enough to know a command by.
 use crate::first;
 
-#[derive(Drop)]
+#[derive(Clone, Copy)]
 pub struct Word {
     // how many letters it has; 25 stands for any more
     pub len: usize,

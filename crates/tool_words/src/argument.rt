@@ -2,7 +2,7 @@
 use tool_numerals::decimal::Decimal;
 use tool_numerals::hex::{Hex, Payload};
 
-#[derive(Drop)]
+#[derive(Clone, Copy)]
 pub struct Argument {
     pub number: Decimal,
     pub hex: Hex,
@@ -10,7 +10,7 @@ pub struct Argument {
     pub dash: Dash,
 }
 
-#[derive(Drop)]
+#[derive(Clone, Copy)]
 pub enum Dash {
     // nothing of the word was read
     Open,

@@ -5,7 +5,7 @@ use tool_text::reading::Reading;
 use tool_text::session::Session;
 
 // A line, and the session after it.
-#[derive(Drop)]
+#[derive(Clone, Copy)]
 pub struct Asked {
     pub words: Words,
     pub session: Session,

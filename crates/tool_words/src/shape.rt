@@ -5,7 +5,7 @@ use tool_numerals::hex::Payload;
 use tool_text::line_error::LineError;
 
 // What a word is to be.
-#[derive(Drop)]
+#[derive(Clone, Copy)]
 pub enum Kind {
     // any word, or none
     Any,
@@ -17,7 +17,7 @@ pub enum Kind {
     Bytes,
 }
 
-#[derive(Drop)]
+#[derive(Clone, Copy)]
 pub struct Shape {
     // how many words there are, the command and not HEX among them; for what is no command, 0
     pub words: usize,
@@ -30,7 +30,7 @@ pub struct Shape {
 }
 
 // What is wrong with a line, if anything is.
-#[derive(Drop)]
+#[derive(Clone, Copy)]
 pub enum Judged {
     Right,
     Wrong(LineError),

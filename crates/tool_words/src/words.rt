@@ -6,7 +6,7 @@ use tool_text::word::Word;
 // Where the bytes of a line are kept: a place of 80 for each of the four words after the command, and one of 320 for HEX.
 pub type Store = [u8; 640];
 
-#[derive(Drop)]
+#[derive(Clone, Copy)]
 pub struct Words {
     // how many have begun, the command among them
     pub count: usize,

@@ -8,7 +8,7 @@ use node_parameters::HeldOctets;
 use protocol_version::Version;
 use refusal::Verdict;
 
-#[derive(Drop)]
+#[derive(Clone, Copy)]
 pub struct CallResult {
     pub verdict: Verdict,
     pub switched: bool,

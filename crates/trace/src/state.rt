@@ -9,7 +9,7 @@ use node_parameters::octets::absent_octets;
 use protocol_version::Version;
 
 // Records by kind, 1 to 6; refusals by number, 1 to 22; switches from pending to active; the longest wait in ms.
-#[derive(Drop)]
+#[derive(Clone, Copy)]
 pub struct ReplayStatistics {
     pub kinds: [u64; 6],
     pub refusals: [u64; 22],
@@ -18,7 +18,7 @@ pub struct ReplayStatistics {
 }
 
 // Whether there is a node, the node, the time of the accepted start that it waits from, and the report.
-#[derive(Drop)]
+#[derive(Clone, Copy)]
 pub struct State {
     pub made: bool,
     pub node: Node,
@@ -26,7 +26,7 @@ pub struct State {
     pub statistics: ReplayStatistics,
 }
 
-#[derive(Drop)]
+#[derive(Clone, Copy)]
 pub enum Progress {
     Complete,
     Stopped,
@@ -34,7 +34,7 @@ pub enum Progress {
 }
 
 // One record further; where the walk is complete or stops, `next` is the place and the state is as it was.
-#[derive(Drop)]
+#[derive(Clone, Copy)]
 pub struct StepResult {
     pub progress: Progress,
     pub next: usize,
@@ -43,7 +43,7 @@ pub struct StepResult {
 
 // A whole replay: whether it went to the trace's end, where it ended, whether there is a node, the node, and the report.
 // Where there is none the empty node stands there.
-#[derive(Drop)]
+#[derive(Clone, Copy)]
 pub struct ReplayResult {
     pub complete: bool,
     pub offset: usize,

@@ -7,7 +7,7 @@ ghost use Rattle.trace.specs.Step as steps;
 use crate::state::{Progress, ReplayResult, State, StepResult, nothing_yet, reached};
 use crate::walk::step;
 
-#[derive(Drop)]
+#[derive(Clone, Copy)]
 pub struct Walker<'a> {
     pub trace: &'a [u8],
     pub at: usize,

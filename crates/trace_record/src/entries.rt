@@ -6,7 +6,7 @@ ghost use Rattle.trace_record.specs.Layout.{delivery, delivery_of, verified, fie
 use crate::fields::{blank, number_at};
 
 // The end of the trace; no good record; or a record's numbers, in the order of its fields.
-#[derive(Drop)]
+#[derive(Clone, Copy)]
 pub enum Entry {
     End,
     Bad,

@@ -18,6 +18,6 @@ pub fn write_bytes(dst: &mut [u8], s: &[u8]) -> WriteResult
         return WriteResult::Refused(Refusal::Room);
     }
     put_head(dst, 2, n as u64, h);
-    bytes::copy(s, &mut dst[h..]);
+    byte_io::copy_bytes(s, &mut dst[h..]);
     WriteResult::Length(whole)
 }

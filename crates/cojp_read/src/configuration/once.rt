@@ -23,7 +23,7 @@ pub(crate) fn allows_additional_info(version: Version) -> bool
 
 // What is told of a key set beside its keys, which the walk stores as they were read: a set that is handed on is copied at each step, a
 // tenth of a short read. `next` is where the bytes go on.
-#[derive(Drop)]
+#[derive(Clone, Copy)]
 pub(crate) struct KeysStep {
     pub verdict: Verdict,
     pub disposition: Disposition,

@@ -17,7 +17,7 @@ use protocol_version::Version;
 use refusal::{Refusal, Verdict};
 
 // `next` is where the bytes go on after the value. Beside a refusal nothing else says anything.
-#[derive(Drop)]
+#[derive(Clone, Copy)]
 pub(crate) struct BlacklistRead {
     pub verdict: Verdict,
     pub parameter: ListParameter,
@@ -25,7 +25,7 @@ pub(crate) struct BlacklistRead {
 }
 
 // `next` is where the bytes go on after the value. Beside a refusal nothing else says anything.
-#[derive(Drop)]
+#[derive(Clone, Copy)]
 pub(crate) struct RateRead {
     pub verdict: Verdict,
     pub parameter: RateParameter,

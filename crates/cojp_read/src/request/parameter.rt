@@ -5,7 +5,7 @@ ghost use Rattle.cojp_read.specs.request.Requests.{request_parameter_of};
 use protocol_version::Version;
 
 // What a label names.
-#[derive(Drop)]
+#[derive(Clone, Copy)]
 pub(crate) enum RequestParameter {
     Role,
     Network,

@@ -12,7 +12,7 @@ use protocol_version::Version;
 use refusal::{Refusal, Verdict};
 
 // The role, and the reports with the one about it. Beside a refusal nothing else says anything.
-#[derive(Drop)]
+#[derive(Clone, Copy)]
 pub(crate) struct RoleRead {
     pub verdict: Verdict,
     pub role: u8,

@@ -11,7 +11,7 @@ use cojp_map::{is_seen, item_end};
 use refusal::{Refusal, Verdict};
 
 // The list, and the reports with the one about it. Beside a refusal nothing else says anything.
-#[derive(Drop)]
+#[derive(Clone, Copy)]
 pub(crate) struct UnsupportedRead {
     pub verdict: Verdict,
     pub parameter: ListParameter,

@@ -24,6 +24,6 @@ pub(crate) fn write_list(dst: &mut [u8], l: ItemList) -> WriteResult
         return WriteResult::Refused(Refusal::Room);
     }
     write_head(dst, 4, count);
-    bytes::copy(&held[..len], &mut dst[n..]);
+    byte_io::copy_bytes(&held[..len], &mut dst[n..]);
     WriteResult::Length(whole)
 }

@@ -3,7 +3,7 @@ ghost use Rattle.std.specs.Prelude.{[], ◌+◌, ◌≤◌};
 ghost use Rattle.cojp_write.specs.octets.Size.{Sizes, Sum};
 
 // How many members of a map or an array, and how many bytes they take.
-#[derive(Drop)]
+#[derive(Clone, Copy)]
 pub struct Size {
     pub members: usize,
     pub bytes: usize,

@@ -7,7 +7,7 @@ use tool_text::line_error::LineError;
 // How many bytes of memory the tool has.
 pub const MEMORY: usize = 40000;
 
-#[derive(Drop)]
+#[derive(Clone, Copy)]
 pub enum Command {
     // an empty line or a comment
     Nothing,

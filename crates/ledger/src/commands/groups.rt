@@ -1,7 +1,7 @@
 // The groups that the words after a command name, read in as many parts as they come in: each a number to 63.
 use tool_numerals::decimal::Decimal;
 
-#[derive(Drop)]
+#[derive(Clone, Copy)]
 pub struct Groups {
     // a bit for each group that was named
     pub marks: u64,

@@ -4,7 +4,7 @@ use tool_numerals::decimal::Decimal;
 use tool_numerals::hex::Hex;
 use tool_text::word::Word;
 
-#[derive(Drop)]
+#[derive(Clone, Copy)]
 pub struct Line {
     // how many words have begun, counted no further than 4
     pub words: usize,

@@ -10,7 +10,7 @@ pub type Board = [u8; 9];
 pub type Bytes = [u8; 40001];
 
 // A line, and the session after it.
-#[derive(Drop)]
+#[derive(Clone, Copy)]
 pub struct Asked {
     pub line: Line,
     pub session: Session,

@@ -9,7 +9,7 @@ ghost use Rattle.link_key.specs.Key.{has_no_additional_info, found_key};
 use crate::set::seen::{join, none_seen};
 use crate::{FoundKey, Key, no_key};
 
-#[derive(Drop)]
+#[derive(Clone, Copy)]
 pub struct KeySet {
     // How many keys the set has; 0 is no set.
     pub count: usize,

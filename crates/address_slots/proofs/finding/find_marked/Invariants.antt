@@ -1,0 +1,11 @@
+-- Where no group so far was marked and had a free place, the search goes on as from the start.
+use Prim.Native.Nat.{◌-◌}
+use borrow.Author.Rules.{rules}
+use Rattle.address_slots.proofs.Passing.{Passed, pass-none, pass-more, pass-found, pass-end}
+use Rattle.address_slots.proofs.finding.find_marked.Given as goal
+
+abbrev pub invariant-loop-group : goal.invariant-loop-group
+invariant-loop-group l = Passed l.count l.memory l.marks l.left l.group
+
+abbrev pub decreases-loop-group : goal.decreases-loop-group
+decreases-loop-group l = 64 - l.group

@@ -1,0 +1,24 @@
+-- A place beyond the groups has no mark; else its group is walked and its bit written.
+use native.Mathlib.Omega.{arith}
+use lib.ListN.{length}
+use Rattle.address_slots.specs.Slot.{slots}
+use Rattle.address_slots.proofs.Fit.{fit-room}
+use Rattle.address_slots.proofs.Runs.{refreshed-over, refreshed-there}
+use borrow.Author.Rules.{rules}
+use Rattle.address_slots.proofs.groups.refresh_group.Goals as goal
+
+pub returns-then-place-ge-PLACES_MOST : goal.returns-then-place-ge-PLACES_MOST
+returns-then-place-ge-PLACES_MOST c =
+    let a = c.args in
+    refreshed-over a.marks a.place _ c.if-place-ge-PLACES_MOST.true
+
+pub returns : goal.returns
+returns c =
+    let a = c.args in
+    let fit = c.fit in
+    let if1 = c.if-place-ge-PLACES_MOST in
+    let any-free = c.any_free-mark in
+    let with-mark = c.with_mark in
+    rw (← fit.ensures)
+    (refreshed-there a.marks a.place (slots fit.result a.memory.now) if1.false any-free.result any-free.ensures
+    with-mark.result with-mark.ensures)

@@ -1,0 +1,18 @@
+-- What was counted and what is left to count are the whole.
+use Prim.Native.Nat.{◌+◌, ◌-◌, ◌*◌, ◌≤◌}
+use mathlib.Core.Logic.{⊎_elim}
+use mathlib.Core.Path.{◌≡◌, sym, ◌∙◌}
+use native.Mathlib.Omega.{arith}
+use native.Mathlib.Nat.{zero-add}
+use borrow.Author.Rules.{rules}
+use lib.ListN.{drop}
+use Rattle.address_slots.specs.Slot.{slots, count_free}
+use Rattle.address_slots.proofs.Scan.{count-here, count_next, count-end}
+use Rattle.address_slots.proofs.slot.count_free.Given as goal
+
+abbrev pub invariant-loop-i : goal.invariant-loop-i
+invariant-loop-i l =
+    (l.n ≤ l.i) × (count_free (slots (l.end - l.from) (drop (9 * l.from) l.memory)) ≡ l.n + count_free (slots (l.end - l.i) (drop (9 * l.i) l.memory)))
+
+abbrev pub decreases-loop-i : goal.decreases-loop-i
+decreases-loop-i l = l.end - l.i

@@ -1,0 +1,20 @@
+-- The invariant: round keys 0 to n stand in place, and rc is the constant of the next.
+use mathlib.Core.Path.{◌≡◌, refl}
+use mathlib.Core.List.{[]}
+use Prim.Native.Nat.{◌-◌}
+use lib.ListN.{get_or}
+use Rattle.lemmas.specs.lists.Table.{table}
+use Rattle.aes.specs.Field.{sub_byte}
+use Rattle.aes.proofs.RoundKeys.{Expanding, expand-begin, expand-step, expanded}
+use borrow.Author.Rules.{rules}
+use Rattle.aes.proofs.expansion.expand.Goals as goal
+
+pub loop-n-init : goal.loop-n-init
+loop-n-init c = (c.substitution-list.ensures, expand-begin c.args.key _ refl refl)
+
+pub loop-n-preserved : goal.loop-n-preserved
+loop-n-preserved c =
+    let turn = c.loop-n in (
+      turn.invariant.0,
+      expand-step turn.invariant.1 c.loop-n-test.true c.next_key.ensures c.times_x-rc.ensures,
+    )

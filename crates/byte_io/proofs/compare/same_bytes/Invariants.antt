@@ -1,0 +1,16 @@
+-- The places so far agree, so the whole is the same exactly where the rest is.
+use Prim.Native.Nat.{◌-◌}
+use mathlib.Core.Path.{◌≡◌, refl, sym}
+use lib.ListN.{length, drop}
+use native.Mathlib.Omega.{arith}
+use borrow.Author.Rules.{rules}
+use borrow.Author.Tests.{eq-eqb, ne_eqb}
+use Rattle.lemmas.specs.lists.Same.{same}
+use Rattle.byte_io.proofs.Comparison.{same-lengths, same_turn, same_stop}
+use Rattle.byte_io.proofs.compare.same_bytes.Given as goal
+
+abbrev pub invariant-loop-i : goal.invariant-loop-i
+invariant-loop-i l = same l.a l.b ≡ same (drop l.i l.a) (drop l.i l.b)
+
+abbrev pub decreases-loop-i : goal.decreases-loop-i
+decreases-loop-i l = length l.a - l.i

@@ -1,0 +1,18 @@
+-- The invariant: the value read so far and the bytes still to come make the whole number.
+use Prim.Native.Nat.{◌≤◌, ◌<◌, ◌-◌, ◌+◌, ◌^◌}
+use mathlib.Core.Path.{◌≡◌, refl, sym, ◌∙◌}
+use native.Mathlib.Omega.{arith}
+use lib.ListN.{take, drop, get_or}
+use Rattle.byte_io.specs.BigEndian.{digits, big_endian}
+use Rattle.byte_io.specs.BigEndianLemmas.{digits_step, digits-none}
+use Rattle.lemmas.specs.lists.BigEndian.{grows, grown-fits}
+use Rattle.cbor.proofs.Heads.{argument-whole}
+use Rattle.cbor.proofs.head.argument_at.Given as goal
+
+abbrev pub invariant-loop-at : goal.invariant-loop-at
+invariant-loop-at l =
+    (l.initial.at ≤ l.at) × (l.at ≤ l.end) × (l.value < 256 ^ (l.at - l.initial.at))
+    × (digits l.value (take (l.end - l.at) (drop l.at l.s)) ≡ big_endian (take (l.end - l.initial.at) (drop l.initial.at l.s)))
+
+abbrev pub decreases-loop-at : goal.decreases-loop-at
+decreases-loop-at l = l.end - l.at

@@ -1,0 +1,12 @@
+-- RANGE, then ROOM, then the head.
+use native.Mathlib.Omega.{arith}
+use Rattle.byte_io.specs.WriteLemmas.{wrote-length}
+use Rattle.cbor.proofs.HeadLengths.{length-head}
+use Rattle.cbor.proofs.write.Heads.{head-range, head-room, head_done}
+use Rattle.cbor.proofs.write.head.write_head.Goals as goal
+
+pub returns-then-dst-n : goal.returns-then-dst-n
+returns-then-dst-n c =
+    let a = c.args in
+    let h = c.head_len-n in
+    head-room a.major a.argument h.result a.dst.now c.if-major-gt7.false h.ensures c.if-dst-n.true

@@ -1,0 +1,16 @@
+-- `identifiers` meets its contract: those of the first places are gathered.
+use Prim.Native.Nat.{◌-◌, ◌≤◌}
+use native.Mathlib.Omega.{arith}
+use mathlib.Core.Path.{◌≡◌, refl, sym, ◌∙◌}
+use borrow.Author.Rules.{rules}
+use mathlib.Core.List.{map}
+use lib.ListN.{length, take, length-map}
+use Rattle.link_key.specs.set.KeySet.{identifier_of}
+use Rattle.link_key.proofs.set.Places.{past, gathered, all-gathered}
+use Rattle.link_key.proofs.set.key_set.KeySet.identifiers.Given as goal
+
+abbrev pub invariant-loop-i : goal.invariant-loop-i
+invariant-loop-i l = (l.i ≤ 8) × (length l.ids ≡ 8) × (take l.i l.ids ≡ map identifier_of (take l.i l.keys))
+
+abbrev pub decreases-loop-i : goal.decreases-loop-i
+decreases-loop-i l = 8 - l.i

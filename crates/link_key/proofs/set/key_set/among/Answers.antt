@@ -1,0 +1,21 @@
+-- `among` meets its contract: from each place on the question has the answer that it has from the first.
+use Prim.Native.Nat.{ℕ, ◌-◌}
+use native.Mathlib.Omega.{arith}
+use mathlib.Core.Path.{◌≡◌, refl}
+use borrow.Author.Rules.{rules}
+use borrow.Author.Tests.{eq-eqb, ne_eqb}
+use mathlib.Core.List.{List}
+use lib.ListN.{length, take, drop}
+use Rattle.link_key.proofs.set.Places.{turn, stop, is_among}
+use Rattle.link_key.proofs.set.key_set.among.Goals as goal
+
+pub returns-then-ids-i : goal.returns-then-ids-i
+returns-then-ids-i c =
+    let loop = c.loop-i in
+    let args = c.args in
+    let places : length args.t1 ≡ 8 = search rules in
+    rw (
+      loop.invariant,
+      turn args.t1 (λ (ids : List ℕ). is_among ids args.identifier) args.to loop.i 0 (omega arith) (omega arith),
+      eq-eqb _ _ c.if-ids-i.true,
+    )

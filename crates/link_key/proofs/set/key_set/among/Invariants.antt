@@ -1,0 +1,16 @@
+-- `among` meets its contract: from each place on the question has the answer that it has from the first.
+use Prim.Native.Nat.{ℕ, ◌-◌}
+use native.Mathlib.Omega.{arith}
+use mathlib.Core.Path.{◌≡◌, refl}
+use borrow.Author.Rules.{rules}
+use borrow.Author.Tests.{eq-eqb, ne_eqb}
+use mathlib.Core.List.{List}
+use lib.ListN.{length, take, drop}
+use Rattle.link_key.proofs.set.Places.{turn, stop, is_among}
+use Rattle.link_key.proofs.set.key_set.among.Given as goal
+
+abbrev pub invariant-loop-i : goal.invariant-loop-i
+invariant-loop-i l = is_among (drop l.from (take l.to l.ids)) l.identifier ≡ is_among (drop l.i (take l.to l.ids)) l.identifier
+
+abbrev pub decreases-loop-i : goal.decreases-loop-i
+decreases-loop-i l = l.to - l.i
