@@ -11,16 +11,16 @@ use Rattle.address_slots.specs.Slot.{Slot, slots, held_by, is_free, lowest, has,
 use Rattle.address_slots.specs.declared.slot.SlotFound.TheVariants.{Held, Free, Nothing}
 
 module _ (b : List ℕ) (ps : List Slot) where
-  held_by : (k : ℕ) (x y : Bool) → has (held_by b) ps ≡ x → has is_free ps ≡ y → Held k ≡ slot_found b ps
+  held_by_lem : (k : ℕ) (x y : Bool) → has (held_by b) ps ≡ x → has is_free ps ≡ y → Held k ≡ slot_found b ps
       → (k ≡ lowest (held_by b) ps) × (k < length ps)
   unfolding slot_found has
-  held_by k true y p q e =
+  held_by_lem k true y p q e =
       let f : Held k ≡ Held (lowest (held_by b) ps) = rw p at e in
       let g : k ≡ lowest (held_by b) ps = cc in
       (g, omega (arith, ltb-true (lowest (held_by b) ps) (length ps) p))
-  held_by k false true p q e = let f : Held k ≡ Free (lowest is_free ps) = rw (p, q) at e in let z : ◌≡◌ {A = ℕ} 0 1 = cc in
+  held_by_lem k false true p q e = let f : Held k ≡ Free (lowest is_free ps) = rw (p, q) at e in let z : ◌≡◌ {A = ℕ} 0 1 = cc in
       absurd (omega arith)
-  held_by k false false p q e = let f : Held k ≡ Nothing = rw (p, q) at e in let z : ◌≡◌ {A = ℕ} 0 1 = cc in absurd (omega arith)
+  held_by_lem k false false p q e = let f : Held k ≡ Nothing = rw (p, q) at e in let z : ◌≡◌ {A = ℕ} 0 1 = cc in absurd (omega arith)
 
   free-by : (k : ℕ) (x y : Bool) → has (held_by b) ps ≡ x → has is_free ps ≡ y → Free k ≡ slot_found b ps
       → (k ≡ lowest is_free ps) × ((k < length ps) × (length ps ≤ lowest (held_by b) ps))
@@ -48,7 +48,7 @@ module _ (b : List ℕ) (ps : List Slot) where
       (ltb-false (lowest (held_by b) ps) (length ps) p, ltb-false (lowest is_free ps) (length ps) q)
 
   pub held-is : (k : ℕ) → Held k ≡ slot_found b ps → (k ≡ lowest (held_by b) ps) × (k < length ps)
-  held-is k e = held_by k _ _ refl refl e
+  held-is k e = held_by_lem k _ _ refl refl e
 
   pub free-is : (k : ℕ) → Free k ≡ slot_found b ps → (k ≡ lowest is_free ps) × ((k < length ps) × (length ps ≤ lowest (held_by b) ps))
   free-is k e = free-by k _ _ refl refl e

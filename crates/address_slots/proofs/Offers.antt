@@ -88,13 +88,13 @@ never-held zero x j ps k e = let z : ◌≡◌ {A = ℕ} 0 1 = cc in omega arith
 never-held (suc n) x j ps k e = never-cons n x j ps k _ refl (never-held n (x / 2) (j + 64) (drop 64 ps) k) e
 
 module _ (x : ℕ) (b : List ℕ) (ps : List Slot) (k : ℕ) where
-  held_by : (t : Bool) → has (held_by b) ps ≡ t → Held k ≡ slot_found_by x b ps → (k ≡ lowest (held_by b) ps) × (k < length ps)
+  held_by_lem : (t : Bool) → has (held_by b) ps ≡ t → Held k ≡ slot_found_by x b ps → (k ≡ lowest (held_by b) ps) × (k < length ps)
   unfolding slot_found_by has
-  held_by true t e =
+  held_by_lem true t e =
       let f : Held k ≡ Held (lowest (held_by b) ps) = rw t at e in
       let g : k ≡ lowest (held_by b) ps = cc in
       (g, omega (arith, ltb-true (lowest (held_by b) ps) (length ps) t))
-  held_by false t e = absurd (never-held 64 x 0 ps k (rw t at e))
+  held_by_lem false t e = absurd (never-held 64 x 0 ps k (rw t at e))
 
   free-by : (t : Bool) → has (held_by b) ps ≡ t → Free k ≡ slot_found_by x b ps → (free_at ps k ≡ true) × (has (held_by b) ps ≡ false)
   unfolding slot_found_by
@@ -107,7 +107,7 @@ module _ (x : ℕ) (b : List ℕ) (ps : List Slot) (k : ℕ) where
       (rw z at (offered 64 x 0 ps k (rw t at e)).1, t)
 
   pub held-told : Held k ≡ slot_found_by x b ps → (k ≡ lowest (held_by b) ps) × (k < length ps)
-  held-told e = held_by _ refl e
+  held-told e = held_by_lem _ refl e
 
   pub free-told : Free k ≡ slot_found_by x b ps → (free_at ps k ≡ true) × (has (held_by b) ps ≡ false)
   free-told e = free-by _ refl e

@@ -131,7 +131,7 @@ pub none-find : (identifier : ℕ) (ks : List Key) → has identifier ks ≡ fal
 none-find identifier ks e = none_first (named identifier) ks e
 
 -- where no identifier comes twice, a key is found by its identifier
-pub find-own : {ks : List Key} {k : Key} → Memᴰ k ks → none_twice ks ≡ true → find_key k.identifier ks ≡ some k
+pub find-own : {k : Key} {ks : List Key} → Memᴰ k ks → none_twice ks ≡ true → find_key k.identifier ks ≡ some k
 find-own {k = k} (Memᴰ.head {x = l} p) e = rw (p, eq-eqb l.identifier l.identifier refl)
 find-own {k = k} (Memᴰ.tail {x = l} {xs = ks} m) e =
     let apart = not-true (has l.identifier ks) (both_left (not (has l.identifier ks)) (none_twice ks) e) in

@@ -9,11 +9,11 @@ use Rattle.lemmas.specs.logic.Tests.{both_left, both_right, neither_left, neithe
 use Rattle.link_key.specs.set.Lists.{any_of, all_of, first_of}
 
 module _ {A : Type 0} (test : A → Bool) where
-  pub any-one : {xs : List A} {x : A} → Memᴰ x xs → test x ≡ true → any_of test xs ≡ true
+  pub any-one : {x : A} {xs : List A} → Memᴰ x xs → test x ≡ true → any_of test xs ≡ true
   any-one (Memᴰ.head p) e = rw (sym (ap test p) ∙ e)
   any-one (Memᴰ.tail {x = y} m) e = rw (any-one m e, or-true (test y))
 
-  pub any_none : {xs : List A} {x : A} → Memᴰ x xs → any_of test xs ≡ false → test x ≡ false
+  pub any_none : {x : A} {xs : List A} → Memᴰ x xs → any_of test xs ≡ false → test x ≡ false
   any_none (Memᴰ.head {x = y} {xs = ys} p) e = ap test p ∙ neither_left (test y) (any_of test ys) e
   any_none (Memᴰ.tail {x = y} {xs = ys} m) e = any_none m (neither_right (test y) (any_of test ys) e)
 
@@ -21,7 +21,7 @@ module _ {A : Type 0} (test : A → Bool) where
   any-never [] h = refl
   any-never (x ∷ xs) h = rw (h x (Memᴰ.head refl), any-never xs (λ y m. h y (Memᴰ.tail m)))
 
-  pub all-each : {xs : List A} {x : A} → Memᴰ x xs → all_of test xs ≡ true → test x ≡ true
+  pub all-each : {x : A} {xs : List A} → Memᴰ x xs → all_of test xs ≡ true → test x ≡ true
   all-each (Memᴰ.head {x = y} {xs = ys} p) e = ap test p ∙ both_left (test y) (all_of test ys) e
   all-each (Memᴰ.tail {x = y} {xs = ys} m) e = all-each m (both_right (test y) (all_of test ys) e)
 

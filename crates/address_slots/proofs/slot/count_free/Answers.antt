@@ -12,16 +12,12 @@ use Rattle.address_slots.proofs.slot.count_free.Goals as goal
 
 pub loop-i-preserved : goal.loop-i-preserved
 loop-i-preserved c =
-    let a = c.args in
-    let turn = c.loop-i in
-    let m = a.memory.now in
+    let m = c.args.memory.now in
     ⊎_elim
-    (λ w. (omega arith, turn.invariant.1 ∙ count-here a.end m turn.n turn.i (omega arith) w.0.taken ∙ rw w.1))
-    (λ w. (omega arith, turn.invariant.1 ∙ count_next a.end m turn.n turn.i (omega arith) w.0.left ∙ rw w.1))
+    (λ w. (omega arith, c.loop-i.invariant.1 ∙ count-here c.args.end m c.loop-i.n c.loop-i.i (omega arith) w.0.taken ∙ rw w.1))
+    (λ w. (omega arith, c.loop-i.invariant.1 ∙ count_next c.args.end m c.loop-i.n c.loop-i.i (omega arith) w.0.left ∙ rw w.1))
     c.if-memory-i-ne-HELD.branch
 
 pub returns : goal.returns
 returns c =
-    let a = c.args in
-    let turn = c.loop-i in
-    sym (turn.invariant.1 ∙ count-end a.end a.memory.now turn.n turn.i c.loop-i-test.false)
+    sym (c.loop-i.invariant.1 ∙ count-end c.args.end c.args.memory.now c.loop-i.n c.loop-i.i c.loop-i-test.false)

@@ -10,20 +10,16 @@ use Rattle.address_slots.proofs.slot.write_slot.Goals as goal
 
 pub loop-i-preserved : goal.loop-i-preserved
 loop-i-preserved c =
-    let a = c.args in
-    let turn = c.loop-i in
-    let at = 9 * a.place in
-    let n : length a.t3 ≡ 8 = search rules in (
+    let at = 9 * c.args.place in
+    let n : length c.args.t3 ≡ 8 = search rules in (
       omega arith,
       (
-        length-set turn.memory (9 * a.place + 1 + turn.i) (get_or a.t3 turn.i 0) ∙ turn.invariant.1.0,
-        board-more (set a.memory.now (9 * a.place) 1) (9 * a.place) a.t3 turn.i _
-            (omega (arith, length-set a.memory.now (9 * a.place) 1)) (omega arith) turn.invariant.1.1,
+        length-set c.loop-i.memory (9 * c.args.place + 1 + c.loop-i.i) (get_or c.args.t3 c.loop-i.i 0) ∙ c.loop-i.invariant.1.0,
+        board-more (set c.args.memory.now (9 * c.args.place) 1) (9 * c.args.place) c.args.t3 c.loop-i.i _
+            (omega (arith, length-set c.args.memory.now (9 * c.args.place) 1)) (omega arith) c.loop-i.invariant.1.1,
       ),
     )
 
 pub returns : goal.returns
 returns c =
-    let a = c.args in
-    let turn = c.loop-i in
-    turn.invariant.1.1 ∙ board-all a.memory.now a.place a.t3 turn.i (omega arith) (omega arith)
+    c.loop-i.invariant.1.1 ∙ board-all c.args.memory.now c.args.place c.args.t3 c.loop-i.i (omega arith) (omega arith)

@@ -5,24 +5,12 @@ use Rattle.cbor.proofs.head.read_head_by.Goals as goal
 
 pub returns-in-Refused : goal.returns-in-Refused
 returns-in-Refused c =
-    let told = c.h-1.given in
-    let test = c.if-strict in
-    let head = c.read_head-h in
-    let a = c.args in
-    strict-refused a.s.now a.at a.strict head.result head.ensures.is test.true told.0.0 told.1
+    strict-refused c.args.s.now c.args.at c.args.strict c.read_head-h.result c.read_head-h.ensures.is c.if-strict.true c.in-Refused.k c.in-Refused.is
 
 pub returns-then-head : goal.returns-then-head
 returns-then-head c =
-    let told = c.h-in-Got-1.given in
-    let test = c.if-strict in
-    let head = c.read_head-h in
-    let a = c.args in
-    strict-kept a.s.now a.at a.strict head.result head.ensures.is test.true told.0.0 told.1 c.if-head.true
+    strict-kept c.args.s.now c.args.at c.args.strict c.read_head-h.result c.read_head-h.ensures.is c.if-strict.true c.in-Got.head c.in-Got.is c.if-head.true
 
 pub returns-else-head : goal.returns-else-head
 returns-else-head c =
-    let told = c.h-in-Got-1.given in
-    let test = c.if-strict in
-    let head = c.read_head-h in
-    let a = c.args in
-    strict-loose a.s.now a.at a.strict head.result head.ensures.is test.true told.0.0 told.1 c.if-head.false
+    strict-loose c.args.s.now c.args.at c.args.strict c.read_head-h.result c.read_head-h.ensures.is c.if-strict.true c.in-Got.head c.in-Got.is c.if-head.false

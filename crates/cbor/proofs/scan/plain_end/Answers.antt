@@ -9,20 +9,17 @@ use Rattle.cbor.proofs.scan.Items.{item_by, item-alone, item-string}
 use Rattle.cbor.proofs.scan.plain_end.Goals as goal
 
 pub returns-then-len-room : goal.returns-then-len-room
-returns-then-len-room c =
-    let a = c.args in
-    skip-tells a.s.now (item_by a.strict d (drop a.at a.s.now)) _
-    (item-string a.strict a.s.now a.at d c.in-Got.head (omega arith) (head_of c)
+returns-then-len-room c further d some =
+    skip-tells c.args.s.now (item_by c.args.strict d (drop c.args.at c.args.s.now)) _
+    (item-string c.args.strict c.args.s.now c.args.at d c.in-Got.head (omega arith) (head_of c)
     (omega arith) (omega arith) (omega arith))
 
 pub returns-in_default : goal.returns-in_default
-returns-in_default c =
-    let a = c.args in
-    skip-tells a.s.now (item_by a.strict d (drop a.at a.s.now)) _
-    (item-alone a.strict a.s.now a.at d c.in-Got.head (omega arith) (head_of c) (λ l u. omega arith))
+returns-in_default c further d some =
+    skip-tells c.args.s.now (item_by c.args.strict d (drop c.args.at c.args.s.now)) _
+    (item-alone c.args.strict c.args.s.now c.args.at d c.in-Got.head (omega arith) (head_of c) (λ l u. omega arith))
 
 pub returns-in_default-2 : goal.returns-in_default-2
-returns-in_default-2 c =
-    let a = c.args in
-    skip-tells a.s.now (item_by a.strict d (drop a.at a.s.now)) _
-    (item-alone a.strict a.s.now a.at d c.in-Got.head (omega arith) (head_of c) (λ l u. omega arith))
+returns-in_default-2 c further d some =
+    skip-tells c.args.s.now (item_by c.args.strict d (drop c.args.at c.args.s.now)) _
+    (item-alone c.args.strict c.args.s.now c.args.at d c.in-Got.head (omega arith) (head_of c) (λ l u. omega arith))

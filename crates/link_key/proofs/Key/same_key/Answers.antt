@@ -16,11 +16,11 @@ returns-then-self-other-2 c = rw (eq-eqb _ _ c.if-self-other.false, ne_eqb _ _ c
 pub returns-then-not-same_bytes : goal.returns-then-not-same_bytes
 unfolding same_key
 returns-then-not-same_bytes c =
-    rw (eq-eqb _ _ c.if-self-other.false, eq-eqb _ _ c.if-self-other-2.false, sym c.same_bytes.ensures ∙ not-true _ c.if-not-same_bytes.true)
+    rw (eq-eqb _ _ c.if-self-other.false, eq-eqb _ _ c.if-self-other-2.false, sym c.same_bytes.ensures ∙ c.if-not-same_bytes.true)
 
 pub returns : goal.returns
 unfolding same_key
 returns c =
     rw
-    (eq-eqb _ _ c.if-self-other.false, eq-eqb _ _ c.if-self-other-2.false, sym c.same_bytes.ensures ∙ not-false _ c.if-not-same_bytes.false)
+    (eq-eqb _ _ c.if-self-other.false, eq-eqb _ _ c.if-self-other-2.false, sym c.same_bytes.ensures ∙ c.if-not-same_bytes.false)
     c.same_additional_info.ensures

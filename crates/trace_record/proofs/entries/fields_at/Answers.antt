@@ -14,9 +14,7 @@ returns-in-1 c = rw c.in-1.is c.new_at.ensures
 pub returns-in-2 : goal.returns-in-2
 unfolding fields
 returns-in-2 c =
-    let kind = c.in-2 in
-    let a = c.args in
-    rw (kind.keys2, c.number_at.ensures, c.number_at-in-2.ensures, drop-drop 8 a.at a.s.now)
+    rw (c.in-2.is, c.number_at.ensures, c.number_at-in-2.ensures, drop-drop 8 c.args.at c.args.s.now)
 
 pub returns-in-3 : goal.returns-in-3
 unfolding fields
@@ -37,12 +35,11 @@ returns-in-6 c = rw (c.in-6.is, c.number_at-in-6.ensures)
 pub returns-in_default : goal.returns-in_default
 unfolding fields
 returns-in_default c =
-    let r = c.in_default.rest in
     rw (
-      ne_eqb _ _ r.0.0.0.0.0.1,
-      ne_eqb _ _ r.0.0.0.0.1,
-      ne_eqb _ _ r.0.0.0.1,
-      ne_eqb _ _ r.0.0.1,
-      ne_eqb _ _ r.0.1,
-      ne_eqb _ _ r.1,
+      ne_eqb _ _ c.in_default.rest.0.0.0.0.0.1,
+      ne_eqb _ _ c.in_default.rest.0.0.0.0.1,
+      ne_eqb _ _ c.in_default.rest.0.0.0.1,
+      ne_eqb _ _ c.in_default.rest.0.0.1,
+      ne_eqb _ _ c.in_default.rest.0.1,
+      ne_eqb _ _ c.in_default.rest.1,
     )

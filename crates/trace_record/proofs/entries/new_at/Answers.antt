@@ -9,27 +9,18 @@ use Rattle.trace_record.proofs.Ends.{used-fits, new-role, new-length, new-used, 
 use Rattle.trace_record.proofs.entries.new_at.Goals as goal
 
 pub returns-then-role-gt1 : goal.returns-then-role-gt1
-returns-then-role-gt1 c = let a = c.args in
-    new-role a.s.now a.at c.if-role-gt1.true
+returns-then-role-gt1 c = new-role c.args.s.now c.args.at c.if-role-gt1.true
 
 pub returns-then-not-is_network_length : goal.returns-then-not-is_network_length
 returns-then-not-is_network_length c =
-    let a = c.args in
-    let asked = c.is_network_length in
-    new-length a.s.now a.at c.if-role-gt1.false (sym asked.ensures ∙ not-true asked.result c.if-not-is_network_length.true)
+    new-length c.args.s.now c.args.at c.if-role-gt1.false (sym c.is_network_length.ensures ∙ not-true c.is_network_length.result c.if-not-is_network_length.true)
 
 pub returns-then-blank : goal.returns-then-blank
 returns-then-blank c =
-    let asked = c.is_network_length in
-    let role = c.if-role-gt1 in
-    let a = c.args in
-    let good = sym asked.ensures ∙ not-false asked.result c.if-not-is_network_length.false in
-    new-good a.s.now a.at role.false good _ c.network_used-used.ensures _ c.blank.ensures c.if-blank.true
+    let good = sym c.is_network_length.ensures ∙ not-false c.is_network_length.result c.if-not-is_network_length.false in
+    new-good c.args.s.now c.args.at c.if-role-gt1.false good _ c.network_used-used.ensures _ c.blank.ensures c.if-blank.true
 
 pub returns : goal.returns
 returns c =
-    let asked = c.is_network_length in
-    let role = c.if-role-gt1 in
-    let a = c.args in
-    let good = sym asked.ensures ∙ not-false asked.result c.if-not-is_network_length.false in
-    new-used a.s.now a.at role.false good _ c.network_used-used.ensures _ c.blank.ensures c.if-blank.false
+    let good = sym c.is_network_length.ensures ∙ not-false c.is_network_length.result c.if-not-is_network_length.false in
+    new-used c.args.s.now c.args.at c.if-role-gt1.false good _ c.network_used-used.ensures _ c.blank.ensures c.if-blank.false

@@ -11,11 +11,9 @@ use Rattle.link_key.proofs.set.key_set.among.Goals as goal
 
 pub returns-then-ids-i : goal.returns-then-ids-i
 returns-then-ids-i c =
-    let loop = c.loop-i in
-    let args = c.args in
-    let places : length args.t1 ≡ 8 = search rules in
+    let places : length c.args.t1 ≡ 8 = search rules in
     rw (
-      loop.invariant,
-      turn args.t1 (λ (ids : List ℕ). is_among ids args.identifier) args.to loop.i 0 (omega arith) (omega arith),
+      c.loop-i.invariant,
+      turn c.args.t1 (λ (ids : List ℕ). is_among ids c.args.identifier) c.args.to c.loop-i.i 0 (omega arith) (omega arith),
       eq-eqb _ _ c.if-ids-i.true,
     )

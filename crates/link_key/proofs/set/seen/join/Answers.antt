@@ -7,24 +7,22 @@ use Rattle.link_key.proofs.set.Flags.{asked, set-in, outside-none, one_more}
 use Rattle.link_key.proofs.set.seen.join.Goals as goal
 
 pub returns-then-valid-clause-told : goal.returns-then-valid-clause-told
-returns-then-valid-clause-told c = ?  -- old parts: told | (set_so, λ ks so_far. one_more seen a.key ks so_far _ _ told set_so)
+returns-then-valid-clause-told c = ?  -- old parts: told | (set_so, λ ks so_far. one_more seen c.args.key ks so_far _ _ told set_so)
 
 pub returns-then-valid-clause-after : goal.returns-then-valid-clause-after
-returns-then-valid-clause-after c = ?  -- old parts: told | (set_so, λ ks so_far. one_more seen a.key ks so_far _ _ told set_so)
+returns-then-valid-clause-after c = ?  -- old parts: told | (set_so, λ ks so_far. one_more seen c.args.key ks so_far _ _ told set_so)
 
 pub returns-then-valid-clause-so_far : goal.returns-then-valid-clause-so_far
-returns-then-valid-clause-so_far c = ?  -- old parts: told | (set_so, λ ks so_far. one_more seen a.key ks so_far _ _ told set_so)
+returns-then-valid-clause-so_far c = ?  -- old parts: told | (set_so, λ ks so_far. one_more seen c.args.key ks so_far _ _ told set_so)
 
 pub returns-clause-told : goal.returns-clause-told
 returns-clause-told c =
-    let a = c.args in
-    let seen = a.seen.now in
-    let none = outside-none seen a.key (is_false c.valid.ensures c.if-valid.false) in
+    let seen = c.args.seen.now in
+    let none = outside-none seen c.args.key (is_false c.valid.ensures c.if-valid.false) in
     sym none.0
 
 pub returns-clause-after : goal.returns-clause-after
 returns-clause-after c =
-    let a = c.args in
-    let seen = a.seen.now in
-    let none = outside-none seen a.key (is_false c.valid.ensures c.if-valid.false) in
-    (sym none.1, λ ks so_far. one_more seen a.key ks so_far false seen (sym none.0) (sym none.1))
+    let seen = c.args.seen.now in
+    let none = outside-none seen c.args.key (is_false c.valid.ensures c.if-valid.false) in
+    (sym none.1, λ ks so_far. one_more seen c.args.key ks so_far false seen (sym none.0) (sym none.1))

@@ -22,9 +22,8 @@ returns-then-not-is_waiting c =
 
 pub overflow_sub-time : goal.overflow_sub-time
 overflow_sub-time c =
-    let args = c.args in
     let valid = granted c.valid.ensures c.if-not-valid.false in
-    sent-before args.self args.time c.if-time-self.false valid
+    sent-before c.args.self c.args.time c.if-time-self.false valid
 
 pub stepped-requires : goal.stepped-requires
 stepped-requires c =

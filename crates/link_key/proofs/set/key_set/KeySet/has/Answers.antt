@@ -8,9 +8,7 @@ use Rattle.link_key.proofs.set.key_set.KeySet.has.Goals as goal
 
 pub returns : goal.returns
 returns c =
-    let n = c.len-n in
-    let args = c.args in
-    let size : n.result ≡ length (keys_of args.self) = n.ensures.0 in
-    rw (← firsts args.self n.result size)
+    let size : c.len-n.result ≡ length (keys_of c.args.self) = c.len-n.ensures.exact in
+    rw (← firsts c.args.self c.len-n.result size)
     (c.among.ensures
-    ∙ among-keys args.self.keys c.identifiers-ids.result c.identifiers-ids.ensures args.identifier 0 n.result)
+    ∙ among-keys c.args.self.keys c.identifiers-ids.result c.identifiers-ids.ensures c.args.identifier 0 c.len-n.result)

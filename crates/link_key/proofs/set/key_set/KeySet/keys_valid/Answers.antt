@@ -13,27 +13,21 @@ use Rattle.link_key.proofs.set.key_set.KeySet.keys_valid.Goals as goal
 
 pub loop-i-preserved : goal.loop-i-preserved
 loop-i-preserved c =
-    let turn = c.loop-i in
-    let a = c.args in
     let n = c.len-n.result in
-    let size : n ≡ length (keys_of a.self) = c.len-n.ensures.0 in
-    let few = within a.self n size in
-    let joined = c.join in
-    let more = joined.ensures.1.1 (take turn.i (take n a.self.keys)) turn.invariant.0.exact in (
-      judged-more a.self.keys n turn.i turn.seen turn.invariant.0 few past c.loop-i-test.true _ _ more c.if-join.true,
-      allowed-more a.allowed a.self.keys n turn.i few c.loop-i-test.true past turn.invariant.1
+    let size : n ≡ length (keys_of c.args.self) = c.len-n.ensures.exact in
+    let few = within c.args.self n size in
+    let more = c.join.ensures.1.1 (take c.loop-i.i (take n c.args.self.keys)) c.loop-i.invariant.0.exact in (
+      judged-more c.args.self.keys n c.loop-i.i c.loop-i.seen c.loop-i.invariant.0 few past c.loop-i-test.true _ _ more c.if-join.true,
+      allowed-more c.args.allowed c.args.self.keys n c.loop-i.i few c.loop-i-test.true past c.loop-i.invariant.1
           (granted c.additional_info_allowed.ensures c.if-not-additional_info_allowed.false),
     )
 
 pub returns-else-join : goal.returns-else-join
 returns-else-join c =
-    let turn = c.loop-i in
-    let a = c.args in
     let n = c.len-n.result in
-    let size : n ≡ length (keys_of a.self) = c.len-n.ensures.0 in
-    let few = within a.self n size in
-    let joined = c.join in
-    let more = joined.ensures.1.1 (take turn.i (take n a.self.keys)) turn.invariant.0.exact in
+    let size : n ≡ length (keys_of c.args.self) = c.len-n.ensures.exact in
+    let few = within c.args.self n size in
+    let more = c.join.ensures.1.1 (take c.loop-i.i (take n c.args.self.keys)) c.loop-i.invariant.0.exact in
     let bad =
-    judged-bad a.self.keys n turn.i turn.seen turn.invariant.0 few past c.loop-i-test.true _ _ more c.if-join.false in
-    rw (← firsts a.self n size, bad)
+    judged-bad c.args.self.keys n c.loop-i.i c.loop-i.seen c.loop-i.invariant.0 few past c.loop-i-test.true _ _ more c.if-join.false in
+    rw (← firsts c.args.self n size, bad)

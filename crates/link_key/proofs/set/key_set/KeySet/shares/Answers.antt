@@ -9,31 +9,19 @@ use Rattle.link_key.proofs.set.key_set.KeySet.shares.Goals as goal
 
 pub returns-then-among : goal.returns-then-among
 returns-then-among c =
-    let loop = c.loop-i in
-    let theirs = c.identifiers-theirs in
-    let mine = c.identifiers-mine in
-    let m = c.len-m in
-    let n = c.len-n in
-    let args = c.args in
-    let places : length mine.result ≡ 8 = search rules in
+    let places : length c.identifiers-mine.result ≡ 8 = search rules in
     let yes = sym c.among.ensures ∙ c.if-among.true in
     let whole =
-    meet-keys args.self args.other mine.result theirs.result n.result m.result mine.ensures theirs.ensures
-    n.ensures.0 m.ensures.0 in
+    meet-keys c.args.self c.args.other c.identifiers-mine.result c.identifiers-theirs.result c.len-n.result c.len-m.result c.identifiers-mine.ensures c.identifiers-theirs.ensures
+    c.len-n.ensures.exact c.len-m.ensures.exact in
     let here =
-    turn mine.result (meet (take m.result theirs.result)) n.result loop.i 0 (omega arith) c.loop-i-test.true in
-    rw (← whole, loop.invariant, here, yes)
+    turn c.identifiers-mine.result (meet (take c.len-m.result c.identifiers-theirs.result)) c.len-n.result c.loop-i.i 0 (omega arith) c.loop-i-test.true in
+    rw (← whole, c.loop-i.invariant, here, yes)
 
 pub returns : goal.returns
 returns c =
-    let loop = c.loop-i in
-    let theirs = c.identifiers-theirs in
-    let mine = c.identifiers-mine in
-    let m = c.len-m in
-    let n = c.len-n in
-    let args = c.args in
     let whole =
-    meet-keys args.self args.other mine.result theirs.result n.result m.result mine.ensures theirs.ensures
-    n.ensures.0 m.ensures.0 in
-    let ended = stop mine.result (meet (take m.result theirs.result)) n.result loop.i c.loop-i-test.false in
-    rw (← whole, loop.invariant, ended)
+    meet-keys c.args.self c.args.other c.identifiers-mine.result c.identifiers-theirs.result c.len-n.result c.len-m.result c.identifiers-mine.ensures c.identifiers-theirs.ensures
+    c.len-n.ensures.exact c.len-m.ensures.exact in
+    let ended = stop c.identifiers-mine.result (meet (take c.len-m.result c.identifiers-theirs.result)) c.len-n.result c.loop-i.i c.loop-i-test.false in
+    rw (← whole, c.loop-i.invariant, ended)

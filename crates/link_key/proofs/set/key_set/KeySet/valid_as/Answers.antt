@@ -13,12 +13,12 @@ pub returns-then-self-eq0 : goal.returns-then-self-eq0
 returns-then-self-eq0 c =
     let set = c.args.self in
     let out : valid_set set ≡ false =
-    ⊎_elim (λ w. set-none set w.taken) (λ w. set-over set (ltb-true 8 set.count w.2.taken)) c.then-self-eq0.branch in
+    ⊎_elim (λ w. set-none set w.taken) (λ w. set-over set (ltb-true 8 c.args.self.count w.2.taken)) c.then-self-eq0.branch in
     rw out
 
 pub returns : goal.returns
 returns c =
     let set = c.args.self in
-    let places : length set.keys ≡ 8 = sym (length-map set.keys _) ∙ c.well-formed.0.1.1.1.0.1.0.1 in
-    let limits = set-limits set places c.if-self-eq0.false (ltb-false 8 set.count c.if-self-gt8.false) in
+    let places : length c.args.self.keys ≡ 8 = sym (length-map c.args.self.keys _) ∙ c.well-formed.0.1.1.1.0.1.0.1 in
+    let limits = set-limits set places c.if-self-eq0.false (ltb-false 8 c.args.self.count c.if-self-gt8.false) in
     c.keys_valid.ensures ∙ ap (λ (b : Bool). (b && additional_info_allowed c.args.allowed (keys_of set))) (sym limits)
