@@ -1,10 +1,7 @@
 -- Each place of t gets the sum of the two blocks' bytes there.
 use mathlib.Core.Path.{refl}
-use Prim.Native.Nat.{◌-◌}
-use borrow.Author.Rules.{rules}
-use lib.ListN.{get_or}
 use Rattle.lemmas.specs.lists.Xor.{◌⊕◌}
-use Rattle.lemmas.specs.lists.Filling.{Filling, begin, step, all}
+use Rattle.lemmas.specs.lists.Filling.{begin, step, all}
 use Rattle.aes.specs.Cipher.{add_round_key}
 use Rattle.aes.proofs.cipher.add_round_key.Goals as goal
 

@@ -2,7 +2,6 @@
 use mathlib.Core.Path.{◌∙◌}
 use Rattle.lemmas.specs.lists.Xor.{◌⊕◌}
 use Rattle.aes.proofs.Words.{add-bytes, joined, begun}
-use borrow.Author.Rules.{rules}
 use Rattle.aes.proofs.cipher.begin.Goals as goal
 
 pub returns : goal.returns

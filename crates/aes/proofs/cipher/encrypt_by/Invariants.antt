@@ -1,10 +1,7 @@
 -- The invariant: the words hold the state after n rounds over the table, and so the standard's state if the table is right.
 use Prim.Native.Nat.{◌-◌}
 use Rattle.aes.specs.Words.{state_of}
-use Rattle.aes.proofs.Rounds.{Rounding, round-begin, round-step, round-all, round-standard}
-use Rattle.aes.proofs.Words.{state-all}
-use native.Mathlib.Omega.{arith}
-use borrow.Author.Rules.{rules}
+use Rattle.aes.proofs.Rounds.{Rounding}
 use Rattle.aes.proofs.cipher.encrypt_by.Given as goal
 
 abbrev pub invariant-loop-n : goal.invariant-loop-n

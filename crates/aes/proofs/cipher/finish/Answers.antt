@@ -2,7 +2,6 @@
 use mathlib.Core.Path.{◌∙◌}
 use Rattle.aes.specs.Words.{plain_by}
 use Rattle.aes.proofs.Words.{columns, finished}
-use borrow.Author.Rules.{rules}
 use Rattle.aes.proofs.cipher.finish.Goals as goal
 
 pub returns : goal.returns

@@ -2,7 +2,6 @@
 use mathlib.Core.Path.{◌∙◌}
 use Rattle.aes.specs.Words.{spread_by}
 use Rattle.aes.proofs.Words.{columns, rounded}
-use borrow.Author.Rules.{rules}
 use Rattle.aes.proofs.cipher.round.Goals as goal
 
 pub returns : goal.returns

@@ -2,7 +2,6 @@
 use Prim.Native.Nat.{◌/◌, ◌%◌}
 use Rattle.lemmas.specs.lists.Xor.{◌⊕◌}
 use Rattle.aes.proofs.Words.{column-bytes}
-use borrow.Author.Rules.{rules}
 use Rattle.aes.proofs.columns.column.Goals as goal
 
 pub returns : goal.returns

@@ -2,7 +2,6 @@
 use mathlib.Core.Path.{refl, ◌∙◌}
 use Rattle.lemmas.specs.lists.Xor.{◌⊕◌}
 use Rattle.aes.proofs.Words.{add-bytes, column-eq}
-use borrow.Author.Rules.{rules}
 use Rattle.aes.proofs.columns.last_column.Goals as goal
 
 pub returns : goal.returns

@@ -1,12 +1,11 @@
 -- The invariant: round keys 0 to n stand in place, and rc is the constant of the next.
-use mathlib.Core.Path.{◌≡◌, refl}
+use mathlib.Core.Path.{◌≡◌}
 use mathlib.Core.List.{[]}
 use Prim.Native.Nat.{◌-◌}
 use lib.ListN.{get_or}
 use Rattle.lemmas.specs.lists.Table.{table}
 use Rattle.aes.specs.Field.{sub_byte}
-use Rattle.aes.proofs.RoundKeys.{Expanding, expand-begin, expand-step, expanded}
-use borrow.Author.Rules.{rules}
+use Rattle.aes.proofs.RoundKeys.{Expanding}
 use Rattle.aes.proofs.expansion.expand.Given as goal
 
 abbrev pub invariant-loop-n : goal.invariant-loop-n

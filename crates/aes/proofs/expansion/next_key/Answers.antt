@@ -2,7 +2,6 @@
 use mathlib.Core.Path.{◌∙◌}
 use Rattle.lemmas.specs.lists.Xor.{◌⊕◌}
 use Rattle.aes.proofs.RoundKeys.{next-key-bytes}
-use borrow.Author.Rules.{rules}
 use Rattle.aes.proofs.expansion.next_key.Goals as goal
 
 pub returns : goal.returns

@@ -2,7 +2,6 @@
 use mathlib.Core.Path.{refl}
 use Rattle.lemmas.specs.lists.Xor.{◌⊕◌}
 use Rattle.aes.specs.Field.{xtime}
-use borrow.Author.Rules.{rules}
 use Rattle.aes.proofs.expansion.times_x.Goals as goal
 
 pub returns : goal.returns
