@@ -5,7 +5,7 @@ use mathlib.Core.Bool.{true, false}
 use native.Mathlib.Omega.{arith}
 use lib.Bits.{bit_or, or_step, or_zero_r}
 use lib.Pow.{shl_exact}
-use Rattle.address_slots.specs.Marks.{bit, with_mark}
+use Rattle.address_slots.specs.Marks.{with_mark}
 
 -- 1 shifted to a group's bit
 pub one_shifted : (g : ℕ) → g < 64 → (1 * 2 ^ g) % 2 ^ 64 ≡ 2 ^ g

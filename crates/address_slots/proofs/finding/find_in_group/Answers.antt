@@ -1,6 +1,5 @@
 -- A group without a mark is passed over; else the walk of its places decides.
-use Rattle.address_slots.proofs.Runs.{unmarked-group, in_group, none-in-group}
-use borrow.Author.Rules.{rules}
+use Rattle.address_slots.proofs.Runs.{in_group, none-in-group}
 use Rattle.address_slots.proofs.finding.find_in_group.Goals as goal
 
 pub returns-then-place-end : goal.returns-then-place-end

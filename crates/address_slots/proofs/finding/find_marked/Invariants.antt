@@ -1,7 +1,6 @@
 -- Where no group so far was marked and had a free place, the search goes on as from the start.
 use Prim.Native.Nat.{◌-◌}
-use borrow.Author.Rules.{rules}
-use Rattle.address_slots.proofs.Passing.{Passed, pass-none, pass-more, pass-found, pass-end}
+use Rattle.address_slots.proofs.Passing.{Passed}
 use Rattle.address_slots.proofs.finding.find_marked.Given as goal
 
 abbrev pub invariant-loop-group : goal.invariant-loop-group

@@ -1,7 +1,4 @@
 -- The board's own place comes first; else the marks lead.
-use borrow.Author.Rules.{rules}
-use lib.ListN.{length}
-use Rattle.address_slots.proofs.Fit.{fit-room}
 use Rattle.address_slots.proofs.Passing.{sought-held, sought-free}
 use Rattle.address_slots.proofs.finding.find_slot.Goals as goal
 

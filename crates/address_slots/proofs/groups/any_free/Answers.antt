@@ -1,7 +1,6 @@
 -- The walk of the group ends before its end where a place is free.
 use mathlib.Core.Path.{refl}
 use Rattle.address_slots.proofs.Runs.{any-by}
-use borrow.Author.Rules.{rules}
 use Rattle.address_slots.proofs.groups.any_free.Goals as goal
 
 pub returns : goal.returns

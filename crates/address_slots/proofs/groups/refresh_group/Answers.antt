@@ -1,10 +1,6 @@
 -- A place beyond the groups has no mark; else its group is walked and its bit written.
-use native.Mathlib.Omega.{arith}
-use lib.ListN.{length}
 use Rattle.address_slots.specs.Slot.{slots}
-use Rattle.address_slots.proofs.Fit.{fit-room}
 use Rattle.address_slots.proofs.Runs.{refreshed-over, refreshed-there}
-use borrow.Author.Rules.{rules}
 use Rattle.address_slots.proofs.groups.refresh_group.Goals as goal
 
 pub returns-then-place-ge-PLACES_MOST : goal.returns-then-place-ge-PLACES_MOST

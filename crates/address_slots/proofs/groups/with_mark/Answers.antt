@@ -1,6 +1,5 @@
 -- The bit is set; to clear it, it is taken away again.
 use Rattle.address_slots.proofs.Bits.{set_is, set-covers, cleared-is}
-use borrow.Author.Rules.{rules}
 use Rattle.address_slots.proofs.groups.with_mark.Goals as goal
 
 pub returns-then-mark : goal.returns-then-mark

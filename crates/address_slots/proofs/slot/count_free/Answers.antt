@@ -1,22 +1,19 @@
 -- What was counted and what is left to count are the whole.
-use Prim.Native.Nat.{◌+◌, ◌-◌, ◌*◌, ◌≤◌}
-use mathlib.Core.Logic.{⊎_elim}
-use mathlib.Core.Path.{◌≡◌, sym, ◌∙◌}
+use mathlib.Core.Path.{sym, ◌∙◌}
 use native.Mathlib.Omega.{arith}
-use native.Mathlib.Nat.{zero-add}
-use borrow.Author.Rules.{rules}
-use lib.ListN.{drop}
-use Rattle.address_slots.specs.Slot.{slots, count_free}
 use Rattle.address_slots.proofs.Scan.{count-here, count_next, count-end}
 use Rattle.address_slots.proofs.slot.count_free.Goals as goal
+use Rattle.address_slots.proofs.slot.count_free.Goals.{then-memory-i-ne-HELD, else-memory-i-ne-HELD}
 
 pub loop-i-preserved : goal.loop-i-preserved
 loop-i-preserved c =
     let m = c.args.memory.now in
-    ⊎_elim
-    (λ w. (omega arith, c.loop-i.invariant.1 ∙ count-here c.args.end m c.loop-i.n c.loop-i.i (omega arith) w.0.taken ∙ rw w.1))
-    (λ w. (omega arith, c.loop-i.invariant.1 ∙ count_next c.args.end m c.loop-i.n c.loop-i.i (omega arith) w.0.left ∙ rw w.1))
-    c.if-memory-i-ne-HELD.branch
+    elim c.if-memory-i-ne-HELD.branch [
+      | then-memory-i-ne-HELD w ↦
+          (omega arith, c.loop-i.invariant.1 ∙ count-here c.args.end m c.loop-i.n c.loop-i.i (omega arith) w.if-memory-i-ne-HELD.true ∙ rw w.n-is)
+      | else-memory-i-ne-HELD w ↦
+          (omega arith, c.loop-i.invariant.1 ∙ count_next c.args.end m c.loop-i.n c.loop-i.i (omega arith) w.if-memory-i-ne-HELD.false ∙ rw w.n-is)
+    ]
 
 pub returns : goal.returns
 returns c =

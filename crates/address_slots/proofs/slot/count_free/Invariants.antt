@@ -1,13 +1,8 @@
 -- What was counted and what is left to count are the whole.
 use Prim.Native.Nat.{◌+◌, ◌-◌, ◌*◌, ◌≤◌}
-use mathlib.Core.Logic.{⊎_elim}
-use mathlib.Core.Path.{◌≡◌, sym, ◌∙◌}
-use native.Mathlib.Omega.{arith}
-use native.Mathlib.Nat.{zero-add}
-use borrow.Author.Rules.{rules}
+use mathlib.Core.Path.{◌≡◌}
 use lib.ListN.{drop}
 use Rattle.address_slots.specs.Slot.{slots, count_free}
-use Rattle.address_slots.proofs.Scan.{count-here, count_next, count-end}
 use Rattle.address_slots.proofs.slot.count_free.Given as goal
 
 abbrev pub invariant-loop-i : goal.invariant-loop-i

@@ -1,10 +1,8 @@
 -- No place that was passed is free, so the lowest free one is still to come.
-use Prim.Native.Nat.{◌+◌, ◌-◌, ◌*◌}
-use mathlib.Core.Path.{◌≡◌, refl, sym, ◌∙◌}
+use Prim.Native.Nat.{◌*◌}
+use mathlib.Core.Path.{sym, ◌∙◌}
 use native.Mathlib.Omega.{arith}
-use borrow.Author.Rules.{rules}
-use lib.ListN.{drop}
-use Rattle.address_slots.specs.Slot.{slots, is_free, lowest}
+use Rattle.address_slots.specs.Slot.{is_free}
 use Rattle.address_slots.proofs.Scan.{free-here, free-not, lowest-here, lowest-next, lowest-end}
 use Rattle.address_slots.proofs.slot.find_free.Goals as goal
 

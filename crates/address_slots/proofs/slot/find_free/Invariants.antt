@@ -1,11 +1,8 @@
 -- No place that was passed is free, so the lowest free one is still to come.
 use Prim.Native.Nat.{◌+◌, ◌-◌, ◌*◌}
-use mathlib.Core.Path.{◌≡◌, refl, sym, ◌∙◌}
-use native.Mathlib.Omega.{arith}
-use borrow.Author.Rules.{rules}
+use mathlib.Core.Path.{◌≡◌}
 use lib.ListN.{drop}
 use Rattle.address_slots.specs.Slot.{slots, is_free, lowest}
-use Rattle.address_slots.proofs.Scan.{free-here, free-not, lowest-here, lowest-next, lowest-end}
 use Rattle.address_slots.proofs.slot.find_free.Given as goal
 
 abbrev pub invariant-loop-i : goal.invariant-loop-i

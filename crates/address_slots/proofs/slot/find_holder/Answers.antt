@@ -1,11 +1,8 @@
 -- No place that was passed is the board's, so the lowest one is still to come.
-use Prim.Native.Nat.{◌+◌, ◌-◌, ◌*◌, ◌≤◌}
-use mathlib.Core.Path.{◌≡◌, sym, ◌∙◌}
+use mathlib.Core.Path.{sym, ◌∙◌}
 use native.Mathlib.Omega.{arith}
-use borrow.Author.Rules.{rules}
-use lib.ListN.{drop}
-use Rattle.address_slots.specs.Slot.{slots, held_by, lowest}
-use Rattle.address_slots.proofs.Scan.{lowest_start, lowest-here, lowest-next, lowest-end}
+use Rattle.address_slots.specs.Slot.{held_by}
+use Rattle.address_slots.proofs.Scan.{lowest-here, lowest-next, lowest-end}
 use Rattle.address_slots.proofs.slot.find_holder.Goals as goal
 
 pub returns-then-holds : goal.returns-then-holds

@@ -1,6 +1,5 @@
 -- A place with another mark is nobody's; else its bytes decide.
 use mathlib.Core.Path.{◌∙◌}
-use borrow.Author.Rules.{rules}
 use Rattle.address_slots.proofs.Scan.{held-not, held_same}
 use Rattle.address_slots.proofs.slot.holds.Goals as goal
 

@@ -1,13 +1,9 @@
 -- The last byte decides first. Then what is left to compare from byte i on decides: one byte that differs ends the walk, and after eight
 -- nothing is left.
-use Prim.Native.Nat.{◌+◌, ◌-◌, ◌≤◌}
-use mathlib.Core.Path.{◌≡◌, sym, ◌∙◌}
+use mathlib.Core.Path.{sym, ◌∙◌}
 use native.Mathlib.Omega.{arith}
-use borrow.Author.Rules.{rules}
 use borrow.Author.Tests.{eq-eqb, ne_eqb}
-use lib.ListN.{drop}
-use Rattle.address_slots.specs.Slot.{same}
-use Rattle.address_slots.proofs.Scan.{same_step, same_start, same_end, last-differs}
+use Rattle.address_slots.proofs.Scan.{same_step, same_end, last-differs}
 use Rattle.address_slots.proofs.slot.is_board.Goals as goal
 
 pub returns-then-memory-at : goal.returns-then-memory-at

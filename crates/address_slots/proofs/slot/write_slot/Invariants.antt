@@ -1,11 +1,8 @@
 -- After i stores of the board's bytes its first i stand after the mark.
-use Prim.Native.Nat.{◌+◌, ◌-◌, ◌*◌, ◌≤◌}
-use mathlib.Core.Path.{◌≡◌, refl, ◌∙◌}
-use native.Mathlib.Omega.{arith}
-use borrow.Author.Rules.{rules}
-use lib.ListN.{length, get_or, set, length-set}
+use Prim.Native.Nat.{◌+◌, ◌-◌, ◌≤◌}
+use mathlib.Core.Path.{◌≡◌}
+use lib.ListN.{length}
 use lib.Seq.{paste}
-use Rattle.address_slots.proofs.Write.{board-none, board-more, board-all}
 use Rattle.address_slots.proofs.slot.write_slot.Given as goal
 
 abbrev pub invariant-loop-i : goal.invariant-loop-i
