@@ -81,6 +81,11 @@ head-says b s at r e = rw e (go (head_by b (drop at s)) (head_tail b (drop at s)
         let q = place s t at k (within s at k x y) y z in
         record { says = ap (got h) (sym q.0) ∙ e; inside = q.1 }
 
+-- the same in the arm of a head that was got
+pub got-says : (b : Bool) (s : List ℕ) (at : ℕ) (r : HeadResult) → r ≡ head_answer (length s) (head_by b (drop at s))
+    → (h : Head) → r ≡ hv.Got h → HeadAt b s at (hv.Got h)
+got-says b s at r e h g = rw g at (head-says b s at r e)
+
 passed : {A : Type 0} (s : List ℕ) (at j : ℕ) (o : Outcome A) (r : SkipResult) → at ≤ length s → Tail (drop at s) j o
     → r ≡ skip_answer (length s) o → Passed s o r
 passed s at j (refused k) r l t e = rw e (record { says = refl; inside = tt })

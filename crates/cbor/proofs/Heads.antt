@@ -83,7 +83,8 @@ module _ (s : List ℕ) (at : ℕ) where
   head_first h = rw (add-one at, drop-cons s at 0)
 
   module _ (b : ℕ) where
-    pub head-no : (k : Refusal) → argument (b % 32) (drop at s) ≡ refused k → hv.Refused k ≡ head_answer (length s) (heading (b ∷ drop at s))
+    pub head-no : (k : Refusal) → argument (b % 32) (drop at s) ≡ refused k
+        → hv.Refused k ≡ head_answer (length s) (heading (b ∷ drop at s))
     unfolding heading
     head-no k e = rw e
 

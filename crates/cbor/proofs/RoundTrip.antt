@@ -10,7 +10,7 @@ use native.Mathlib.Decide.{dec_lt}
 use borrow.Author.Tests.{le-ltb, lt-ltb, eq-eqb}
 use lib.ListN.{length, length-append}
 use lib.Seq.{take-append_seam, drop-append_seam, take_at, drop_at}
-use Rattle.byte_io.specs.BigEndian.{digits, bytes_of}
+use Rattle.byte_io.specs.BigEndian.{bytes_of}
 use Rattle.cbor.specs.Item.{Size, half, single, double, Item, Items, Pairs, unsigned, negative, bytes, text, array, map_item}
 use Rattle.cbor.specs.Item.{tag, simple, float, no_items, more, empty, pair}
 use Rattle.cbor.specs.Item.{count, count_pairs, depth, depths, depth_pairs, width, Fit, Fits, FitPairs}

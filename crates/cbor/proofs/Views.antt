@@ -11,12 +11,12 @@ use lib.Dec.{ltb, eqb}
 use lib.ListN.{length, drop, length-drop}
 use lib.Seq.{drop-drop}
 use Rattle.refusal.specs.declared.Refusal.{Refusal}
-use Rattle.cbor.specs.Item.{Size, half, single, double, Item, Items, unsigned, negative, bytes, array, simple, float, more}
+use Rattle.cbor.specs.Item.{Size, half, single, double, Item, Items, unsigned, negative, array, simple, float, more}
 use Rattle.cbor.specs.Decode.{Outcome, refused, got, and_then, next, heading, Heading, members, pairs, Major, unsigneds, negatives}
 use Rattle.cbor.specs.Decode.{byte_strings, text_strings, arrays, maps, tags, others, major_of, special, content, decode_by, decode}
 use Rattle.cbor.specs.Answer.{head_answer, outcome_number, head_number}
 use Rattle.cbor.specs.ReaderSpecs.{LabelSpec, says_label, HeadSpec}
-use Rattle.cbor.specs.View.{number, string, other, scalar, list, scalar_of, scalars_of, view_of, label_of, scalar_by, scalar_at}
+use Rattle.cbor.specs.View.{other, scalar, list, scalar_of, scalars_of, view_of, label_of, scalar_by, scalar_at}
 use Rattle.cbor.specs.View.{scalars_at, view_by, view_at, label_by, label_at, value_by}
 use Rattle.cbor.specs.View.{value_answer, rest_of, after_item, after_items, ValueAt, ValueSpec}
 use Rattle.cbor.specs.declared.head.Head.{Head}

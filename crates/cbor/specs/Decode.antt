@@ -1,6 +1,6 @@
 -- How bytes are read as a data item (RFC 7049, section 2, in the order of document 01's "Item scan").
 -- At each item: level first, then a missing first byte, then FORM, then missing argument bytes, then missing string bytes.
-use Rattle.std.specs.Prelude.{ℕ, zero, suc, ◌+◌, ◌*◌, ◌-◌, ◌/◌, ◌%◌, ◌^◌, List, [], ◌∷◌, cond, length, take, drop, ltb, leb, eqb}
+use Rattle.std.specs.Prelude.{ℕ, zero, suc, ◌-◌, ◌/◌, ◌%◌, ◌^◌, List, [], ◌∷◌, cond, length, take, drop, ltb, leb, eqb}
 use Rattle.refusal.specs.declared.Refusal.{Refusal}
 use Rattle.refusal.specs.declared.Refusal.TheVariants.{Cut, Form, Deep, Extra}
 use Rattle.byte_io.specs.BigEndian.{big_endian}

@@ -1,5 +1,5 @@
 -- The bytes of a data item, with the shortest heads (RFC 7049, sections 2 and 3.9).
-use Rattle.std.specs.Prelude.{ℕ, zero, suc, ◌+◌, ◌*◌, ◌/◌, ◌%◌, cond, List, [], ◌∷◌, ◌++◌, length, ltb}
+use Rattle.std.specs.Prelude.{ℕ, ◌+◌, ◌*◌, cond, List, [], ◌∷◌, ◌++◌, length, ltb}
 use Rattle.byte_io.specs.BigEndian.{bytes_of}
 use Rattle.cbor.specs.Item.{Size, half, single, double, Item, Items, Pairs, unsigned, negative, bytes, text}
 use Rattle.cbor.specs.Item.{array, map_item, tag, simple, float, no_items, more, empty, pair, count, count_pairs, width}

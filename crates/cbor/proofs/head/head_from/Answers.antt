@@ -2,8 +2,6 @@
 use Prim.Native.Nat.{◌/◌, ◌%◌, ◌+◌}
 use mathlib.Core.Bool.{true}
 use mathlib.Core.Path.{ap}
-use native.Mathlib.Omega.{arith}
-use borrow.Author.Rules.{rules}
 use lib.ListN.{drop}
 use Rattle.refusal.specs.declared.Refusal.TheVariants.{Cut, Form}
 use Rattle.cbor.proofs.Heads.{argument-direct, argument-form, argument_cut, direct-short, head-no, head-yes}

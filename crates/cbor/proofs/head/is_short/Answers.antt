@@ -1,5 +1,4 @@
 -- Major type 7 is exempt; for the others the length information is compared.
-use borrow.Author.Rules.{rules}
 use borrow.Author.Tests.{eq-eqb, ne_eqb}
 use Rattle.cbor.specs.Strict.{is_short}
 use Rattle.cbor.proofs.head.is_short.Goals as goal

@@ -1,5 +1,4 @@
 -- Nothing is left, or a first byte.
-use borrow.Author.Rules.{rules}
 use Rattle.cbor.proofs.Heads.{head-none, head_first}
 use Rattle.cbor.proofs.Views.{head-tells}
 use Rattle.cbor.proofs.head.read_head.Goals as goal

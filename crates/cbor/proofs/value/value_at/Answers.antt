@@ -1,7 +1,5 @@
 -- Each arm answers as the laws of Views say of the head.
 use native.Mathlib.Omega.{arith}
-use borrow.Author.Rules.{rules}
-use Rattle.cbor.proofs.Answers.{head-inside}
 use Rattle.cbor.proofs.Views.{value-refused, value-number, value-minus, value-string, value-cut, value-array, value-other}
 use Rattle.cbor.proofs.Views.{value-told}
 use Rattle.cbor.proofs.value.value_at.Goals as goal

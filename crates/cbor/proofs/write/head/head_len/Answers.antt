@@ -12,7 +12,9 @@ returns-then-argument-lt256 c = simp (le-ltb _ 24 c.if-argument-lt24.false, lt-l
 
 pub returns-then-argument-lt65536 : goal.returns-then-argument-lt65536
 unfolding extra_of
-returns-then-argument-lt65536 c = simp (le-ltb _ 24 c.if-argument-lt24.false, le-ltb _ 256 c.if-argument-lt256.false, lt-ltb _ 65536 c.if-argument-lt65536.true)
+returns-then-argument-lt65536 c =
+    simp
+    (le-ltb _ 24 c.if-argument-lt24.false, le-ltb _ 256 c.if-argument-lt256.false, lt-ltb _ 65536 c.if-argument-lt65536.true)
 
 pub returns-then-argument-lt4294967296 : goal.returns-then-argument-lt4294967296
 unfolding extra_of

@@ -1,10 +1,8 @@
 -- The invariant: the bytes still to come, and what dst holds after them, are what is to stand behind the first byte.
-use Prim.Native.Nat.{◌+◌, ◌*◌, ◌-◌, ◌%◌, ◌≤◌}
-use mathlib.Core.Path.{◌≡◌, refl, ap, sym, ◌∙◌}
-use mathlib.Core.List.{◌++◌}
+use Prim.Native.Nat.{◌+◌, ◌*◌, ◌-◌, ◌%◌}
+use mathlib.Core.Path.{ap, sym, ◌∙◌}
 use native.Mathlib.Omega.{arith}
-use lib.ListN.{length, drop, length-set}
-use Rattle.byte_io.specs.BigEndian.{bytes_of}
+use lib.ListN.{length-set}
 use Rattle.cbor.proofs.write.Heads.{argument-step, head-wrote}
 use Rattle.cbor.proofs.write.head.put_head.Goals as goal
 

@@ -1,8 +1,5 @@
 -- RANGE, then ROOM, then the head.
-use native.Mathlib.Omega.{arith}
-use Rattle.byte_io.specs.WriteLemmas.{wrote-length}
-use Rattle.cbor.proofs.HeadLengths.{length-head}
-use Rattle.cbor.proofs.write.Heads.{head-range, head-room, head_done}
+use Rattle.cbor.proofs.write.Heads.{head-room}
 use Rattle.cbor.proofs.write.head.write_head.Goals as goal
 
 pub returns-then-dst-n : goal.returns-then-dst-n

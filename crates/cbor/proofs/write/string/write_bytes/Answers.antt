@@ -1,7 +1,6 @@
 -- The head, and then the bytes in the part after it.
 use native.Mathlib.Omega.{arith}
-use borrow.Author.Rules.{rules}
-use Rattle.cbor.proofs.write.Strings.{string-head, string-refused, string-part, string-room, string-done}
+use Rattle.cbor.proofs.write.Strings.{string-head, string-refused}
 use Rattle.cbor.proofs.write.string.write_bytes.Goals as goal
 
 pub overflow_add-whole : goal.overflow_add-whole
