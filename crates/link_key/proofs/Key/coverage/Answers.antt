@@ -1,7 +1,6 @@
 -- `coverage` meets its contract: each test of the code is one of the definition's.
 use borrow.Author.Tests.{le-leb, lt-leb}
 use Rattle.link_key.specs.Key.{coverage_of}
-use borrow.Author.Rules.{rules}
 use Rattle.link_key.proofs.Key.coverage.Goals as goal
 
 pub returns-then-frame_type-gt1 : goal.returns-then-frame_type-gt1

@@ -2,7 +2,6 @@
 use mathlib.Core.Path.{sym, ◌∙◌}
 use Rattle.link_key.specs.Key.{covers}
 use Rattle.link_key.proofs.usage.Usages.{refused, known}
-use borrow.Author.Rules.{rules}
 use Rattle.link_key.proofs.Key.covers.Goals as goal
 
 pub returns-in-Refused : goal.returns-in-Refused

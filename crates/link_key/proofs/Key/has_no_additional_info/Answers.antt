@@ -1,5 +1,4 @@
 -- `has_no_additional_info` meets its contract case by case.
-use borrow.Author.Rules.{rules}
 use Rattle.link_key.specs.Key.{has_no_additional_info}
 use Rattle.link_key.proofs.Key.has_no_additional_info.Goals as goal
 

@@ -1,7 +1,6 @@
 -- `same_key` meets its contract: each test of the code is one of the definition's.
 use mathlib.Core.Path.{sym, ◌∙◌}
-use borrow.Author.Rules.{rules}
-use borrow.Author.Tests.{eq-eqb, ne_eqb, not-true, not-false}
+use borrow.Author.Tests.{eq-eqb, ne_eqb}
 use Rattle.link_key.specs.Key.{same_key}
 use Rattle.link_key.proofs.Key.same_key.Goals as goal
 

@@ -1,5 +1,4 @@
 -- `same_secret` meets its contract: each test of the code is one of the definition's.
-use borrow.Author.Rules.{rules}
 use borrow.Author.Tests.{eq-eqb, ne_eqb}
 use Rattle.link_key.specs.Key.{same_secret}
 use Rattle.link_key.proofs.Key.same_secret.Goals as goal

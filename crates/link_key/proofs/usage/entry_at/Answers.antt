@@ -1,7 +1,6 @@
 -- `entry_at` meets its contract: the table is what the rule gives at its fifteen places, computed once.
 use mathlib.Core.Path.{sym}
 use Rattle.link_key.proofs.usage.Usages.{entry-refused, entry-of-table}
-use borrow.Author.Rules.{rules}
 use Rattle.link_key.specs.usage.Usage.{usage_of}
 use Rattle.link_key.proofs.usage.entry_at.Goals as goal
 

@@ -1,12 +1,8 @@
 -- `among` meets its contract: from each place on the question has the answer that it has from the first.
-use Prim.Native.Nat.{ℕ, ◌-◌}
-use native.Mathlib.Omega.{arith}
-use mathlib.Core.Path.{◌≡◌, refl}
-use borrow.Author.Rules.{rules}
-use borrow.Author.Tests.{eq-eqb, ne_eqb}
-use mathlib.Core.List.{List}
-use lib.ListN.{length, take, drop}
-use Rattle.link_key.proofs.set.Places.{turn, stop, is_among}
+use Prim.Native.Nat.{◌-◌}
+use mathlib.Core.Path.{◌≡◌}
+use lib.ListN.{take, drop}
+use Rattle.link_key.proofs.set.Places.{is_among}
 use Rattle.link_key.proofs.set.key_set.among.Given as goal
 
 abbrev pub invariant-loop-i : goal.invariant-loop-i

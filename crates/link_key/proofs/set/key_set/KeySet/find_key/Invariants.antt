@@ -1,11 +1,8 @@
 -- `find_key` meets its contract: from each place on the question has the answer that it has from the first.
 use Prim.Native.Nat.{◌-◌}
-use mathlib.Core.Path.{◌≡◌, refl}
-use borrow.Author.Rules.{rules}
-use borrow.Author.Tests.{eq-eqb, ne_eqb}
-use lib.ListN.{length, take, drop}
-use Rattle.link_key.specs.set.KeySet.{keys_of, find_key}
-use Rattle.link_key.proofs.set.Places.{turn, stop, firsts, within, past}
+use mathlib.Core.Path.{◌≡◌}
+use lib.ListN.{take, drop}
+use Rattle.link_key.specs.set.KeySet.{find_key}
 use Rattle.link_key.proofs.set.key_set.KeySet.find_key.Given as goal
 
 abbrev pub invariant-loop-i : goal.invariant-loop-i

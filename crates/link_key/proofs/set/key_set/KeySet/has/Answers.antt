@@ -1,6 +1,5 @@
 -- `has` meets its contract: one of the identifiers is this one where a key has it.
 use mathlib.Core.Path.{◌≡◌, ◌∙◌}
-use borrow.Author.Rules.{rules}
 use lib.ListN.{length}
 use Rattle.link_key.specs.set.KeySet.{keys_of}
 use Rattle.link_key.proofs.set.Places.{among-keys, firsts}

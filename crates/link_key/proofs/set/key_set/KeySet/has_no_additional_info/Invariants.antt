@@ -1,11 +1,8 @@
 -- `has_no_additional_info` meets its contract: from each place on the question has the answer that it has from the first.
 use Prim.Native.Nat.{◌-◌}
-use mathlib.Core.Path.{◌≡◌, refl, sym, ◌∙◌}
-use borrow.Author.Rules.{rules}
-use borrow.Author.Tests.{not-true, not-false}
-use lib.ListN.{length, take, drop}
-use Rattle.link_key.specs.set.KeySet.{keys_of, no_additional_infos}
-use Rattle.link_key.proofs.set.Places.{turn, stop, firsts, within, past}
+use mathlib.Core.Path.{◌≡◌}
+use lib.ListN.{take, drop}
+use Rattle.link_key.specs.set.KeySet.{no_additional_infos}
 use Rattle.link_key.proofs.set.key_set.KeySet.has_no_additional_info.Given as goal
 
 abbrev pub invariant-loop-i : goal.invariant-loop-i

@@ -1,12 +1,9 @@
 -- `identifiers` meets its contract: those of the first places are gathered.
 use Prim.Native.Nat.{◌-◌, ◌≤◌}
-use native.Mathlib.Omega.{arith}
-use mathlib.Core.Path.{◌≡◌, refl, sym, ◌∙◌}
-use borrow.Author.Rules.{rules}
+use mathlib.Core.Path.{◌≡◌}
 use mathlib.Core.List.{map}
-use lib.ListN.{length, take, length-map}
+use lib.ListN.{length, take}
 use Rattle.link_key.specs.set.KeySet.{identifier_of}
-use Rattle.link_key.proofs.set.Places.{past, gathered, all-gathered}
 use Rattle.link_key.proofs.set.key_set.KeySet.identifiers.Given as goal
 
 abbrev pub invariant-loop-i : goal.invariant-loop-i

@@ -1,9 +1,8 @@
 -- `shares` meets its contract: from each place on the question has the answer that it has from the first.
-use Prim.Native.Nat.{◌-◌}
 use native.Mathlib.Omega.{arith}
-use mathlib.Core.Path.{◌≡◌, refl, sym, ◌∙◌}
+use mathlib.Core.Path.{◌≡◌, sym, ◌∙◌}
 use borrow.Author.Rules.{rules}
-use lib.ListN.{length, take, drop}
+use lib.ListN.{length, take}
 use Rattle.link_key.proofs.set.Places.{turn, stop, meet, meet-keys}
 use Rattle.link_key.proofs.set.key_set.KeySet.shares.Goals as goal
 

@@ -1,10 +1,8 @@
 -- `shares` meets its contract: from each place on the question has the answer that it has from the first.
 use Prim.Native.Nat.{◌-◌}
-use native.Mathlib.Omega.{arith}
-use mathlib.Core.Path.{◌≡◌, refl, sym, ◌∙◌}
-use borrow.Author.Rules.{rules}
-use lib.ListN.{length, take, drop}
-use Rattle.link_key.proofs.set.Places.{turn, stop, meet, meet-keys}
+use mathlib.Core.Path.{◌≡◌}
+use lib.ListN.{take, drop}
+use Rattle.link_key.proofs.set.Places.{meet}
 use Rattle.link_key.proofs.set.key_set.KeySet.shares.Given as goal
 
 abbrev pub invariant-loop-i : goal.invariant-loop-i
