@@ -1,9 +1,6 @@
 -- `timeout_after` meets its contract: what is left to halve answers as the whole does.
-use native.Mathlib.Omega.{arith}
-use mathlib.Core.Path.{◌∙◌, ◌≡◌, refl, sym}
-use borrow.Author.Rules.{rules}
+use mathlib.Core.Path.{◌≡◌}
 use Rattle.node_attempt.specs.Attempt.{timeout_after}
-use Rattle.node_attempt.proofs.Halves.{halved-even, halved_none, halved-odd}
 use Rattle.node_attempt.proofs.attempt.timeout_after.Given as goal
 
 abbrev pub invariant-loop-left : goal.invariant-loop-left

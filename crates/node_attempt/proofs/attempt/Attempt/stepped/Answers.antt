@@ -1,5 +1,4 @@
 -- `stepped` meets its contract: under the limit the request goes out again.
-use borrow.Author.Rules.{rules}
 use borrow.Author.Tests.{le-ltb, lt-ltb}
 use Rattle.node_attempt.specs.Poll.{stepped}
 use Rattle.node_attempt.proofs.attempt.Attempt.stepped.Goals as goal

@@ -1,5 +1,4 @@
 -- `valid` meets its contract: each test of the code is one of the definition's.
-use borrow.Author.Rules.{rules}
 use borrow.Author.Tests.{le-leb, lt-leb}
 use Rattle.node_attempt.specs.Attempt.{valid}
 use Rattle.lemmas.specs.logic.Tests.{is_false, is_true}
