@@ -25,7 +25,8 @@ free-inside [] k h = let z : ◌≡◌ {A = ℕ} 0 1 = cc in absurd (omega arith
 free-inside (p ∷ ps) zero h = omega arith
 free-inside (p ∷ ps) (suc k) h = omega (arith, free-inside ps k h)
 
-lowest-cons : (p : Slot) (ps : List Slot) (x : Bool) → is_free p ≡ x → (lowest is_free ps < length ps → free_at ps (lowest is_free ps) ≡ true)
+lowest-cons : (p : Slot) (ps : List Slot) (x : Bool) → is_free p ≡ x
+    → (lowest is_free ps < length ps → free_at ps (lowest is_free ps) ≡ true)
     → lowest is_free (p ∷ ps) < suc (length ps) → free_at (p ∷ ps) (lowest is_free (p ∷ ps)) ≡ true
 unfolding free_at lowest
 lowest-cons p ps true e ih h = rw e e
@@ -55,7 +56,8 @@ abbrev Offered : ℕ → List Slot → ℕ → Type 0
 Offered j ps k = (j ≤ k) × (free_at ps (k - j) ≡ true)
 
 offered-cons : (n x j : ℕ) (ps : List Slot) (k : ℕ) (t : Bool) → (marked zero x && has is_free (take 64 ps)) ≡ t
-    → (Free k ≡ free_by n (x / 2) (j + 64) (drop 64 ps) → Offered (j + 64) (drop 64 ps) k) → Free k ≡ free_by (suc n) x j ps → Offered j ps k
+    → (Free k ≡ free_by n (x / 2) (j + 64) (drop 64 ps) → Offered (j + 64) (drop 64 ps) k)
+    → Free k ≡ free_by (suc n) x j ps → Offered j ps k
 unfolding free_by has
 offered-cons n x j ps k true t ih e =
     let f : Free k ≡ Free (j + lowest is_free (take 64 ps)) = rw t at e in

@@ -24,7 +24,8 @@ module _ (n : ℕ) (m : List ℕ) (x : ℕ) where
   pass-none = record { within = omega arith; same = refl }
 
   module _ (left g : ℕ) (w : Passed n m x left g) (h : g < 64) (place : ℕ)
-      (e : place ≡ cond (eqb (left % 2) 1 && has is_free (group_at g (slots n m))) (64 * g + lowest is_free (group_at g (slots n m))) n) where
+      (e : place
+      ≡ cond (eqb (left % 2) 1 && has is_free (group_at g (slots n m))) (64 * g + lowest is_free (group_at g (slots n m))) n) where
     -- a place that is found is one of them
     inside : has is_free (group_at g (slots n m)) ≡ true → 64 * g + lowest is_free (group_at g (slots n m)) < n
     unfolding has

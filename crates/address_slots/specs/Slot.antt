@@ -1,6 +1,7 @@
 -- The lent memory read as places, nine bytes an address and the lowest address first:
 -- a mark (1 held, else free) and the board's 8-byte identifier.
-use Rattle.std.specs.Prelude.{ℕ, zero, suc, ◌+◌, ◌*◌, Bool, true, cond, not, ◌&&◌, List, [], ◌∷◌, eqb, leb, ltb, length, get_or, take, drop, set}
+use Rattle.std.specs.Prelude.{ℕ, zero, suc, ◌+◌, ◌*◌, Bool, true, cond, not, ◌&&◌, eqb, leb, ltb}
+use Rattle.std.specs.Prelude.{List, [], ◌∷◌, length, get_or, take, drop, set}
 use Rattle.std.proofs.Math.Seq.{paste}
 use Rattle.address_slots.specs.declared.slot.SlotFound.{SlotFound}
 use Rattle.address_slots.specs.declared.slot.SlotFound.TheVariants.{Held, Free, Nothing}

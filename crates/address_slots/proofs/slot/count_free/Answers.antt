@@ -7,12 +7,14 @@ use Rattle.address_slots.proofs.slot.count_free.Goals.{then-memory-i-ne-HELD, el
 
 pub loop-i-preserved : goal.loop-i-preserved
 loop-i-preserved c =
+    let end = c.args.end in
     let m = c.args.memory.now in
+    let x = c.loop-i in
     elim c.if-memory-i-ne-HELD.branch [
       | then-memory-i-ne-HELD w ↦
-          (omega arith, c.loop-i.invariant.1 ∙ count-here c.args.end m c.loop-i.n c.loop-i.i (omega arith) w.if-memory-i-ne-HELD.true ∙ rw w.n-is)
+          (omega arith, x.invariant.1 ∙ count-here end m x.n x.i (omega arith) w.if-memory-i-ne-HELD.true ∙ rw w.n-is)
       | else-memory-i-ne-HELD w ↦
-          (omega arith, c.loop-i.invariant.1 ∙ count_next c.args.end m c.loop-i.n c.loop-i.i (omega arith) w.if-memory-i-ne-HELD.false ∙ rw w.n-is)
+          (omega arith, x.invariant.1 ∙ count_next end m x.n x.i (omega arith) w.if-memory-i-ne-HELD.false ∙ rw w.n-is)
     ]
 
 pub returns : goal.returns

@@ -7,7 +7,9 @@ use Rattle.address_slots.proofs.slot.count_free.Given as goal
 
 abbrev pub invariant-loop-i : goal.invariant-loop-i
 invariant-loop-i l =
-    (l.n ≤ l.i) × (count_free (slots (l.end - l.from) (drop (9 * l.from) l.memory)) ≡ l.n + count_free (slots (l.end - l.i) (drop (9 * l.i) l.memory)))
+    (l.n ≤ l.i)
+    × (count_free (slots (l.end - l.from) (drop (9 * l.from) l.memory))
+    ≡ l.n + count_free (slots (l.end - l.i) (drop (9 * l.i) l.memory)))
 
 abbrev pub decreases-loop-i : goal.decreases-loop-i
 decreases-loop-i l = l.end - l.i

@@ -7,7 +7,8 @@ use Rattle.address_slots.proofs.slot.find_free.Given as goal
 
 abbrev pub invariant-loop-i : goal.invariant-loop-i
 invariant-loop-i l =
-    l.from + lowest is_free (slots (l.end - l.from) (drop (9 * l.from) l.memory)) ≡ l.i + lowest is_free (slots (l.end - l.i) (drop (9 * l.i) l.memory))
+    l.from + lowest is_free (slots (l.end - l.from) (drop (9 * l.from) l.memory))
+    ≡ l.i + lowest is_free (slots (l.end - l.i) (drop (9 * l.i) l.memory))
 
 abbrev pub decreases-loop-i : goal.decreases-loop-i
 decreases-loop-i l = l.end - l.i
