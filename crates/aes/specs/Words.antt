@@ -25,7 +25,8 @@ turned x = get_or x 3 0 ∷ get_or x 0 0 ∷ get_or x 1 0 ∷ get_or x 2 0 ∷ [
 
 -- two columns, added byte by byte
 abbrev pub plus : List ℕ → List ℕ → List ℕ
-plus x y = (get_or x 0 0 ⊕ get_or y 0 0) ∷ (get_or x 1 0 ⊕ get_or y 1 0) ∷ (get_or x 2 0 ⊕ get_or y 2 0) ∷ (get_or x 3 0 ⊕ get_or y 3 0) ∷ []
+plus x y =
+    (get_or x 0 0 ⊕ get_or y 0 0) ∷ (get_or x 1 0 ⊕ get_or y 1 0) ∷ (get_or x 2 0 ⊕ get_or y 2 0) ∷ (get_or x 3 0 ⊕ get_or y 3 0) ∷ []
 
 -- 5.1.3, (5.6): the column of a, b, c and d after MixColumns
 abbrev pub spread : ℕ → ℕ → ℕ → ℕ → List ℕ

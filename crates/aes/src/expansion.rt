@@ -26,7 +26,8 @@ fn substituted(list: &[u8; 256], b: u8) -> u8
 // The last word of a round key, its bytes moved down by one and substituted.
 fn substituted_word(list: &[u8; 256], k: [u8; 16]) -> u32
     requires { list.now ≡ table 256 sub_byte }
-    ensures { bytes_of result ≡ sub_byte (get_or k 13 0) ∷ sub_byte (get_or k 14 0) ∷ sub_byte (get_or k 15 0) ∷ sub_byte (get_or k 12 0) ∷ [] }
+    ensures { bytes_of result
+        ≡ sub_byte (get_or k 13 0) ∷ sub_byte (get_or k 14 0) ∷ sub_byte (get_or k 15 0) ∷ sub_byte (get_or k 12 0) ∷ [] }
 {
     word(
         substituted(list, k[13]),
