@@ -146,7 +146,8 @@ module _ (key nonce a c d : List ℕ) where
         let short : length (take (length c - 8) c) ≡ length c - 8 = length-take-le (length c - 8) c (omega arith) in
         let text : take (length c - 8) f ≡ text_of key nonce c
         =
-        rw (ef, eks) (take_at (crypt (round_keys 10 key) nonce (take (length c - 8) c)) z (length c - 8) (length-crypt _ nonce _ ∙ short)) in
+        rw (ef, eks)
+        (take_at (crypt (round_keys 10 key) nonce (take (length c - 8) c)) z (length c - 8) (length-crypt _ nonce _ ∙ short)) in
         let whole : take (length c - (length c - 8)) (drop (length c - 8) c) ≡ drop (length c - 8) c
         = take_all (length c - (length c - 8)) (drop (length c - 8) c) (rw (length-drop (length c - 8) c) (omega arith)) in
         let tested : genuine key nonce a c ≡ b = sym (eb ∙ rw (whole, eu, text, eks)) in

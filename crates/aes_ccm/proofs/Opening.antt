@@ -123,7 +123,8 @@ module _ (laws : AesLaws) (key nonce a : List ℕ) where
         = record { data-fits = ha; tag-there = omega arith; text-fits = omega arith; has_room = omega arith } in
         right-tag key nonce a (sealed key nonce a m) room fits right ∙ ap emit text-back
 
-refused : (k : Refusal) (d d' : List ℕ) (r : WriteResult) → Did (refuse k) d r d' → (number_in r ≡ number_of k) × (length_in r ≡ 0) × (d' ≡ d)
+refused : (k : Refusal) (d d' : List ℕ) (r : WriteResult) → Did (refuse k) d r d'
+    → (number_in r ≡ number_of k) × (length_in r ≡ 0) × (d' ≡ d)
 refused k d d' r did = (rw did.says, rw did.says, did.holds)
 
 pub ccm-laws : AesLaws → CcmLaws

@@ -1,0 +1,11 @@
+-- As a whole block, with 0 past the end.
+use Prim.Native.Nat.{◌-◌}
+use lib.ListN.{get_or, drop}
+use Rattle.lemmas.specs.lists.Filling.{Filling}
+use Rattle.aes_ccm.proofs.block.block_at.Given as goal
+
+abbrev pub invariant-loop-i : goal.invariant-loop-i
+invariant-loop-i l = Filling 16 (λ k. get_or (drop l.at l.s) k 0) l.t l.i
+
+abbrev pub decreases-loop-i : goal.decreases-loop-i
+decreases-loop-i l = 16 - l.i
