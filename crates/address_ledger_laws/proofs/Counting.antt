@@ -55,5 +55,6 @@ module _ (n : ℕ) (b : List ℕ) where
       → cut n (count_free ps + 1) ≡ count_free (set ps (lowest (held_by b) ps) f)
   count-more f ps e t h =
       let o = one_more b f ps t h in
-      let w : count_free ps + 1 ≤ n = omega (arith, count_most (set ps (lowest (held_by b) ps) f), length-set ps (lowest (held_by b) ps) f) in
+      let q = set ps (lowest (held_by b) ps) f in
+      let w : count_free ps + 1 ≤ n = omega (arith, count_most q, length-set ps (lowest (held_by b) ps) f) in
       rw (le-leb (count_free ps + 1) n w) (omega arith)

@@ -184,8 +184,8 @@ free-cons a p ps false e ih h = let z : a + 0 ≡ a = omega arith in rw (e, z) (
 free-cons a p ps true e ih h =
     let k = lowest is_free ps in
     let g : suc k < suc (length ps) = rw e at h in
-    let z : a + suc k ≡ suc a + k = omega arith in
-    rw (e, z, ne_eqb a (suc a + k) (λ (q : a ≡ suc a + k). omega arith)) (ih (omega arith))
+    let z : a + lowest is_free (p ∷ ps) ≡ suc a + k = rw e (omega arith) in
+    rw (z, e, ne_eqb a (suc a + k) (λ (q : a ≡ suc a + k). omega arith)) (ih (omega arith))
 
 pub free-nobody : (a : ℕ) (ps : List Slot) → lowest is_free ps < length ps → taken (a + lowest is_free ps) (held_from a ps) ≡ false
 free-nobody a [] h = absurd (omega arith)

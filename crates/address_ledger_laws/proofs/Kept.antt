@@ -123,7 +123,8 @@ again_by l m b (verdict.Refused r) h = refl
 
 module _ (l : Ledger) (m b : List ℕ) (a : ℕ) where
   new-found : (s : SlotFound) → s ≡ slot_found_by l.summary b (places_of l m) → has (held_by b) (places_of l m) ≡ false
-      → (granting (counted_of l) l m b s).answer ≡ Address a → (granting (counted_of l) l m b s).ledger.free ≡ cut (counted_of l) (l.free - 1)
+      → (granting (counted_of l) l m b s).answer ≡ Address a
+      → (granting (counted_of l) l m b s).ledger.free ≡ cut (counted_of l) (l.free - 1)
   unfolding granting has
   new-found (Held k) s h e =
       let i = held-told l.summary b (places_of l m) k s in

@@ -61,7 +61,8 @@ module _ (j : ℕ) (ps : List Slot) where
       let w : lowest is_free ps < length ps = omega (arith, e, l, length-take 64 ps) in
       rw (lt-ltb (lowest is_free ps) (length ps) w, e)
 
-  rest-by : (t : Bool) → has is_free (drop 64 ps) ≡ t → has is_free (take 64 ps) ≡ false → walk_found (j + 64) (drop 64 ps) ≡ walk_found j ps
+  rest-by : (t : Bool) → has is_free (drop 64 ps) ≡ t → has is_free (take 64 ps) ≡ false
+      → walk_found (j + 64) (drop 64 ps) ≡ walk_found j ps
   unfolding has
   rest-by true t f =
       let e = behind 64 ps (ltb-false (lowest is_free (take 64 ps)) (length (take 64 ps)) f) in

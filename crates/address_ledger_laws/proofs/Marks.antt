@@ -20,7 +20,7 @@ use Rattle.address_ledger.specs.range.Range.{judged, counted, Usable}
 use Rattle.address_ledger.proofs.range.Judged.{usable}
 use Rattle.address_ledger.specs.Ledger.{Outcome, counted_of, places_of, judged_of, opened_by, opened}
 use Rattle.address_ledger.specs.Ledger.{granting, granted_by, granted, giving_back, given_back_by, given_back}
-use Rattle.address_ledger.specs.declared.answer.AddressAnswer.TheVariants.{Address, Refused}
+use Rattle.address_ledger.specs.declared.answer.AddressAnswer.TheVariants.{Address}
 use Rattle.address_ledger.specs.declared.ledger.Ledger.{Ledger}
 use Rattle.address_ledger.proofs.Calls.{grant-accepted}
 use Rattle.address_ledger_laws.specs.Marked.{RightMarks, MarksStay, walked_by, AsWalked, MarkedAnew, AnyMarks}
@@ -161,7 +161,8 @@ module _ (l : Ledger) (m b : List ℕ) (k : ℕ) where
   granted-new verdict.Accepted f h e = grant-new l m b k f (slot_found_by l.summary b (places_of l m)) refl h e
   granted-new (verdict.Refused r) f h e = let z : ◌≡◌ {A = ℕ} 0 1 = cc in absurd (omega arith)
 
-  given-new : (v : Verdict) → v ≡ judged_of l m → (given_back_by v l m b).answer ≡ Address (l.first + k) → MarkedAnew l k (given_back_by v l m b)
+  given-new : (v : Verdict) → v ≡ judged_of l m → (given_back_by v l m b).answer ≡ Address (l.first + k)
+      → MarkedAnew l k (given_back_by v l m b)
   unfolding given_back_by
   given-new verdict.Accepted f e = back-new l m b k f (slot_found b (places_of l m)) refl e
   given-new (verdict.Refused r) f e = let z : ◌≡◌ {A = ℕ} 0 1 = cc in absurd (omega arith)

@@ -8,7 +8,8 @@ use Rattle.address_slots.specs.Slot.{slot_at, slots, same, is_free, held_by, low
 use Rattle.address_slots.specs.Marks.{marked, with_mark, marks_of, refreshed, free_by, slot_found_by}
 use Rattle.short_address.specs.Address.{is_address, bytes_of}
 use Rattle.address_ledger.specs.range.Range.{in_limits, judged, counted}
-use Rattle.address_ledger.specs.Ledger.{opened_by, opened, granting, granted_by, granted, giving_back, given_back_by, given_back, free_count}
+use Rattle.address_ledger.specs.Ledger.{opened_by, opened, granting, granted_by, granted, giving_back, given_back_by}
+use Rattle.address_ledger.specs.Ledger.{given_back, free_count}
 use Rattle.address_ledger_laws.specs.History.{listed, address_of, enter, strike, after_ask, after_give, step, run, after, whole_boards}
 use Rattle.address_ledger_laws.specs.Example.{lent, LedgerExample}
 

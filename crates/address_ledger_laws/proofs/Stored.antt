@@ -8,13 +8,14 @@ use borrow.Author.Tests.{ltb-false}
 use lib.ListN.{length}
 use Rattle.refusal.specs.declared.Verdict.{Verdict}
 use Rattle.refusal.specs.declared.Verdict.TheVariants as verdict
-use Rattle.address_slots.specs.Slot.{held_by, lowest, has, slot_found, freed}
+use Rattle.address_slots.specs.Slot.{held_by, lowest, has, slot_found}
 use Rattle.address_slots.specs.Marks.{slot_found_by}
 use Rattle.address_slots.specs.declared.slot.SlotFound.{SlotFound}
 use Rattle.address_slots.specs.declared.slot.SlotFound.TheVariants.{Held, Free, Nothing}
 use Rattle.address_slots.proofs.Found.{held-within}
 use Rattle.address_slots.proofs.Offers.{held-told, free-inside-of}
-use Rattle.address_ledger.specs.Ledger.{counted_of, places_of, judged_of, granting, granted_by, granted, giving_back, given_back_by, given_back}
+use Rattle.address_ledger.specs.Ledger.{counted_of, places_of, judged_of, granting, granted_by, granted, giving_back}
+use Rattle.address_ledger.specs.Ledger.{given_back_by, given_back}
 use Rattle.address_ledger.specs.declared.answer.AddressAnswer.TheVariants.{Address}
 use Rattle.address_ledger.specs.declared.ledger.Ledger.{Ledger}
 use Rattle.address_ledger_laws.specs.Written.{HoldsNow, FreeNow, Written}
@@ -52,7 +53,8 @@ module _ (l : Ledger) (m b : List ℕ) (k : ℕ) where
   back_by f (Free j) s a = let z : ◌≡◌ {A = ℕ} 0 1 = cc in absurd (omega arith)
   back_by f Nothing s a = let z : ◌≡◌ {A = ℕ} 0 1 = cc in absurd (omega arith)
 
-  back : (v : Verdict) → v ≡ judged_of l m → (given_back_by v l m b).answer ≡ Address (l.first + k) → FreeNow m k (given_back_by v l m b).memory
+  back : (v : Verdict) → v ≡ judged_of l m → (given_back_by v l m b).answer ≡ Address (l.first + k)
+      → FreeNow m k (given_back_by v l m b).memory
   unfolding given_back_by
   back verdict.Accepted f a = back_by f (slot_found b (places_of l m)) refl a
   back (verdict.Refused r) f a = let z : ◌≡◌ {A = ℕ} 0 1 = cc in absurd (omega arith)

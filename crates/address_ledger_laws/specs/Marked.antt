@@ -48,7 +48,8 @@ pub record AnyMarks : Type 0 where
   pub granted-new : (l : Ledger) (m b : List ℕ) (k : ℕ) → has (held_by b) (places_of l m) ≡ false
       → (granted l m b).answer ≡ Address (l.first + k)
       → MarkedAnew l k (granted l m b)
-  pub given_back_lem : (l : Ledger) (m b : List ℕ) (k : ℕ) → (given_back l m b).answer ≡ Address (l.first + k) → MarkedAnew l k (given_back l m b)
+  pub given_back_lem : (l : Ledger) (m b : List ℕ) (k : ℕ) → (given_back l m b).answer ≡ Address (l.first + k)
+      → MarkedAnew l k (given_back l m b)
   -- which after a give back has a free address
   pub given-marked : (l : Ledger) (m b : List ℕ) (k : ℕ) → (given_back l m b).answer ≡ Address (l.first + k)
       → marked (k / 64) (given_back l m b).ledger.summary ≡ true

@@ -1,5 +1,4 @@
 -- An address that is answered is that of a place that counts.
-use borrow.Author.Rules.{rules}
 use Rattle.address_ledger_laws.proofs.OnlyAddresses.{addresses-alone}
 use Rattle.address_ledger_laws.proofs.addresses_law.Goals as goal
 

@@ -1,5 +1,4 @@
 -- No place counts from FFFE on, so nothing is found.
-use borrow.Author.Rules.{rules}
 use Rattle.address_ledger_laws.proofs.OnlyAddresses.{two-alone}
 use Rattle.address_ledger_laws.proofs.reserved_range_law.Goals as goal
 
