@@ -93,8 +93,9 @@ token-length interface port token e = ap (λ w. w.len) (reads-back interface por
 pub text-bytes : (interface : List ℕ) (port : ℕ) (token : List ℕ) (a b c d e f g h : ℕ) → length interface ≡ 8
     → a ≡ get_or token 0 0 → b ≡ get_or token 1 0 → c ≡ get_or token 2 0 → d ≡ get_or token 3 0
     → e ≡ get_or token 4 0 → f ≡ get_or token 5 0 → g ≡ get_or token 6 0 → h ≡ get_or token 7 0
-    → get_or interface 0 0 ∷ get_or interface 1 0 ∷ get_or interface 2 0 ∷ get_or interface 3 0 ∷ get_or interface 4 0 ∷ get_or interface 5 0
-    ∷ get_or interface 6 0 ∷ get_or interface 7 0 ∷ (port / 256) ∷ (port % 256) ∷ length token ∷ a ∷ b ∷ c ∷ d ∷ e ∷ f ∷ g ∷ h ∷ []
+    → get_or interface 0 0 ∷ get_or interface 1 0 ∷ get_or interface 2 0 ∷ get_or interface 3 0 ∷ get_or interface 4 0
+    ∷ get_or interface 5 0 ∷ get_or interface 6 0 ∷ get_or interface 7 0 ∷ (port / 256) ∷ (port % 256) ∷ length token
+    ∷ a ∷ b ∷ c ∷ d ∷ e ∷ f ∷ g ∷ h ∷ []
     ≡ pledge_text interface port token
 unfolding pledge_text table
 text-bytes interface port token a b c d e f g h l pa pb pc pd pe pf pg ph =

@@ -74,7 +74,8 @@ module _ (h : History) (key : List ℕ) where
 
 -- ---- issuing
 -- one more at the end
-grown : (key : List ℕ) (sent : List Sent) (s : Sent) → ((i : ℕ) → i < length sent → Right key (sent_at sent i) i) → Right key s (length sent)
+grown : (key : List ℕ) (sent : List Sent) (s : Sent) → ((i : ℕ) → i < length sent → Right key (sent_at sent i) i)
+    → Right key s (length sent)
     → (i : ℕ) → i < length (sent ++ (s ∷ [])) → Right key (sent_at (sent ++ (s ∷ [])) i) i
 grown key sent s each right i l =
     let m : i ≤ length sent = omega (arith, length-append sent (s ∷ [])) in

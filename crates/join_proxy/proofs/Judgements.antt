@@ -113,7 +113,8 @@ module _ (p : Proxy) (body : List ℕ) where
     sealed-wrong k e = by-plan (refuse k) l (opened-as (opening p body) d d' r k opening-did e)
 
     pub sealed-right : CcmLaws → (n : ℕ) → r ≡ Length n → length d ≡ 19
-        → judge_body p body ≡ judge_text p.issued (number_of (get_or body 0 0 ∷ get_or body 1 0 ∷ get_or body 2 0 ∷ get_or body 3 0 ∷ [])) d'
+        → judge_body p body
+        ≡ judge_text p.issued (number_of (get_or body 0 0 ∷ get_or body 1 0 ∷ get_or body 2 0 ∷ get_or body 3 0 ∷ [])) d'
     sealed-right laws n e ld =
         let was = opened-to (opening p body) d d' r n opening-did e in
         let sent : drop 4 body ≡ sealed p.key (nonce_with (take 4 body)) [] was.text
