@@ -60,7 +60,8 @@ map_number (decode.got i t) = if_map (λ ps. 0) (number_of refusal.«Type») i
 
 pub record StartSpec (b : Bool) (s : List ℕ) (r : PayloadResult) : Type 0 where
   pub is : r ≡ start_answer b s
-  pub number : payload_number r ≡ in_order (refused_if (ltb 256 (length s)) (number_of refusal.Long) ∷ map_number (payload_by (head_by b) s) ∷ [])
+  pub number : payload_number r
+      ≡ in_order (refused_if (ltb 256 (length s)) (number_of refusal.Long) ∷ map_number (payload_by (head_by b) s) ∷ [])
   pub says : says_start b s r
 
 -- ---- a label: TYPE where it is no integer, and the place is then the payload's end;
