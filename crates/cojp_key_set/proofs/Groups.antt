@@ -3,11 +3,8 @@ use Prim.Native.Nat.{ℕ, ◌+◌, ◌-◌, ◌≤◌, ◌<◌}
 use mathlib.Core.Path.{◌≡◌, refl, ap, sym, ◌∙◌}
 use mathlib.Core.Bool.{Bool, true, false}
 use mathlib.Core.List.{List, [], ◌∷◌}
-use mathlib.Core.Logic.{⊎_elim}
 use native.Mathlib.Omega.{arith}
 use lib.ListN.{length, take, drop}
-use types.Run.{OneOf}
-use denote.Enum.Declared.{tag_of}
 use Rattle.cbor.specs.View.{Scalar, number, minus, string, other}
 use Rattle.link_key.specs.AdditionalInfo.{additional_info_in}
 use Rattle.link_key.specs.declared.additional_info.AdditionalInfo.TheVariants as info
@@ -20,7 +17,6 @@ use Rattle.cojp_key_set.specs.declared.additional_info.AdditionalInfoRead.{Addit
 use Rattle.cojp.specs.declared.members.Member.{Member}
 use Rattle.cojp.specs.declared.members.Member.TheVariants as mv
 use Rattle.cojp.proofs.Arrays.{members-some}
-use Rattle.cojp.specs.contracts.members.Member as member
 use Rattle.cojp_key_set.proofs.Infos.{info-said}
 
 pub rest-on : (s : List ℕ) (at n q m : ℕ) (r : Group) → after_members n (drop at s) ≡ after_members m (drop q s) → GroupRest s q m r
@@ -44,7 +40,7 @@ module _ (b : Bool) where
           let w : MemberAt l 0 n (mv.Number x p) = rw g at e.here in
           regroup l (n - 1) n _ _ r (omega arith) (ap (groups b) w.1) q
 
-      pub group-headless : OneOf (1 ∷ 2 ∷ []) (tag_of member.the_type v) → GroupAt b l n (groups b (members_at n l)) gv.Broken
+      pub group-headless : ((x p : ℕ) → v ≡ mv.Number x p → ⊥) → GroupAt b l n (groups b (members_at n l)) gv.Broken
       unfolding groups
       group-headless o = go v e.here o
         where
@@ -54,8 +50,8 @@ module _ (b : Bool) where
           none (string s) ps w = refl
           none other ps w = refl
 
-          go : (v : Member) → MemberAt l 0 n v → OneOf (1 ∷ 2 ∷ []) (tag_of member.the_type v) → groups b (members_at n l) ≡ not_groups
-          go (mv.Number x p) w o = absurd (⊎_elim (λ e. omega arith) (λ e. omega arith) o)
+          go : (v : Member) → MemberAt l 0 n v → ((x p : ℕ) → v ≡ mv.Number x p → ⊥) → groups b (members_at n l) ≡ not_groups
+          go (mv.Number x p) w o = absurd (o x p refl)
           go (mv.Bytes p a) w o = rw w.2
           go mv.Neither w o = let (p, ps, f) = members-some n l h in rw f (none p ps (rw f at w))
 
@@ -98,7 +94,7 @@ module _ (b : Bool) where
             let w : MemberAt l at n (mv.Bytes p a) = rw g at e.here in
             regroup l (n - 1 + 1) n _ _ r (omega (arith, w.0)) (ap (used b i u) w.2) q
 
-        pub group-valueless : OneOf (0 ∷ 2 ∷ []) (tag_of member.the_type v) → GroupAt b l n (used b i u (members_at n (drop at l))) gv.Broken
+        pub group-valueless : ((q k : ℕ) → v ≡ mv.Bytes q k → ⊥) → GroupAt b l n (used b i u (members_at n (drop at l))) gv.Broken
         unfolding groups
         group-valueless o = go v e.here o
           where
@@ -109,10 +105,10 @@ module _ (b : Bool) where
             none (minus x ∷ ps) w = refl
             none (other ∷ ps) w = refl
 
-            go : (v : Member) → MemberAt l at n v → OneOf (0 ∷ 2 ∷ []) (tag_of member.the_type v)
+            go : (v : Member) → MemberAt l at n v → ((q k : ℕ) → v ≡ mv.Bytes q k → ⊥)
                 → used b i u (members_at n (drop at l)) ≡ not_groups
             go (mv.Number x p) w o = rw w.1
-            go (mv.Bytes p a) w o = absurd (⊎_elim (λ e. omega arith) (λ e. omega arith) o)
+            go (mv.Bytes p a) w o = absurd (o p a refl)
             go mv.Neither w o = none (members_at n (drop at l)) w
 
 -- ---- after a value, of a bytes from p on
@@ -143,7 +139,7 @@ module _ (l : List ℕ) (i u p a n : ℕ) (h : p + a ≤ length l) where
   module _ (v : Member) (e : MemberSpec l (p + a) n v) where
     -- where no byte string comes
     pub value-last :
-        OneOf (0 ∷ 2 ∷ []) (tag_of member.the_type v) →
+        ((q k : ℕ) → v ≡ mv.Bytes q k → ⊥) →
         GroupAt true l (n + 1) (valued true i u value-here left_over) (gv.Closed i u p a 0 (p + a) n)
     unfolding groups
     value-last o = value-ends true (go v e.here o)
@@ -155,10 +151,10 @@ module _ (l : List ℕ) (i u p a n : ℕ) (h : p + a ≤ length l) where
         none (minus x ∷ ps) w = refl
         none (other ∷ ps) w = refl
 
-        go : (v : Member) → MemberAt l (p + a) n v → OneOf (0 ∷ 2 ∷ []) (tag_of member.the_type v)
+        go : (v : Member) → MemberAt l (p + a) n v → ((q k : ℕ) → v ≡ mv.Bytes q k → ⊥)
             → valued true i u value-here left_over ≡ group i u value-here info.Absent (groups true left_over)
         go (mv.Number x q) w o = rw w.1
-        go (mv.Bytes q k) w o = absurd (⊎_elim (λ e. omega arith) (λ e. omega arith) o)
+        go (mv.Bytes q k) w o = absurd (o q k refl)
         go mv.Neither w o = none left_over w
 
     -- where one comes, of k bytes from q on, it is additional information or breaks the pattern

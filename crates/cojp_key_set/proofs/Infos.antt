@@ -17,7 +17,8 @@ module _ (s : List ℕ) where
   step i j n e h = rw (drop-cons s i 0 h, e)
 
   pub info-four :
-      (at : ℕ) → at + 4 ≤ length s → take 4 (drop at s) ≡ get_or s at 0 ∷ get_or s (at + 1) 0 ∷ get_or s (at + 2) 0 ∷ get_or s (at + 3) 0 ∷ []
+      (at : ℕ) → at + 4 ≤ length s →
+      take 4 (drop at s) ≡ get_or s at 0 ∷ get_or s (at + 1) 0 ∷ get_or s (at + 2) 0 ∷ get_or s (at + 3) 0 ∷ []
   info-four at h =
       let b0 = step at (at + 1) 3 (omega arith) (omega arith) in
       let b1 = step (at + 1) (at + 2) 2 (omega arith) (omega arith) in
