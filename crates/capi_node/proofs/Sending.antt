@@ -7,7 +7,7 @@ use mathlib.Core.Path.{◌≡◌, refl, ap, sym, subst, ◌∙◌}
 use borrow.Author.Tests.{eq-eqb, ne_eqb, le-leb, lt-leb, lt-ltb, le-ltb}
 use lib.ListN.{length, drop, set, replicate}
 use Rattle.image.specs.Effects.{on_accept}
-use Rattle.image.specs.Lent.{hands-unfit, hands_none, hands-told}
+use Rattle.image.proofs.Lent.{hands-unfit, hands_none, hands-told}
 use Rattle.image.specs.Part.{AllBytes, RoundTrips, is_image}
 use Rattle.key_image.specs.Key.{counted_set_part}
 use Rattle.lemmas.specs.logic.Tests.{never}

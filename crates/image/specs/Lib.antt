@@ -4,5 +4,4 @@ pub mod Numbers
 pub mod CodecLaws
 pub mod Fields
 pub mod Effects
-pub mod Lent
 pub mod PartLemmas

@@ -2,7 +2,7 @@
 use mathlib.Core.List.{[]}
 use Rattle.address_ledger.specs.Ledger.{opened}
 use Rattle.address_ledger_laws.specs.Demand1.{counting}
-use Rattle.image.specs.Lent.{kept, emptied}
+use Rattle.image.proofs.Lent.{kept, emptied}
 use Rattle.state_image.specs.Ledger.{ledger_image}
 use Rattle.ledger_calls.specs.Laws.{LedgerRefusals}
 use Rattle.ledger_calls.specs.Ledger.{open_verdict, performed_in, ledger_verdict}

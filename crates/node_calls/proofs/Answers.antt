@@ -12,7 +12,7 @@ use Rattle.refusal.specs.declared.Refusal.{Refusal}
 use Rattle.refusal.specs.declared.Verdict.{Verdict}
 use Rattle.refusal.specs.declared.Verdict.TheVariants.{Accepted, Refused}
 use Rattle.image.specs.Effects.{on_accept}
-use Rattle.image.specs.Lent.{hands-unfit, hands_none, hands-told}
+use Rattle.image.proofs.Lent.{hands-unfit, hands_none, hands-told}
 use Rattle.image.specs.Part.{is_image}
 use Rattle.node.specs.declared.node.Node.{Node}
 use Rattle.node_image.specs.Node.{node_image}

@@ -1,5 +1,5 @@
 -- A call whose number is not 0 was refused, and what a refusal leaves is said by the verdict alone.
-use Rattle.image.specs.Lent.{kept, hands-emptied}
+use Rattle.image.proofs.Lent.{kept, hands-emptied}
 use Rattle.node_image.specs.Node.{node_image}
 use Rattle.image.specs.Part.{is_image}
 use mathlib.Core.Bool.{◌&&◌}

@@ -12,7 +12,7 @@ use Rattle.refusal.specs.declared.Refusal.{Refusal}
 use Rattle.refusal.specs.declared.Refusal.TheVariants.{Range}
 use Rattle.refusal.specs.declared.Verdict.{Verdict}
 use Rattle.image.specs.Effects.{on_accept}
-use Rattle.image.specs.Lent.{hands-told}
+use Rattle.image.proofs.Lent.{hands-told}
 use Rattle.image.specs.Part.{is_image}
 use Rattle.cojp.specs.Octets.{copied_from}
 use Rattle.protocol_version.specs.declared.Version.{Version}

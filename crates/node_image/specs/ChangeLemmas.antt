@@ -8,7 +8,7 @@ use Rattle.std.proofs.Math.Seq.{take_at, drop_at}
 use Rattle.byte_io.specs.BigEndian.{bytes_of}
 use Rattle.byte_io.specs.BigEndianLemmas.{length-bytes_of}
 use Rattle.byte_io.specs.Write.{Wrote}
-use Rattle.image.specs.Lent.{long}
+use Rattle.image.proofs.Lent.{long}
 use Rattle.image.specs.Part.{AllBytes, RoundTrips, number, puts, times, is_image}
 use Rattle.image.specs.PartLemmas.{puts-set, puts-split, over}
 use Rattle.key_image.specs.Key.{key_set_part, counted_set_part}

@@ -12,7 +12,7 @@ use Rattle.byte_io.specs.Write.{Plan, Did, written_says}
 use Rattle.byte_io.specs.declared.WriteResult.{WriteResult}
 use Rattle.byte_io.specs.declared.WriteResult.TheVariants as written
 use Rattle.image.specs.Effects.{on_accept, ResultSpec}
-use Rattle.image.specs.Lent.{hands-told}
+use Rattle.image.proofs.Lent.{hands-told}
 use Rattle.payload_calls.specs.Write.{Writes, range_first}
 
 -- the answer a is the one, b, that the definition names

@@ -8,7 +8,7 @@ use lib.ListN.{length, drop}
 use Rattle.refusal.specs.declared.Refusal.TheVariants.{Room}
 use Rattle.byte_io.specs.Write.{Plan, refuse, emit, written_says}
 use Rattle.byte_io.specs.declared.WriteResult.TheVariants as written
-use Rattle.image.specs.Lent.{hands-emptied}
+use Rattle.image.proofs.Lent.{hands-emptied}
 use Rattle.image.specs.Part.{is_image}
 use Rattle.object_image.specs.Configuration.{configuration_image}
 use Rattle.object_image.specs.Request.{request_image}

@@ -9,7 +9,7 @@ use lib.Dec.{eqb}
 use lib.ListN.{length}
 use lib.Seq.{take_all}
 use Rattle.lemmas.specs.logic.Tests.{both_right}
-use Rattle.image.specs.Lent.{long}
+use Rattle.image.proofs.Lent.{long}
 use Rattle.image.specs.Part.{Part, AllBytes, RoundTrips, is_image}
 
 module _ {A : Type 0} (p : Part A) (laws : RoundTrips p) (a : A) (fit : p.Fit a) where

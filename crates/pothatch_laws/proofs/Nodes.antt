@@ -13,7 +13,7 @@ use Rattle.refusal.specs.declared.Refusal.TheVariants.{Range}
 use Rattle.refusal.specs.declared.Verdict.{Verdict}
 use Rattle.refusal.specs.declared.Verdict.TheVariants.{Accepted, Refused}
 use Rattle.image.specs.Effects.{on_accept, checked_first}
-use Rattle.image.specs.Lent.{then-not, then-so}
+use Rattle.image.proofs.Lent.{then-not, then-so}
 use Rattle.image.specs.Part.{RoundTrips, is_image}
 use Rattle.node.specs.Frames.{verified}
 use Rattle.node.specs.Lease.{holds}

@@ -8,7 +8,7 @@ use Rattle.aes_ccm.specs.Plan.{Plan, refuse, emit, answer, number_in, length_in}
 use Rattle.cipher_calls.specs.Cipher.{Wrote, plan_verdict}
 use Rattle.cipher_calls.specs.Laws.{CipherRefusals}
 use Rattle.image.specs.Effects.{on_accept}
-use Rattle.image.specs.Lent.{kept, emptied}
+use Rattle.image.proofs.Lent.{kept, emptied}
 use Rattle.join_proxy.specs.Issuing.{after_issue}
 use Rattle.join_proxy.specs.Judging.{judge_body}
 use Rattle.join_proxy.specs.Keys.{fresh, set_key}

@@ -9,7 +9,7 @@ use lib.ListN.{length, replicate}
 use Rattle.refusal.specs.declared.Verdict.{Verdict}
 use Rattle.refusal.specs.declared.Verdict.TheVariants.{Accepted, Refused}
 use Rattle.image.specs.Effects.{on_accept}
-use Rattle.image.specs.Lent.{emptied}
+use Rattle.image.proofs.Lent.{emptied}
 use Rattle.image.specs.Part.{is_image}
 use Rattle.node.specs.declared.node.Node.{Node}
 use Rattle.node_image.specs.Node.{node_image}

@@ -9,7 +9,7 @@ use Rattle.lemmas.specs.logic.Tests.{both_left}
 use Rattle.refusal.specs.Verdict.{verdict_number}
 use Rattle.refusal.specs.declared.Verdict.{Verdict}
 use Rattle.image.specs.Effects.{on_accept}
-use Rattle.image.specs.Lent.{long, hands-unfit, hands_none, hands-told}
+use Rattle.image.proofs.Lent.{long, hands-unfit, hands_none, hands-told}
 use Rattle.image.specs.Part.{is_image}
 use Rattle.protocol_version.specs.declared.Version.{Version}
 use Rattle.cojp_serial.specs.State.{request_end, configuration_end}

@@ -13,7 +13,7 @@ use Rattle.byte_io.specs.BigEndian.{big_endian, bytes_of}
 use Rattle.lemmas.specs.logic.Tests.{both_left, both_right}
 use Rattle.image.specs.Fields.{whole-struct, two_fields}
 use Rattle.image.specs.CodecLaws.{number-lawful, both-lawful, viewed-lawful, headed-lawful}
-use Rattle.image.specs.Lent.{long}
+use Rattle.image.proofs.Lent.{long}
 use Rattle.image.specs.Part.{AllBytes, RoundTrips, viewed, is_headed, is_image}
 use Rattle.cojp_serial.specs.declared.state.SerialState.{SerialState}
 use Rattle.object_image.specs.Codes.{bool_part}

@@ -14,7 +14,7 @@ use Rattle.refusal.specs.Verdict.{verdict_number}
 use Rattle.refusal.specs.declared.Refusal.TheVariants.{Long}
 use Rattle.refusal.specs.declared.Verdict.{Verdict}
 use Rattle.image.specs.Effects.{checked_first}
-use Rattle.image.specs.Lent.{kept, hands-emptied}
+use Rattle.image.proofs.Lent.{kept, hands-emptied}
 use Rattle.image.specs.Part.{AllBytes, RoundTrips, is_image}
 use Rattle.cojp_serial.specs.State.{empty_state, overran, end_marked, part_answer, part_store, end_state}
 use Rattle.cojp_serial.specs.declared.state.SerialState.{SerialState}
