@@ -13,7 +13,8 @@ use Rattle.cojp.specs.Laws.{ReadersDemand1}
 use Rattle.cojp.specs.declared.configuration.Configuration.{Configuration}
 use Rattle.cojp.specs.declared.request.JoinRequest.{JoinRequest}
 
-request-empty : (o : Reading JoinRequest) (k : Refusal) → (request_answer o).verdict ≡ Refused k → (request_answer o).request ≡ empty_request
+request-empty : (o : Reading JoinRequest) (k : Refusal) → (request_answer o).verdict ≡ Refused k
+    → (request_answer o).request ≡ empty_request
 request-empty (refused j) k e = refl
 request-empty (read q) k e = absurd (let z : ◌≡◌ {A = ℕ} 0 1 = cc in omega arith)
 

@@ -22,7 +22,8 @@ use Rattle.cojp.specs.Rate.{rate_taken}
 use Rattle.cbor.specs.Encode.{shortest, extra_of}
 
 pub marked : MarkedExamples
-unfolding payload_by strict_heading is_short info_of decode_by heading argument next digits members pairs major_of valid_keys padded octets_judged
+unfolding payload_by strict_heading is_short info_of decode_by heading argument next digits members pairs major_of valid_keys padded
+    octets_judged
     is_address address_in groups identified used valued payload_read_by role_judged request_label_status request_taking owing
     parameter_of later_parameter
     configuration_taking
@@ -30,7 +31,8 @@ marked =
     (refl, (refl, (refl, (refl, (refl, (refl, (refl, (refl, (refl, (refl, (refl, (refl, (refl, (refl, (refl, tt)))))))))))))))
 
 pub published : PublishedExamples
-unfolding payload_by info_of decode_by heading argument next digits members pairs major_of valid_keys padded octets_judged is_address address_in
+unfolding payload_by info_of decode_by heading argument next digits members pairs major_of valid_keys padded octets_judged is_address
+    address_in
     groups identified used valued payload_read_by role_judged request_label_status request_taking owing parameter_of later_parameter
     configuration_taking
     valid_key added strings_in error_reports_in rate_taken shortest extra_of bytes_of

@@ -1,25 +1,23 @@
 -- A report that may be made, added to others that may be made, leaves them so: five places hold five of them.
-use Prim.Native.Nat.{ℕ, suc, ◌+◌, ◌≤◌, ◌<◌}
+use Prim.Native.Nat.{ℕ, ◌+◌, ◌≤◌}
 use native.Mathlib.Numerals.{add-one}
 use native.Mathlib.Omega.{arith}
-use mathlib.Core.Path.{◌≡◌, refl, ap, ◌∙◌}
-use mathlib.Core.Bool.{Bool, true, false, cond, ◌&&◌}
+use mathlib.Core.Path.{◌≡◌, refl, ◌∙◌}
+use mathlib.Core.Bool.{Bool, true, false, cond}
 use mathlib.Core.List.{List, [], ◌∷◌, ◌++◌}
-use lib.Dec.{leb, ltb, eqb}
-use lib.ListN.{length, take, set, replicate, length-set}
+use lib.Dec.{leb, ltb}
+use lib.ListN.{length, set, length-set}
 use lib.Seq.{take-suc-set}
-use borrow.Author.Tests.{leb-true, le-leb, ltb-true, eqb-true}
+use borrow.Author.Tests.{le-leb, ltb-true, eqb-true}
 use Rattle.link_key.specs.set.Lists.{all_of}
 use Rattle.lemmas.specs.logic.Tests.{both, both_left, both_right}
-use Rattle.cojp.specs.ErrorReports.{error_report_of, no_error_reports, error_report_list, is_reportable}
+use Rattle.cojp.specs.ErrorReports.{error_report_of, no_error_reports, error_report_list}
 use Rattle.cojp.specs.ErrorReports.{valid_error_report, valid_error_reports, error_reports_valid, added}
 use Rattle.cojp.specs.InRange.{ErrorReportsValid}
 use Rattle.cojp.specs.Reported.{bad_in, bad_at, reports_on, error_reports_of}
-use Rattle.cojp.specs.declared.configuration.Configuration.{Configuration}
 use Rattle.cojp.specs.declared.error_report.ErrorReport.{ErrorReport}
 use Rattle.cojp.specs.declared.error_report.ErrorReports.{ErrorReports}
 use Rattle.cojp.specs.declared.reported.Bad.{Bad}
-use Rattle.protocol_version.specs.declared.Version.{Version}
 use Rattle.protocol_version.specs.declared.Version.TheVariants.{Draft, Published}
 
 pub record Listed (f : ErrorReports) : Type 0 where
@@ -34,7 +32,8 @@ all_snoc : (xs : List ErrorReport) (x : ErrorReport) → all_of valid_error_repo
     → all_of valid_error_report (xs ++ (x ∷ [])) ≡ true
 all_snoc [] x h e = both (valid_error_report x) true e refl
 all_snoc (y ∷ ys) x h e =
-    both (valid_error_report y) (all_of valid_error_report (ys ++ (x ∷ []))) (both_left (valid_error_report y) (all_of valid_error_report ys) h)
+    both (valid_error_report y) (all_of valid_error_report (ys ++ (x ∷ []))) (both_left (valid_error_report y)
+    (all_of valid_error_report ys) h)
     (all_snoc ys x (both_right (valid_error_report y) (all_of valid_error_report ys) h) e)
 
 pub added-listed : (f : ErrorReports) (code label : ℕ) → Listed f → valid_error_report (error_report_of code label) ≡ true

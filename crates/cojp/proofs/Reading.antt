@@ -405,7 +405,8 @@ module _ (laws : ItemLaws) (K : KeyLaws) where
       Gives (Fine v) (configuration_taking v c n x)
   unfolding configuration_taking
   taking-fine v c h n e x =
-      puts-well (Fine v) (Fine v) (noted v n) (taking_for v c (parameter_of v n) x) (parameter-fine (parameter_of v n) v c h (known_of v n) x)
+      puts-well (Fine v) (Fine v) (noted v n) (taking_for v c (parameter_of v n) x)
+      (parameter-fine (parameter_of v n) v c h (known_of v n) x)
       (λ d g. noting-fine v d n (known-reportable v c n e) g)
 
 -- ---- the whole payload

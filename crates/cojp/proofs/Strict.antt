@@ -98,7 +98,8 @@ module _ {S : Type 0} (F : Form S) (taking : (s : S) (n : ℕ) (v : View) → Fi
   pairs-firm : (ps : Pairs) (s : S) → Firm (pairs_read F s ps)
   pairs-firm empty s = tt
   pairs-firm (pair k v ps) s =
-      firm-onward (pair_read F s (label_of k) (view_of v)) (λ t. pairs_read F t ps) (pair-firm s (label_of k) (view_of v)) (λ t. pairs-firm ps t)
+      firm-onward (pair_read F s (label_of k) (view_of v)) (λ t. pairs_read F t ps) (pair-firm s (label_of k) (view_of v))
+      (λ t. pairs-firm ps t)
 
   map-firm : (i : Item) (s : S) → Firm (map_read F s i)
   map-firm (map_item ps) s = pairs-firm ps s

@@ -180,7 +180,8 @@ configuration_passing c = with_unknown_count c (c.unknown + 1)
 
 -- what is taken of its value; network identifier and prefix are the draft's alone, blacklist and join rate the published form's
 abbrev pub taking_for : Version → Configuration → Parameter → View → Reading Configuration
-taking_for v c name.Keys x = map_reading (with_keys c) (by_version_of v (no_keys_parameter Discarded) (keys_read_as (allows_additional_info v) x))
+taking_for v c name.Keys x = map_reading (with_keys c) (by_version_of v (no_keys_parameter Discarded)
+    (keys_read_as (allows_additional_info v) x))
 taking_for v c name.Address x = map_reading (with_address c) (by_version_of v (no_address_parameter Discarded) (address_read x))
 taking_for v c name.Jrc x = map_reading (with_jrc c) (by_version_of v (no_octets_parameter Discarded) (octets_read 16 x))
 taking_for v c name.Network x = map_reading (with_network c) (octets_read 0 x)

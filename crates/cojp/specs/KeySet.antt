@@ -45,7 +45,8 @@ further false i u v w gs = not_groups
 further true i u v none gs = not_groups
 further true i u v (some w) gs = group i u v w gs
 
--- what comes next, `allows_additional_info` telling whether keys may have additional information: an identifier; after it a usage or a value;
+-- what comes next, `allows_additional_info` telling whether keys may have additional information: an identifier; after it a usage or a
+-- value;
 -- after a usage a value; after a value perhaps additional information, and then the next group
 unfoldable mutual
   pub groups : Bool → List Scalar → Groups

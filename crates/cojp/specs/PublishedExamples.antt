@@ -2,7 +2,6 @@
 use Rattle.std.specs.Prelude.{ℕ, true, List, [], ◌∷◌, ◌++◌, replicate}
 use Rattle.refusal.specs.declared.Refusal.TheVariants as refusal
 use Rattle.link_key.specs.Key.{key_with_additional_info}
-use Rattle.link_key.specs.declared.Key.{Key}
 use Rattle.link_key.specs.declared.additional_info.AdditionalInfo.TheVariants as info
 use Rattle.cojp.specs.Address.{address_of, address_parameter, no_address_parameter}
 use Rattle.cojp.specs.Configuration.{empty_configuration, with_keys, with_address, with_jrc, with_prefix}
@@ -17,13 +16,11 @@ use Rattle.cojp.specs.Rate.{rate_parameter}
 use Rattle.cojp.specs.Request.{accept_request, refuse_request}
 use Rattle.cojp.specs.declared.configuration.Configuration.{Configuration}
 use Rattle.cojp.specs.declared.configuration.ConfigurationRead.{ConfigurationRead}
-use Rattle.cojp.specs.declared.error_report.ErrorReport.{ErrorReport}
 use Rattle.cojp.specs.declared.error_report.ErrorReports.{ErrorReports}
 use Rattle.cojp.specs.declared.list.ListParameter.{ListParameter}
 use Rattle.cojp.specs.declared.octets.OctetsParameter.{OctetsParameter}
 use Rattle.cojp.specs.declared.disposition.Disposition.TheVariants.{Absent, Taken, Discarded}
 use Rattle.cojp.specs.declared.request.RequestRead.{RequestRead}
-use Rattle.protocol_version.specs.declared.Version.TheVariants.{Published}
 
 -- ---- what is expected
 -- one report, and two
@@ -60,8 +57,10 @@ abbrev pub published_examples : List Example
 published_examples =
     -- label 6 is the prefix in the draft, and a blacklist, here malformed, in the published form
     configuration (0xA1 ∷ 0x06 ∷ 0x42 ∷ 0x20 ∷ 0x01 ∷ [])
-    (accept_configuration (with_prefix empty_configuration (octets_parameter Taken (record { len = 2; bytes = 0x20 ∷ 0x01 ∷ replicate 14 0 }))))
-    ∷ published_configuration (0xA1 ∷ 0x06 ∷ 0x42 ∷ 0x20 ∷ 0x01 ∷ []) (met 6 (with_blacklist empty_configuration (no_list_parameter Discarded)))
+    (accept_configuration (with_prefix empty_configuration (octets_parameter Taken
+    (record { len = 2; bytes = 0x20 ∷ 0x01 ∷ replicate 14 0 }))))
+    ∷ published_configuration (0xA1 ∷ 0x06 ∷ 0x42 ∷ 0x20 ∷ 0x01 ∷ []) (met 6 (with_blacklist empty_configuration
+    (no_list_parameter Discarded)))
     -- label 5 is unknown in a configuration
     ∷ published_configuration (0xA1 ∷ 0x05 ∷ 0x42 ∷ 0xCA ∷ 0xFE ∷ []) (accept_configuration (with_unknown_count empty_configuration 1))
     -- a label that is no integer, and a label that comes again after a bad value, still refuse the payload
@@ -72,14 +71,16 @@ published_examples =
     ∷ published_configuration (0xA1 ∷ 0x02 ∷ 0x80 ∷ []) (met 2 (with_keys empty_configuration (no_keys_parameter Discarded)))
     -- additional information of 4 bytes is taken, of 3 it is malformed, and so are two keys of one identifier with different sources
     ∷ published_configuration ((0xA1 ∷ 0x02 ∷ 0x83 ∷ 0x01 ∷ 0x50 ∷ []) ++ value ++ (0x44 ∷ 1 ∷ 2 ∷ 3 ∷ 4 ∷ []))
-    (met 2 (with_keys empty_configuration (keys_parameter Taken (key_set_of (key_with_additional_info 1 0 value (info.Four 1 2 3 4) ∷ [])))))
+    (met 2 (with_keys empty_configuration (keys_parameter Taken (key_set_of (key_with_additional_info 1 0 value (info.Four 1 2 3 4) ∷
+    [])))))
     ∷ published_configuration ((0xA1 ∷ 0x02 ∷ 0x83 ∷ 0x01 ∷ 0x50 ∷ []) ++ value ++ (0x43 ∷ 1 ∷ 2 ∷ 3 ∷ []))
     (met 2 (with_keys empty_configuration (no_keys_parameter Discarded)))
     ∷ published_configuration
     ((0xA1 ∷ 0x02 ∷ 0x86 ∷ 0x01 ∷ 0x50 ∷ []) ++ value ++ (0x44 ∷ 1 ∷ 2 ∷ 3 ∷ 4 ∷ 0x01 ∷ 0x50 ∷ []) ++ value ++ (0x44 ∷ 1 ∷ 2 ∷ 3 ∷ 5 ∷ []))
     (met 2 (with_keys empty_configuration (no_keys_parameter Discarded)))
     -- a short identifier of one byte, and FFFE, are malformed; a lease is a number of hours
-    ∷ published_configuration (0xA1 ∷ 0x03 ∷ 0x81 ∷ 0x41 ∷ 0x12 ∷ []) (met 3 (with_address empty_configuration (no_address_parameter Discarded)))
+    ∷ published_configuration (0xA1 ∷ 0x03 ∷ 0x81 ∷ 0x41 ∷ 0x12 ∷ []) (met 3 (with_address empty_configuration
+    (no_address_parameter Discarded)))
     ∷ published_configuration (0xA1 ∷ 0x03 ∷ 0x81 ∷ 0x42 ∷ 0xFF ∷ 0xFE ∷ [])
     (met 3 (with_address empty_configuration (no_address_parameter Discarded)))
     ∷ published_configuration (0xA1 ∷ 0x03 ∷ 0x82 ∷ 0x42 ∷ 0x12 ∷ 0x34 ∷ 0x01 ∷ [])
@@ -98,7 +99,8 @@ published_examples =
     ∷ published_request (0xA2 ∷ 0x01 ∷ 0x61 ∷ 0x31 ∷ 0x05 ∷ 0x41 ∷ 0x00 ∷ [])
     (joining zero_byte (no_list_parameter Absent) (one_error_report 1 1))
     -- a list of reports has groups of three, at least one; the third member is kept as null
-    ∷ published_request (0xA2 ∷ 0x05 ∷ 0x42 ∷ 0xCA ∷ 0xFE ∷ 0x08 ∷ 0x80 ∷ []) (joining cafe (no_list_parameter Discarded) (one_error_report 1 8))
+    ∷ published_request (0xA2 ∷ 0x05 ∷ 0x42 ∷ 0xCA ∷ 0xFE ∷ 0x08 ∷ 0x80 ∷ [])
+    (joining cafe (no_list_parameter Discarded) (one_error_report 1 8))
     ∷ published_request (0xA2 ∷ 0x05 ∷ 0x42 ∷ 0xCA ∷ 0xFE ∷ 0x08 ∷ 0x83 ∷ 0x00 ∷ 0x07 ∷ 0x81 ∷ 0x00 ∷ [])
     (joining cafe (list_parameter Taken (record { count = 3; len = 3; bytes = (0x00 ∷ 0x07 ∷ 0xF6 ∷ []) ++ replicate 250 0 }))
     no_error_reports)

@@ -9,6 +9,9 @@ use crate::disposition::Disposition;
 use cbor::{Value, value_at};
 use refusal::{Refusal, Verdict};
 
+// The most bytes that such a value has.
+const MOST: usize = 16;
+
 // The first `len` bytes; zeros stand after them in a value that we make.
 #[derive(Clone, Copy)]
 pub struct Octets {
@@ -79,7 +82,7 @@ pub fn read_octets(s: &[u8], at: usize, least: usize) -> OctetsRead
             if len < least {
                 return discarded(next);
             }
-            if 16 < len {
+            if MOST < len {
                 return discarded(next);
             }
             let bytes = copied(s, start, len);

@@ -19,6 +19,7 @@ pub enum Parameter {
 
 // What a label names in a form: 2 to 4 in both, 5 and 6 the network identifier and the prefix of the draft, 6 and 7 the blacklist and the
 // join rate of RFC 9031.
+#[tactic(auto, unfolding(crate::specs::Parameter::parameter_of))]
 pub fn parameter_of(version: Version, label: u64) -> Parameter
     ensures { result ≡ parameter_of version label }
 {
@@ -31,6 +32,7 @@ pub fn parameter_of(version: Version, label: u64) -> Parameter
 }
 
 // The labels after 4, which are not the same in the two forms.
+#[tactic(auto, unfolding(crate::specs::Parameter::later_parameter))]
 fn later_parameter(version: Version, label: u64) -> Parameter
     ensures { result ≡ later_parameter version label }
 {

@@ -1,5 +1,4 @@
 -- What is taken is in range: proofs/Reading.antt goes over the parameters, by what is promised of key sets.
-use borrow.Author.Rules.{rules}
 use Rattle.cojp.proofs.Reading.{reads-in-range}
 use Rattle.cojp.proofs.reads_in_range_law.Goals as goal
 

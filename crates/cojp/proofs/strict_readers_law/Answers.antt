@@ -1,5 +1,4 @@
 -- Both follow from what `cbor::laws` ensures of a payload.
-use borrow.Author.Rules.{rules}
 use Rattle.cojp.proofs.Strict.{strict-readers}
 use Rattle.cojp.proofs.strict_readers_law.Goals as goal
 

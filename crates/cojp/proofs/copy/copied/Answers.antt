@@ -1,10 +1,8 @@
 -- There are such bytes, or all is zero; what is copied so far are the first of them, and zeros stand after them.
 use native.Mathlib.Omega.{arith}
-use Prim.Native.Nat.{◌+◌, ◌≤◌, ◌-◌}
-use mathlib.Core.Path.{◌≡◌}
-use lib.ListN.{length, take, drop}
-use Rattle.cojp.specs.Octets.{padded}
-use Rattle.cojp.proofs.Strings.{pad-none, pad-more, pad-end, copied-long, copied-past}
+use Prim.Native.Nat.{◌+◌, ◌≤◌}
+use lib.ListN.{length}
+use Rattle.cojp.proofs.Strings.{pad-none, pad-more}
 use Rattle.cojp.proofs.copy.copied.Goals as goal
 
 pub loop-i-init : goal.loop-i-init

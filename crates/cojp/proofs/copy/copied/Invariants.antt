@@ -1,10 +1,8 @@
 -- There are such bytes, or all is zero; what is copied so far are the first of them, and zeros stand after them.
-use native.Mathlib.Omega.{arith}
-use Prim.Native.Nat.{◌+◌, ◌≤◌, ◌-◌}
+use Prim.Native.Nat.{◌≤◌, ◌-◌}
 use mathlib.Core.Path.{◌≡◌}
-use lib.ListN.{length, take, drop}
+use lib.ListN.{take, drop}
 use Rattle.cojp.specs.Octets.{padded}
-use Rattle.cojp.proofs.Strings.{pad-none, pad-more, pad-end, copied-long, copied-past}
 use Rattle.cojp.proofs.copy.copied.Given as goal
 
 abbrev pub invariant-loop-i : goal.invariant-loop-i

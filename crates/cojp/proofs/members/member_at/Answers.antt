@@ -1,10 +1,7 @@
 -- Each arm answers what the value is as a member.
 use mathlib.Core.Path.{ap}
 use Rattle.cojp.specs.Bytes.{member_of}
-use Rattle.cojp.proofs.Arrays.{none_told, value-told, neither-told}
-use borrow.Author.Rules.{rules}
-use mathlib.Core.List.{[], ◌∷◌}
-use types.Run.{miss}
+use Rattle.cojp.proofs.Arrays.{value-told, neither-told}
 use Rattle.cojp.proofs.members.member_at.Goals as goal
 
 pub returns-in-Bytes : goal.returns-in-Bytes
@@ -16,5 +13,4 @@ pub returns-in_default : goal.returns-in_default
 returns-in_default c =
     let a = c.args in
     neither-told c.args.s.now c.args.at c.args.left c.if-left-eq0.false c.value_at-v.result c.value_at-v.ensures
-    (λ x p e. miss (2 ∷ 3 ∷ 4 ∷ []) 0 tt (rw e at c.in_default.keys3))
-    (λ p a e. miss (2 ∷ 3 ∷ 4 ∷ []) 1 tt (rw e at c.in_default.keys3))
+    c.in_default.not-Number c.in_default.not-Bytes

@@ -1,9 +1,6 @@
 -- A number is the rate, and all else is bad.
 use mathlib.Core.Path.{◌∙◌}
 use Rattle.cojp.proofs.Rates.{rate-number, rate-other}
-use borrow.Author.Rules.{rules}
-use mathlib.Core.List.{[], ◌∷◌}
-use types.Run.{miss}
 use Rattle.cojp.proofs.rate.read_rate.Goals as goal
 
 pub returns-in-Number : goal.returns-in-Number
@@ -13,4 +10,4 @@ returns-in-Number c =
 pub returns-in_default : goal.returns-in_default
 returns-in_default c =
     c.no_rate.ensures ∙ rate-other c.args.s.now c.args.at c.value_at-v.result c.value_at-v.ensures
-    (λ x p e. miss (1 ∷ 2 ∷ 3 ∷ 4 ∷ []) 0 tt (rw e at c.in_default.keys2))
+    c.in_default.not-Number

@@ -1,6 +1,5 @@
 -- Those of what came whose parameter was bad.
 use Rattle.cojp.specs.Reported.{error_reports_of}
-use borrow.Author.Rules.{rules}
 use Rattle.cojp.proofs.reported.error_reports_of.Goals as goal
 
 pub returns : goal.returns

@@ -1,6 +1,5 @@
 -- By the report.
 use Rattle.cojp.specs.Request.{owing}
-use borrow.Author.Rules.{rules}
 use Rattle.cojp.proofs.request.is_owing.Goals as goal
 
 pub returns-in-Absent : goal.returns-in-Absent

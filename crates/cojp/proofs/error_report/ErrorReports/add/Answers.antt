@@ -1,7 +1,6 @@
 -- The place after the last is written where there is one.
 use borrow.Author.Tests.{lt-ltb, le-ltb}
 use Rattle.cojp.specs.ErrorReports.{added}
-use borrow.Author.Rules.{rules}
 use Rattle.cojp.proofs.error_report.ErrorReports.add.Goals as goal
 
 pub returns-then-out-lt5 : goal.returns-then-out-lt5

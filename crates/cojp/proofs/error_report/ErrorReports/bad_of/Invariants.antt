@@ -1,11 +1,7 @@
 -- What is still to be reported from here on is what was to be reported from the start.
 use Rattle.cojp.specs.Reported.{reports_on}
-use lib.ListN.{take, drop, length-take}
-use native.Mathlib.Omega.{arith}
-use Rattle.lemmas.specs.lists.Prefix.{take-length-take, prefix-next, prefix-end}
-use Rattle.cojp.specs.ErrorReports.{error_report_of}
-use borrow.Author.Rules.{rules}
-use mathlib.Core.Path.{◌≡◌, refl}
+use lib.ListN.{take, drop}
+use mathlib.Core.Path.{◌≡◌}
 use Prim.Native.Nat.{◌-◌}
 use Rattle.cojp.proofs.error_report.ErrorReports.bad_of.Given as goal
 
