@@ -3,7 +3,7 @@ use Prim.Native.Nat.{ℕ, ◌+◌}
 use native.Mathlib.Omega.{arith}
 use mathlib.Core.Path.{◌≡◌, refl, ap}
 use mathlib.Core.Bool.{true, not}
-use mathlib.Core.List.{List, ◌∷◌, Memᴰ}
+use mathlib.Core.List.{List, [], ◌∷◌, Memᴰ}
 use mathlib.Core.Option.{Option, none, some}
 use lib.ListN.{get_or}
 use Rattle.link_key.specs.Key.{covers}
@@ -19,18 +19,20 @@ use Rattle.link_key_counters.specs.CounterLaws.{SlotOf, CounterLaws}
 use Rattle.link_key_counters.specs.declared.CountedSet.{CountedSet}
 
 -- ---- slots and keys
-slot-key : (i : ℕ) (cs : List ℕ) {ks : List Key} {x : Slot} → Memᴰ x (slots_from i cs ks) → Memᴰ x.key ks
-slot-key i cs {ks = k ∷ ks} (Memᴰ.head p) = Memᴰ.head (ap (λ (y : Slot). y.key) p)
-slot-key i cs {ks = k ∷ ks} (Memᴰ.tail m) = Memᴰ.tail (slot-key (i + 1) cs m)
+slot-key : (i : ℕ) (cs : List ℕ) (ks : List Key) (x : Slot) → Memᴰ x (slots_from i cs ks) → Memᴰ x.key ks
+slot-key i cs [] x m = elim m [ ]
+slot-key i cs (k ∷ ks) x (Memᴰ.head p) = Memᴰ.head (ap (λ (y : Slot). y.key) p)
+slot-key i cs (k ∷ ks) x (Memᴰ.tail m) = Memᴰ.tail (slot-key (i + 1) cs ks x m)
 
-slot_of : (i : ℕ) (cs : List ℕ) {ks : List Key} {k : Key} → Memᴰ k ks → (x : Slot) × Memᴰ x (slots_from i cs ks) × (x.key ≡ k)
-slot_of i cs {ks = l ∷ ks} (Memᴰ.head p) = (slot i l (get_or cs i 0), Memᴰ.head refl, rw p)
-slot_of i cs (Memᴰ.tail m) =
-    let below = slot_of (i + 1) cs m in
+slot_of : (k : Key) (i : ℕ) (cs : List ℕ) (ks : List Key) → Memᴰ k ks → (x : Slot) × Memᴰ x (slots_from i cs ks) × (x.key ≡ k)
+slot_of k i cs [] m = elim m [ ]
+slot_of k i cs (l ∷ ks) (Memᴰ.head p) = (slot i l (get_or cs i 0), Memᴰ.head refl, rw p)
+slot_of k i cs (l ∷ ks) (Memᴰ.tail m) =
+    let below = slot_of k (i + 1) cs ks m in
     (below.0, Memᴰ.tail below.1, below.2)
 
 key-slot : (s : CountedSet) (k : Key) → Memᴰ k (keys_of s.set) → SlotOf k s
-key-slot s k m = let x = slot_of 0 s.counters m in record { slot = x.0; member = x.1; key = x.2 }
+key-slot s k m = let x = slot_of k 0 s.counters (keys_of s.set) m in record { slot = x.0; member = x.1; key = x.2 }
 
 -- ---- what is sent
 spent-by :
@@ -38,7 +40,7 @@ spent-by :
     Memᴰ (taken_counter_on s o).key (keys_of s.set) × (covers (taken_counter_on s o).key type ≡ true)
 spent-by type s (some x) e f =
     let found = first-is (serves type) (slots_of s) x e in
-    (slot-key 0 s.counters found.0, both_left (covers x.key type) (not (is_used_up x)) found.1)
+    (slot-key 0 s.counters (keys_of s.set) x found.0, both_left (covers x.key type) (not (is_used_up x)) found.1)
 spent-by type s none e f = absurd (let z : ◌≡◌ {A = ℕ} 0 1 = cc in omega arith)
 
 -- a key that is found is one of the set and covers the type
@@ -75,7 +77,7 @@ pub counter-laws : CounterLaws
 counter-laws =
     record {
       key-slot = key-slot;
-      slot-key = λ s x m. slot-key 0 s.counters m;
+      slot-key = λ s x m. slot-key 0 s.counters (keys_of s.set) x m;
       spend-first = spend-first;
       first-serves = λ type s x e. first-is (serves type) (slots_of s) x e;
       spent-from = spent-from;

@@ -3,7 +3,7 @@ use Prim.Native.Nat.{ℕ, suc, ◌+◌, ◌-◌, ◌≤◌, ◌<◌}
 use native.Mathlib.Omega.{arith}
 use mathlib.Core.Path.{◌≡◌, refl, ◌∙◌, ap}
 use mathlib.Core.Bool.{not}
-use mathlib.Core.List.{List, ◌∷◌, Memᴰ}
+use mathlib.Core.List.{List, [], ◌∷◌, Memᴰ}
 use mathlib.Core.Option.{Option, none, some}
 use borrow.Author.Tests.{eqb-false, not-true}
 use lib.ListN.{length, take, get_or, length-take}
@@ -24,6 +24,7 @@ standing s i = slot i (get_or s.set.keys i past) (get_or s.counters i 0)
 stands :
     (i : ℕ) (cs : List ℕ) (ks : List Key) (x : Slot) → Memᴰ x (slots_from i cs ks) →
     (i ≤ x.place) × (x.place < i + length ks) × (x.key ≡ get_or ks (x.place - i) past) × (x.counter ≡ get_or cs x.place 0)
+stands i cs [] x m = elim m [ ]
 stands i cs (k ∷ ks) x (Memᴰ.head p) =
     let none_before : i - i ≡ 0 = omega arith in
     rw (p, none_before) (omega arith, omega arith, refl, refl)

@@ -7,15 +7,16 @@ use mathlib.Core.Path.{◌≡◌, refl, sym, ap, ◌∙◌}
 use mathlib.Core.Bool.{true, false, and-false}
 use mathlib.Core.List.{List, [], ◌∷◌, ◌++◌, map}
 use borrow.Author.Tests.{ne_eqb, eq-eqb}
-use lib.ListN.{length, drop, take, get_or, set, replicate, length-map, length-take}
+use lib.ListN.{length, drop, take, get_or, set, replicate, length-map}
 use lib.Seq.{take-suc, set_at, append_snoc, length-take-le}
-use Rattle.lemmas.specs.lists.Prefix.{take-length-take, prefix-next, prefix-end}
-use Rattle.link_key.specs.Key.{covers}
+use Rattle.lemmas.specs.lists.Prefix.{prefix-next, prefix-end}
+use Rattle.link_key.specs.Key.{covers, same_secret}
+use Rattle.link_key.specs.set.Lists.{first_of}
 use Rattle.link_key.specs.declared.Key.{Key}
 use Rattle.link_key.proofs.set.Places.{past, firsts}
 use Rattle.link_key.specs.set.KeySet.{keys_of}
 use Rattle.link_key.specs.declared.set.key_set.KeySet.{KeySet}
-use Rattle.link_key_counters.specs.Counters.{Slot, slot, slots_from, last_counter, serves, kept_counter, kept_counters}
+use Rattle.link_key_counters.specs.Counters.{Slot, slot, slots_from, last_counter, serves, counter_in, kept_counter, kept_counters}
 use Rattle.link_key_counters.specs.declared.CountedSet.{CountedSet}
 
 -- the slots of the first n keys, from a place on
@@ -28,6 +29,10 @@ module _ (ks : List Key) (cs : List ℕ) {B : Type 0} (ask : List Slot → B) (n
 
   pub stop : n ≤ i → ask (rest ks cs n i) ≡ ask []
   stop h = ap (λ (xs : List Key). ask (slots_from i cs xs)) (prefix-end ks n i h)
+
+-- ---- the counter that a key keeps, among these slots
+abbrev pub asked : Key → List Slot → ℕ
+asked k xs = counter_in (first_of (λ (x : Slot). same_secret x.key k) xs)
 
 -- ---- whether a key serves
 pub does-serve : (type i : ℕ) (k : Key) (c : ℕ) → covers k type ≡ true → (c ≡ 4294967295 → ⊥) → serves type (slot i k c) ≡ true

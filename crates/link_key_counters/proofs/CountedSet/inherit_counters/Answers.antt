@@ -1,13 +1,12 @@
 -- `inherit_counters` meets its contract: the counters of the keys so far are written, and the others are 0.
-use Prim.Native.Nat.{◌-◌, ◌≤◌, ◌<◌}
+use Prim.Native.Nat.{◌<◌}
 use native.Mathlib.Omega.{arith}
-use mathlib.Core.Path.{◌≡◌, refl, ◌∙◌, ap}
-use borrow.Author.Rules.{rules}
+use mathlib.Core.Path.{◌≡◌, ◌∙◌, ap}
 use lib.ListN.{length}
 use Rattle.link_key.specs.set.KeySet.{keys_of}
 use Rattle.link_key_counters.specs.Counters.{counted_set, inherit_counters}
 use Rattle.link_key.proofs.set.Places.{within}
-use Rattle.link_key_counters.proofs.Slots.{written, write, written_all}
+use Rattle.link_key_counters.proofs.Slots.{write, written_all}
 use Rattle.link_key_counters.proofs.CountedSet.inherit_counters.Goals as goal
 
 pub loop-i-preserved : goal.loop-i-preserved

@@ -1,16 +1,9 @@
 -- `serving` meets its contract: from each place on the question has the answer that it has from the first.
 use Prim.Native.Nat.{◌-◌}
-use native.Mathlib.Omega.{arith}
-use mathlib.Core.Path.{◌≡◌, refl, sym, ◌∙◌}
-use mathlib.Core.Logic.{⊎_elim}
-use mathlib.Core.Bool.{false}
-use borrow.Author.Rules.{rules}
-use lib.ListN.{length, get_or}
-use Rattle.link_key.specs.set.KeySet.{keys_of}
+use mathlib.Core.Path.{◌≡◌}
 use Rattle.link_key.specs.set.Lists.{first_of}
-use Rattle.link_key_counters.specs.Counters.{serves, slot}
-use Rattle.link_key.proofs.set.Places.{past, firsts, within}
-use Rattle.link_key_counters.proofs.Slots.{rest, turn, stop, does-serve, not-covering, used-up}
+use Rattle.link_key_counters.specs.Counters.{serves}
+use Rattle.link_key_counters.proofs.Slots.{rest}
 use Rattle.link_key_counters.proofs.CountedSet.serving.Given as goal
 
 abbrev pub invariant-loop-i : goal.invariant-loop-i
