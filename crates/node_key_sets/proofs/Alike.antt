@@ -25,8 +25,8 @@ module _ (C : CounterLaws) where
   abbrev after : KeySets → KeySet → CountedSet
   after s a = inherit_counters s.active a
 
-  same_keys : (s : KeySets) (a b : KeySet) → keys_of a ≡ keys_of b → keys_of (after s a).set ≡ keys_of (after s b).set
-  same_keys s a b e = rw (C.succeeded-is s.active a, C.succeeded-is s.active b) e
+  after-keys : (s : KeySets) (a b : KeySet) → keys_of a ≡ keys_of b → keys_of (after s a).set ≡ keys_of (after s b).set
+  after-keys s a b e = rw (C.succeeded-is s.active a, C.succeeded-is s.active b) e
 
   same-slots : (s : KeySets) (a b : KeySet) → keys_of a ≡ keys_of b → slots_of (after s a) ≡ slots_of (after s b)
   same-slots s a b e =
@@ -38,7 +38,7 @@ module _ (C : CounterLaws) where
       (s : KeySets) (a b : KeySet) (ok border same shared : Bool) → keys_of a ≡ keys_of b →
       SamePlace (place_by s a ok border same shared) (place_by s b ok border same shared)
   place-alike s a b false border same shared e = (refl, refl, refl, refl, refl)
-  place-alike s a b true true same shared e = (refl, same_keys s a b e, refl, same-slots s a b e, refl)
+  place-alike s a b true true same shared e = (refl, after-keys s a b e, refl, same-slots s a b e, refl)
   place-alike s a b true false true shared e = (refl, refl, refl, refl, refl)
   place-alike s a b true false false true e = (refl, refl, refl, refl, refl)
   place-alike s a b true false false false e = (refl, refl, e, refl, ap (λ (ks : List Key). slots_from 0 (replicate 8 0) ks) e)

@@ -3,3 +3,4 @@ pub mod Valid
 pub mod Alike
 pub mod FrameKeys
 pub mod Untouched
+pub mod InstallLemmas

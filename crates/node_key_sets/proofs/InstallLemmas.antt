@@ -1,4 +1,3 @@
--- Lemmas: nothing here has to be believed.
 -- Installing a set does what the decision says.
 use Rattle.std.specs.Prelude.{◌≡◌, refl, Bool, true, false, cond}
 use Rattle.refusal.specs.declared.Refusal.TheVariants as refusal
