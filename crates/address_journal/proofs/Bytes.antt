@@ -1,5 +1,5 @@
 -- Eight bytes one by one are the board; with it the fields of a header and a record are those of the definitions.
-use Prim.Native.Nat.{ℕ, ◌+◌, ◌*◌, ◌/◌, ◌%◌, ◌≤◌}
+use Prim.Native.Nat.{ℕ, ◌+◌, ◌/◌, ◌%◌, ◌≤◌}
 use mathlib.Core.Path.{◌≡◌, refl, sym, ap, ◌∙◌}
 use mathlib.Core.List.{List, [], ◌∷◌, ◌++◌}
 use native.Mathlib.Omega.{arith}
@@ -28,28 +28,29 @@ part-is s at h =
     rw e (sym (get_or-take 8 (drop (at + 1) s) i 0 k ∙ get_or-drop (at + 1) s i 0)))
 
 pub board-is : (s : List ℕ) → 16 ≤ length s
-    → (get_or s 1 0 ∷ get_or s 2 0 ∷ get_or s 3 0 ∷ get_or s 4 0 ∷ get_or s 5 0 ∷ get_or s 6 0 ∷ get_or s 7 0 ∷ get_or s 8 0 ∷ []) ≡ board_in s
+    → (get_or s 1 0 ∷ get_or s 2 0 ∷ get_or s 3 0 ∷ get_or s 4 0 ∷ get_or s 5 0 ∷ get_or s 6 0 ∷ get_or s 7 0 ∷ get_or s 8 0 ∷ [])
+    ≡ board_in s
 board-is s h = part-is s 0 (omega arith)
 
 pub length-board : (s : List ℕ) → 16 ≤ length s → length (board_in s) ≡ 8
 length-board s h = length-take-le 8 (drop 1 s) (rw (length-drop 1 s) (omega arith))
 
 fields-are : (k a : ℕ) (b : List ℕ) → length b ≡ 8
-    → (k ∷ get_or b 0 0 ∷ get_or b 1 0 ∷ get_or b 2 0 ∷ get_or b 3 0 ∷ get_or b 4 0 ∷ get_or b 5 0 ∷ get_or b 6 0 ∷ get_or b 7 0 ∷ a / 256 ∷ a % 256 ∷ 0
-    ∷ [])
+    → (k ∷ get_or b 0 0 ∷ get_or b 1 0 ∷ get_or b 2 0 ∷ get_or b 3 0 ∷ get_or b 4 0 ∷ get_or b 5 0 ∷ get_or b 6 0 ∷ get_or b 7 0
+    ∷ a / 256 ∷ a % 256 ∷ 0 ∷ [])
     ≡ record_fields k b a
 fields-are k a b e = ap (λ (l : List ℕ). k ∷ (l ++ (a / 256 ∷ a % 256 ∷ 0 ∷ []))) (eight b e)
 
 pub check-is : (k a p x : ℕ) (b : List ℕ) → length b ≡ 8
-    → x ≡ crc32 p (k ∷ get_or b 0 0 ∷ get_or b 1 0 ∷ get_or b 2 0 ∷ get_or b 3 0 ∷ get_or b 4 0 ∷ get_or b 5 0 ∷ get_or b 6 0 ∷ get_or b 7 0 ∷ a / 256 ∷
-    a % 256 ∷ 0 ∷ [])
+    → x ≡ crc32 p (k ∷ get_or b 0 0 ∷ get_or b 1 0 ∷ get_or b 2 0 ∷ get_or b 3 0 ∷ get_or b 4 0 ∷ get_or b 5 0 ∷ get_or b 6 0 ∷ get_or b 7 0
+    ∷ a / 256 ∷ a % 256 ∷ 0 ∷ [])
     → x ≡ check_of k b a p
 unfolding check_of
 check-is k a p x b e q = q ∙ ap (λ (l : List ℕ). crc32 p l) (fields-are k a b e)
 
 pub record_is : (k a x : ℕ) (b : List ℕ) → length b ≡ 8
-    → (k ∷ get_or b 0 0 ∷ get_or b 1 0 ∷ get_or b 2 0 ∷ get_or b 3 0 ∷ get_or b 4 0 ∷ get_or b 5 0 ∷ get_or b 6 0 ∷ get_or b 7 0 ∷ a / 256 ∷ a % 256 ∷ 0
-    ∷ x / 0x1000000 ∷ x / 0x10000 % 256 ∷ x / 0x100 % 256 ∷ x % 256 ∷ [])
+    → (k ∷ get_or b 0 0 ∷ get_or b 1 0 ∷ get_or b 2 0 ∷ get_or b 3 0 ∷ get_or b 4 0 ∷ get_or b 5 0 ∷ get_or b 6 0 ∷ get_or b 7 0
+    ∷ a / 256 ∷ a % 256 ∷ 0 ∷ x / 0x1000000 ∷ x / 0x10000 % 256 ∷ x / 0x100 % 256 ∷ x % 256 ∷ [])
     ≡ record_with k b a x
 unfolding record_with
 record_is k a x b e = ap (λ (l : List ℕ). l ++ four_bytes x) (fields-are k a b e)

@@ -1,5 +1,5 @@
 -- The record that is due, by what was found for the board.
-use Prim.Native.Nat.{ℕ, ◌+◌, ◌<◌}
+use Prim.Native.Nat.{ℕ}
 use mathlib.Core.Path.{◌≡◌, refl, ap, ◌∙◌}
 use mathlib.Core.Bool.{Bool, true, false, cond}
 use mathlib.Core.List.{List}
@@ -13,8 +13,7 @@ use Rattle.address_slots.specs.Marks.{slot_found_by}
 use Rattle.address_slots.specs.declared.slot.SlotFound.{SlotFound}
 use Rattle.address_slots.specs.declared.slot.SlotFound.TheVariants as found
 use Rattle.address_slots.proofs.Offers.{held-told, free-told}
-use Rattle.address_ledger.specs.Ledger.{judged_of, counted_of, places_of, granting, granted_by, granted, given_back}
-use Rattle.address_ledger.specs.declared.answer.AddressAnswer.{AddressAnswer}
+use Rattle.address_ledger.specs.Ledger.{judged_of, counted_of, places_of, granting, granted_by, granted}
 use Rattle.address_ledger.specs.declared.answer.AddressAnswer.TheVariants.{Address, Refused}
 use Rattle.address_ledger.specs.declared.ledger.Ledger.{Ledger}
 use Rattle.address_journal.specs.declared.due.Due.{Due}

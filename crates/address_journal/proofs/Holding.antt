@@ -4,16 +4,15 @@ use mathlib.Core.Path.{◌≡◌, refl}
 use mathlib.Core.Bool.{Bool, true, false}
 use mathlib.Core.List.{List}
 use native.Mathlib.Omega.{arith}
-use borrow.Author.Tests.{eq-eqb, ne_eqb, lt-ltb, le-ltb, le-leb, lt-leb, ltb-false}
+use borrow.Author.Tests.{eq-eqb, ne_eqb, lt-ltb, le-ltb, le-leb, lt-leb}
 use lib.Dec.{ltb}
-use lib.ListN.{length, get_or, take, drop}
+use lib.ListN.{get_or, take, drop}
 use Rattle.refusal.specs.declared.Refusal.{Refusal}
 use Rattle.refusal.specs.declared.Refusal.TheVariants.{Unknown}
 use Rattle.refusal.specs.declared.Verdict.{Verdict}
 use Rattle.refusal.specs.declared.Verdict.TheVariants as verdict
 use Rattle.address_slots.specs.SlotLemmas.{length-slots}
-use Rattle.address_slots.specs.Slot.{slots, fit, held_by, is_free, lowest, has, slot_found}
-use Rattle.address_ledger.specs.range.Range.{counted, Usable}
+use Rattle.address_slots.specs.Slot.{slots, held_by, is_free, lowest, has, slot_found}
 use Rattle.address_ledger.specs.Ledger.{judged_of, counted_of, places_of, giving_back, given_back_by, given_back}
 use Rattle.address_ledger.specs.declared.answer.AddressAnswer.{AddressAnswer}
 use Rattle.address_ledger.specs.declared.answer.AddressAnswer.TheVariants.{Address, Refused}

@@ -11,7 +11,7 @@ use Rattle.address_journal.specs.declared.due.Due.{Due}
 use Rattle.address_journal.specs.declared.due.Due.TheVariants.{Record, Nothing}
 use Rattle.address_journal.specs.declared.due.Entry as code
 use Rattle.address_journal.specs.Format.{check_of, record_with}
-use Rattle.address_journal.specs.Entry.{Entry, entry_of, written, RecordedSpec}
+use Rattle.address_journal.specs.Entry.{entry_of, written, RecordedSpec}
 
 abbrev pub joined : CallResult → code.Entry → RecordedCall
 joined d e = record { answer = d.answer; ledger = d.ledger; due = e.due; bytes = e.bytes; check = e.check }

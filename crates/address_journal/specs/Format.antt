@@ -20,9 +20,8 @@ header_check first size = crc32 0 (header_fields first size)
 unfoldable pub header_of : ℕ → ℕ → List ℕ
 header_of first size = header_fields first size ++ four_bytes (header_check first size)
 
--- ---- a record: the kind (1 granted, 2 given back), the board, the address, a zero; then the CRC-32 of these twelve bytes, continued
--- from
--- that of the record before it (of the header, for the first record)
+-- ---- a record: the kind (1 granted, 2 given back), the board, the address, a zero; then the CRC-32 of these twelve bytes, which
+-- continues that of the record before it (of the header, for the first record)
 abbrev pub record_fields : ℕ → List ℕ → ℕ → List ℕ
 record_fields kind board address = kind ∷ (board ++ (address / 256 ∷ address % 256 ∷ 0 ∷ []))
 

@@ -1,0 +1,25 @@
+-- The verdict decides; an accepted range has the slots that count.
+use mathlib.Core.Path.{sym, ◌∙◌}
+use lib.ListN.{length}
+use Rattle.address_ledger.proofs.range.Judged.{usable, counted_is}
+use Rattle.address_journal.proofs.Holding.{address-refused, address-accepted}
+use Rattle.address_journal.proofs.held.held_address.Goals as goal
+
+pub held_in-requires : goal.held_in-requires
+held_in-requires c =
+    let a = c.args in
+    let accepted = sym c.in-Accepted.is ∙ c.judge.ensures in
+    let n = counted_is a.ledger.first a.ledger.size (length a.memory.now) accepted c.count.result c.count.ensures in
+    usable a.ledger.first a.ledger.size (length a.memory.now) accepted c.count.result n
+
+pub returns-in-Refused : goal.returns-in-Refused
+returns-in-Refused c =
+    address-refused c.args.ledger c.args.memory.now c.args.board.now c.in-Refused.refusal (sym c.in-Refused.is
+    ∙ c.judge.ensures)
+
+pub returns-in-Accepted : goal.returns-in-Accepted
+returns-in-Accepted c =
+    let a = c.args in
+    let accepted = sym c.in-Accepted.is ∙ c.judge.ensures in
+    let n = counted_is a.ledger.first a.ledger.size (length a.memory.now) accepted c.count.result c.count.ensures in
+    address-accepted a.ledger a.memory.now a.board.now accepted c.count.result n c.held_in.result c.held_in.ensures
