@@ -2,8 +2,10 @@
 // four numbers, and HEX from word 3 on. It is run with --echo. tools/test_text.py makes the input and what is to be written, by itself.
 #![tactic(auto)]
 
+use std::io;
 use tool_text::decimal::Decimal;
 use tool_text::hex::{Hex, Payload};
+use tool_text::input::Input;
 use tool_text::line::{Form, Head, Line, Tail};
 use tool_text::output::{Buffer, Output};
 use tool_text::session::Session;
@@ -82,22 +84,31 @@ fn answer_line(
 }
 
 // Answers line after line until the input ends or nobody reads the answers.
-fn run(mut session: Session, bytes: &mut Buffer, payload: &mut [u8; 257], buffer: &mut Buffer) {
-    let mut lines = u64::MAX;
-    while lines > 0 && session.open {
+fn run(
+    mut session: Session,
+    bytes: &mut Buffer,
+    payload: &mut [u8; 257],
+    buffer: &mut Buffer,
+) -> io::Result<()> {
+    for _ in 0..u64::MAX {
+        if !session.open {
+            break;
+        }
         session = answer_line(session, bytes, payload, buffer);
-        lines -= 1;
     }
-    session.end(buffer);
+    session.end(buffer)
 }
 
-fn main() {
-    let mut bytes = io::large_buffer();
+fn main(rt: HostRuntime) -> io::Result<()> {
+    let mut bytes = [0u8; 65536];
     let mut payload = [0u8; 257];
-    let mut buffer = io::large_buffer();
+    let mut buffer = [0u8; 65536];
     let session = Session::begin(
+        &rt,
+        Input::new(rt.stdin()),
+        Output::new(rt.stdout()),
         b"test_text: what the crate tool_text makes of lines.\n",
         &mut buffer,
     );
-    run(session, &mut bytes, &mut payload, &mut buffer);
+    run(session, &mut bytes, &mut payload, &mut buffer)
 }

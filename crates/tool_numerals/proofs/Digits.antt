@@ -3,7 +3,7 @@ use Prim.Native.Nat.{ℕ, suc, ◌+◌, ◌-◌, ◌*◌, ◌%◌, ◌≤◌, �
 use native.Mathlib.Omega.{arith}
 use native.Mathlib.Numerals.{add-one}
 use native.Mathlib.Nat.{add-zero, zero-add, min-eq_left, min-eq_right, mod-eq_of_lt}
-use mathlib.Core.Path.{◌≡◌, refl, sym, ap, ◌∙◌}
+use mathlib.Core.Path.{◌≡◌, refl, sym, ap, subst, ◌∙◌}
 use mathlib.Core.Bool.{Bool, true, false, cond, not, ◌&&◌, ◌||◌}
 use mathlib.Core.List.{List, [], ◌∷◌}
 use borrow.Author.Tests.{lt-ltb, le-ltb, ne_eqb, leb-true, ltb-true, ltb-false}
@@ -182,6 +182,17 @@ byte_more room len v high stray false buffer digits strays last written e w l r 
           r.bytes ∙ rw (set_out buffer len (high % 16 * 16 + v) (omega arith), here, after);
     }
 
+-- a byte's first digit comes, which is below 16
+digit_waits : (room len v high : ℕ) (stray : Bool) (buffer digits : List ℕ) (strays : Bool) (last : Hex) (written : List ℕ) → v % 16 ≡ v
+    → Reached room (hex_of len true v stray) buffer digits strays last written
+    → Reached room (hex_of len false high stray) buffer (v ∷ digits) strays last written
+digit_waits room len v high stray buffer digits strays last written e r = record {
+  len = subst (λ (d : ℕ). last.len ≡ min room (len + length (bytes_of (d ∷ digits)))) e r.len;
+  odd = r.odd;
+  stray = r.stray;
+  bytes = subst (λ (d : ℕ). written ≡ sets buffer len (bytes_of (d ∷ digits))) e r.bytes;
+}
+
 -- a character more
 reached-more : (room len high : ℕ) (odd stray : Bool) (s : Sign) → Small s
     → (buffer digits : List ℕ) (strays : Bool) (last : Hex) (written : List ℕ) → len ≤ room → length buffer ≡ room
@@ -191,7 +202,7 @@ reached-more : (room len high : ℕ) (odd stray : Bool) (s : Sign) → Small s
 reached-more room len high true stray (Digit v) small buffer digits strays last written w l r =
     byte_more room len v high stray (ltb len room) buffer digits strays last written refl w l r
 reached-more room len high false stray (Digit v) small buffer digits strays last written w l r =
-    record { len = rw (mod-eq_of_lt small) at r.len; odd = r.odd; stray = r.stray; bytes = rw (mod-eq_of_lt small) at r.bytes }
+    digit_waits room len v high stray buffer digits strays last written (mod-eq_of_lt small) r
 reached-more room len high odd stray Space small buffer digits strays last written w l r = r
 reached-more room len high odd stray Stray small buffer digits strays last written w l r =
     record { len = r.len; odd = r.odd; stray = r.stray ∙ or-true stray; bytes = r.bytes }
@@ -234,7 +245,7 @@ reached (c ∷ chars) room h buffer w l =
     (reached chars room (with_character h room (sign_of c)) (stored h buffer (sign_of c))
     (stays room h.len h.high h.odd h.stray (sign_of c) w) (keeps h h.odd buffer (sign_of c) refl ∙ l))
 
-pub hex-is-bytes : HexIsBytes
-hex-is-bytes buffer chars =
+pub hex_is_bytes : HexIsBytes
+hex_is_bytes buffer chars =
     let r = reached chars (length buffer) fresh buffer (omega arith) refl in
     (rw (r.stray, r.odd, r.len, zero-add), r.bytes)

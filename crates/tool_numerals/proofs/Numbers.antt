@@ -71,6 +71,6 @@ number-then : (word : List ℕ) (v : ℕ) → v < 2 ^ 64 → read_on (Number v) 
 number-then [] v h = rw (lt-ltb v (2 ^ 64) h)
 number-then (c ∷ word) v h = after-character (v * 10 + (c - 48)) word (is_digit c) (number-then word (v * 10 + (c - 48)))
 
-pub word-is-number : (word : List ℕ) → read_on Empty word ≡ number_of word
-word-is-number [] = refl
-word-is-number (c ∷ word) = after-character (0 * 10 + (c - 48)) word (is_digit c) (number-then word (0 * 10 + (c - 48)))
+pub word_is_number : (word : List ℕ) → read_on Empty word ≡ number_of word
+word_is_number [] = refl
+word_is_number (c ∷ word) = after-character (0 * 10 + (c - 48)) word (is_digit c) (number-then word (0 * 10 + (c - 48)))

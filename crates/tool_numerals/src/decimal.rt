@@ -18,10 +18,8 @@ impl Decimal {
         ensures { result ≡ read_on self part.now }
     {
         let mut number = self;
-        let mut i = 0;
-        while i < part.len() {
-            number = number.digit(part[i]);
-            i += 1;
+        for c in part {
+            number = number.digit(*c);
         }
         number
     }
@@ -62,6 +60,7 @@ fn with_digit(value: u64, c: u8) -> Decimal
 }
 
 // A word, whole or in parts, is read as the number that it stands for.
+#[tactic(auto, using(crate::proofs::Numbers::word_is_number))]
 pub fn decimal_law()
     ensures { (word : List ℕ) → read_on Decimal.Empty word ≡ number_of word }
 {}

@@ -55,11 +55,8 @@ impl Hex {
         // a copy, since a constant is made anew wherever it is named
         let values = VALUES;
         let mut hex = self;
-        let mut i = 0;
-        while i < part.len() {
-            let c = part[i];
-            hex = hex.character(values[c as usize], buffer);
-            i += 1;
+        for c in part {
+            hex = hex.character(values[*c as usize], buffer);
         }
         hex
     }

@@ -1,5 +1,7 @@
 // What a tool's arguments ask for.
+use crate::first;
 use crate::word::Word;
+use std::env::{Env, FillError};
 
 #[derive(Clone, Copy)]
 pub enum Mode {
@@ -13,21 +15,32 @@ pub enum Mode {
 
 impl Mode {
     // No argument asks for answers, `--echo` alone for the lines too; `--help`, or any other arguments, for help.
-    pub fn asked() -> Mode {
-        let count = os::arg_count();
-        if count < 2 {
+    pub fn asked(rt: &impl Env) -> Mode {
+        if !is_given(rt, 1) {
             return Mode::Answers;
         }
-        if count == 2 && argument(1).is(b"--echo") {
+        if !is_given(rt, 2) && argument(rt, 1).is(b"--echo") {
             return Mode::Echo;
         }
         Mode::Help
     }
 }
 
-// The argument as a word; one of more than 16 letters is like no option.
-fn argument(i: usize) -> Word {
+// Whether the tool was started with this argument.
+pub fn is_given(rt: &impl Env, i: usize) -> bool {
     let mut letters = [0u8; 16];
-    let len = os::arg(i, &mut letters);
-    Word::new().more(&letters[..len])
+    match rt.arg(i, &mut letters) {
+        Ok(_) => true,
+        Err(FillError::TooLong) => true,
+        Err(FillError::NotPresent) => false,
+    }
+}
+
+// The argument as a word; one of more than 16 letters is like no option.
+pub fn argument(rt: &impl Env, i: usize) -> Word {
+    let mut letters = [0u8; 16];
+    match rt.arg(i, &mut letters) {
+        Ok(len) => Word::new().more(first(&letters, len)),
+        Err(_) => Word::new(),
+    }
 }

@@ -2,11 +2,17 @@
 ghost use Rattle.std.specs.Prelude.{◌≤◌, length};
 ghost use Rattle.tool_text.specs.Line.{Within};
 
-use libc::STDIN_FILENO;
+use crate::find::find;
+use std::io;
+use std::io::{Read, Stdin};
 
 // Which bytes of the buffer were read and not yet taken.
 #[derive(Clone, Copy)]
 pub struct Input {
+    // from where is read
+    from: Stdin,
+    // why the last read failed, if it did
+    failure: Option<io::Error>,
     pub at: usize,
     pub end: usize,
 }
@@ -33,25 +39,48 @@ impl Part {
 }
 
 impl Input {
-    pub fn new() -> Input {
-        Input { at: 0, end: 0 }
+    pub fn new(from: Stdin) -> Input {
+        Input {
+            from,
+            failure: None,
+            at: 0,
+            end: 0,
+        }
     }
 
     // Reads on, where all was taken but perhaps a carriage return, which then stands before what comes. Nothing comes at the input's end,
     // or where it cannot be read.
     pub fn fill(self, bytes: &mut [u8]) -> Input {
         if bytes.len() == 0 {
-            return Input::new();
+            return Input::new(self.from);
         }
-        let got = libc::read(STDIN_FILENO, &mut bytes[1..]);
-        let got = io::count(got, bytes);
-        if got == 0 {
-            return Input::new();
+        let mut from = self.from;
+        let read = from.read(&mut bytes[1..]);
+        match read {
+            Ok(0) => Input::new(from),
+            Ok(got) => {
+                bytes[0] = b'\r';
+                Input {
+                    from,
+                    failure: None,
+                    at: (self.end <= self.at) as usize,
+                    end: got + 1,
+                }
+            }
+            Err(error) => Input {
+                from,
+                failure: Some(error),
+                at: 0,
+                end: 0,
+            },
         }
-        bytes[0] = b'\r';
-        Input {
-            at: (self.end <= self.at) as usize,
-            end: got + 1,
+    }
+
+    // The error of a read that failed, if one ended the input.
+    pub fn outcome(self) -> io::Result<()> {
+        match self.failure {
+            None => Ok(()),
+            Some(error) => Err(error),
         }
     }
 
@@ -62,7 +91,7 @@ impl Input {
     {
         let end = least(self.end, bytes.len());
         let at = least(self.at, end);
-        let stop = bytes::scan::find(bytes, at, end, b'\n');
+        let stop = find(bytes, at, end, b'\n');
         let to = before_return(bytes, at, stop);
         if stop < end {
             return Part {

@@ -5,6 +5,7 @@
 pub use tool_numerals::{decimal, hex};
 
 pub mod arguments;
+pub mod find;
 pub mod input;
 pub mod line;
 pub mod line_error;

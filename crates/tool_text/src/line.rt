@@ -1,6 +1,7 @@
 // A line of a tool's input: a command word, numbers, and HEX to the line's end, read in as many parts as it comes in.
 ghost use Rattle.std.specs.Prelude.{◌≤◌, length};
 
+use crate::find::find;
 use crate::parting::{Parted, Parting};
 use crate::word::Word;
 use tool_numerals::decimal::Decimal;
@@ -91,7 +92,7 @@ impl Head {
         let mut head = self;
         let mut at = 0;
         while at < part.len() {
-            let end = bytes::scan::find(part, at, part.len(), b' ');
+            let end = find(part, at, part.len(), b' ');
             head = head.next(&part[at..end], end < part.len(), rest);
             if head.full {
                 return HeadRead { head, at };
@@ -276,7 +277,7 @@ fn word_end(part: &[u8], goes_on: bool) -> usize
     ensures { result ≤ length part.now }
 {
     if goes_on {
-        return bytes::scan::find(part, 0, part.len(), b' ');
+        return find(part, 0, part.len(), b' ');
     }
     0
 }
@@ -285,11 +286,12 @@ fn word_end(part: &[u8], goes_on: bool) -> usize
 fn word_start(part: &[u8]) -> usize
     ensures { result ≤ length part.now }
 {
-    let mut i = 0;
-    while i < part.len() && part[i] == b' ' {
-        i += 1;
+    for i in 0..part.len() {
+        if part[i] != b' ' {
+            return i;
+        }
     }
-    i
+    part.len()
 }
 
 // Where a word begins, or goes on that has begun.

@@ -1,4 +1,5 @@
 // HEX that a word `+` parts in two: what is needed beside HEX itself to tell the two apart.
+use crate::find::find;
 use tool_numerals::hex::Hex;
 
 #[derive(Clone, Copy)]
@@ -45,7 +46,7 @@ impl Parting {
 impl Parted {
     // Both with a part of the line. Only where a `+` is about it goes character by character.
     pub fn more(self, part: &[u8], buffer: &mut [u8]) -> Parted {
-        let plus = bytes::scan::find(part, 0, part.len(), b'+');
+        let plus = find(part, 0, part.len(), b'+');
         if plus < part.len() || self.parting.waiting {
             return self.characters(part, buffer);
         }
@@ -54,10 +55,8 @@ impl Parted {
 
     fn characters(self, part: &[u8], buffer: &mut [u8]) -> Parted {
         let mut parted = self;
-        let mut i = 0;
-        while i < part.len() {
+        for i in 0..part.len() {
             parted = parted.character(part[i], &part[i..i + 1], buffer);
-            i += 1;
         }
         parted
     }

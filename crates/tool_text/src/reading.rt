@@ -4,7 +4,7 @@ use crate::input::Part;
 use crate::output::Buffer;
 use crate::session::Session;
 
-#[derive(Clone, Copy)]
+#[derive(Drop)]
 pub struct Reading {
     pub session: Session,
     // whether the line has a first byte
@@ -23,7 +23,7 @@ impl Reading {
     }
 
     // What the buffer has of the line.
-    pub fn part(self, bytes: &[u8]) -> Part {
+    pub fn part(&self, bytes: &[u8]) -> Part {
         self.session.input.part(bytes)
     }
 
@@ -41,10 +41,11 @@ impl Reading {
             };
         }
         let session = session.filled(bytes, buffer);
+        let goes_on = session.open;
         Reading {
-            session: session.ended(begun & !session.open, buffer),
+            session: session.ended(begun & !goes_on, buffer),
             begun,
-            goes_on: session.open,
+            goes_on,
         }
     }
 }

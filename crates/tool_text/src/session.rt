@@ -4,6 +4,8 @@ use crate::input::Input;
 use crate::line::{Form, Line};
 use crate::output::{Buffer, Output};
 use crate::reading::Reading;
+use std::env::Env;
+use std::io;
 
 #[derive(Drop)]
 pub struct Session {
@@ -16,7 +18,7 @@ pub struct Session {
 }
 
 // A line, and the session after it.
-#[derive(Clone, Copy)]
+#[derive(Drop)]
 pub struct Asked {
     pub line: Line,
     pub session: Session,
@@ -24,17 +26,23 @@ pub struct Asked {
 
 impl Session {
     // The session that the tool's arguments ask for. Where that is help, the help is written, and no line is read.
-    pub fn begin(help: &[u8], buffer: &mut Buffer) -> Session {
-        match Mode::asked() {
-            Mode::Answers => Session::new(Output::new(), false, true),
-            Mode::Echo => Session::new(Output::new(), true, true),
-            Mode::Help => Session::new(put_help(help, buffer), false, false),
+    pub fn begin(
+        rt: &impl Env,
+        input: Input,
+        out: Output,
+        help: &[u8],
+        buffer: &mut Buffer,
+    ) -> Session {
+        match Mode::asked(rt) {
+            Mode::Answers => Session::new(input, out, false, true),
+            Mode::Echo => Session::new(input, out, true, true),
+            Mode::Help => Session::new(input, put_help(out, help, buffer), false, false),
         }
     }
 
-    fn new(out: Output, echo: bool, open: bool) -> Session {
+    fn new(input: Input, out: Output, echo: bool, open: bool) -> Session {
         Session {
-            input: Input::new(),
+            input,
             out,
             echo,
             open,
@@ -51,20 +59,22 @@ impl Session {
     ) -> Asked {
         let mut reading = Reading::new(self);
         let mut line = Line::new();
-        let mut parts = u64::MAX;
-        while parts > 0 && reading.goes_on {
+        for _ in 0..u64::MAX {
+            if !reading.goes_on {
+                break;
+            }
             let part = reading.part(bytes);
             line = line.more(part.of(bytes), form, payload);
             reading = reading.after(part, bytes, buffer);
-            parts -= 1;
         }
         let session = reading.session;
         Asked { line, session }
     }
 
-    // Writes what waits, after the last line.
-    pub fn end(self, buffer: &Buffer) {
-        self.out.flush(buffer);
+    // Writes what waits, after the last line. The error is that of a write or a read that failed.
+    pub fn end(self, buffer: &Buffer) -> io::Result<()> {
+        self.out.end(buffer)?;
+        self.input.outcome()
     }
 
     // The session with this text written, where lines are.
@@ -87,18 +97,19 @@ impl Session {
     pub(crate) fn filled(self, bytes: &mut Buffer, buffer: &Buffer) -> Session {
         let out = self.out.flush(buffer);
         let input = self.input.fill(bytes);
+        let open = out.is_open() & (input.end != 0);
         Session {
             input,
             out,
             echo: self.echo,
-            open: out.open & (input.end != 0),
+            open,
         }
     }
 }
 
 // What the tool does, and what every tool's arguments are.
-fn put_help(help: &[u8], buffer: &mut Buffer) -> Output {
-    Output::new().text(help, buffer).text(
+fn put_help(out: Output, help: &[u8], buffer: &mut Buffer) -> Output {
+    out.text(help, buffer).text(
         b"Commands come from standard input, one to a line; each is answered by one line.\n\
 --echo writes each line before its answer, --help this text.\n",
         buffer,

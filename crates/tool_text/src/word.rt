@@ -27,14 +27,12 @@ impl Word {
     pub fn more(self, part: &[u8]) -> Word {
         let mut letters = self.letters;
         let mut len = self.len;
-        let mut i = 0;
-        while i < part.len() {
+        for letter in part {
             if 24 <= len {
                 return Word { len: 25, letters };
             }
-            letters[len] = part[i];
+            letters[len] = *letter;
             len += 1;
-            i += 1;
         }
         Word { len, letters }
     }
@@ -42,11 +40,8 @@ impl Word {
     // Whether it is the word `name`, which has at most 24 letters.
     pub fn is(self, name: &[u8]) -> bool {
         let letters = self.letters;
-        let mut i = 0;
-        while i < 24 && i < name.len() && letters[i] == name[i] {
-            i += 1;
-        }
-        (i == self.len) & (i == name.len())
+        let shared = shared(&letters, name);
+        (shared == self.len) & (shared == name.len())
     }
 
     // Whether both are one word of at least one letter.
@@ -54,4 +49,14 @@ impl Word {
         let letters = other.letters;
         (0 < other.len) & self.is(first(&letters, other.len))
     }
+}
+
+// How many letters, from the first on, are those of the name.
+fn shared(letters: &[u8; 24], name: &[u8]) -> usize {
+    for i in 0..24 {
+        if name.len() <= i || letters[i] != name[i] {
+            return i;
+        }
+    }
+    24
 }
