@@ -35,13 +35,11 @@ fn put_block(out: Output, key: [u8; 16], block: [u8; 16], buffer: &mut Buffer) -
 // The round keys, with a space between two.
 fn put_keys(out: Output, keys: [[u8; 16]; 11], buffer: &mut Buffer) -> Output {
     let mut out = out;
-    let mut n = 0;
-    while n < 11 {
+    for n in 0..11 {
         if 0 < n {
             out = out.byte(b' ', buffer);
         }
         out = put_key(out, keys[n], buffer);
-        n += 1;
     }
     out
 }

@@ -5,6 +5,8 @@ mod answers;
 mod verb;
 
 use answers::answer;
+use std::io;
+use tool_text::input::Input;
 use tool_text::line_error::put_line_error;
 use tool_text::output::{Buffer, Output};
 use tool_text::session::Session;
@@ -17,7 +19,7 @@ use verb::{Verb, shape_of, verb_of};
 pub type Destination = [u8; 512];
 
 // What is kept from line to line, beside the destination: the session, and how much of the destination is lent.
-#[derive(Clone, Copy)]
+#[derive(Drop)]
 struct Cipher {
     session: Session,
     room: usize,
@@ -83,21 +85,25 @@ fn run(
     store: &mut Store,
     dst: &mut Destination,
     buffer: &mut Buffer,
-) {
-    let mut lines = u64::MAX;
-    while lines > 0 && cipher.session.open {
+) -> io::Result<()> {
+    for _ in 0..u64::MAX {
+        if !cipher.session.open {
+            break;
+        }
         cipher = answer_line(cipher, bytes, store, dst, buffer);
-        lines -= 1;
     }
-    cipher.session.end(buffer);
+    cipher.session.end(buffer)
 }
 
-fn main() {
-    let mut bytes = io::large_buffer();
+fn main(rt: HostRuntime) -> io::Result<()> {
+    let mut bytes = [0u8; 65536];
     let mut store = [0u8; 640];
     let mut dst = [0u8; 512];
-    let mut buffer = io::large_buffer();
+    let mut buffer = [0u8; 65536];
     let session = Session::begin(
+        &rt,
+        Input::new(rt.stdin()),
+        Output::new(rt.stdout()),
         b"cipher: AES-128 and AES-CCM-16-64-128 (docs/TOOLS.md).\n\
 block KEY BLOCK, expand KEY, substitute N, seal KEY NONCE DATA HEX, open KEY NONCE DATA HEX, room N, destination\n",
         &mut buffer,
@@ -108,5 +114,5 @@ block KEY BLOCK, expand KEY, substitute N, seal KEY NONCE DATA HEX, open KEY NON
         &mut store,
         &mut dst,
         &mut buffer,
-    );
+    )
 }

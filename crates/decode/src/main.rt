@@ -12,7 +12,9 @@ mod serial;
 
 use command::{Asking, Command, Reading, command_of};
 use serial::{Answered, SerialInput};
+use std::io;
 use tool_text::hex::Payload;
+use tool_text::input::Input;
 use tool_text::line::{Form, Line};
 use tool_text::line_error::{LineError, put_line_error};
 use tool_text::output::{Buffer, Output};
@@ -44,7 +46,7 @@ fn empty_store() -> Store {
 }
 
 // What is kept from line to line.
-#[derive(Clone, Copy)]
+#[derive(Drop)]
 struct ToolState {
     session: Session,
     serial: SerialInput,
@@ -142,21 +144,25 @@ fn run(
     payloads: &mut Payloads,
     store: &mut Store,
     buffer: &mut Buffer,
-) {
-    let mut lines = u64::MAX;
-    while lines > 0 && turn.session.open {
+) -> io::Result<()> {
+    for _ in 0..u64::MAX {
+        if !turn.session.open {
+            break;
+        }
         turn = answer_line(turn, bytes, payloads, store, buffer);
-        lines -= 1;
     }
-    turn.session.end(buffer);
+    turn.session.end(buffer)
 }
 
-fn main() {
-    let mut bytes = io::large_buffer();
+fn main(rt: HostRuntime) -> io::Result<()> {
+    let mut bytes = [0u8; 65536];
     let mut payloads = no_payloads();
     let mut store = empty_store();
-    let mut buffer = io::large_buffer();
+    let mut buffer = [0u8; 65536];
     let session = Session::begin(
+        &rt,
+        Input::new(rt.stdin()),
+        Output::new(rt.stdout()),
         b"decode: what the payloads of join requests and configurations mean (docs/TOOLS.md).\n\
 READING HEX: the object; rewrite READING HEX: the object, written again; head HEX: the first head.\n\
 merge HEX + HEX: two configurations joined and written.\n\
@@ -174,5 +180,5 @@ READING is request or configuration, new-request or new-configuration (RFC 9031)
         &mut payloads,
         &mut store,
         &mut buffer,
-    );
+    )
 }

@@ -7,7 +7,9 @@ mod verb;
 
 use answers::answer;
 use proxies::{Made, Proxies, load, marked, no_proxies, on_proxy, stored};
-use tool_text::output::Buffer;
+use std::io;
+use tool_text::input::Input;
+use tool_text::output::{Buffer, Output};
 use tool_text::session::Session;
 use tool_words::line::next_line;
 use tool_words::shape::Judged;
@@ -18,7 +20,7 @@ use verb::{Verb, shape_of, verb_of};
 pub type Destination = [u8; 64];
 
 // What is kept from line to line, beside the destination: the proxies, and how much of the destination is lent.
-#[derive(Clone, Copy)]
+#[derive(Drop)]
 struct ToolState {
     session: Session,
     proxies: Proxies,
@@ -100,21 +102,25 @@ fn run(
     store: &mut Store,
     dst: &mut Destination,
     buffer: &mut Buffer,
-) {
-    let mut lines = u64::MAX;
-    while lines > 0 && desk.session.open {
+) -> io::Result<()> {
+    for _ in 0..u64::MAX {
+        if !desk.session.open {
+            break;
+        }
         desk = answer_line(desk, bytes, store, dst, buffer);
-        lines -= 1;
     }
-    desk.session.end(buffer);
+    desk.session.end(buffer)
 }
 
-fn main() {
-    let mut bytes = io::large_buffer();
+fn main(rt: HostRuntime) -> io::Result<()> {
+    let mut bytes = [0u8; 65536];
     let mut store = [0u8; 640];
     let mut dst = [0u8; 64];
-    let mut buffer = io::large_buffer();
+    let mut buffer = [0u8; 65536];
     let session = Session::begin(
+        &rt,
+        Input::new(rt.stdin()),
+        Output::new(rt.stdout()),
         b"proxy: up to 16 join proxies, what they issue and what they forward (docs/TOOLS.md).\n\
 proxy I KEY, key I KEY, issue I INTERFACE PORT TOKEN, judge I HEX, show I, issued I N, room N, destination\n",
         &mut buffer,
@@ -125,5 +131,5 @@ proxy I KEY, key I KEY, issue I INTERFACE PORT TOKEN, judge I HEX, show I, issue
         made: [false; 16],
         room: 31,
     };
-    run(desk, &mut bytes, &mut store, &mut dst, &mut buffer);
+    run(desk, &mut bytes, &mut store, &mut dst, &mut buffer)
 }

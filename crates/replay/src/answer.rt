@@ -46,13 +46,11 @@ fn put_number(out: Output, name: &[u8], number: u64, buffer: &mut Buffer) -> Out
 // The records of kinds 1 to 6, with strokes between them.
 fn put_kinds(out: Output, kinds: [u64; 6], buffer: &mut Buffer) -> Output {
     let mut out = out;
-    let mut i = 0;
-    while i < 6 {
+    for i in 0..6 {
         if 0 < i {
             out = out.byte(b'/', buffer);
         }
         out = out.number(kinds[i], buffer);
-        i += 1;
     }
     out
 }
@@ -61,11 +59,9 @@ fn put_kinds(out: Output, kinds: [u64; 6], buffer: &mut Buffer) -> Output {
 fn put_refusals(out: Output, refusals: [u64; 22], buffer: &mut Buffer) -> Output {
     let mut out = out;
     let mut comma = false;
-    let mut i = 0;
-    while i < 22 {
+    for i in 0..22 {
         let count = refusals[i];
-        i += 1;
-        out = put_refusal(out, comma, i as u64, count, buffer);
+        out = put_refusal(out, comma, i as u64 + 1, count, buffer);
         comma = comma | (count != 0);
     }
     out

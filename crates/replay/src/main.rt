@@ -6,7 +6,9 @@ mod files;
 
 use answer::put_trace;
 use files::{answer_files, are_named};
+use std::io;
 use tool_text::hex::{Hex, Payload};
+use tool_text::input::Input;
 use tool_text::line::Form;
 use tool_text::line_error::{LineError, put_line_error};
 use tool_text::output::{Buffer, Output};
@@ -59,27 +61,35 @@ fn answer_line(
 }
 
 // Answers line after line until the input ends or nobody reads the answers.
-fn run(mut session: Session, bytes: &mut Buffer, trace: &mut Trace, buffer: &mut Buffer) {
-    let mut lines = u64::MAX;
-    while lines > 0 && session.open {
+fn run(
+    mut session: Session,
+    bytes: &mut Buffer,
+    trace: &mut Trace,
+    buffer: &mut Buffer,
+) -> io::Result<()> {
+    for _ in 0..u64::MAX {
+        if !session.open {
+            break;
+        }
         session = answer_line(session, bytes, trace, buffer);
-        lines -= 1;
     }
-    session.end(buffer);
+    session.end(buffer)
 }
 
-fn main() {
-    let mut bytes = io::large_buffer();
+fn main(rt: HostRuntime) -> io::Result<()> {
+    let mut bytes = [0u8; 65536];
     let mut trace: Trace = [0u8; 1048577];
-    let mut buffer = io::large_buffer();
-    if are_named() {
-        answer_files(&mut trace, &mut buffer);
-        return;
+    let mut buffer = [0u8; 65536];
+    if are_named(&rt) {
+        return answer_files(&rt, Output::new(rt.stdout()), &mut trace, &mut buffer);
     }
     let session = Session::begin(
+        &rt,
+        Input::new(rt.stdin()),
+        Output::new(rt.stdout()),
         b"replay: what a unit did in a recorded night (docs/TOOLS.md).\n\
 trace HEX; or replay FILE .., each file a recorded trace\n",
         &mut buffer,
     );
-    run(session, &mut bytes, &mut trace, &mut buffer);
+    run(session, &mut bytes, &mut trace, &mut buffer)
 }

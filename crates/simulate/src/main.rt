@@ -4,15 +4,17 @@
 mod nodes;
 
 use nodes::{Nodes, execute, load, no_nodes};
+use std::io;
 use tool_simulate::command::Made;
 use tool_simulate::next_command;
 use tool_simulate_answers::put_answer;
 use tool_simulate_reply::{lent, marked, reply_node};
-use tool_text::output::Buffer;
+use tool_text::input::Input;
+use tool_text::output::{Buffer, Output};
 use tool_text::session::Session;
 
 // What is kept from line to line.
-#[derive(Clone, Copy)]
+#[derive(Drop)]
 struct Simulation {
     session: Session,
     nodes: Nodes,
@@ -54,20 +56,24 @@ fn run(
     bytes: &mut Buffer,
     payload: &mut tool_notation::Payload,
     buffer: &mut Buffer,
-) {
-    let mut lines = u64::MAX;
-    while lines > 0 && simulation.session.open {
+) -> io::Result<()> {
+    for _ in 0..u64::MAX {
+        if !simulation.session.open {
+            break;
+        }
         simulation = answer_line(simulation, bytes, payload, buffer);
-        lines -= 1;
     }
-    simulation.session.end(buffer);
+    simulation.session.end(buffer)
 }
 
-fn main() {
-    let mut bytes = io::large_buffer();
+fn main(rt: HostRuntime) -> io::Result<()> {
+    let mut bytes = [0u8; 65536];
     let mut payload = tool_notation::no_payload();
-    let mut buffer = io::large_buffer();
+    let mut buffer = [0u8; 65536];
     let session = Session::begin(
+        &rt,
+        Input::new(rt.stdin()),
+        Output::new(rt.stdout()),
         b"simulate: up to 16 nodes and their life, joining, updates, frames (docs/TOOLS.md).\n\
 node I ROLE NETWORK, new-node I ROLE NETWORK (RFC 9031), start I TIME TIMEOUT, poll I TIME, answer I TIME HEX, update I TIME HEX,\n\
 holds I TIME, send I TYPE, receive I TYPE IDENTIFIER, verified I TYPE IDENTIFIER, turn I J TYPE, show I,\n\
@@ -81,5 +87,5 @@ room N: how many bytes are lent to a start; set I FIELD VALUE, set I counter IDE
         made: [false; 16],
         room: 256,
     };
-    run(simulation, &mut bytes, &mut payload, &mut buffer);
+    run(simulation, &mut bytes, &mut payload, &mut buffer)
 }

@@ -102,8 +102,7 @@ fn put_counted(
     buffer: &mut Buffer,
 ) -> Output {
     let mut out = out;
-    let mut i = 0;
-    while i < count {
+    for i in 0..count {
         if 8 <= i {
             return out;
         }
@@ -113,7 +112,6 @@ fn put_counted(
         out = tool_notation::put_key(out, keys[i], buffer);
         out = out.byte(b'#', buffer);
         out = put_counter(out, counters[i], buffer);
-        i += 1;
     }
     out
 }

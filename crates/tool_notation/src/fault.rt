@@ -13,8 +13,7 @@ pub fn put_faults(out: Output, reports: ErrorReports, buffer: &mut Buffer) -> Ou
 // The first `count` of five reports, with commas between them.
 fn put_each(out: Output, reports: [ErrorReport; 5], count: usize, buffer: &mut Buffer) -> Output {
     let mut out = out;
-    let mut i = 0;
-    while i < count {
+    for i in 0..count {
         if 5 <= i {
             return out;
         }
@@ -22,7 +21,6 @@ fn put_each(out: Output, reports: [ErrorReport; 5], count: usize, buffer: &mut B
             out = out.byte(b',', buffer);
         }
         out = put_fault(out, reports[i], buffer);
-        i += 1;
     }
     out
 }

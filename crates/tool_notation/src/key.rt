@@ -42,8 +42,7 @@ pub fn put_key_set(out: Output, set: KeySet, buffer: &mut Buffer) -> Output {
 // The first `count` of eight keys, with commas between them.
 fn put_keys(out: Output, keys: [Key; 8], count: usize, buffer: &mut Buffer) -> Output {
     let mut out = out;
-    let mut i = 0;
-    while i < count {
+    for i in 0..count {
         if 8 <= i {
             return out;
         }
@@ -51,7 +50,6 @@ fn put_keys(out: Output, keys: [Key; 8], count: usize, buffer: &mut Buffer) -> O
             out = out.byte(b',', buffer);
         }
         out = put_key(out, keys[i], buffer);
-        i += 1;
     }
     out
 }

@@ -12,6 +12,7 @@ pub use key::{put_key, put_key_set};
 pub use list::{put_blacklist, put_unsupported};
 use protocol_version::Version;
 use refusal::Refusal;
+use tool_text::find::find;
 use tool_text::output::{Buffer, Output};
 
 // What is kept of a payload: one byte more than it may have is enough to be answered LONG.
@@ -24,7 +25,7 @@ pub fn no_payload() -> Payload {
 // A refusal, as refused 5 TYPE; zeros fill its name up.
 pub fn put_refusal(out: Output, refusal: Refusal, buffer: &mut Buffer) -> Output {
     let name = refusal.name();
-    let letters = bytes::scan::find(&name, 0, 8, 0);
+    let letters = find(&name, 0, 8, 0);
     let out = out.text(b"refused ", buffer);
     let out = out.number(refusal.number() as u64, buffer);
     let out = out.byte(b' ', buffer);

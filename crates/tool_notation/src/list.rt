@@ -16,8 +16,7 @@ pub fn put_blacklist(out: Output, list: ItemList, buffer: &mut Buffer) -> Output
 fn put_strings(out: Output, bytes: &[u8], count: u64, buffer: &mut Buffer) -> Output {
     let mut out = out;
     let mut left = bytes;
-    let mut i = 0;
-    while i < count {
+    for i in 0..count {
         let value = value_at(left, 0);
         let Value::Bytes { start, len } = value else {
             return out;
@@ -28,7 +27,6 @@ fn put_strings(out: Output, bytes: &[u8], count: u64, buffer: &mut Buffer) -> Ou
         let string = rest(left, start);
         out = out.octets(first(string, len), buffer);
         left = rest(string, len);
-        i += 1;
     }
     out
 }
@@ -45,15 +43,16 @@ pub fn put_unsupported(out: Output, list: ItemList, buffer: &mut Buffer) -> Outp
 fn put_reports(out: Output, bytes: &[u8], count: u64, buffer: &mut Buffer) -> Output {
     let mut out = out;
     let mut left = bytes;
-    let mut i = 0;
-    while i < count && 0 < left.len() {
+    for i in 0..count {
+        if left.len() == 0 {
+            break;
+        }
         if 0 < i {
             out = out.byte(b',', buffer);
         }
         out = put_report(out, left, buffer);
         let after = after_report(left);
         left = after;
-        i += 1;
     }
     out
 }

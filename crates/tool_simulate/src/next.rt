@@ -13,7 +13,7 @@ const FORM: Form = Form {
 };
 
 // What a line asks for, and the session after it.
-#[derive(Clone, Copy)]
+#[derive(Drop)]
 pub struct Commanded {
     pub session: Session,
     pub command: Command,

@@ -120,14 +120,12 @@ fn counted(held: CountedSet, identifier: u8, counter: u32) -> CountedSet {
     let set = held.set;
     let keys = set.keys;
     let mut counters = held.counters;
-    let mut i: usize = 0;
-    while i < 8 {
+    for i in 0..8 {
         let key = keys[i];
         if key.identifier == identifier {
             counters[i] = counter;
             return CountedSet { set, counters };
         }
-        i += 1;
     }
     held
 }

@@ -5,12 +5,10 @@ use crate::words::place;
 pub fn sixteen(store: &[u8], at: usize) -> [u8; 16] {
     let bytes = place(store, at, 16);
     let mut copy = [0u8; 16];
-    let mut i = 0;
-    while i < 16 {
+    for i in 0..16 {
         if i < bytes.len() {
             copy[i] = bytes[i];
         }
-        i += 1;
     }
     copy
 }

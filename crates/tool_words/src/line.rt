@@ -5,7 +5,7 @@ use tool_text::reading::Reading;
 use tool_text::session::Session;
 
 // A line, and the session after it.
-#[derive(Clone, Copy)]
+#[derive(Drop)]
 pub struct Asked {
     pub words: Words,
     pub session: Session,
@@ -21,12 +21,13 @@ pub fn next_line(
 ) -> Asked {
     let mut reading = Reading::new(session);
     let mut words = Words::new();
-    let mut parts = u64::MAX;
-    while parts > 0 && reading.goes_on {
+    for _ in 0..u64::MAX {
+        if !reading.goes_on {
+            break;
+        }
         let part = reading.part(bytes);
         words = words.more(part.of(bytes), hex_at, store);
         reading = reading.after(part, bytes, buffer);
-        parts -= 1;
     }
     let session = reading.session;
     Asked { words, session }

@@ -1,6 +1,7 @@
 // A line's words.
 use crate::argument::Argument;
 use tool_numerals::hex::Hex;
+use tool_text::find::find;
 use tool_text::word::Word;
 
 // Where the bytes of a line are kept: a place of 80 for each of the four words after the command, and one of 320 for HEX.
@@ -40,7 +41,7 @@ impl Words {
         let mut words = self;
         let mut at = 0;
         while at < part.len() {
-            let end = bytes::scan::find(part, at, part.len(), b' ');
+            let end = find(part, at, part.len(), b' ');
             words = words.next(&part[at..end], end < part.len(), hex_at, store);
             at = end + 1;
         }
