@@ -50,13 +50,11 @@ pub fn put_ledger(out: Output, ledger: Ledger, buffer: &mut Buffer) -> Output {
 // The marked groups, with commas between them.
 fn put_groups(mut out: Output, marks: u64, buffer: &mut Buffer) -> Output {
     let mut left = marks;
-    let mut group: u64 = 0;
     let mut comma = false;
-    while group < 64 {
+    for group in 0..64 {
         out = put_group(out, group, left % 2 == 1, comma, buffer);
         comma = comma | (left % 2 == 1);
         left = left / 2;
-        group += 1;
     }
     out
 }
@@ -134,10 +132,8 @@ pub fn put_list(out: Output, ledger: Ledger, memory: &[u8], buffer: &mut Buffer)
         out: out.text(b"list [", buffer),
         comma: false,
     };
-    let mut address: usize = 0;
-    while address < 65536 {
+    for address in 0..65536 {
         listing = listing.with(address, ledger, memory, buffer);
-        address += 1;
     }
     listing.out.byte(b']', buffer)
 }

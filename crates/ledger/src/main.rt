@@ -11,14 +11,18 @@ mod state;
 
 use crate::commands::{Board, Bytes, command_of, next_line};
 use memory::Memory;
-use start::{Lock, Path, is_echo_asked, journal_path, release, start, take_lock};
+use start::{Path, is_echo_asked, journal_path, share_asked, start};
 use state::{LedgerState, execute};
+use std::env::Env;
+use std::fs::{File, Files};
+use std::io::ErrorKind;
+use std::{fs, io, str};
 use tool_text::input::Input;
-use tool_text::output::Buffer;
+use tool_text::output::{Buffer, Output};
 use tool_text::session::Session;
 
 // What is kept from line to line, beside the memory.
-#[derive(Clone, Copy)]
+#[derive(Drop)]
 struct ToolState {
     session: Session,
     state: LedgerState,
@@ -45,10 +49,8 @@ fn answer_line(
         buffer,
     );
     let fixture = done.state;
-    let journal = fixture.journal;
-    let out = done.out;
-    session.out = out;
-    session.open = session.open & !journal.failed;
+    session.out = done.out;
+    session.open = session.open & !fixture.journal.has_failed();
     ToolState {
         session,
         state: fixture,
@@ -57,24 +59,36 @@ fn answer_line(
 
 // Answers line after line until the input ends or nobody reads the answers.
 fn run(
+    rt: &impl Eprint,
     mut desk: ToolState,
     bytes: &mut Buffer,
     board: &mut Board,
     hex: &mut Bytes,
     memory: &mut Memory,
     buffer: &mut Buffer,
-) {
-    let mut lines = u64::MAX;
-    while lines > 0 && desk.session.open {
+) -> io::Result<()> {
+    for _ in 0..u64::MAX {
+        if !desk.session.open {
+            break;
+        }
         desk = answer_line(desk, bytes, board, hex, memory, buffer);
-        lines -= 1;
     }
-    desk.session.end(buffer);
+    let recorded = desk.state.journal.outcome();
+    desk.session.end(buffer)?;
+    if let Err(error) = recorded {
+        eprintln!(rt;
+            "ledger: the journal was not written, the last command is not answered, and the session ends: {error}"
+        )?;
+    }
+    recorded
 }
 
 // A session without a journal.
-fn plain_session(buffer: &mut Buffer) -> ToolState {
+fn plain_session(rt: &impl Env, input: Input, out: Output, buffer: &mut Buffer) -> ToolState {
     let session = Session::begin(
+        rt,
+        input,
+        out,
         b"ledger: short addresses granted to boards and given back (docs/TOOLS.md).\n\
 open FIRST SIZE, grant BOARD, back BOARD, free, list, who ADDRESS, holds BOARD,\n\
 lend N, read PLACE N, write PLACE HEX, clear, count N, marks G.., show\n\
@@ -87,47 +101,73 @@ lend N, read PLACE N, write PLACE HEX, clear, count N, marks G.., show\n\
     }
 }
 
-// A session over the journal with this path, whose lock is taken; the folder of both is named after the lock.
+// A session over the journal with this path, whose lock is taken. Where the file cannot be used, the reason goes to standard error, and no
+// line is read.
 fn journal_session(
-    path: &Path,
-    len: usize,
-    lock: Lock,
-    folder: &Path,
+    rt: &(impl Env + Files<File = File> + Eprint),
+    path: &str,
+    folder: &str,
+    input: Input,
+    out: Output,
     memory: &mut Memory,
     buffer: &mut Buffer,
-) -> ToolState {
-    let started = start(
-        tool_text::first(path, len),
-        tool_text::first(folder, lock.parent),
-        memory,
-        buffer,
-    );
-    let out = started.out;
-    let ledger = started.ledger;
-    let journal = started.journal;
-    ToolState {
-        session: Session {
-            input: Input::new(),
-            out,
-            echo: is_echo_asked(),
-            open: started.open,
-        },
-        state: LedgerState::resumed(ledger, journal),
+) -> io::Result<ToolState> {
+    match start(rt, path, folder, memory, out, buffer) {
+        Err(error) => {
+            eprintln!(rt; "{path}: {error}")?;
+            Err(error)
+        }
+        Ok(started) => Ok(ToolState {
+            session: Session {
+                input,
+                out: started.out,
+                echo: is_echo_asked(rt),
+                open: started.open,
+            },
+            state: LedgerState::resumed(started.ledger, started.journal, share_asked(rt)),
+        }),
     }
 }
 
-fn main() {
-    let mut bytes = io::large_buffer();
+// The path of a journal, from the argument's bytes.
+fn path_of(path: &Path, len: usize) -> io::Result<&str> {
+    match str::from_utf8(tool_text::first(path, len)) {
+        Ok(text) => Ok(text),
+        Err(_) => Err(io::Error::new(
+            ErrorKind::InvalidInput,
+            "the path of the journal is no UTF-8 text",
+        )),
+    }
+}
+
+// Takes the lock of a journal, a folder that only one process can make, or says why there is none to make.
+fn take_lock(rt: &(impl Files + Eprint), lock: &str) -> io::Result<()> {
+    match fs::create_dir(rt, lock) {
+        Ok(()) => Ok(()),
+        Err(error) => {
+            eprintln!(rt; "{lock}: {error}")?;
+            eprintln!(rt;
+                "ledger: the journal is in use, or its last session was cut off. If no ledger runs on it, remove the folder with rmdir."
+            )?;
+            Err(error)
+        }
+    }
+}
+
+fn main(rt: HostRuntime) -> io::Result<()> {
+    let mut bytes = [0u8; 65536];
     let mut board = [0u8; 9];
     let mut hex = [0u8; 40001];
     let mut memory = [0u8; 40000];
-    let mut buffer = io::large_buffer();
-    let mut path = io::buffer();
-    let mut folder = io::buffer();
-    let len = journal_path(&mut path);
+    let mut buffer = [0u8; 65536];
+    let mut path = [0u8; 4096];
+    let input = Input::new(rt.stdin());
+    let out = Output::new(rt.stdout());
+    let len = journal_path(&rt, &mut path);
     if len == 0 {
-        let desk = plain_session(&mut buffer);
-        run(
+        let desk = plain_session(&rt, input, out, &mut buffer);
+        return run(
+            &rt,
             desk,
             &mut bytes,
             &mut board,
@@ -135,20 +175,32 @@ fn main() {
             &mut memory,
             &mut buffer,
         );
-        return;
     }
-    let lock = take_lock(&path, len, &mut folder);
-    if !lock.taken {
-        return;
-    }
-    let desk = journal_session(&path, len, lock, &folder, &mut memory, &mut buffer);
-    run(
-        desk,
-        &mut bytes,
-        &mut board,
-        &mut hex,
+    let path = path_of(&path, len)?;
+    let lock = format!(in rt.alloc(); "{path}.lock")?;
+    let folder = format!(in rt.alloc(); "{lock}/..")?;
+    take_lock(&rt, lock.as_str())?;
+    let ended = match journal_session(
+        &rt,
+        path,
+        folder.as_str(),
+        input,
+        out,
         &mut memory,
         &mut buffer,
-    );
-    release(&folder, lock);
+    ) {
+        Err(error) => Err(error),
+        Ok(desk) => run(
+            &rt,
+            desk,
+            &mut bytes,
+            &mut board,
+            &mut hex,
+            &mut memory,
+            &mut buffer,
+        ),
+    };
+    let released = fs::remove_dir(&rt, lock.as_str());
+    ended?;
+    released
 }

@@ -7,8 +7,7 @@ pub fn write_bytes(memory: &mut [u8], place: usize, hex: &[u8], count: usize) {
     if memory.len() < place {
         return;
     }
-    let mut i = 0;
-    while i < count {
+    for i in 0..count {
         if hex.len() <= i {
             return;
         }
@@ -16,15 +15,12 @@ pub fn write_bytes(memory: &mut [u8], place: usize, hex: &[u8], count: usize) {
             return;
         }
         memory[place + i] = hex[i];
-        i += 1;
     }
 }
 
 // The whole memory to 0.
 pub fn clear(memory: &mut [u8]) {
-    let mut i = 0;
-    while i < memory.len() {
-        memory[i] = 0;
-        i += 1;
+    for byte in memory.iter_mut() {
+        *byte = 0;
     }
 }

@@ -1,8 +1,11 @@
 // The ledger of a session made again from its journal, 16 bytes at a time.
-use crate::journal::LONGEST;
+use crate::journal::{LONGEST, too_large};
 use crate::memory::Memory;
 use address_journal::{ResumeResult, ResumeStep, resume_header, resume_record};
 use address_ledger::Ledger;
+use std::fs::File;
+use std::io;
+use std::os::unix::fs::FileExt;
 
 // How far reading has come.
 #[derive(Clone, Copy)]
@@ -10,7 +13,7 @@ pub enum Reading {
     GoesOn,
     Ended,
     // the file cannot be read
-    Failed,
+    Failed(io::Error),
     // the number of the refusal
     Refused(u8),
 }
@@ -27,29 +30,36 @@ pub struct Resuming {
 }
 
 // The journal in a file, from its header to its end; the memory is that of a ledger without holders.
-pub fn resume(file: i32, memory: &mut Memory) -> Resuming {
+pub fn resume(file: &File, memory: &mut Memory) -> Resuming {
     let mut now = begin(file, memory);
-    let mut turns = u64::MAX;
-    while turns > 0 && now.goes_on() {
+    for _ in 0..u64::MAX {
+        if !now.goes_on() {
+            break;
+        }
         now = now.next(file, memory);
-        turns -= 1;
     }
     now
 }
 
 // The header of the journal.
-fn begin(file: i32, memory: &[u8]) -> Resuming {
+fn begin(file: &File, memory: &[u8]) -> Resuming {
     let mut bytes = [0u8; 16];
-    let got = read_at(file, 0, &mut bytes);
-    if got < 0 {
-        return failed();
+    match read_at(file, 0, &mut bytes) {
+        Err(error) => failed(error),
+        Ok(len) => begin_with(file, memory, &bytes, len),
     }
-    let len = io::count(got, &bytes);
-    if 0 < len && !may_be_header(&bytes) {
+}
+
+// The header, of which so many bytes were read.
+fn begin_with(file: &File, memory: &[u8], bytes: &[u8; 16], len: usize) -> Resuming {
+    if 0 < len && !may_be_header(bytes) {
         return damaged();
     }
-    let result = resume_header(memory, tool_text::first(&bytes, len));
-    after(result, 0, len, follows(file, 16))
+    let result = resume_header(memory, tool_text::first(bytes, len));
+    match follows(file, 16) {
+        Err(error) => failed(error),
+        Ok(more) => after(result, 0, len, more),
+    }
 }
 
 impl Resuming {
@@ -62,24 +72,36 @@ impl Resuming {
     }
 
     // With the next record.
-    fn next(self, file: i32, memory: &mut Memory) -> Resuming {
-        let whole = self.whole;
+    fn next(self, file: &File, memory: &mut Memory) -> Resuming {
         let mut bytes = [0u8; 16];
-        let got = read_at(file, whole, &mut bytes);
-        if got < 0 {
-            return failed();
+        match read_at(file, self.whole, &mut bytes) {
+            Err(error) => failed(error),
+            Ok(len) => self.with_record(file, memory, &bytes, len),
         }
+    }
+
+    // With the next record, of which so many bytes were read.
+    fn with_record(
+        self,
+        file: &File,
+        memory: &mut Memory,
+        bytes: &[u8; 16],
+        len: usize,
+    ) -> Resuming {
+        let whole = self.whole;
         if LONGEST < whole {
-            return failed();
+            return failed(too_large());
         }
-        let len = io::count(got, &bytes);
         let result = resume_record(
             self.ledger,
             memory,
             self.check,
-            tool_text::first(&bytes, len),
+            tool_text::first(bytes, len),
         );
-        after(result, whole, len, follows(file, whole + 16))
+        match follows(file, whole + 16) {
+            Err(error) => failed(error),
+            Ok(more) => after(result, whole, len, more),
+        }
     }
 }
 
@@ -148,10 +170,11 @@ fn damaged() -> Resuming {
     at(Reading::Refused(address_journal::DAMAGED), ledger, 0, 0, 0)
 }
 
-fn failed() -> Resuming {
+// The file cannot be read.
+fn failed(error: io::Error) -> Resuming {
     let opened = Ledger::open(0, 0, b"");
     let ledger = opened.ledger;
-    at(Reading::Failed, ledger, 0, 0, 0)
+    at(Reading::Failed(error), ledger, 0, 0, 0)
 }
 
 // The offset after 16 bytes more; one past the longest journal stays.
@@ -162,16 +185,16 @@ fn past(whole: usize) -> usize {
     whole + 16
 }
 
-// Reads bytes from an offset on; a negative answer is a failure.
-fn read_at(file: i32, offset: usize, bytes: &mut [u8]) -> isize {
+// Reads bytes from an offset on.
+fn read_at(file: &File, offset: usize, bytes: &mut [u8]) -> io::Result<usize> {
     if LONGEST < offset {
-        return -1;
+        return Err(too_large());
     }
-    libc::pread(file, bytes, offset as i64)
+    file.read_at(bytes, offset as u64)
 }
 
 // Whether the file has a byte at the offset.
-fn follows(file: i32, offset: usize) -> bool {
+fn follows(file: &File, offset: usize) -> io::Result<bool> {
     let mut byte = [0u8; 1];
-    read_at(file, offset, &mut byte) == 1
+    Ok(read_at(file, offset, &mut byte)? == 1)
 }

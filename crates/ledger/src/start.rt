@@ -1,13 +1,17 @@
 // How a session with a journal starts: the lock, the file, and what is made again from it.
 use crate::answer::{put_check, put_damage};
-use crate::journal::Journal;
-use crate::memory::{Memory, write_bytes};
+use crate::journal::{Journal, LONGEST, too_large};
+use crate::memory::Memory;
 use crate::resuming::{Reading, Resuming, resume};
 use address_ledger::Ledger;
 use address_ledger::range::count;
+use std::env::Env;
+use std::fs::{File, Files, OpenOptions};
+use std::io::ErrorKind;
+use std::{fs, io};
 use tool_numerals::decimal::Decimal;
+use tool_text::arguments::{argument, is_given};
 use tool_text::output::{Buffer, Output};
-use tool_text::word::Word;
 
 pub type Path = [u8; 4096];
 
@@ -24,14 +28,18 @@ pub struct Started {
 }
 
 // The length of the path after `--journal`, the first argument; 0 if the arguments are others.
-pub fn journal_path(path: &mut Path) -> usize {
-    if os::arg_count() < 3 {
+pub fn journal_path(rt: &impl Env, path: &mut Path) -> usize {
+    if !argument(rt, 1).is(b"--journal") {
         return 0;
     }
-    if !argument(1).is(b"--journal") {
-        return 0;
+    match rt.arg(2, path) {
+        Ok(len) => within(len),
+        Err(_) => 0,
     }
-    let len = os::arg(2, path);
+}
+
+// The length, or 0 where the path is too long.
+fn within(len: usize) -> usize {
     if LONGEST_PATH < len {
         return 0;
     }
@@ -39,8 +47,8 @@ pub fn journal_path(path: &mut Path) -> usize {
 }
 
 // Whether the lines are to be written too.
-pub fn is_echo_asked() -> bool {
-    os::arg_count() == 4 && argument(3).is(b"--echo")
+pub fn is_echo_asked(rt: &impl Env) -> bool {
+    argument(rt, 3).is(b"--echo") && !is_given(rt, 4)
 }
 
 // Which fixture this is, of how many that share a range.
@@ -50,158 +58,104 @@ pub struct Share {
     pub fixtures: usize,
 }
 
+// A range that is not shared.
+pub const WHOLE: Share = Share {
+    fixture: 1,
+    fixtures: 1,
+};
+
 // The numbers after `--fixture`, the third argument; without it the range is not shared.
-pub fn share_asked() -> Share {
-    if os::arg_count() == 6 && argument(3).is(b"--fixture") {
+pub fn share_asked(rt: &impl Env) -> Share {
+    if argument(rt, 3).is(b"--fixture") && is_given(rt, 5) && !is_given(rt, 6) {
         return Share {
-            fixture: number(4),
-            fixtures: number(5),
+            fixture: number(rt, 4),
+            fixtures: number(rt, 5),
         };
     }
-    Share {
-        fixture: 1,
-        fixtures: 1,
-    }
+    WHOLE
 }
 
 // The argument as a number; 0 if it is none.
-fn number(i: usize) -> usize {
+fn number(rt: &impl Env, i: usize) -> usize {
     let mut digits = [0u8; 16];
-    let len = os::arg(i, &mut digits);
+    let Ok(len) = rt.arg(i, &mut digits) else {
+        return 0;
+    };
     let none = Decimal::Empty;
-    let read = none.more(&digits[..len]);
-    match read {
+    match none.more(tool_text::first(&digits, len)) {
         Decimal::Number(n) => n as usize,
         _ => 0,
     }
 }
 
-fn argument(i: usize) -> Word {
-    let mut letters = [0u8; 16];
-    let len = os::arg(i, &mut letters);
-    Word::new().more(&letters[..len])
-}
-
-// The lock of a journal: a folder that only one process can make, and how much of a path names it, and the folder that it is in.
-#[derive(Clone, Copy)]
-pub struct Lock {
-    pub taken: bool,
-    named: usize,
-    pub parent: usize,
-}
-
-// The path with the suffix put after its first bytes, and its length.
-fn extend(path: &mut Path, len: usize, suffix: &[u8]) -> usize {
-    if 4088 < len {
-        return 0;
-    }
-    if LONGEST_PATH < suffix.len() {
-        return 0;
-    }
-    write_bytes(path, len, suffix, suffix.len());
-    len + suffix.len()
-}
-
-// Takes the lock of the journal with this path, which is put into the folder's.
-pub fn take_lock(path: &Path, len: usize, folder: &mut Path) -> Lock {
-    let base = extend(folder, 0, tool_text::first(path, len));
-    let named = extend(folder, base, b".lock");
-    let parent = extend(folder, named, b"/..");
-    Lock {
-        taken: made(tool_text::first(folder, named)),
-        named,
-        parent,
+// Opens the journal, or makes an empty one; its folder is synced then.
+fn open_file(rt: &impl Files<File = File>, path: &str, folder: &str) -> io::Result<File> {
+    match open_update(rt, path) {
+        Ok(file) => Ok(file),
+        Err(error) => {
+            if error.kind() != ErrorKind::NotFound {
+                return Err(error);
+            }
+            let made = OpenOptions::new()
+                .write(true)
+                .create_new(true)
+                .open(rt, path)?;
+            drop(made);
+            sync_folder(rt, folder)?;
+            open_update(rt, path)
+        }
     }
 }
 
-// Gives the lock back.
-pub fn release(folder: &Path, lock: Lock) {
-    os::rmdir(tool_text::first(folder, lock.named));
+// The file as it stands, for reading and writing.
+fn open_update(rt: &impl Files<File = File>, path: &str) -> io::Result<File> {
+    OpenOptions::new().read(true).write(true).open(rt, path)
 }
 
-// Makes the folder, or says why there is none to make.
-fn made(path: &[u8]) -> bool {
-    if os::mkdir(path) == 0 {
-        return true;
-    }
-    os::fail(path);
-    io::write_all(
-        libc::STDERR_FILENO,
-        b"ledger: the journal is in use, or its last session was cut off. If no ledger runs on it, remove the folder with rmdir.\n",
-    );
-    false
-}
-
-// Opens the journal, or makes an empty one; its folder is synced then. The answer is a descriptor, or -1.
-fn open_file(path: &[u8], folder: &[u8]) -> i32 {
-    let file = os::open_update(path);
-    if 0 <= file {
-        return file;
-    }
-    if os::errno() != libc::ENOENT {
-        return -1;
-    }
-    let made = os::create(path);
-    if made < 0 {
-        return -1;
-    }
-    libc::close(made);
-    if sync_folder(folder) {
-        return os::open_update(path);
-    }
-    -1
-}
-
-fn sync_folder(folder: &[u8]) -> bool {
-    let file = os::open_read(folder);
-    if file < 0 {
-        return false;
-    }
-    let synced = libc::fsync(file) == 0;
-    libc::close(file);
-    synced
+fn sync_folder(rt: &impl Files<File = File>, folder: &str) -> io::Result<()> {
+    let file = fs::open(rt, folder)?;
+    file.sync_all()
 }
 
 // The session over the journal with this path. What a cut left is dropped, and the file is synced: its last record may have been written by
-// a process that ended before its sync.
-pub fn start(path: &[u8], folder: &[u8], memory: &mut Memory, buffer: &mut Buffer) -> Started {
-    let file = open_file(path, folder);
-    if file < 0 {
-        return refused(path, Output::new());
-    }
-    let read = resume(file, memory);
-    let reading = read.reading;
-    match reading {
-        Reading::Ended => begun(path, file, read, buffer),
-        Reading::Refused(number) => nothing(put_damage(Output::new(), number, read.whole, buffer)),
-        _ => refused(path, Output::new()),
+// a process that ended before its sync. Where the file cannot be used, the error says why.
+pub fn start(
+    rt: &impl Files<File = File>,
+    path: &str,
+    folder: &str,
+    memory: &mut Memory,
+    out: Output,
+    buffer: &mut Buffer,
+) -> io::Result<Started> {
+    let file = open_file(rt, path, folder)?;
+    let read = resume(&file, memory);
+    match read.reading {
+        Reading::Ended => begun(file, read, out, buffer),
+        Reading::Refused(number) => Ok(nothing(put_damage(out, number, read.whole, buffer))),
+        Reading::Failed(error) => Err(error),
+        Reading::GoesOn => Err(too_large()),
     }
 }
 
-fn begun(path: &[u8], file: i32, read: Resuming, buffer: &mut Buffer) -> Started {
-    if crate::journal::LONGEST < read.whole {
-        return refused(path, Output::new());
+fn begun(file: File, read: Resuming, out: Output, buffer: &mut Buffer) -> io::Result<Started> {
+    if LONGEST < read.whole {
+        return Err(too_large());
     }
     if 0 < read.cut {
-        if libc::ftruncate(file, read.whole as i64) != 0 {
-            return refused(path, Output::new());
-        }
+        file.set_len(read.whole as u64)?;
     }
-    if libc::fsync(file) != 0 {
-        return refused(path, Output::new());
-    }
-    let ledger = read.ledger;
-    Started {
-        ledger,
+    file.sync_all()?;
+    Ok(Started {
+        ledger: read.ledger,
         journal: Journal::of(file, read.whole, read.check),
-        out: put_resumed(read, buffer),
+        out: put_resumed(read, out, buffer),
         open: true,
-    }
+    })
 }
 
 // What was dropped, and what was made again; nothing of a journal without a range.
-fn put_resumed(read: Resuming, buffer: &mut Buffer) -> Output {
-    let mut out = Output::new();
+fn put_resumed(read: Resuming, out: Output, buffer: &mut Buffer) -> Output {
+    let mut out = out;
     if 0 < read.cut {
         out = out
             .text(b"dropped bytes=", buffer)
@@ -233,12 +187,6 @@ fn put_ledger_resumed(out: Output, ledger: Ledger, check: u32, buffer: &mut Buff
         .text(b" free=", buffer)
         .number(ledger.free as u64, buffer);
     put_check(out.text(b" check=", buffer), check, buffer).byte(b'\n', buffer)
-}
-
-// The file cannot be used: the reason goes to standard error, and no line is read.
-fn refused(path: &[u8], out: Output) -> Started {
-    os::fail(path);
-    nothing(out)
 }
 
 // No line is read, after what was written.

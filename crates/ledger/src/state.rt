@@ -5,7 +5,7 @@ use crate::answer::{
 use crate::commands::{Board, Bytes, Command};
 use crate::journal::Journal;
 use crate::memory::{Memory, clear, write_bytes};
-use crate::start::share_asked;
+use crate::start::{Share, WHOLE};
 use address_journal::{RecordedCall, held_address, holder_of, part_of};
 use address_ledger::{CallResult, Ledger};
 use refusal::Verdict;
@@ -13,12 +13,14 @@ use tool_notation::put_refusal;
 use tool_text::line_error::put_line_error;
 use tool_text::output::{Buffer, Output};
 
-#[derive(Clone, Copy)]
+#[derive(Drop)]
 pub struct LedgerState {
     pub ledger: Ledger,
     // how many bytes of the memory are lent
     pub lent: usize,
     pub journal: Journal,
+    // which part of a range the fixture has
+    pub share: Share,
 }
 
 // The fixture after an order, and the output with its answer.
@@ -37,15 +39,17 @@ impl LedgerState {
             ledger,
             lent: 36864,
             journal: Journal::none(),
+            share: WHOLE,
         }
     }
 
     // The fixture with a journal, and the ledger that was made again from it.
-    pub fn resumed(ledger: Ledger, journal: Journal) -> LedgerState {
+    pub fn resumed(ledger: Ledger, journal: Journal, share: Share) -> LedgerState {
         LedgerState {
             ledger,
             lent: 36864,
             journal,
+            share,
         }
     }
 }
@@ -67,8 +71,7 @@ pub fn execute(
         };
     }
     let done = fixture.perform(order, board_of(board), memory, hex, out, buffer);
-    let journal = done.state.journal;
-    if journal.failed {
+    if done.state.journal.has_failed() {
         return done;
     }
     done.state.left(done.out.byte(b'\n', buffer))
@@ -91,8 +94,7 @@ impl LedgerState {
         out: Output,
         buffer: &mut Buffer,
     ) -> Done {
-        let journal = self.journal;
-        if !journal.used {
+        if !self.journal.is_used() {
             return self.carry_out(order, board, memory, hex, out, buffer);
         }
         match order {
@@ -121,7 +123,10 @@ impl LedgerState {
             Command::Open(first, size) => self.open(first, size, memory, out, buffer),
             Command::Grant => self.grant(board, memory, out, buffer),
             Command::Back => self.give_back(board, memory, out, buffer),
-            Command::Free => self.left(put_free(out, self.ledger.free(), buffer)),
+            Command::Free => {
+                let out = put_free(out, self.ledger.free(), buffer);
+                self.left(out)
+            }
             Command::Lend(count) => self.lend(count, out, buffer),
             Command::Read(place, count) => self.left(put_bytes(out, memory, place, count, buffer)),
             Command::Write(place, count) => {
@@ -134,8 +139,14 @@ impl LedgerState {
             }
             Command::Count(count) => self.counted(count).left(out.text(b"set", buffer)),
             Command::Marks(marks) => self.marked(marks).left(out.text(b"set", buffer)),
-            Command::Show => self.left(put_ledger(out, self.ledger, buffer)),
-            Command::List => self.left(put_list(out, self.ledger, memory, buffer)),
+            Command::Show => {
+                let out = put_ledger(out, self.ledger, buffer);
+                self.left(out)
+            }
+            Command::List => {
+                let out = put_list(out, self.ledger, memory, buffer);
+                self.left(out)
+            }
             Command::Who => self.who(board, memory, out, buffer),
             Command::Holds => self.holds(board, memory, out, buffer),
             Command::Wrong(fault) => self.left(put_line_error(out, fault, buffer)),
@@ -149,22 +160,9 @@ impl LedgerState {
     }
 
     // The fixture with another ledger.
-    fn with(self, ledger: Ledger) -> LedgerState {
-        let journal = self.journal;
-        LedgerState {
-            ledger,
-            lent: self.lent,
-            journal,
-        }
-    }
-
-    // The fixture with another ledger and the journal after it.
-    fn after(self, ledger: Ledger, journal: Journal) -> LedgerState {
-        LedgerState {
-            ledger,
-            lent: self.lent,
-            journal,
-        }
+    fn with(mut self, ledger: Ledger) -> LedgerState {
+        self.ledger = ledger;
+        self
     }
 
     // The fixture with another count kept in its ledger.
@@ -196,8 +194,9 @@ impl LedgerState {
         match verdict {
             Verdict::Refused(refusal) => self.left(put_refusal(out, refusal, buffer)),
             Verdict::Accepted => {
-                let fixture = self.with(opened.ledger);
-                fixture.left(put_opened(out, fixture.ledger.free(), buffer))
+                let ledger = opened.ledger;
+                self.with(ledger)
+                    .left(put_opened(out, ledger.free(), buffer))
             }
         }
     }
@@ -233,31 +232,22 @@ impl LedgerState {
         fixture.left(put_address(out, name, answer, buffer))
     }
 
-    fn lend(self, count: usize, out: Output, buffer: &mut Buffer) -> Done {
-        let ledger = self.ledger;
-        let journal = self.journal;
-        let fixture = LedgerState {
-            ledger,
-            lent: count,
-            journal,
-        };
-        fixture.left(out.text(b"lent ", buffer).number(count as u64, buffer))
+    fn lend(mut self, count: usize, out: Output, buffer: &mut Buffer) -> Done {
+        self.lent = count;
+        self.left(out.text(b"lent ", buffer).number(count as u64, buffer))
     }
 
     // The board that holds an address.
     fn who(self, board: [u8; 8], memory: &[u8], out: Output, buffer: &mut Buffer) -> Done {
         let address = number(board[0], board[1]);
-        self.left(put_holder(out, holder_of(self.ledger, memory, address), buffer))
+        let holder = holder_of(self.ledger, memory, address);
+        self.left(put_holder(out, holder, buffer))
     }
 
     // The address that the board holds.
     fn holds(self, board: [u8; 8], memory: &[u8], out: Output, buffer: &mut Buffer) -> Done {
-        self.left(put_address(
-            out,
-            b"holds ",
-            held_address(self.ledger, memory, &board),
-            buffer,
-        ))
+        let held = held_address(self.ledger, memory, &board);
+        self.left(put_address(out, b"holds ", held, buffer))
     }
 }
 
@@ -277,21 +267,21 @@ impl LedgerState {
         out: Output,
         buffer: &mut Buffer,
     ) -> Done {
-        let share = share_asked();
+        let share = self.share;
         let part = part_of(first, size, share.fixture, share.fixtures);
-        let journal = self.journal;
-        if journal.whole == 0 {
+        if self.journal.whole == 0 {
             return self.begin_journal(part.first, part.size, memory, out, buffer);
         }
-        if self.ledger.first == part.first && self.ledger.size == part.size {
-            return self.left(put_opened(out, self.ledger.free(), buffer));
+        let ledger = self.ledger;
+        if ledger.first == part.first && ledger.size == part.size {
+            return self.left(put_opened(out, ledger.free(), buffer));
         }
         self.left(out.text(b"error range", buffer))
     }
 
     // A new journal: its header is in the file before the range is opened.
     fn begin_journal(
-        self,
+        mut self,
         first: usize,
         size: usize,
         memory: &[u8],
@@ -304,10 +294,9 @@ impl LedgerState {
         match verdict {
             Verdict::Refused(refusal) => self.left(put_refusal(out, refusal, buffer)),
             Verdict::Accepted => {
-                let journal = self.journal;
-                let begun = journal.begun(ledger);
-                let fixture = self.after(ledger, begun);
-                if begun.failed {
+                self.journal = self.journal.begun(ledger);
+                let fixture = self.with(ledger);
+                if fixture.journal.has_failed() {
                     return fixture.left(out);
                 }
                 fixture.left(put_opened(out, ledger.free(), buffer))
@@ -322,8 +311,7 @@ impl LedgerState {
         out: Output,
         buffer: &mut Buffer,
     ) -> Done {
-        let journal = self.journal;
-        let call = address_journal::grant(self.ledger, memory, board, journal.check);
+        let call = address_journal::grant(self.ledger, memory, board, self.journal.check);
         self.recorded(call, b"granted ", out, buffer)
     }
 
@@ -334,22 +322,25 @@ impl LedgerState {
         out: Output,
         buffer: &mut Buffer,
     ) -> Done {
-        let journal = self.journal;
-        let call = address_journal::give_back(self.ledger, memory, board, journal.check);
+        let call = address_journal::give_back(self.ledger, memory, board, self.journal.check);
         self.recorded(call, b"freed ", out, buffer)
     }
 
     // The record is in the file, and synced, before the answer is written.
-    fn recorded(self, call: RecordedCall, name: &[u8], out: Output, buffer: &mut Buffer) -> Done {
-        let mut journal = self.journal;
+    fn recorded(
+        mut self,
+        call: RecordedCall,
+        name: &[u8],
+        out: Output,
+        buffer: &mut Buffer,
+    ) -> Done {
         if call.due {
-            journal = journal.appended(&call.bytes, call.check);
+            self.journal = self.journal.appended(&call.bytes, call.check);
         }
-        let answer = call.answer;
-        let fixture = self.after(call.ledger, journal);
-        if journal.failed {
+        let fixture = self.with(call.ledger);
+        if fixture.journal.has_failed() {
             return fixture.left(out);
         }
-        fixture.left(put_address(out, name, answer, buffer))
+        fixture.left(put_address(out, name, call.answer, buffer))
     }
 }

@@ -2,6 +2,7 @@
 use crate::commands::groups::Groups;
 use tool_numerals::decimal::Decimal;
 use tool_numerals::hex::Hex;
+use tool_text::find::find;
 use tool_text::word::Word;
 
 #[derive(Clone, Copy)]
@@ -40,7 +41,7 @@ impl Line {
         let mut line = self;
         let mut at = 0;
         while at < part.len() {
-            let end = bytes::scan::find(part, at, part.len(), b' ');
+            let end = find(part, at, part.len(), b' ');
             line = line.next(&part[at..end], end < part.len(), board, hex);
             at = end + 1;
         }

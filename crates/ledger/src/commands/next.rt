@@ -10,7 +10,7 @@ pub type Board = [u8; 9];
 pub type Bytes = [u8; 40001];
 
 // A line, and the session after it.
-#[derive(Clone, Copy)]
+#[derive(Drop)]
 pub struct Asked {
     pub line: Line,
     pub session: Session,
@@ -26,12 +26,13 @@ pub fn next_line(
 ) -> Asked {
     let mut reading = Reading::new(session);
     let mut line = Line::new();
-    let mut parts = u64::MAX;
-    while parts > 0 && reading.goes_on {
+    for _ in 0..u64::MAX {
+        if !reading.goes_on {
+            break;
+        }
         let part = reading.part(bytes);
         line = line.more(part.of(bytes), board, hex);
         reading = reading.after(part, bytes, buffer);
-        parts -= 1;
     }
     let session = reading.session;
     Asked { line, session }
