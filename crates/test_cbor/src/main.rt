@@ -3,6 +3,10 @@
 #![tactic(auto)]
 
 use refusal::Verdict;
+use std::fs::File;
+use std::io::Read;
+use std::{fs, io};
+use tool_text::find::find;
 use tool_text::hex::{Hex, Payload};
 use tool_text::output::{Buffer, Output};
 
@@ -23,7 +27,7 @@ fn answer(line: &[u8], out: Output, buffer: &mut Buffer) -> Output {
     if line.len() == 0 || line[0] == b'#' {
         return out;
     }
-    let end = bytes::scan::find(line, 0, line.len(), b' ');
+    let end = find(line, 0, line.len(), b' ');
     let mut payload = [0u8; 512];
     let hex = Hex::new().more(&line[0..end], &mut payload);
     let out = out.number(scanned(hex, &payload) as u64, buffer);
@@ -31,27 +35,41 @@ fn answer(line: &[u8], out: Output, buffer: &mut Buffer) -> Output {
 }
 
 // Every line of the text.
-fn answers(text: &[u8], buffer: &mut Buffer) {
-    let mut out = Output::new();
+fn answers(text: &[u8], out: Output, buffer: &mut Buffer) -> io::Result<()> {
+    let mut out = out;
     let mut at = 0;
     while at < text.len() {
-        let end = bytes::scan::find(text, at, text.len(), b'\n');
+        let end = find(text, at, text.len(), b'\n');
         out = answer(&text[at..end], out, buffer);
         at = end + 1;
     }
-    out.flush(buffer);
+    out.end(buffer)
 }
 
-fn main() {
-    let name = b"items.txt";
-    let file = os::open_read(name);
-    if file < 0 {
-        os::fail(name);
-        return;
+// How many bytes of the text a file has, to its end or the text's. One read may bring less than there is.
+fn read_full(file: &mut File, text: &mut Buffer) -> io::Result<usize> {
+    let mut len = 0;
+    for _ in 0..u64::MAX {
+        if 65536 <= len {
+            break;
+        }
+        let got = file.read(&mut text[len..])?;
+        if got == 0 {
+            break;
+        }
+        len += got;
     }
-    let mut text = io::large_buffer();
-    let mut buffer = io::large_buffer();
-    let n = io::read_full(file, &mut text);
-    libc::close(file);
-    answers(&text[..n], &mut buffer);
+    Ok(len)
+}
+
+fn main(rt: HostRuntime) -> io::Result<()> {
+    let mut file = fs::open(&rt, "items.txt")?;
+    let mut text = [0u8; 65536];
+    let mut buffer = [0u8; 65536];
+    let n = read_full(&mut file, &mut text)?;
+    answers(
+        tool_text::first(&text, n),
+        Output::new(rt.stdout()),
+        &mut buffer,
+    )
 }
