@@ -34,12 +34,10 @@ fn written(answer: WriteResult) -> usize {
 // The first sixteen bytes; zeros where there are fewer.
 fn sixteen(bytes: &[u8]) -> [u8; 16] {
     let mut copy = [0u8; 16];
-    let mut i = 0;
-    while i < 16 {
+    for i in 0..16 {
         if i < bytes.len() {
             copy[i] = bytes[i];
         }
-        i += 1;
     }
     copy
 }
@@ -47,12 +45,10 @@ fn sixteen(bytes: &[u8]) -> [u8; 16] {
 // The first thirteen bytes, as `sixteen`.
 fn thirteen(bytes: &[u8]) -> [u8; 13] {
     let mut copy = [0u8; 13];
-    let mut i = 0;
-    while i < 13 {
+    for i in 0..13 {
         if i < bytes.len() {
             copy[i] = bytes[i];
         }
-        i += 1;
     }
     copy
 }

@@ -15,10 +15,9 @@ pub extern "C" fn ledger_play(first: usize, size: usize, memory: &mut [u8], scri
     let opened = Ledger::open(first, size, memory);
     let ledger = opened.ledger;
     let mut played = Played { ledger, sum: 0 };
-    let mut at = 0;
-    while at + 9 <= script.len() {
+    for k in 0..script.len() / 9 {
+        let at = k * 9;
         played = call(played, memory, script[at], board_at(script, at + 1));
-        at += 9;
     }
     played.sum
 }
@@ -49,7 +48,7 @@ fn with_count(played: Played) -> Played {
 }
 
 fn added(sum: u64, value: u64) -> u64 {
-    std::num::wrapping_add_u64(sum, value)
+    sum.wrapping_add(value)
 }
 
 fn address_value(answer: AddressAnswer) -> u64 {

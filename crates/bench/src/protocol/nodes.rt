@@ -29,11 +29,9 @@ pub extern "C" fn bench_update(
     n: u64,
 ) -> u64 {
     let mut node = joined(dst, answer, id);
-    let mut i: u64 = 0;
-    while i < n {
+    for i in 0..n {
         let r = node.update(3 + i % 65536, update);
         node = r.node;
-        i += 1;
     }
     node_number(node)
 }
@@ -41,11 +39,8 @@ pub extern "C" fn bench_update(
 #[unsafe(no_mangle)]
 pub extern "C" fn bench_poll(dst: &mut [u8], answer: &[u8], id: u8, n: u64) -> u64 {
     let mut node = joined(dst, answer, id);
-    let mut i: u64 = 0;
-    while i < n {
-        let turn = i % 65536;
-        i += 1;
-        let r = node.poll(3 + turn);
+    for i in 0..n {
+        let r = node.poll(3 + i % 65536);
         node = r.node;
     }
     node_number(node)
@@ -55,15 +50,12 @@ pub extern "C" fn bench_poll(dst: &mut [u8], answer: &[u8], id: u8, n: u64) -> u
 pub extern "C" fn bench_sending(dst: &mut [u8], answer: &[u8], id: u8, n: u64) -> u64 {
     let mut node = joined(dst, answer, id);
     let mut seen: u64 = 0;
-    let mut i: u64 = 0;
-    while i < n {
-        let turn = i;
-        i += 1;
+    for i in 0..n {
         let r = node.sending_key(1);
         let answer = r.answer;
         let key = answer.key;
         node = r.node;
-        seen = seen ^ wide(key.identifier) ^ turn;
+        seen = seen ^ wide(key.identifier) ^ i;
     }
     seen
 }
@@ -72,12 +64,10 @@ pub extern "C" fn bench_sending(dst: &mut [u8], answer: &[u8], id: u8, n: u64) -
 pub extern "C" fn bench_receiving(dst: &mut [u8], answer: &[u8], id: u8, n: u64) -> u64 {
     let node = joined(dst, answer, id);
     let mut seen: u64 = 0;
-    let mut i: u64 = 0;
-    while i < n {
+    for i in 0..n {
         let r = node.receiving_key(1, id);
         let key = r.key;
         seen = seen ^ wide(key.identifier) ^ i;
-        i += 1;
     }
     seen
 }
@@ -85,9 +75,7 @@ pub extern "C" fn bench_receiving(dst: &mut [u8], answer: &[u8], id: u8, n: u64)
 #[unsafe(no_mangle)]
 pub extern "C" fn bench_verified(dst: &mut [u8], answer: &[u8], id: u8, n: u64) -> u64 {
     let mut node = joined(dst, answer, id);
-    let mut i: u64 = 0;
-    while i < n {
-        i += 1;
+    for _ in 0..n {
         let r = node.verified(1, id);
         node = r.node;
     }
