@@ -3,8 +3,7 @@ ghost use Rattle.std.specs.Prelude.{length as size};
 ghost use Rattle.cipher_calls.specs.Cipher.{Wrote, sealing, unsealing};
 
 // Seals `text` with the associated data into `dst`.
-#[unsafe(no_mangle)]
-pub extern "C" fn pothatch_seal(
+pub fn pothatch_seal(
     key: &[u8],
     nonce: &[u8],
     associated: &[u8],
@@ -19,8 +18,7 @@ pub extern "C" fn pothatch_seal(
 }
 
 // Opens `sealed` with the associated data into `dst`.
-#[unsafe(no_mangle)]
-pub extern "C" fn pothatch_unseal(
+pub fn pothatch_unseal(
     key: &[u8],
     nonce: &[u8],
     associated: &[u8],

@@ -1,18 +1,18 @@
-// The library that C links: each function is that of its name in a crate of calls, which works on the lent bytes, or loads what they hold,
-// calls the proved function behind it, and stores the result.
+// The library that C links, as the crate pothatch_c exports it: each function is that of its name in a crate of calls, which works on the
+// lent bytes, or loads what they hold, calls the proved function behind it, and stores the result.
 // Numbers and byte slices alone cross; state and results are structs of bytes, images. A call answers 0, or the refusal's number.
 #![tactic(auto)]
 
-mod cipher;
-mod ledger;
-mod library;
-mod name;
-mod nodes;
-mod payload;
-mod proxy;
-mod replay;
-mod serial;
-mod usage;
+pub mod cipher;
+pub mod ledger;
+pub mod library;
+pub mod name;
+pub mod nodes;
+pub mod payload;
+pub mod proxy;
+pub mod replay;
+pub mod serial;
+pub mod usage;
 mod wide;
 
 ghost use Rattle.pothatch.specs.Laws.{RefusalsKeep, EmptiedIsNone, EmptiedIsEmpty};

@@ -6,8 +6,7 @@ ghost use Rattle.pothatch.specs.Library.{size_of, size_number};
 use image::RANGE;
 
 // The number of the layout of every image.
-#[unsafe(no_mangle)]
-pub extern "C" fn pothatch_layout() -> u32
+pub fn pothatch_layout() -> u32
     ensures { result ≡ layout }
 {
     1
@@ -33,8 +32,7 @@ fn size_of(kind: u64) -> u32
 }
 
 // The size of a struct, by its kind.
-#[unsafe(no_mangle)]
-pub extern "C" fn pothatch_size(kind: u64, size: &mut u32) -> u32
+pub fn pothatch_size(kind: u64, size: &mut u32) -> u32
     ensures number { result ≡ size_number kind }
     ensures size { size.new ≡ size_of kind }
 {

@@ -7,8 +7,7 @@ use image::{RANGE, clear, put_array_8};
 use refusal::Refusal;
 
 // The refusal's name in ASCII, with zeros after it.
-#[unsafe(no_mangle)]
-pub extern "C" fn pothatch_refusal_name(number: u64, name: &mut [u8]) -> u32
+pub fn pothatch_refusal_name(number: u64, name: &mut [u8]) -> u32
     ensures { Names number name.old result name.new }
 {
     refusal::number_range_law();

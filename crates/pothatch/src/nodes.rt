@@ -7,8 +7,7 @@ ghost use Rattle.pothatch.specs.Wide.{code_of, identifier_of};
 use crate::wide::{code_of, identifier_of};
 
 // Makes a node, idle.
-#[unsafe(no_mangle)]
-pub extern "C" fn pothatch_node_make(
+pub fn pothatch_node_make(
     form: u64,
     role: u64,
     has_network: u64,
@@ -28,8 +27,7 @@ pub extern "C" fn pothatch_node_make(
 }
 
 // Starts a join attempt: the join request goes to `dst`.
-#[unsafe(no_mangle)]
-pub extern "C" fn pothatch_node_start(
+pub fn pothatch_node_start(
     node: &mut [u8],
     time: u64,
     timeout: u64,
@@ -43,21 +41,14 @@ pub extern "C" fn pothatch_node_start(
 }
 
 // What is due in the join attempt.
-#[unsafe(no_mangle)]
-pub extern "C" fn pothatch_node_poll(node: &mut [u8], time: u64, due: &mut u32) -> u32
+pub fn pothatch_node_poll(node: &mut [u8], time: u64, due: &mut u32) -> u32
     ensures { Does (polling time) node.old result node.new due.new }
 {
     node_calls::node_poll(node, time, due)
 }
 
 // A join answer.
-#[unsafe(no_mangle)]
-pub extern "C" fn pothatch_node_answer(
-    node: &mut [u8],
-    time: u64,
-    payload: &[u8],
-    reports: &mut [u8],
-) -> u32
+pub fn pothatch_node_answer(node: &mut [u8], time: u64, payload: &[u8], reports: &mut [u8]) -> u32
     ensures { Changes 17 (delivering JoinAnswer time payload.now) node.old reports.old result
         node.new reports.new }
 {
@@ -65,13 +56,7 @@ pub extern "C" fn pothatch_node_answer(
 }
 
 // A parameter update.
-#[unsafe(no_mangle)]
-pub extern "C" fn pothatch_node_update(
-    node: &mut [u8],
-    time: u64,
-    payload: &[u8],
-    reports: &mut [u8],
-) -> u32
+pub fn pothatch_node_update(node: &mut [u8], time: u64, payload: &[u8], reports: &mut [u8]) -> u32
     ensures { Changes 17 (delivering Update time payload.now) node.old reports.old result
         node.new reports.new }
 {
@@ -79,16 +64,14 @@ pub extern "C" fn pothatch_node_update(
 }
 
 // Whether the short address holds.
-#[unsafe(no_mangle)]
-pub extern "C" fn pothatch_node_holds(node: &[u8], time: u64, holds: &mut u32) -> u32
+pub fn pothatch_node_holds(node: &[u8], time: u64, holds: &mut u32) -> u32
     ensures { Tells (asking time) node.now result holds.new }
 {
     node_calls::node_holds(node, time, holds)
 }
 
 // The key to send a frame with, and its counter.
-#[unsafe(no_mangle)]
-pub extern "C" fn pothatch_node_send(node: &mut [u8], frame_type: u64, key: &mut [u8]) -> u32
+pub fn pothatch_node_send(node: &mut [u8], frame_type: u64, key: &mut [u8]) -> u32
     ensures { Changes 33 (sending (code_of frame_type)) node.old key.old result node.new
         key.new }
 {
@@ -96,13 +79,7 @@ pub extern "C" fn pothatch_node_send(node: &mut [u8], frame_type: u64, key: &mut
 }
 
 // The key to receive a frame with.
-#[unsafe(no_mangle)]
-pub extern "C" fn pothatch_node_receive(
-    node: &[u8],
-    frame_type: u64,
-    identifier: u64,
-    key: &mut [u8],
-) -> u32
+pub fn pothatch_node_receive(node: &[u8], frame_type: u64, identifier: u64, key: &mut [u8]) -> u32
     ensures { Gives 33 (receiving (code_of frame_type) (identifier_of identifier)) node.now key.old result
         key.new }
 {
@@ -110,8 +87,7 @@ pub extern "C" fn pothatch_node_receive(
 }
 
 // The radio verified such a frame.
-#[unsafe(no_mangle)]
-pub extern "C" fn pothatch_node_verified(
+pub fn pothatch_node_verified(
     node: &mut [u8],
     frame_type: u64,
     identifier: u64,

@@ -2,24 +2,21 @@
 ghost use Rattle.proxy_calls.specs.Proxy.{Makes, SetsKey, IssuesIn, JudgesIn};
 
 // Makes a proxy with this key, nothing issued.
-#[unsafe(no_mangle)]
-pub extern "C" fn pothatch_proxy_make(key: &[u8], proxy: &mut [u8]) -> u32
+pub fn pothatch_proxy_make(key: &[u8], proxy: &mut [u8]) -> u32
     ensures { Makes key.now proxy.old result proxy.new }
 {
     proxy_calls::proxy_make(key, proxy)
 }
 
 // Sets a key, and numbers begin at 0 again.
-#[unsafe(no_mangle)]
-pub extern "C" fn pothatch_proxy_set_key(proxy: &mut [u8], key: &[u8]) -> u32
+pub fn pothatch_proxy_set_key(proxy: &mut [u8], key: &[u8]) -> u32
     ensures { SetsKey proxy.old key.now result proxy.new }
 {
     proxy_calls::proxy_set_key(proxy, key)
 }
 
 // Issues the option body for a pledge's interface identifier, port and token.
-#[unsafe(no_mangle)]
-pub extern "C" fn pothatch_proxy_issue(
+pub fn pothatch_proxy_issue(
     proxy: &mut [u8],
     interface_id: &[u8],
     port: u64,
@@ -33,8 +30,7 @@ pub extern "C" fn pothatch_proxy_issue(
 }
 
 // Whom a response with this body goes to.
-#[unsafe(no_mangle)]
-pub extern "C" fn pothatch_proxy_judge(proxy: &[u8], body: &[u8], pledge: &mut [u8]) -> u32
+pub fn pothatch_proxy_judge(proxy: &[u8], body: &[u8], pledge: &mut [u8]) -> u32
     ensures { JudgesIn proxy.now body.now pledge.old result pledge.new }
 {
     proxy_calls::proxy_judge(proxy, body, pledge)

@@ -18,8 +18,7 @@ fn encryption_of(family: Family) -> u32
 }
 
 // Whether data frames and acknowledgements under a key of this usage are encrypted, and the length of a frame's MIC in bytes.
-#[unsafe(no_mangle)]
-pub extern "C" fn pothatch_key_usage(usage: u64, encrypted: &mut u32, mic_length: &mut u32) -> u32
+pub fn pothatch_key_usage(usage: u64, encrypted: &mut u32, mic_length: &mut u32) -> u32
     ensures { UsageSpec usage result encrypted.new mic_length.new }
 {
     match entry_at(code_of(usage)) {
