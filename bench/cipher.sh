@@ -6,6 +6,6 @@ cd "$(dirname "$0")/.."
 work=$(mktemp -d)
 trap 'rm -rf "$work"' EXIT
 
-[ -f target/staticlib/libbench.a ] || rt staticlib bench >/dev/null
+[ -f target/staticlib/libbench.a ] || tools/build bench >&2
 cc -O2 -o "$work/cipher" bench/cipher.c target/staticlib/libbench.a -ltomcrypt
 "$work/cipher"

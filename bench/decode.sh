@@ -10,7 +10,7 @@ lines=${LINES_TO_READ:-1000000}
 work=$(mktemp -d)
 trap 'rm -rf "$work"' EXIT
 
-[ -x target/bin/decode ] || rt check decode >/dev/null
+[ -x target/bin/decode ] || tools/build decode >&2
 sed '/^# Lines of tools/,$d' crates/decode/stdin >"$work/vectors"
 # each line that is answered is beside its answer
 awk '{ t = $0; sub(/\r$/, "", t); gsub(/^ +| +$/, "", t) } t == "" || t ~ /^#/ { next } { getline said <"crates/decode/stdout" } said ~ /^accepted/' \

@@ -6,7 +6,7 @@ set -eu
 cd "$(dirname "$0")/.."
 work=$(mktemp -d)
 trap 'rm -rf "$work"' EXIT
-for crate in bench pothatch; do ${RT:-rt} staticlib "$crate" >"$work/said" || { cat "$work/said"; exit 1; }; done
+tools/build bench pothatch >"$work/said" || { cat "$work/said"; exit 1; }
 library=target/staticlib/libpothatch.a
 gcc -O2 -std=gnu11 -Ibench bench/image.c target/staticlib/libbench.a "$library" -o "$work/image"
 "$work/image"

@@ -8,6 +8,7 @@ cd "$(dirname "$0")/.."
 grants=500
 work=$(mktemp -d -p "$folder")
 trap 'rm -rf "$work"' EXIT
+[ -x target/bin/ledger ] || tools/build ledger >&2
 gcc -O2 -o "$work/peer" bench/journal.c -lsqlite3
 {
     echo "open 4096 4096"

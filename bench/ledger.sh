@@ -5,7 +5,7 @@
 set -eu
 other=$(realpath "${1:-/dev/null}")
 cd "$(dirname "$0")/.."
-rt staticlib bench >/dev/null
+tools/build bench >&2
 work=$(mktemp -d)
 trap 'rm -rf "$work"' EXIT
 if [ $# -gt 0 ]; then

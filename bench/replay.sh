@@ -9,7 +9,7 @@ cd "$(dirname "$0")/.."
 work=$(mktemp -d)
 trap 'rm -rf "$work"' EXIT
 
-[ -x target/bin/replay ] || rt check replay >/dev/null
+[ -x target/bin/replay ] || tools/build replay >&2
 python3 bench/gen_traces.py "$work"
 cc -O2 -o "$work/peer" bench/replay_peer.c
 

@@ -3,7 +3,7 @@
 # OUT/libpothatch_chip.a, with its text sizes in OUT/sizes and the stack depth of each call in OUT/stack.txt; with a file of recorded calls
 # (c/played.c) it plays them under qemu-arm. It is the
 # module of the proved build with another target: no proof covers that change, nor the compiler's ARM back end. Lengths are 64 bits on the
-# chip too. RT as for install.sh; MODULE names a module that was kept already (rt_keep_bitcode.sh).
+# chip too. RT as for install.sh; MODULE names the module where it is not that of tools/build (target/staticlib/libpothatch.bc).
 set -eu
 out=${1:?"use: chip.sh OUT [CALLS]"}
 here=$(cd "$(dirname "$0")" && pwd)
@@ -17,17 +17,20 @@ case $chip in
   *) echo "chip.sh: CHIP is cortex-m0plus, cortex-m4 or cortex-m33"; exit 1 ;;
 esac
 calls=${2:+$(cd "$(dirname "$2")" && pwd)/$(basename "$2")}
-home=${RATTLE_HOME:-$(dirname "$(dirname "$(rt doc)")")}
-machine=$(uname -m)
-tools=$home/on/$machine/toolchain
+tools=$(dirname "$("${RT:-rt}" doc)")/toolchain
 cd "$here/.."
 
-if [ -n "${MODULE:-}" ]; then cp "$MODULE" "$out/module.bc"; else bindings/rt_keep_bitcode.sh "$out/module.bc" ${RT:-rt} staticlib pothatch; fi
+if [ -z "${MODULE:-}" ]; then
+  tools/build pothatch
+  MODULE=target/staticlib/libpothatch.bc
+fi
+cp "$MODULE" "$out/module.bc"
 clang=$tools/bin/clang
 "$clang" -S -emit-llvm -O0 -Xclang -disable-llvm-passes -Wno-override-module "$out/module.bc" -o "$out/module.ll"
 sed -e '/^target datalayout/s/".*"/"e-m:e-p:32:32-Fi8-i64:64-v128:64:128-a:0:32-n32-S64"/' \
   -e "/^target triple/s/\".*\"/\"$triple-unknown-eabi\"/" \
-  -e 's/ "target-cpu"="[^"]*"//; s/ "target-features"="[^"]*"//; s/ "tune-cpu"="[^"]*"//' "$out/module.ll" >"$out/chip.ll"
+  -e 's/ "target-cpu"="[^"]*"//; s/ "target-features"="[^"]*"//; s/ "tune-cpu"="[^"]*"//' \
+  -e 's/ "probe-stack"="[^"]*"//; s/ "stack-probe-size"="[^"]*"//' "$out/module.ll" >"$out/chip.ll"
 "$clang" --target="$triple-eabi" -mcpu="$chip" -mfloat-abi=soft -O2 -ffunction-sections -fdata-sections -Wno-override-module \
   -c -x ir "$out/chip.ll" -o "$out/chip.o"
 rm -f "$out/libpothatch_chip.a"

@@ -24,10 +24,10 @@ version=$(cat VERSION)
 interface=${version%.*}
 tools="decode simulate replay ledger cipher proxy"
 if [ -z "${ARCHIVE:-}" ]; then
-  ${RT:-rt} staticlib pothatch
+  tools/build pothatch
   ARCHIVE=target/staticlib/libpothatch.a
 fi
-if [ -n "${TOOLS:-}" ]; then ${RT:-rt} check $tools; fi
+if [ -n "${TOOLS:-}" ]; then tools/build $tools; fi
 python3 bindings/generate.py --check
 installed=$root/share/pothatch/installed
 mkdir -p "$root/share/pothatch"

@@ -1,27 +1,26 @@
 #!/bin/sh
 # build.sh OUT: EXPERIMENTAL. Builds the library for WebAssembly into OUT/pothatch.wasm, its interface as OUT/interface.json, and the page
 # OUT/desk.html, which has both in it. It is the module of the proved build with another target: no proof covers that change, nor the
-# compiler's WebAssembly back end. Pointers have 32 bits, lengths 64. RT as for install.sh; MODULE names a module that was kept already
-# (rt_keep_bitcode.sh).
+# compiler's WebAssembly back end. Pointers have 32 bits, lengths 64. RT as for install.sh; MODULE names the module where it is not that of
+# tools/build (target/staticlib/libpothatch.bc).
 set -eu
 out=${1:?"use: build.sh OUT"}
 here=$(cd "$(dirname "$0")" && pwd)
 mkdir -p "$out"
 out=$(cd "$out" && pwd)
-home=${RATTLE_HOME:-$(dirname "$(dirname "$(rt doc)")")}
-clang=$home/on/$(uname -m)/toolchain/bin/clang
+clang=$(dirname "$("${RT:-rt}" doc)")/toolchain/bin/clang
 work=$(mktemp -d)
 trap 'rm -rf "$work"' EXIT
 cd "$here/../.."
 
 if [ -z "${MODULE:-}" ]; then
-  bindings/rt_keep_bitcode.sh "$work/module.bc" ${RT:-rt} staticlib pothatch
-  MODULE=$work/module.bc
+  tools/build pothatch
+  MODULE=target/staticlib/libpothatch.bc
 fi
 layout="e-m:e-p:32:32-p10:8:8-p20:8:8-i64:64-i128:128-n32:64-S128-ni:1:10:20"
 "$clang" -S -emit-llvm -O0 -Xclang -disable-llvm-passes -Wno-override-module "$MODULE" -o "$work/module.ll"
 sed -e "/^target datalayout/s/\".*\"/\"$layout\"/" -e '/^target triple/s/".*"/"wasm32-unknown-unknown"/' \
-  -e 's/ "target-cpu"="[^"]*"//; s/ "target-features"="[^"]*"//; s/ "tune-cpu"="[^"]*"//; s/ "probe-stack"="[^"]*"//' \
+  -e 's/ "target-cpu"="[^"]*"//; s/ "target-features"="[^"]*"//; s/ "tune-cpu"="[^"]*"//; s/ "probe-stack"="[^"]*"//; s/ "stack-probe-size"="[^"]*"//' \
   "$work/module.ll" >"$work/web.ll"
 "$clang" --target=wasm32-unknown-unknown -Oz -mbulk-memory -ffunction-sections -fdata-sections -Wno-override-module -c -x ir \
   "$work/web.ll" -o "$work/web.o"
