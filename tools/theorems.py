@@ -98,6 +98,8 @@ def definition(path, name):
     end = start + 1
     while end < len(lines) and (lines[end].startswith((' ', f'{name} ')) or lines[end] == name):
         end += 1
+    if end < len(lines) and lines[end] == '}':
+        end += 1
     while start and lines[start - 1].startswith('-- ') and not lines[start - 1].startswith('-- --'):
         start -= 1
     return lines[start:end]
@@ -207,7 +209,7 @@ def contracts(claim, before):
         path, found = contract(full)
         if path is None:
             raise Missing(f'{SOURCE}:{line}: there is no function {full}')
-        only = re.fullmatch(r'\s*ensures \{ λ \w+\. ⌜ ([^⌝]+) ⌝ \}', found[1]) if len(found) == 2 else None
+        only = re.fullmatch(r'\s*ensures \{ (.+) \}', found[1]) if len(found) == 2 else None
         if only and '->' not in found[0]:
             laws.append(f'`{full}` (ensures `{only.group(1)}`)')
         elif full in before:
