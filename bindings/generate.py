@@ -1,7 +1,8 @@
 #!/usr/bin/env python3
 """generate.py: writes pothatch.h, pothatch_inline.h, the Rust crate's sys.rs and refusal.rs and the Python package's _api.py from api.txt
 and rules.txt. generate.py --check [LIBRARY]: compares those files with what would be written, the table with the exported functions of
-crates/pothatch/src, and with LIBRARY (a shared library) the table with its exported symbols, its layout number and the proved sizes."""
+crates/pothatch_c/src, their contracts with those in crates/pothatch/src, and with LIBRARY (a shared library) the table with its exported
+symbols, its layout number and the proved sizes."""
 import ctypes
 import glob
 import os
@@ -433,17 +434,43 @@ def python_api(api):
 
 # ---- comparing
 def source_declarations():
-    """Each exported function of crates/pothatch/src: its parameters as (name, Rattle type) and its answer."""
+    """Each exported function of crates/pothatch_c/src: its parameters as (name, Rattle type) and its answer."""
     found = {}
-    for path in glob.glob(os.path.join(HERE, "..", "crates", "pothatch", "src", "*.rt")):
+    for path in sources("pothatch_c"):
         text = open(path, encoding="utf-8").read()
-        here = re.findall(r'#\[no_mangle\]\s+pub extern "C" fn (\w+)\(([^)]*)\) -> (\w+)', text)
-        if len(here) != text.count("#[no_mangle]"):
+        here = re.findall(r'#\[unsafe\(no_mangle\)\]\s+pub extern "C" fn (\w+)\(([^)]*)\) -> (\w+)', text)
+        if len(here) != text.count("no_mangle"):
             sys.exit("api: %s: a marked function was not understood" % os.path.basename(path))
         for name, params, answer in here:
             pairs = [tuple(w.strip() for w in p.split(":")) for p in params.split(",") if p.strip()]
             found[name] = (pairs, answer)
     return found
+
+
+def sources(crate):
+    return glob.glob(os.path.join(HERE, "..", "crates", crate, "src", "*.rt"))
+
+
+def contracts(crate):
+    """Of each function pothatch_.. of a crate: its signature with its clauses, its body and its module."""
+    found = {}
+    for path in sources(crate):
+        text = open(path, encoding="utf-8").read()
+        for name, clauses, body in re.findall(r'^pub (?:extern "C" )?fn (pothatch_\w+)(\(.*?)^\{\n(.*?)^\}', text, re.M | re.S):
+            module = os.path.basename(path)[:-3]
+            clauses = " ".join(clauses.split()).replace("( ", "(", 1).replace(", )", ")", 1)
+            found[name] = (clauses, re.sub(r"\s+", "", body).replace(",)", ")"), module)
+    return found
+
+
+def unlike_exports():
+    """The exports that do not restate the contract of the function of their name in crates/pothatch, or do more than call it."""
+    library, exports = contracts("pothatch"), contracts("pothatch_c")
+    for name in sorted(set(library) | set(exports)):
+        clauses, _, module = library.get(name, ("", "", ""))
+        params = [p.split(":")[0].strip() for p in clauses[1 : clauses.find(")")].split(",") if p.strip()]
+        if exports.get(name) != (clauses, "pothatch::%s::%s(%s)" % (module, name, ",".join(params)), module):
+            yield name
 
 
 def table_declarations(api):
@@ -520,6 +547,9 @@ def main():
         if source.get(name) != table.get(name):
             bad += 1
             print("api: %s\n  source: %s\n  table:  %s" % (name, source.get(name), table.get(name)))
+    for name in unlike_exports():
+        bad += 1
+        print("api: %s of crates/pothatch_c does not call that of crates/pothatch under the same contract" % name)
     if len(sys.argv) > 2:
         bad += compare_library(api, sys.argv[2])
     print("api: %d functions, %d structs, %d files, %d differ" % (len(table), len(api.structs), len(files), bad))

@@ -17,8 +17,8 @@ HISTORY = 'docs/CHANGES.md'
 LAYER_TABLES = ('docs/ARCHITECTURE.md',)
 README_LINES = 100
 WIDTH = 100
-# libraries of the toolchain
-KIT = {'bytes', 'check', 'io', 'libc', 'os'}
+# libraries of the toolchain that crates use beside std
+KIT = set()
 # a path with a word in place of a name: crates/CRATE/must-fail, bindings/..
 PLACEHOLDER = re.compile(r'(?:^|/)(?:CRATE|EDIT|FILE|MODULE|NAME|\.\.)(?:[/.]|$)')
 # names of other people's software and standards
@@ -70,13 +70,14 @@ def tables(path):
 
 
 def layers():
-    """crates.txt: the crates in order as (name, layer), and what each uses; a comment line begins a layer."""
+    """crates.txt: the crates in order as (name, layer), and what each uses; a comment line begins a layer. `staticlib` may follow a name."""
     layer, result, uses_of = None, [], {}
     for number, line in enumerate(lines_of('crates.txt'), 1):
         if line.startswith('#'):
             layer = line[1:].strip()
         elif ':' in line:
             name, uses = line.split(':')
+            name = name.split()[0]
             before = {crate for crate, _ in result} | KIT
             for used in uses.split():
                 check(used in before, 'crates.txt', number, f'{name} uses {used}, which is not above it')

@@ -40,7 +40,7 @@ def layers():
                 uses[layer] = set()
             elif ":" in line:
                 name, used = line.split(":")
-                layer_of[name] = layer
+                layer_of[name.split()[0]] = layer
                 uses[layer] |= {layer_of[crate] for crate in used.split() if crate in layer_of} - {layer}
     return {layer: used for layer, used in uses.items() if layer in layer_of.values()}
 
