@@ -1,5 +1,4 @@
 -- One end for each answer (proofs/Ends.antt).
-use borrow.Author.Rules.{rules}
 use Rattle.trace_record.specs.Layout.{delivery_of}
 use Rattle.trace_record.proofs.Ends.{delivery-long, delivery-used, delivery-good}
 use Rattle.trace_record.proofs.entries.delivery_at.Goals as goal

@@ -1,5 +1,4 @@
 -- One end for each answer (proofs/Ends.antt); what was read lies inside the trace (proofs/Rooms.antt).
-use borrow.Author.Rules.{rules}
 use Rattle.trace_record.proofs.Ends.{at-end, at_cut, at-record}
 use Rattle.trace_record.proofs.Rooms.{read_at}
 use Rattle.trace_record.proofs.entries.entry_at.Goals as goal

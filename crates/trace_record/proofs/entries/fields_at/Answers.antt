@@ -2,8 +2,7 @@
 -- and the body's size gives what each reader asks.
 use native.Mathlib.Omega.{arith}
 use lib.Seq.{drop-drop}
-use borrow.Author.Rules.{rules}
-use borrow.Author.Tests.{ne_eqb}
+use Rattle.std.proofs.lemmas.Bool.Decides.{nat_tests}
 use Rattle.trace_record.specs.Layout.{fields}
 use Rattle.trace_record.proofs.entries.fields_at.Goals as goal
 
@@ -34,12 +33,4 @@ returns-in-6 c = rw (c.in-6.is, c.number_at-in-6.ensures)
 
 pub returns-in_default : goal.returns-in_default
 unfolding fields
-returns-in_default c =
-    rw (
-      ne_eqb _ _ c.in_default.rest.0.0.0.0.0.1,
-      ne_eqb _ _ c.in_default.rest.0.0.0.0.1,
-      ne_eqb _ _ c.in_default.rest.0.0.0.1,
-      ne_eqb _ _ c.in_default.rest.0.0.1,
-      ne_eqb _ _ c.in_default.rest.0.1,
-      ne_eqb _ _ c.in_default.rest.1,
-    )
+returns-in_default c = grind (arith, nat_tests)

@@ -1,5 +1,4 @@
 -- One end for each answer (proofs/Ends.antt).
-use borrow.Author.Rules.{rules}
 use Rattle.trace_record.proofs.Ends.{verified-bad, verified-good}
 use Rattle.trace_record.proofs.entries.verified_at.Goals as goal
 

@@ -1,10 +1,10 @@
 -- The invariant: the bytes still to come are zero exactly where all are.
-use Prim.Native.Nat.{◌≤◌, ◌+◌, ◌-◌}
-use mathlib.Core.Path.{◌≡◌, refl, sym, ◌∙◌}
+use Prim.Native.Nat.{◌+◌, ◌-◌}
+use mathlib.Core.Path.{sym, ◌∙◌}
 use native.Mathlib.Omega.{arith}
-use borrow.Author.Tests.{eq-eqb, ne_eqb}
-use lib.ListN.{length, take, drop}
-use Rattle.trace_record.specs.Layout.{zeros, blank}
+use borrow.Author.Tests.{ne_eqb}
+use lib.ListN.{drop}
+use Rattle.trace_record.specs.Layout.{blank}
 use Rattle.trace_record.proofs.Zeros.{zeros-step, zeros-none}
 use Rattle.trace_record.proofs.fields.blank.Goals as goal
 

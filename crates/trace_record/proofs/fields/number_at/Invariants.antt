@@ -1,11 +1,8 @@
 -- The invariant: the value read so far and the bytes still to come make the whole number.
-use Prim.Native.Nat.{◌≤◌, ◌<◌, ◌-◌, ◌+◌, ◌^◌}
-use mathlib.Core.Path.{◌≡◌, refl, sym, ◌∙◌}
-use native.Mathlib.Omega.{arith}
-use lib.ListN.{take, drop, get_or}
-use Rattle.trace_record.proofs.Numbers.{number_step, number-none}
-use Rattle.lemmas.specs.lists.BigEndian.{grows, grown-fits}
-use Rattle.trace_record.specs.Layout.{big_endian_on, number}
+use Prim.Native.Nat.{◌≤◌, ◌<◌, ◌-◌, ◌^◌}
+use mathlib.Core.Path.{◌≡◌}
+use lib.ListN.{take, drop}
+use Rattle.trace_record.specs.Layout.{big_endian_on}
 use Rattle.trace_record.proofs.fields.number_at.Given as goal
 
 abbrev pub invariant-loop-at : goal.invariant-loop-at
