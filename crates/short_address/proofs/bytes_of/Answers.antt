@@ -1,6 +1,5 @@
 -- The definition computes what the code does.
 use mathlib.Core.Path.{refl}
-use borrow.Author.Rules.{rules}
 use Rattle.short_address.specs.Address.{bytes_of}
 use Rattle.short_address.proofs.bytes_of.Goals as goal
 

@@ -1,12 +1,8 @@
 -- The places so far agree, so the whole is the same exactly where the rest is.
 use Prim.Native.Nat.{◌-◌}
-use mathlib.Core.Path.{◌≡◌, refl, sym}
+use mathlib.Core.Path.{◌≡◌}
 use lib.ListN.{length, drop}
-use native.Mathlib.Omega.{arith}
-use borrow.Author.Rules.{rules}
-use borrow.Author.Tests.{eq-eqb, ne_eqb}
 use Rattle.lemmas.specs.lists.Same.{same}
-use Rattle.byte_io.proofs.Comparison.{same-lengths, same_turn, same_stop}
 use Rattle.byte_io.proofs.compare.same_bytes.Given as goal
 
 abbrev pub invariant-loop-i : goal.invariant-loop-i

@@ -1,11 +1,8 @@
 -- The invariant: the value read so far and the bytes still to come make the whole number.
 use Prim.Native.Nat.{◌≤◌, ◌<◌, ◌-◌, ◌+◌, ◌^◌}
-use mathlib.Core.Path.{◌≡◌, sym, ◌∙◌}
-use native.Mathlib.Omega.{arith}
-use lib.ListN.{take, drop, get_or}
+use mathlib.Core.Path.{◌≡◌}
+use lib.ListN.{take, drop}
 use Rattle.byte_io.specs.BigEndian.{digits, big_endian}
-use Rattle.byte_io.specs.BigEndianLemmas.{digits_step, digits-none}
-use Rattle.lemmas.specs.lists.BigEndian.{grows, grown-fits}
 use Rattle.image.proofs.number.number_at.Given as goal
 
 abbrev pub invariant-loop-i : goal.invariant-loop-i

@@ -1,9 +1,9 @@
 -- The invariant: the bytes still to come, and what dst holds after them, are what is to stand there.
-use Prim.Native.Nat.{◌-◌, ◌%◌, ◌≤◌}
-use mathlib.Core.Path.{◌≡◌, refl, ap, sym, ◌∙◌}
+use Prim.Native.Nat.{◌-◌, ◌%◌}
+use mathlib.Core.Path.{ap, sym, ◌∙◌}
 use mathlib.Core.List.{◌++◌}
 use native.Mathlib.Omega.{arith}
-use lib.ListN.{length, drop, length-set}
+use lib.ListN.{drop, length-set}
 use Rattle.byte_io.specs.BigEndian.{bytes_of}
 use Rattle.byte_io.specs.BigEndianLemmas.{length-bytes_of}
 use Rattle.image.proofs.Leaves.{byte_step, no_bytes}

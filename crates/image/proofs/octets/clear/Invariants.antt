@@ -1,10 +1,8 @@
 -- The invariant: zeros so far, and after them what was there.
 use Prim.Native.Nat.{◌-◌, ◌≤◌}
-use mathlib.Core.Path.{◌≡◌, refl, ◌∙◌, ap}
+use mathlib.Core.Path.{◌≡◌}
 use mathlib.Core.List.{◌++◌}
-use native.Mathlib.Omega.{arith}
-use lib.ListN.{length, drop, set, replicate, length-set}
-use Rattle.image.proofs.Leaves.{zero-step, all-zero}
+use lib.ListN.{length, drop, replicate}
 use Rattle.image.proofs.octets.clear.Given as goal
 
 abbrev pub invariant-loop-i : goal.invariant-loop-i
