@@ -9,7 +9,7 @@ use lib.Dec.{eqb, leb}
 use lib.ListN.{length, take, length-take}
 use lib.Seq.{take_all, take-append_seam}
 use Rattle.lemmas.specs.logic.Tests.{both_true}
-use Rattle.address_ledger_laws.specs.History.{Moment, step, run, after, whole_boards, Begins}
+use Rattle.address_ledger_laws.specs.History.{Moment, step, run, after, whole_boards}
 use Rattle.address_ledger_laws.specs.Laws.{OneHolder, SameAgain}
 use Rattle.address_journal.specs.Format.{header_of, header_check, zero_record}
 use Rattle.address_journal.specs.Entry.{Entry}

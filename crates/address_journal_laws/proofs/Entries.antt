@@ -1,6 +1,6 @@
 -- A call either appends nothing and changes nothing, or appends a record that is taken again.
 use Prim.Native.Nat.{ℕ}
-use mathlib.Core.Path.{◌≡◌, refl, sym, subst, ap}
+use mathlib.Core.Path.{◌≡◌, refl, subst, ap}
 use mathlib.Core.Bool.{Bool, true, false}
 use mathlib.Core.Logic.{◌⊎◌, inl, inr}
 use mathlib.Core.List.{List, [], ◌∷◌}
@@ -57,7 +57,8 @@ reads-eight k p q r s t u v w a c = record { long = refl; kind = refl; board = r
 pub reads : (k : ℕ) (b : List ℕ) (a c : ℕ) → length b ≡ 8 → Reads k b a c
 reads k b a c e =
     subst (λ (l : List ℕ). Reads k l a c) (eight b e)
-    (reads-eight k (get_or b 0 0) (get_or b 1 0) (get_or b 2 0) (get_or b 3 0) (get_or b 4 0) (get_or b 5 0) (get_or b 6 0) (get_or b 7 0) a c)
+    (reads-eight k (get_or b 0 0) (get_or b 1 0) (get_or b 2 0) (get_or b 3 0) (get_or b 4 0) (get_or b 5 0) (get_or b 6 0)
+    (get_or b 7 0) a c)
 
 not_zeros : (k : ℕ) (b : List ℕ) (a c : ℕ) → eqb k 0 ≡ false → same (record_of k b a c) zero_record ≡ false
 unfolding record_with same

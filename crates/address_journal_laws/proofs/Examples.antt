@@ -9,7 +9,8 @@ use Rattle.address_slots.specs.Slot.{slot_at, slots, same, is_free, held_by, low
 use Rattle.address_slots.specs.Marks.{marked, with_mark, marks_of, refreshed, free_by, slot_found_by}
 use Rattle.short_address.specs.Address.{is_address, bytes_of}
 use Rattle.address_ledger.specs.range.Range.{in_limits, judged, counted}
-use Rattle.address_ledger.specs.Ledger.{opened_by, opened, granting, granted_by, granted, giving_back, given_back_by, given_back, free_count}
+use Rattle.address_ledger.specs.Ledger.{opened_by, opened, granting, granted_by, granted, giving_back, given_back_by}
+use Rattle.address_ledger.specs.Ledger.{given_back, free_count}
 use Rattle.address_ledger_laws.specs.History.{listed, address_of, enter, strike, after_ask, after_give, step, run, after, whole_boards}
 use Rattle.address_journal.specs.Crc32.{crc_bit, crc_byte, crc_bytes, crc32}
 use Rattle.address_journal.specs.Format.{header_check, header_of, check_of, record_with}
@@ -28,8 +29,8 @@ pub example : JournalExample
 unfolding slot_at slots same is_free held_by lowest has count_free slot_found marked with_mark marks_of refreshed free_by slot_found_by
     hold freed in_limits judged counted is_address bytes_of opened_by opened granting granted_by granted giving_back given_back_by
     given_back free_count listed address_of enter strike after_ask after_give step run after whole_boards
-    crc_bit crc_byte crc_bytes crc32 header_check header_of check_of record_with entry_here outcome_here resume_record begun resume_header go_on
-    resume_records resume
+    crc_bit crc_byte crc_bytes crc32 header_check header_of check_of record_with entry_here outcome_here resume_record begun resume_header
+    go_on resume_records resume
     bytes.same grant_due back_due entry_of calls_of entry records_from check_from after_event after_events lasting changes
 example =
     record {

@@ -1,6 +1,6 @@
 -- Which damage is found. A record is taken only where its call appends it; after one check, of one kind and one board, there is one such
 -- record; and a record with one changed byte is never taken. More changed bytes of kind and board rest on CRC-32: 1 of 2^32 changes fits.
-use Rattle.std.specs.Prelude.{ℕ, ◌≤◌, ◌<◌, ◌≡◌, List, length, get_or, set}
+use Rattle.std.specs.Prelude.{ℕ, ◌<◌, ◌≡◌, List, get_or, set}
 use Rattle.address_ledger.specs.declared.ledger.Ledger.{Ledger}
 use Rattle.address_journal.specs.Format.{kind_in, board_in}
 use Rattle.address_journal.specs.Resume.{resumed, entry_here, resume_record}
