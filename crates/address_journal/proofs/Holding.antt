@@ -21,12 +21,6 @@ use Rattle.address_journal.specs.declared.held.Holder.{Holder}
 use Rattle.address_journal.specs.Held.{address_found, held_address_by, held_address, holds, no_holder, holder_in, holder_by, holder_of}
 
 -- ---- the address of a board
-pub found-there : (first n k j : ℕ) → k ≡ j → k < n → Address (first + k) ≡ address_found first n j
-found-there first n k j e h = rw (← e, lt-ltb k n h)
-
-pub found_none : (first n k j : ℕ) → k ≡ j → n ≤ k → Refused Unknown ≡ address_found first n j
-found_none first n k j e h = rw (← e, le-ltb k n h)
-
 module _ (l : Ledger) (m b : List ℕ) where
   pub address-refused : (x : Refusal) → verdict.Refused x ≡ judged_of l m → Refused x ≡ held_address l m b
   unfolding held_address held_address_by

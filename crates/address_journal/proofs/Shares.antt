@@ -28,9 +28,3 @@ module _ (first size k n : ℕ) where
     pub part-is : (k ≡ 0 → ⊥) → k ≤ n → record { first = first + size / n * (k - 1); size = size / n } ≡ part_of first size k n
     unfolding part_of is_share
     part-is z h = rw (le-leb first 0x10000 f, le-leb size 4096 s, le-leb 1 k (omega arith), le-leb k n h)
-
--- the parts before one are no longer than the range
-pub before-most : (size k n : ℕ) → size ≤ 4096 → k ≤ n → size / n * (k - 1) ≤ 4096
-before-most size k n s h =
-    let p : size / n * (k - 1) ≤ size / n * n = mul-le-mul_left (size / n) (omega arith) in
-    omega (arith, p, div-mul-le_self size n)
