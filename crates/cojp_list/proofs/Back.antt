@@ -9,15 +9,15 @@ use lib.ListN.{length, take}
 use lib.Seq.{take-append_seam}
 use borrow.Author.Tests.{le-leb, leb-true, eqb-true}
 use Rattle.cbor.specs.Encode.{encode, shortest}
-use Rattle.cbor.specs.Item.{array, count}
+use Rattle.cbor.specs.Item.{array}
 use Rattle.cbor.specs.View.{Scalar, number, minus, string, other, scalars_of, view_of}
 use Rattle.lemmas.specs.lists.Same.{same}
 use Rattle.lemmas.specs.lists.SameLemmas.{same-equal}
 use Rattle.lemmas.specs.logic.Tests.{both_left, both_right}
 use Rattle.cojp.specs.Bytes.{members_at}
 use Rattle.cojp.specs.Octets.{padded}
-use Rattle.cojp.specs.Lists.{Picked, nothing, picked, before, fitting, items_of, written, is_integer, strings_in, error_reports_in, at_least_one}
-use Rattle.cojp.specs.Lists.{in_array, list_of, list_answer, bytes_in, same_as, kept, items_in, picked_items}
+use Rattle.cojp.specs.Lists.{Picked, nothing, picked, before, fitting, items_of, written, is_integer, strings_in, error_reports_in}
+use Rattle.cojp.specs.Lists.{at_least_one, in_array, list_of, list_answer, bytes_in, same_as, kept, items_in, picked_items}
 use Rattle.cojp.specs.ListLemmas.{scalar-back, items-count}
 use Rattle.cojp.specs.declared.list.ItemList.{ItemList}
 
@@ -54,7 +54,8 @@ faults-again (p ∷ []) ps e = never ps e
 faults-again (p ∷ q ∷ []) ps e = never ps e
 faults-again (p ∷ q ∷ x ∷ r) ps e = go (λ qs g. faults-again r qs g) (is_integer p && is_integer q) refl e
   where
-    go : ((qs : List Scalar) → error_reports_in r ≡ picked qs → error_reports_in qs ≡ picked qs) → (b : Bool) → (is_integer p && is_integer q) ≡ b
+    go : ((qs : List Scalar) → error_reports_in r ≡ picked qs → error_reports_in qs ≡ picked qs)
+        → (b : Bool) → (is_integer p && is_integer q) ≡ b
         → cond b (before (p ∷ q ∷ other ∷ []) (error_reports_in r)) nothing ≡ picked ps → error_reports_in ps ≡ picked ps
     go h false f e = never ps e
     go h true f e = again-before error_reports_in (p ∷ q ∷ other ∷ []) (error_reports_in r) ps (λ qs g. rw (f, h qs g)) e

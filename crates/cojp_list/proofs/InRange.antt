@@ -82,7 +82,8 @@ three-bytes [] h = refl
 three-bytes (x ∷ xs) h =
     written-append (members_of (x ∷ [])) (members_of xs) ∙ rw ((one x (first x xs h) 0 []).0, three-bytes xs (others x xs h))
 
-read_again : (xs : List ErrorReport) → all_of valid_error_report xs ≡ true → members_at (length (members_of xs)) (bytes-of xs) ≡ members_of xs
+read_again : (xs : List ErrorReport) → all_of valid_error_report xs ≡ true
+    → members_at (length (members_of xs)) (bytes-of xs) ≡ members_of xs
 read_again [] h = refl
 read_again (x ∷ xs) h =
     (one x (first x xs h) (length (members_of xs)) (bytes-of xs)).1
@@ -135,7 +136,8 @@ listed-in-range f h =
 
 pub listed-long : (f : ErrorReports) → valid_error_reports f ≡ true → (listed_in f).value.len ≡ 3 * length (error_report_list f)
 unfolding valid_error_reports listed_in
-listed-long f h = go (error_report_list f) (both_right (leb f.count 5) (all_of valid_error_report (error_report_list f)) h) (few-reports f h)
+listed-long f h =
+    go (error_report_list f) (both_right (leb f.count 5) (all_of valid_error_report (error_report_list f)) h) (few-reports f h)
   where
     go : (xs : List ErrorReport) → all_of valid_error_report xs ≡ true → length xs ≤ 5 → (listing xs).value.len ≡ 3 * length xs
     go [] h n = refl

@@ -28,6 +28,7 @@ pub record ListLaws : Type 0 where
   pub unsupported-written : ListWritten (at_least_one error_reports_in)
   pub unsupported-back : ListRoundTrip (at_least_one error_reports_in)
   -- the reports that may be kept make a list that may be written, three bytes each
-  pub listed-in-range : (f : ErrorReports) → valid_error_reports f ≡ true → list_in_range (at_least_one error_reports_in) (listed_in f) ≡ true
+  pub listed-in-range : (f : ErrorReports) → valid_error_reports f ≡ true
+      → list_in_range (at_least_one error_reports_in) (listed_in f) ≡ true
   pub listed-long : (f : ErrorReports) → valid_error_reports f ≡ true → (listed_in f).value.len ≡ 3 * length (error_report_list f)
   pub listed-members : (f : ErrorReports) → (listed_in f).value.count ≡ 3 * length (error_report_list f)
