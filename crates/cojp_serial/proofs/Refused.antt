@@ -14,7 +14,7 @@ use Rattle.cojp.specs.Request.{empty_request, refuse_request, read_request_by}
 use Rattle.protocol_version.specs.declared.Version.{Version}
 use Rattle.cojp_serial.specs.State.{part_answer, part_store, end_read, end_state}
 use Rattle.cojp_serial.specs.Calls.{Reader, request, configuration, resetting, sending, ending, Held, decision_on, told, verdict_in}
-use Rattle.cojp_serial.specs.Laws.{EmptyBeside, Left, as_before, overrun-marked, end_marked, RefusedCalls}
+use Rattle.cojp_serial.specs.Laws.{EmptyBeside, Left, as_before, overrun-marked, marked_ended, RefusedCalls}
 use Rattle.cojp_serial.specs.declared.state.PartDecision.{PartDecision}
 use Rattle.cojp_serial.specs.declared.state.PartDecision.TheVariants.{Outside, Overrun, Ended, Open}
 
@@ -62,7 +62,7 @@ module _ (demand1 : ReadersDemand1) (h : Held) (k : Refusal) where
   request-left v strict Outside e = as_before refl
   request-left v strict Overrun e = as_before refl
   request-left v strict Ended e = as_before refl
-  request-left v strict Open e = end_marked e refl
+  request-left v strict Open e = marked_ended e refl
 
   configuration-left : (v : Version) (strict : Bool) (x : PartDecision)
       → (end_read refuse_configuration (read_configuration_by v (head_by strict)) x (take h.state.arrived h.store)).verdict ≡ Refused k
@@ -70,7 +70,7 @@ module _ (demand1 : ReadersDemand1) (h : Held) (k : Refusal) where
   configuration-left v strict Outside e = as_before refl
   configuration-left v strict Overrun e = as_before refl
   configuration-left v strict Ended e = as_before refl
-  configuration-left v strict Open e = end_marked e refl
+  configuration-left v strict Open e = marked_ended e refl
 
   end-left : (r : Reader) → verdict_in (told (ending r) h) ≡ Refused k → Left (ending r) h k (end_state (decision_on h 0) h.state)
   end-left (request v strict) e = request-left v strict (decision_on h 0) e

@@ -48,7 +48,7 @@ EmptyBeside (update r) = r.configuration ≡ empty_configuration
 pub data Left : SerialCall → Held → Refusal → SerialState → Type 0 where
   as_before : {c : SerialCall} {h : Held} {k : Refusal} {a : SerialState} → a ≡ h.state → Left c h k a
   overrun-marked : {p : List ℕ} {h : Held} {k : Refusal} {a : SerialState} → k ≡ Long → a ≡ overran h.state → Left (sending p) h k a
-  end_marked :
+  marked_ended :
       {r : Reader} {h : Held} {k : Refusal} {a : SerialState} → verdict_in (whole_read r (take h.state.arrived h.store)) ≡ Refused k →
       a ≡ end_marked h.state → Left (ending r) h k a
 
