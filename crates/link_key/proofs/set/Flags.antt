@@ -78,7 +78,8 @@ module _ (seen : List ℕ) (d i : ℕ) (room : d % 8 < length seen) where
           let place = eqb-true (i % 8) (d % 8) e in
           let bit = eqb-true (i / 8) (d / 8) f in
           let z : d ≡ i = omega arith in
-          rw (place, get_or-set_same seen (d % 8) more 0 room, set-bit word (i / 8) (d / 8) bit, eq-eqb d i z) (sym (or-true (bit_in word i)))
+          rw (place, get_or-set_same seen (d % 8) more 0 room, set-bit word (i / 8) (d / 8) bit, eq-eqb d i z)
+          (sym (or-true (bit_in word i)))
       go true e false f =
           let place = eqb-true (i % 8) (d % 8) e in
           let apart = eqb-false (i / 8) (d / 8) f in
@@ -171,7 +172,8 @@ told-after js [] seen e ok = rw (append-nil js) (sym ok)
 told-after js (k ∷ ks) seen e ok = go (joins seen k) refl (λ s x y. told-after (js ++ (k ∷ [])) ks s x y)
   where
     go : (b : Bool) → joins seen k ≡ b
-        → ((s : List ℕ) → Exactly s (js ++ (k ∷ [])) → each_once (js ++ (k ∷ [])) ≡ true → all_join s ks ≡ each_once ((js ++ (k ∷ [])) ++ ks))
+        → ((s : List ℕ) → Exactly s (js ++ (k ∷ [])) → each_once (js ++ (k ∷ [])) ≡ true
+        → all_join s ks ≡ each_once ((js ++ (k ∷ [])) ++ ks))
         → (joins seen k && all_join (noted seen k) ks) ≡ each_once (js ++ (k ∷ ks))
     go true h again =
         let m = one_more seen k js e true (noted seen k) (sym h) refl in

@@ -1,6 +1,7 @@
 -- Which identifiers have been seen in a key set: 256 flags, one for each byte value. Eight words of 32 bits hold them:
 -- the flag of identifier i is bit i / 8 of word i % 8.
-use Rattle.std.specs.Prelude.{ℕ, ◌/◌, ◌%◌, ◌^◌, ◌≡◌, Bool, true, false, not, cond, ◌&&◌, List, [], ◌∷◌, ◌++◌, eqb, length, get_or, set, replicate}
+use Rattle.std.specs.Prelude.{ℕ, ◌/◌, ◌%◌, ◌^◌, ◌≡◌, Bool, true, false, not, cond, ◌&&◌, List, [], ◌∷◌, ◌++◌}
+use Rattle.std.specs.Prelude.{eqb, length, get_or, set, replicate}
 use Rattle.std.specs.Int.Bits.{bit_or}
 use Rattle.link_key.specs.Key.{valid_key}
 use Rattle.link_key.specs.declared.Key.{Key}

@@ -8,7 +8,8 @@ use Rattle.link_key.proofs.set.key_set.KeySet.keys_valid.Given as goal
 
 abbrev pub invariant-loop-i : goal.invariant-loop-i
 invariant-loop-i l =
-    Judging (take l.n l.keys) l.i l.seen × (additional_info_allowed l.allowed (take l.n l.keys) ≡ additional_info_allowed l.allowed (drop l.i (take l.n l.keys)))
+    Judging (take l.n l.keys) l.i l.seen
+    × (additional_info_allowed l.allowed (take l.n l.keys) ≡ additional_info_allowed l.allowed (drop l.i (take l.n l.keys)))
 
 abbrev pub decreases-loop-i : goal.decreases-loop-i
 decreases-loop-i l = l.n - l.i
