@@ -60,7 +60,8 @@ module _ (a : Attempt) (s t count : ℕ) (h : Waits a s t count) where
 
   due-over :
       count ≡ 4
-      → ((poll a (due_at a)).due ≡ GaveUp) × ((poll a (due_at a)).attempt.phase ≡ phase.GaveUp) × ((poll a (due_at a)).attempt.clock ≡ s + t)
+      → ((poll a (due_at a)).due ≡ GaveUp) × ((poll a (due_at a)).attempt.phase ≡ phase.GaveUp)
+      × ((poll a (due_at a)).attempt.clock ≡ s + t)
   due-over c =
       let e = poll-due ∙ over-is c in
       (rw e, rw e, rw e (omega (arith, h.sent, h.timeout)))
