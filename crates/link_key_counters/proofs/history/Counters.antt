@@ -57,7 +57,8 @@ counter_from k xs = counter_in (first_of (λ (x : Slot). same_secret x.key k) xs
 
 kept_step :
     (b : Bool) (k : Key) (i : ℕ) (cs : List ℕ) (l : Key) (xs : List Slot) (o : Option ℕ) → counter_from k xs ≡ counter_at cs o →
-    counter_in (cond b (some (slot i l (get_or cs i 0))) (first_of (λ (x : Slot). same_secret x.key k) xs)) ≡ counter_at cs (cond b (some i) o)
+    counter_in (cond b (some (slot i l (get_or cs i 0))) (first_of (λ (x : Slot). same_secret x.key k) xs))
+    ≡ counter_at cs (cond b (some i) o)
 unfolding counter_at
 kept_step true k i cs l xs o e = refl
 kept_step false k i cs l xs o e = e
@@ -209,7 +210,8 @@ module _ (f : Key → ℕ) (k : Key) (v : ℕ) (says : (l : Key) → same_secret
   at-step false i p o front rest l h t e below = below e
 
   at_place :
-      (i p : ℕ) (front : List ℕ) (ks : List Key) → length front ≡ i → place_from k i ks ≡ some p → get_or (front ++ (map f ks ++ zs)) p 0 ≡ v
+      (i p : ℕ) (front : List ℕ) (ks : List Key) → length front ≡ i → place_from k i ks ≡ some p →
+      get_or (front ++ (map f ks ++ zs)) p 0 ≡ v
   unfolding place_from
   at_place i p front [] h e = never-some p e
   at_place i p front (l ∷ ks) h e =
