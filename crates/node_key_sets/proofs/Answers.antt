@@ -73,7 +73,8 @@ module _ (s : KeySets) (type identifier : ℕ) (x : KeyAnswer) (e : x ≡ receiv
   unfolding verified_in
   report-refused k r = rw (← e, r)
 
-  pub report-kept : x.verdict ≡ verdict.Accepted → has identifier (active_in s) ≡ true → verified_in s type identifier ≡ effect change.Kept s
+  pub report-kept :
+      x.verdict ≡ verdict.Accepted → has identifier (active_in s) ≡ true → verified_in s type identifier ≡ effect change.Kept s
   unfolding verified_in
   report-kept r h = rw (← e, r, h)
 

@@ -11,4 +11,5 @@ returns-then-frame_type-gt1 c = rw (lt-leb _ _ c.if-frame_type-gt1.true) c.unsen
 
 pub returns : goal.returns
 returns c =
-    rw c.chosen-answer.ensures (sent-spent c.args.self c.args.frame_type (le-leb _ _ c.if-frame_type-gt1.false) _ c.take_counter-spent.ensures)
+    rw c.chosen-answer.ensures
+    (sent-spent c.args.self c.args.frame_type (le-leb _ _ c.if-frame_type-gt1.false) _ c.take_counter-spent.ensures)
