@@ -100,7 +100,8 @@ key-lawful =
 
 key-set-lawful : RoundTrips key_set_part
 key-set-lawful =
-    viewed-lawful set_fields set_to set_from (λ s. refl) (λ x h. refl) (both-lawful _ _ (number-lawful 1) (times-lawful key_part key-lawful 8))
+    viewed-lawful set_fields set_to set_from (λ s. refl) (λ x h. refl)
+    (both-lawful _ _ (number-lawful 1) (times-lawful key_part key-lawful 8))
 
 counted-set-lawful : RoundTrips counted_set_part
 counted-set-lawful =
@@ -116,7 +117,9 @@ zero-digits : (v : ℕ) (s : List ℕ) → is_zero (digits v s) ≡ (is_zero v &
 unfolding digits
 zero-digits v [] = and-good (is_zero v)
 zero-digits v (b ∷ s) =
-    zero-digits (v * 256 + b) s ∙ ap (λ (x : Bool). x && all_of is_zero s) (zero-sum v b) ∙ and_assoc (is_zero v) (is_zero b) (all_of is_zero s)
+    zero-digits (v * 256 + b) s
+    ∙ ap (λ (x : Bool). x && all_of is_zero s) (zero-sum v b)
+    ∙ and_assoc (is_zero v) (is_zero b) (all_of is_zero s)
 
 -- a number is 0 if all its bytes are
 zero_number : (s : List ℕ) → is_zero (big_endian s) ≡ all_of is_zero s
@@ -177,8 +180,8 @@ module _ (s : List ℕ) (at : ℕ) where
       rw (first_byte, e, info-byte 0 (omega arith), info-byte 1 (omega arith), info-byte 2 (omega arith), info-byte 3 (omega arith))
 
   pub eight-got : ¬ (get_or s at 0 ≡ 0) → ¬ (get_or s at 0 ≡ 4)
-      → Eight (get_or s (at + 1) 0) (get_or s (at + 2) 0) (get_or s (at + 3) 0) (get_or s (at + 4) 0) (get_or s (at + 5) 0) (get_or s (at + 6) 0)
-      (get_or s (at + 7) 0) (get_or s (at + 8) 0)
+      → Eight (get_or s (at + 1) 0) (get_or s (at + 2) 0) (get_or s (at + 3) 0) (get_or s (at + 4) 0) (get_or s (at + 5) 0)
+      (get_or s (at + 6) 0) (get_or s (at + 7) 0) (get_or s (at + 8) 0)
       ≡ additional_info_part.get (drop at s)
   eight-got e f =
       rw (
@@ -195,7 +198,8 @@ module _ (s : List ℕ) (at : ℕ) where
         info-byte 7 (omega arith),
       )
 
-  pub absent-judged : {n : ℕ} → get_or s at 0 ≡ 0 → n ≡ big_endian (take 8 (drop (at + 1) s)) → eqb n 0 ≡ additional_info_part.good (drop at s)
+  pub absent-judged :
+      {n : ℕ} → get_or s at 0 ≡ 0 → n ≡ big_endian (take 8 (drop (at + 1) s)) → eqb n 0 ≡ additional_info_part.good (drop at s)
   absent-judged e f = rw (f, first_byte, e, past 1) (zero_number (take 8 (drop 1 (drop at s))))
 
   pub four-judged : {n : ℕ} → at + 9 ≤ length s → get_or s at 0 ≡ 4 → n ≡ big_endian (take 4 (drop (at + 5) s))
@@ -238,7 +242,8 @@ module _ (s : List ℕ) (at : ℕ) where
 
   -- a counter's four bytes
   pub counter-got : at + 4 ≤ length s
-      → ((get_or s at 0 * 256 + get_or s (at + 1) 0) * 256 + get_or s (at + 2) 0) * 256 + get_or s (at + 3) 0 ≡ big_endian (take 4 (drop at s))
+      → ((get_or s at 0 * 256 + get_or s (at + 1) 0) * 256 + get_or s (at + 2) 0) * 256 + get_or s (at + 3) 0
+      ≡ big_endian (take 4 (drop at s))
   unfolding digits
   counter-got h = omega (arith, ap big_endian (four-taken s 0 at h))
 

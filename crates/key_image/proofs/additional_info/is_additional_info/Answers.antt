@@ -1,6 +1,5 @@
 -- The length tells which bytes must be zeros; a number is 0 if its bytes are.
-use Rattle.key_image.proofs.Images.{absent-judged, four-judged, eight-judged}
-use borrow.Author.Rules.{rules}
+use Rattle.key_image.proofs.Images.{absent-judged, four-judged}
 use Rattle.key_image.proofs.additional_info.is_additional_info.Goals as goal
 
 pub returns-then-len-eq0 : goal.returns-then-len-eq0

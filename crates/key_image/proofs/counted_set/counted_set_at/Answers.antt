@@ -1,7 +1,5 @@
 -- The keys stand one after the other, the counters behind them.
-use native.Mathlib.Omega.{arith}
 use Rattle.key_image.proofs.Images.{set-got, eight-keys, counted-got, eight-counters}
-use borrow.Author.Rules.{rules}
 use Rattle.key_image.proofs.counted_set.counted_set_at.Goals as goal
 
 pub returns : goal.returns

@@ -1,8 +1,5 @@
 -- Four bytes make a number under 2 to the 32.
-use Prim.Native.Nat.{◌+◌}
-use native.Mathlib.Omega.{arith}
 use Rattle.key_image.proofs.Images.{counter-got}
-use borrow.Author.Rules.{rules}
 use Rattle.key_image.proofs.counted_set.counter_at.Goals as goal
 
 pub returns : goal.returns

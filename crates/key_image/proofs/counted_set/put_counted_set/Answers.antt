@@ -11,7 +11,8 @@ use Rattle.key_image.proofs.counted_set.put_counted_set.Goals as goal
 
 pub returns : goal.returns
 returns c =
+    let eight : length c.args.counted.counters ≡ 8 = search rules in
     let cs = c.args.counted.counters in
     let w1 = next_field (omega arith) c.put_key_set.ensures c.put_counters.ensures in
     let w2 = next_field (omega arith) w1 c.put_counters-2.ensures in
-    both-wrote (number 4) cs (key_set_part.put c.args.counted.set) (eight c) w2
+    both-wrote (number 4) cs (key_set_part.put c.args.counted.set) eight w2

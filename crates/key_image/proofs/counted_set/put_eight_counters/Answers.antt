@@ -11,5 +11,6 @@ use Rattle.key_image.proofs.counted_set.put_eight_counters.Goals as goal
 
 pub returns : goal.returns
 returns c =
+    let eight : length c.args.counters ≡ 8 = search rules in
     let w = next_field (omega arith) c.put_counters.ensures c.put_counters-2.ensures in
-    both-wrote (number 4) c.args.counters [] (eight c) w
+    both-wrote (number 4) c.args.counters [] eight w

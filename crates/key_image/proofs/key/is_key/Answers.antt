@@ -1,6 +1,5 @@
 -- Only the additional information is judged.
 use Rattle.key_image.proofs.Images.{key-judged}
-use borrow.Author.Rules.{rules}
 use Rattle.key_image.proofs.key.is_key.Goals as goal
 
 pub returns : goal.returns

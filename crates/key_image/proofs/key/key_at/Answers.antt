@@ -1,6 +1,5 @@
 -- Each field stands at its place.
 use Rattle.key_image.proofs.Images.{key-got}
-use borrow.Author.Rules.{rules}
 use Rattle.key_image.proofs.key.key_at.Goals as goal
 
 pub returns : goal.returns

@@ -1,7 +1,6 @@
 -- Each field is written to the part after those before it.
 use native.Mathlib.Omega.{arith}
 use Rattle.image.specs.Fields.{next_field}
-use borrow.Author.Rules.{rules}
 use Rattle.key_image.proofs.key.put_key.Goals as goal
 
 pub returns : goal.returns

@@ -4,10 +4,9 @@ use mathlib.Core.Bool.{Bool, ◌&&◌}
 use lib.ListN.{drop}
 use Rattle.image.specs.Part.{goods}
 use Rattle.key_image.specs.Key.{key_part}
-use Rattle.lemmas.specs.logic.Tests.{granted, denied}
+use Rattle.lemmas.specs.logic.Tests.{is_true, is_false}
 use mathlib.Core.Path.{sym, ap, ◌∙◌}
 use Rattle.key_image.proofs.Images.{set-judged, halves-judged}
-use borrow.Author.Rules.{rules}
 use Rattle.key_image.proofs.key_set.is_key_set.Goals as goal
 
 pub returns-then-not-is_four : goal.returns-then-not-is_four
@@ -15,7 +14,7 @@ returns-then-not-is_four c =
     let s = c.args.src.now in
     let at = c.args.at in
     set-judged s at
-    (sym (ap (λ (b : Bool). b && goods key_part 4 (drop (at + 109) s)) (denied c.is_four.ensures c.if-not-is_four.true))
+    (sym (ap (λ (b : Bool). b && goods key_part 4 (drop (at + 109) s)) (is_false c.is_four.ensures c.if-not-is_four.true))
     ∙ halves-judged s at)
 
 pub returns : goal.returns
@@ -24,4 +23,4 @@ returns c =
     let at = c.args.at in
     set-judged s at
     (c.is_four-2.ensures ∙ sym (ap (λ (b : Bool). b && goods key_part 4 (drop (at + 109) s))
-    (granted c.is_four.ensures c.if-not-is_four.false)) ∙ halves-judged s at)
+    (is_true c.is_four.ensures c.if-not-is_four.false)) ∙ halves-judged s at)

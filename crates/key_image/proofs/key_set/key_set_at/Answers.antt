@@ -1,7 +1,5 @@
 -- The keys stand one after the other.
-use native.Mathlib.Omega.{arith}
 use Rattle.key_image.proofs.Images.{set-got, eight-keys}
-use borrow.Author.Rules.{rules}
 use Rattle.key_image.proofs.key_set.key_set_at.Goals as goal
 
 pub returns : goal.returns

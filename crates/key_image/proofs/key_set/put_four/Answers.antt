@@ -3,7 +3,6 @@ use native.Mathlib.Omega.{arith}
 use Rattle.image.specs.Fields.{next_field}
 use Rattle.key_image.specs.Key.{key_part}
 use Rattle.key_image.proofs.Images.{four-wrote}
-use borrow.Author.Rules.{rules}
 use Rattle.key_image.proofs.key_set.put_four.Goals as goal
 
 pub returns : goal.returns
