@@ -18,6 +18,9 @@ use cojp::{JoinRequest, is_owing};
 use protocol_version::Version;
 use refusal::Refusal;
 
+// The most bytes that a payload has.
+const MOST: usize = 256;
+
 // Role 0 is omitted.
 fn role_size(role: u8) -> Size
     requires { role ≤ 1 }
@@ -76,7 +79,7 @@ pub(crate) fn emit_request(dst: &mut [u8], q: JoinRequest, owed: bool) -> WriteR
     let size = request_size(q);
     let members = size.members;
     let whole = 1 + size.bytes;
-    if 256 < whole {
+    if MOST < whole {
         return WriteResult::Refused(Refusal::Range);
     }
     if owed {

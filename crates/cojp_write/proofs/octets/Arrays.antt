@@ -4,7 +4,7 @@ use mathlib.Core.Path.{◌≡◌, sym, ◌∙◌}
 use mathlib.Core.List.{List, ◌++◌}
 use native.Mathlib.Omega.{arith}
 use lib.ListN.{length, take, drop, length-append, length-take, length-drop}
-use lib.Seq.{take_all, length-take-le}
+use lib.Seq.{length-take-le}
 use borrow.Author.Tests.{le-leb, lt-leb}
 use Rattle.refusal.specs.declared.Refusal.TheVariants.{Room, Range}
 use Rattle.byte_io.specs.Write.{Did, Wrote, emit}
@@ -58,9 +58,9 @@ module _ (H : HeadLaws) (l : ItemList) (z : length l.bytes ≡ 253) (i : l.len �
     pub list-part : length b ≤ length (take (length d' - n) (drop n d'))
     list-part = simp (length-take, length-drop) (omega (arith, head-kept, many))
 
-    pub list_done : (q : List ℕ) → q ≡ take (length b) b ++ drop (length b) (take (length d' - n) (drop n d'))
+    pub list_done : (q : List ℕ) → q ≡ b ++ drop (length b) (take (length d' - n) (drop n d'))
         → Did (list_plan l) d (wv.Length (n + l.len)) (take n d' ++ (q ++ drop (length d' - n) (drop n d')))
     list_done q f =
         let g : Wrote b (take (length d' - n) (drop n d')) l.len q =
-        record { many = sym many; holds = f ∙ rw (take_all (length b) b (omega arith)) } in
+        record { many = sym many; holds = f } in
         planned (did-emit (omega (arith, whole)) (seam (omega (arith, H.length-head 4 c, many)) head-wrote g))

@@ -24,7 +24,8 @@ missing-fits Absent b h = refl
 missing-fits Taken b h = absurd (false≢true h)
 missing-fits Discarded b h = refl
 
-reports-fit : (v : Version) (p : ListParameter) → by_version v (missing p.disposition) (list_in_range (at_least_one error_reports_in) p) ≡ true
+reports-fit : (v : Version) (p : ListParameter)
+    → by_version v (missing p.disposition) (list_in_range (at_least_one error_reports_in) p) ≡ true
     → list_in_range (at_least_one error_reports_in) p ≡ true
 reports-fit Draft p h = missing-fits p.disposition _ h
 reports-fit Published p h = h

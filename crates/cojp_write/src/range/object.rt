@@ -2,7 +2,14 @@
 ghost use Rattle.std.specs.Prelude.{◌&&◌, ◌≡◌};
 ghost use Rattle.cojp.specs.Lists.{strings_in, error_reports_in, at_least_one};
 ghost use Rattle.protocol_version.specs.Version.{by_version};
-ghost use Rattle.cojp.specs.Writing.{missing, list_in_range, keys_without_additional_info, of_version, request_in_range, configuration_in_range};
+ghost use Rattle.cojp.specs.Writing.{
+  missing,
+  list_in_range,
+  keys_without_additional_info,
+  of_version,
+  request_in_range,
+  configuration_in_range,
+};
 
 use crate::range::parameter::{
     address_in_range, blacklist_in_range, jrc_in_range, keys_in_range, keys_plain, octets_in_range,

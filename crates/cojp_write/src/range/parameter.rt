@@ -1,7 +1,14 @@
 // The parameters' limits.
 ghost use Rattle.std.specs.Prelude.{◌≡◌};
 ghost use Rattle.cojp.specs.Lists.{strings_in, error_reports_in, at_least_one};
-ghost use Rattle.cojp.specs.Writing.{octets_in_range, jrc_in_range, address_in_range, keys_in_range, keys_without_additional_info, list_in_range};
+ghost use Rattle.cojp.specs.Writing.{
+  octets_in_range,
+  jrc_in_range,
+  address_in_range,
+  keys_in_range,
+  keys_without_additional_info,
+  list_in_range,
+};
 
 use cojp::{AddressParameter, KeysParameter, ListParameter, OctetsParameter, is_taken};
 use cojp_list::{is_blacklist, is_unsupported};

@@ -1,0 +1,8 @@
+-- The label and the role, or nothing.
+use Rattle.cojp_write.proofs.request.Roles.{role-wrote}
+use Rattle.cojp_write.proofs.request.put_role.Goals as goal
+
+pub returns-then-role-ne0 : goal.returns-then-role-ne0
+returns-then-role-ne0 c =
+    role-wrote c.head_laws.ensures c.args.role c.if-role-ne0.true c.requires.0 c.requires.1
+    c.write_head.ensures c.write_head-then-role-ne0.ensures
