@@ -17,7 +17,6 @@ use Rattle.object_image.specs.Address.{short_address_part}
 use Rattle.object_image.specs.Codes.{bool_part}
 use Rattle.object_image.specs.ErrorReports.{error_report_part}
 use Rattle.object_image.specs.Lists.{list_part}
-use Rattle.object_image.specs.Request as request
 
 pub byte-wrote : {m k n : ℕ} {d e : List ℕ} → m ≡ k → Wrote (m ∷ []) d n e → Wrote (k ∷ []) d n e
 byte-wrote h w = rw h at w

@@ -1,0 +1,9 @@
+-- All is good after the two reports.
+use Rattle.lemmas.specs.logic.Tests.{is_true}
+use Rattle.object_image.proofs.Objects.{by-rate}
+use Rattle.object_image.proofs.configuration.is_later.Goals as goal
+
+pub returns : goal.returns
+returns c =
+    by-rate c.args.s.now c.args.at
+    (is_true c.is_list_parameter.ensures c.if-not-is_list_parameter.false) c.is_rate_parameter.ensures
