@@ -279,8 +279,10 @@ def check_imports(crates):
                 if not path.endswith(('.rt', '.antt')):
                     continue
                 for number, line in enumerate(lines_of(path), 1):
-                    for used in re.findall(r'\bRattle·([a-z0-9_]+)(?:·proofs)?\.proofs\b', line):
-                        check(layer_of.get(used) == layer, path, number, f'imports proofs of {used}, a crate of another layer')
+                    for used in re.findall(r'\bRattle\.([a-z0-9_]+)\.proofs\b|\b([a-z0-9_]+)::proofs::', line):
+                        used = used[0] or used[1]
+                        check(used in ('std', 'crate') or layer_of.get(used) == layer, path, number,
+                              f'imports proofs of {used}, a crate of another layer')
 
 
 def main():
