@@ -20,7 +20,8 @@ use Rattle.cojp.specs.Walk.{payload_read_by}
 use Rattle.cojp_rfc9031_laws.specs.BadValues.{BadValues}
 
 pub bad-values : BadValues
-unfolding payload_by info_of decode_by heading argument next digits members pairs major_of shortest extra_of bytes_of valid_key valid_keys is_address
+unfolding payload_by info_of decode_by heading argument next digits members pairs major_of shortest extra_of bytes_of valid_key valid_keys
+    is_address
     address_in configuration_taking added groups identified used valued strings_in error_reports_in padded octets_judged
     parameter_of later_parameter
     rate_taken error_reports_of role_judged request_label_status request_taking owing payload_read_by

@@ -125,7 +125,8 @@ module _ (ks : List Known) (c : Configuration) (h : Seen ks c) (v : View) where
       ap (times_in n) (malformed-snoc ks (known_of m v)) ∙ times_snoc n (malformed ks) (error_report_of 1 m) ∙ by (eqb n m) refl
       ∙ ap flag (sym (in-snoc n ks (known_of m v)))
     where
-      by : (b : Bool) → eqb n m ≡ b → cond b (times_in n (malformed ks) + 1) (times_in n (malformed ks)) ≡ flag (b || is_in n (labels_of ks))
+      by : (b : Bool) → eqb n m ≡ b → cond b (times_in n (malformed ks) + 1) (times_in n (malformed ks))
+          ≡ flag (b || is_in n (labels_of ks))
       by true q =
           let none : is_in n (labels_of ks) ≡ false = ap (λ (x : ℕ). is_in x (labels_of ks)) (eqb-true n m q) ∙ e in
           let never-yet : times_in n (malformed ks) ≡ 0 = h.alone n ∙ ap flag none in
@@ -180,7 +181,8 @@ module _ (ks : List Known) (c : Configuration) (h : Seen ks c) (v : View) where
         met = noted-held 4 one;
       }
 
-  take-blacklist : is_in 6 (labels_of ks) ≡ false → Seen (ks ++ (known_of 6 v ∷ [])) (noted Published 6 (with_blacklist c (blacklist_taken v)))
+  take-blacklist : is_in 6 (labels_of ks) ≡ false →
+      Seen (ks ++ (known_of 6 v ∷ [])) (noted Published 6 (with_blacklist c (blacklist_taken v)))
   take-blacklist e =
       let k = known_of 6 v in
       let one : OneMore 6 = rw (in-snoc 2 ks k, in-snoc 3 ks k, in-snoc 4 ks k, in-snoc 6 ks k, in-snoc 7 ks k, e) (omega arith) in

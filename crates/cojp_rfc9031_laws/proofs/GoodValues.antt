@@ -78,7 +78,8 @@ module _ (H : HeadLaws) (w : Verdict) (ks : List Known) (small : Small ks) where
   configuration-of (refused k) a e = refused-not k e
   configuration-of (read c) a e = configurations.configured H ks c small a.1.1
 
-  request-of : (r : Reading RequestState) → Agrees w (requests.Both ks) r → (request_answer (bind r (settled Published))).verdict ≡ Accepted →
+  request-of : (r : Reading RequestState) → Agrees w (requests.Both ks) r →
+      (request_answer (bind r (settled Published))).verdict ≡ Accepted →
       Requested ks (request_answer (bind r (settled Published))).request
   request-of (refused k) a e = refused-not k e
   request-of (read g) a e = by (owing Published g.request.role g.request.network.disposition) e
@@ -95,7 +96,8 @@ module _ (laws : ItemLaws) (H : HeadLaws) where
       let short =
       short-payload (configuration_form Published) (head_by strict) empty_configuration p (λ r. (configuration_answer r).verdict)
       (λ q. refused-not refusal.Long q) e in
-      configuration-of H (payload_verdict (labels_verdict configuration_labels []) strict p) (known_in configuration_labels (pairs_in strict p))
+      configuration-of H (payload_verdict (labels_verdict configuration_labels []) strict p)
+      (known_in configuration_labels (pairs_in strict p))
       (small-known configuration_labels (pairs_in strict p) (pairs_small laws H p b short strict))
       (payload_read_by (configuration_form Published) (head_by strict) empty_configuration p) (configurations.configuration-kept strict p) e
 

@@ -25,7 +25,8 @@ use Rattle.cojp.specs.Parameter.{parameter_of, later_parameter}
 use Rattle.cojp.specs.Rate.{rate_taken}
 use Rattle.cojp.specs.Reading.{Reading, refused, read, bind}
 use Rattle.cojp.specs.Reported.{is_bad, bad_in, bad_at, reports_on, error_reports_of}
-use Rattle.cojp.specs.Request.{empty_request_state, role_judged, request_label_status, request_taking, owing, request_answer, request_form, settled}
+use Rattle.cojp.specs.Request.{empty_request_state, role_judged, request_label_status, request_taking, owing, request_answer, request_form}
+use Rattle.cojp.specs.Request.{settled}
 use Rattle.cojp.specs.Walk.{payload_read_by, label_status_of}
 use Rattle.cojp.specs.declared.configuration.Configuration.{Configuration}
 use Rattle.cojp.specs.declared.error_report.ErrorReport.{ErrorReport}
@@ -128,7 +129,8 @@ module _ (ks : List Known) (c : Configuration) (h : Seen ks c) where
       ap (times_in n) (reports c few) ∙ times-bad c n (error_report_list c.labels)
       ∙ by (is_discarded (report_at c n)) (met-if-bad n) (ap (times_in n) h.met.reports ∙ h.alone n)
     where
-      by : (b : Bool) → (b ≡ true → is_in n (labels_of ks) ≡ true) → times_in n (error_report_list c.labels) ≡ flag (is_in n (labels_of ks)) →
+      by : (b : Bool) → (b ≡ true → is_in n (labels_of ks) ≡ true) →
+          times_in n (error_report_list c.labels) ≡ flag (is_in n (labels_of ks)) →
           cond b (times_in n (error_report_list c.labels)) 0 ≡ cond b 1 0
       by true f t = t ∙ ap flag (f refl)
       by false f t = refl
@@ -186,7 +188,8 @@ module _ (w : Verdict) (ks : List Known) where
 
 -- ---- the examples are computed
 pub met-in-order : ReportsInOrder
-unfolding payload_by info_of decode_by heading argument next digits members pairs major_of octets_judged payload_read_by parameter_of later_parameter
+unfolding payload_by info_of decode_by heading argument next digits members pairs major_of octets_judged payload_read_by parameter_of
+    later_parameter
     configuration_taking added rate_taken error_reports_of
 met-in-order = record {
   met = λ strict p.

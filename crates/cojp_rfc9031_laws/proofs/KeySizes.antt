@@ -4,7 +4,6 @@ use native.Mathlib.Omega.{arith}
 use mathlib.Core.Path.{◌≡◌, refl, ap, ◌∙◌}
 use mathlib.Core.Bool.{Bool, true, false, cond}
 use mathlib.Core.List.{List, [], ◌∷◌, append-nil}
-use mathlib.Core.Option.{none}
 use lib.Dec.{eqb, ltb}
 use lib.ListN.{length, replicate, length-append}
 use lib.Seq.{take_at}
@@ -113,7 +112,8 @@ module _ (H : HeadLaws) where
   key-many i u v w =
       chain-count (more (unsigned i) (usage_items u)) (more (bytes v) (additional_info_items w)) ∙ omega (arith, usage-many u, info-many w)
 
-  key-size : (i u : ℕ) (v : List ℕ) (w : AdditionalInfo) → length (encodes (group_items (key_with_additional_info i u v w))) ≡ key_size i u v w
+  key-size : (i u : ℕ) (v : List ℕ) (w : AdditionalInfo) →
+      length (encodes (group_items (key_with_additional_info i u v w))) ≡ key_size i u v w
   key-size i u v w =
       chain_length (more (unsigned i) (usage_items u)) (more (bytes v) (additional_info_items w))
       ∙ omega (

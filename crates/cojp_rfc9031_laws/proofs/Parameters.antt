@@ -19,7 +19,8 @@ use Rattle.cojp.specs.Lists.{Picked, nothing, picked, written, fitting, in_array
 use Rattle.cojp.specs.Octets.{octets_of, octets_judged, octets_parameter, no_octets_parameter, octets_read, padded}
 use Rattle.cojp.specs.Rate.{rate_taken}
 use Rattle.cojp.specs.Reading.{Reading, refused, read, map_reading, concluded, by_version_of, unfit, good}
-use Rattle.cojp.specs.Writing.{labelled, lease_items, role_pairs, octets_pairs, address_pairs, list_pairs, rate_pairs, octets_in_range, list_in_range}
+use Rattle.cojp.specs.Writing.{labelled, lease_items, role_pairs, octets_pairs, address_pairs, list_pairs, rate_pairs, octets_in_range}
+use Rattle.cojp.specs.Writing.{list_in_range}
 use Rattle.cojp.specs.declared.address.AddressParameter.{AddressParameter}
 use Rattle.cojp.specs.declared.list.ListParameter.{ListParameter}
 use Rattle.cojp.specs.declared.octets.OctetsParameter.{OctetsParameter}
@@ -105,7 +106,8 @@ module _ (H : HeadLaws) where
   string-size s = length-append (shortest 2 (length s)) s ∙ ap (λ (n : ℕ). n + length s) (H.length-head 2 (length s))
 
   address-in : (ps : List Scalar) →
-      Gives (λ (p : AddressParameter). length (encode_pairs (address_pairs p)) ≤ 1 + view_size (list ps)) (address_concluded (address_in ps))
+      Gives (λ (p : AddressParameter). length (encode_pairs (address_pairs p)) ≤ 1 + view_size (list ps))
+      (address_concluded (address_in ps))
   unfolding address_in
   address-in [] = tt
   address-in (number n ∷ r) = tt
@@ -136,7 +138,8 @@ module _ (H : HeadLaws) where
   address-in (string s ∷ minus n ∷ r) = tt
   address-in (string s ∷ other ∷ r) = tt
 
-  pub address-size : (x : View) → Gives (λ (p : AddressParameter). length (encode_pairs (address_pairs p)) ≤ 1 + view_size x) (address_read x)
+  pub address-size : (x : View) → Gives (λ (p : AddressParameter). length (encode_pairs (address_pairs p)) ≤ 1 + view_size x)
+      (address_read x)
   address-size (scalar p) = tt
   address-size (list ps) = address-in ps
 

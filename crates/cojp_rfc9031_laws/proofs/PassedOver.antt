@@ -261,7 +261,8 @@ passed_over = record {
   request = λ v strict p.
       request-counts v (unknown_in (request_known v) (pairs_in strict p))
       (payload_read_by (request_form v) (head_by strict) empty_request_state p)
-      (payload-counts (request_form v) (request_known v) in_request (request-standing v) (λ g. refl) (request-takes v) empty_request_state refl
+      (payload-counts (request_form v) (request_known v) in_request (request-standing v) (λ g. refl) (request-takes v) empty_request_state
+      refl
       strict p);
   three-passed = refl;
   none_passed = refl;

@@ -110,7 +110,8 @@ role-fine H v m g h (list ps) = role-bad v m g h (list ps)
 
 -- ---- a network identifier
 network-fine : HeadLaws → (v : Version) (m : ℕ) (g : RequestState) → Fine v m g → (x : View) →
-    Gives (Fine v (m + (1 + view_size x))) (map_reading (with_network g) (by_version_of v (no_octets_parameter Discarded) (octets_read 0 x)))
+    Gives (Fine v (m + (1 + view_size x))) (map_reading (with_network g)
+    (by_version_of v (no_octets_parameter Discarded) (octets_read 0 x)))
 network-fine H v m g h x =
     put-gives (OctetsFine H 5 x) (Fine v (m + (1 + view_size x))) (with_network g)
     (by_version_of v (no_octets_parameter Discarded) (octets_read 0 x))
@@ -119,11 +120,13 @@ network-fine H v m g h x =
     (λ p f. record { role = h.role; network = f.range; unsupported = h.unsupported; size = omega (arith, h.size, f.size) })
 
 -- ---- a list of reports, in the published form alone
-list_put : (m : ℕ) (g : RequestState) → Fine Published m g → (x : View) (p : ListParameter) → ListFine (at_least_one error_reports_in) 8 x p →
+list_put : (m : ℕ) (g : RequestState) → Fine Published m g → (x : View) (p : ListParameter) →
+    ListFine (at_least_one error_reports_in) 8 x p →
     Fine Published (m + (1 + view_size x)) (list_gathered g p)
 list_put m g h x p f = by p.disposition
   where
-    by : (r : Disposition) → Fine Published (m + (1 + view_size x)) (if_taken r (with_unsupported g p) (with_error (with_unsupported g p) 1 8))
+    by : (r : Disposition) → Fine Published (m + (1 + view_size x))
+        (if_taken r (with_unsupported g p) (with_error (with_unsupported g p) 1 8))
     by Taken = record { role = h.role; network = h.network; unsupported = f.range; size = omega (arith, h.size, f.size) }
     by Absent = record { role = h.role; network = h.network; unsupported = f.range; size = omega (arith, h.size, f.size) }
     by Discarded = record { role = h.role; network = h.network; unsupported = f.range; size = omega (arith, h.size, f.size) }
@@ -178,7 +181,8 @@ module _ (laws : ItemLaws) (H : HeadLaws) where
       by true o q = refused-not refusal.Owed q
       by false o q = record { gathered = g; within = w; is = refl; owes_nothing = o }
 
-  request-accepts : (v : Version) (p : List ℕ) → Bytes p → (read_request_as v p).verdict ≡ Accepted → Accepts v p (read_request_as v p).request
+  request-accepts : (v : Version) (p : List ℕ) → Bytes p → (read_request_as v p).verdict ≡ Accepted →
+      Accepts v p (read_request_as v p).request
   request-accepts v p b e =
       settled-accepts v p (payload_read_by (request_form v) heading empty_request_state p)
       (payload-bound (request_form v) (Fine v) (wider v) (passing v) (taking v) laws H empty_request_state (none-fine v) p b) e

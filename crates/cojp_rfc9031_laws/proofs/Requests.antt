@@ -51,7 +51,8 @@ identified-snoc (j ∷ ks) k =
 reports-snoc : (ks : List Known) (k : Known) → request_reports (ks ++ (k ∷ [])) ≡ request_reports ks ++ reports_of k
 reports-snoc [] k = append-nil (reports_of k)
 reports-snoc (j ∷ ks) k =
-    ap (λ (l : List ErrorReport). reports_of j ++ l) (reports-snoc ks k) ∙ sym (append_assoc (reports_of j) (request_reports ks) (reports_of k))
+    ap (λ (l : List ErrorReport). reports_of j ++ l) (reports-snoc ks k)
+    ∙ sym (append_assoc (reports_of j) (request_reports ks) (reports_of k))
 
 role-others : (ks : List Known) (k : Known) → eqb k.label 1 ≡ false → role_in (ks ++ (k ∷ [])) ≡ role_in ks
 role-others [] k e = rw e
@@ -183,7 +184,8 @@ module _ (ks : List Known) (g : RequestState) (h : Asked ks g) (v : View) where
           let one : reports_of (known_of 1 v) ≡ error_report_of 0 1 ∷ [] = rw (q, t) in
           role-asked e 0 (rw (q, t)) (added g.request.errors 0 1) (error_report_of 0 1 ∷ []) one (omega arith) (told 1 0 1 one)
 
-      bad : reports_of (known_of 1 v) ≡ error_report_of 1 1 ∷ [] → 0 ≡ role_read v → Took (Asked (more 1)) (role_gathered Published g broken)
+      bad : reports_of (known_of 1 v) ≡ error_report_of 1 1 ∷ [] → 0 ≡ role_read v →
+          Took (Asked (more 1)) (role_gathered Published g broken)
       bad one zero = role-asked e 0 zero (added g.request.errors 1 1) (error_report_of 1 1 ∷ []) one (omega arith) (told 1 1 1 one)
 
       by : (w : View) → v ≡ w → Took (Asked (more 1)) (role_gathered Published g (role_judged w))
@@ -194,7 +196,8 @@ module _ (ks : List Known) (g : RequestState) (h : Asked ks g) (v : View) where
       by (list ps) q = bad (rw q) (rw q)
 
   -- a network identifier
-  take-network : is_in 5 (labels_of ks) ≡ false → Asked (more 5) (with_network g (malformed_as (no_octets_parameter Discarded) (octets_read 0 v)))
+  take-network : is_in 5 (labels_of ks) ≡ false → Asked (more 5)
+      (with_network g (malformed_as (no_octets_parameter Discarded) (octets_read 0 v)))
   take-network e =
       let k = known_of 5 v in
       let unseen : identified ks ≡ false = sym h.due ∙ fresh-none g.request.network.disposition (h.network ∙ ap stood e) in
@@ -203,7 +206,8 @@ module _ (ks : List Known) (g : RequestState) (h : Asked ks g) (v : View) where
         network = comes 5 ks k _ refl (octets-met (octets_judged 0 v));
         unsupported = stays 8 ks k _ refl h.unsupported;
         reads = h.reads ∙ sym (role-others ks k refl);
-        due = identifier-good v ∙ sym (identified-snoc ks k ∙ ap (λ (b : Bool). (is_identifier v || b)) unseen ∙ or-false (is_identifier v));
+        due = identifier-good v
+            ∙ sym (identified-snoc ks k ∙ ap (λ (b : Bool). (is_identifier v || b)) unseen ∙ or-false (is_identifier v));
         few = few-more 5 [] refl (rw (in-snoc 1 ks k, in-snoc 8 ks k) (omega arith));
         faults = silent 5 refl;
       }
@@ -211,7 +215,8 @@ module _ (ks : List Known) (g : RequestState) (h : Asked ks g) (v : View) where
   -- a list of reports
   list-asked : is_in 8 (labels_of ks) ≡ false → (p : ListParameter) (f : ErrorReports) (x : List ErrorReport) →
       label_status_of p.disposition ≡ Repeated →
-      reports_of (known_of 8 v) ≡ x → length x ≤ 1 → Holds f (request_reports (more 8)) → Asked (more 8) (with_errors (with_unsupported g p) f)
+      reports_of (known_of 8 v) ≡ x → length x ≤ 1 → Holds f (request_reports (more 8)) →
+      Asked (more 8) (with_errors (with_unsupported g p) f)
   list-asked e p f x s r l held =
       let k = known_of 8 v in
       record {
@@ -225,7 +230,8 @@ module _ (ks : List Known) (g : RequestState) (h : Asked ks g) (v : View) where
       }
 
   take-list : is_in 8 (labels_of ks) ≡ false → Asked (more 8) (list_gathered g (unsupported_taken v))
-  take-list e = by (unsupported_taken v).disposition refl (list-met (list_answer (fitting 253 (in_array (at_least_one error_reports_in) v))))
+  take-list e = by (unsupported_taken v).disposition refl
+      (list-met (list_answer (fitting 253 (in_array (at_least_one error_reports_in) v))))
     where
       one : if_taken (unsupported_taken v).disposition [] (error_report_of 1 8 ∷ []) ≡ error_report_of 1 8 ∷ [] →
           Asked (more 8) (with_error (with_unsupported g (unsupported_taken v)) 1 8)
@@ -241,7 +247,8 @@ module _ (ks : List Known) (g : RequestState) (h : Asked ks g) (v : View) where
       by Discarded q s = one (rw q)
       by Absent q s = one (rw q)
 
-  pub takes : (n : ℕ) → is_in n request_labels ≡ true → is_in n (labels_of ks) ≡ false → Took (Asked (more n)) (request_taking Published g n v)
+  pub takes : (n : ℕ) → is_in n request_labels ≡ true → is_in n (labels_of ks) ≡ false →
+      Took (Asked (more n)) (request_taking Published g n v)
   unfolding request_taking
   takes n =
       each-of-three

@@ -16,7 +16,8 @@ use Rattle.cojp.specs.declared.octets.Octets.{Octets}
 use Rattle.cojp.specs.declared.disposition.Disposition.TheVariants.{Taken, Discarded}
 use Rattle.cojp.specs.declared.walk.LabelStatus.TheVariants.{Repeated}
 
-pub keys-met : (j : Judgement KeySet) → label_status_of (malformed_as (no_keys_parameter Discarded) (keys_concluded j)).disposition ≡ Repeated
+pub keys-met : (j : Judgement KeySet) → label_status_of (malformed_as (no_keys_parameter Discarded) (keys_concluded j)).disposition
+    ≡ Repeated
 keys-met broken = refl
 keys-met unfit = refl
 keys-met (good s) = refl

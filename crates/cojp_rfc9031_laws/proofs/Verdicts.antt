@@ -58,7 +58,8 @@ settled-by ks w (read g) a =
 
 -- the same, asked inside the verdict of the payload
 owed-inside : (o : Outcome Item) →
-    or_owed (identified (known_in request_labels (map_pairs o))) (scan_verdict (labels_verdict request_labels []) o) ≡ scan_verdict request_verdict o
+    or_owed (identified (known_in request_labels (map_pairs o))) (scan_verdict (labels_verdict request_labels []) o)
+    ≡ scan_verdict request_verdict o
 owed-inside (decode.refused k) = refl
 owed-inside (decode.got (map_item ps) t) = refl
 owed-inside (decode.got (unsigned n) t) = refl
@@ -83,7 +84,8 @@ owed-payload strict p = by (ltb 256 (length p))
     by false = owed-inside (payload_by (head_by strict) p)
 
 pub bad-never-refuses : BadNeverRefuses
-unfolding payload_by info_of decode_by heading argument next digits members pairs major_of octets_judged payload_read_by parameter_of later_parameter
+unfolding payload_by info_of decode_by heading argument next digits members pairs major_of octets_judged payload_read_by parameter_of
+    later_parameter
     configuration_taking
 bad-never-refuses = record {
   configuration = λ strict p. answered (known_in configuration_labels (pairs_in strict p)) (payload_verdict configuration_verdict strict p)

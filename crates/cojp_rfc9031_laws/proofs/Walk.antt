@@ -47,7 +47,8 @@ module _ {S : Type 0} (F : Form S) (known : List ℕ) (R : List Known → S → 
       Agrees (labels_verdict known (labels_of ks) ps) (R (ks ++ known_in known ps)) (pairs_read F s ps)
 
   taken-agrees : (ps : Pairs) → Rest ps → (ks : List Known) (k : Known) (r : Reading S) → Took (R (ks ++ (k ∷ []))) r →
-      Agrees (labels_verdict known (labels_of ks ++ (k.label ∷ [])) ps) (R (ks ++ (k ∷ known_in known ps))) (bind r (λ t. pairs_read F t ps))
+      Agrees (labels_verdict known (labels_of ks ++ (k.label ∷ [])) ps) (R (ks ++ (k ∷ known_in known ps)))
+      (bind r (λ t. pairs_read F t ps))
   taken-agrees ps rest ks k (refused x) g = absurd g
   taken-agrees ps rest ks k (read t) g =
       subst (λ (l : List ℕ). Agrees (labels_verdict known l ps) (R (ks ++ (k ∷ known_in known ps))) (pairs_read F t ps)) (labels-snoc ks k)
@@ -81,7 +82,8 @@ module _ {S : Type 0} (F : Form S) (known : List ℕ) (R : List Known → S → 
   pairs-agree (pair k v ps) ks s h = pair-agrees (label_of k) (view_of v) ps (pairs-agree ps) ks s h
 
   module _ (s : S) (h : R [] s) where
-    scan-agrees : (o : Outcome Item) → Agrees (scan_verdict (labels_verdict known []) o) (R (known_in known (map_pairs o))) (scanned_read F s o)
+    scan-agrees : (o : Outcome Item) → Agrees (scan_verdict (labels_verdict known []) o) (R (known_in known (map_pairs o)))
+        (scanned_read F s o)
     scan-agrees (decode.refused k) = refl
     scan-agrees (decode.got (map_item ps) t) = pairs-agree ps [] s h
     scan-agrees (decode.got (unsigned n) t) = refl
