@@ -20,7 +20,8 @@ use Rattle.cojp_laws.specs.Largest.{LargestAttained, LongestRead}
 use Rattle.cojp_laws.specs.Written.{AllShown, written_examples, published_examples, longest_examples, WrittenExamples}
 
 pub largest-attained : LargestAttained
-unfolding configuration_plan configuration_in_range of_version valid_set valid_keys valid_key has_no_additional_info is_address padded bytes_of info_of
+unfolding configuration_plan configuration_in_range of_version valid_set valid_keys valid_key has_no_additional_info is_address padded
+    bytes_of info_of
     extra_of shortest
 largest-attained = record { written = refl; no_less = refl }
 
@@ -30,14 +31,16 @@ unfolding payload_read_by payload_by decode_by heading argument next digits memb
 longest-read = record { size = refl; accepted = refl; taken = refl; long = refl }
 
 marked : AllShown written_examples
-unfolding request_plan request_in_range owing configuration_plan configuration_in_range of_version is_address bytes_of info_of extra_of shortest
+unfolding request_plan request_in_range owing configuration_plan configuration_in_range of_version is_address bytes_of info_of extra_of
+    shortest
 marked = (
   (refl, refl),
   ((refl, refl), ((refl, refl), ((refl, refl), ((refl, refl), ((refl, refl), ((refl, refl), ((refl, refl), ((refl, refl), tt)))))))),
 )
 
 published : AllShown published_examples
-unfolding request_plan request_in_range owing configuration_plan configuration_in_range of_version valid_set valid_keys valid_key has_no_additional_info
+unfolding request_plan request_in_range owing configuration_plan configuration_in_range of_version valid_set valid_keys valid_key
+    has_no_additional_info
     padded bytes_of info_of extra_of shortest
     kept same_as same strings_in error_reports_in scalar_at decode_by heading argument next digits major_of
 published = (

@@ -18,7 +18,8 @@ use Rattle.cbor.specs.declared.value.Label.TheVariants as label
 use Rattle.link_key.specs.set.KeyLaws.{KeyLaws}
 use Rattle.link_key.specs.set.KeySet.{keys_of}
 use Rattle.cojp.specs.Address.{no_address_parameter, address_read}
-use Rattle.cojp.specs.Configuration.{empty_configuration, with_keys, with_address, with_jrc, with_network, with_prefix, with_blacklist, with_rate}
+use Rattle.cojp.specs.Configuration.{empty_configuration, with_keys, with_address, with_jrc, with_network, with_prefix, with_blacklist}
+use Rattle.cojp.specs.Configuration.{with_rate}
 use Rattle.cojp.specs.Configuration.{noted, configuration_taking, configuration_form, accept_configuration, read_configuration_by}
 use Rattle.cojp.specs.ErrorReports.{no_error_reports, added}
 use Rattle.cojp.specs.KeySet.{no_keys_parameter, keys_read_as}
@@ -62,7 +63,8 @@ module _ (v : Version) (s : Configuration) (x : View) where
   abbrev Reads : ℕ → Configuration → Type 0
   Reads n c = pair_read (configuration_form v) s (label.Number n) x ≡ read (noted v n c)
 
-  keys_step : (p : KeysParameter) → s.keys.disposition ≡ Absent → keys_read_as (allows_additional_info v) x ≡ read p → Reads 2 (with_keys s p)
+  keys_step : (p : KeysParameter) → s.keys.disposition ≡ Absent → keys_read_as (allows_additional_info v) x ≡ read p →
+      Reads 2 (with_keys s p)
   unfolding parameter_of configuration_taking
   keys_step p a e = rw (a, following-good v (no_keys_parameter Discarded) p (keys_read_as (allows_additional_info v) x) e)
 

@@ -32,6 +32,8 @@ use Rattle.cojp_laws.proofs.Fine.{Fine, FineItems, fine-if, fine-none, fine-arra
 earlier : (n : ℕ) (s : List ℕ) (x : ℕ) → Memᴰ x (take n s) → Memᴰ x s
 earlier (suc n) (y ∷ s) x (Memᴰ.head e) = Memᴰ.head e
 earlier (suc n) (y ∷ s) x (Memᴰ.tail m) = Memᴰ.tail (earlier n s x m)
+earlier zero s x m = elim m [ ]
+earlier (suc n) [] x m = elim m [ ]
 
 bytes_after : (t s : List ℕ) → Suffix 1 t s → Bytes s → Bytes t
 bytes_after t s f b x m = b x (rw f.whole (Memᴰ.append_right f.front m))

@@ -14,7 +14,7 @@ use Rattle.cbor.specs.Decode.{Outcome, and_then, ended, payload_by, decode_by}
 use Rattle.cbor.specs.Decode as decode
 use Rattle.cbor.specs.Item.{Item, Pairs, unsigned, negative, bytes, text, array, map_item, tag, simple, float, empty, pair}
 use Rattle.cbor.specs.Strict.{head_by}
-use Rattle.cbor.specs.View.{View, label_of, view_of}
+use Rattle.cbor.specs.View.{label_of, view_of}
 use Rattle.cbor.specs.declared.value.Label.{Label}
 use Rattle.cbor.specs.declared.value.Label.TheVariants as label
 use Rattle.cojp.specs.Reading.{Reading, refused, read, bind}
@@ -78,7 +78,8 @@ module _ {S : Type 0} (F : Form S) (T : Tests) (R : List ℕ → Pairs → S →
   pair-numbered k v ps rest seen s h (label.Number n) q =
       subst
       (λ (x : LabelStatus).
-      Numbered (in_order (pair_numbers T seen (label.Number n) (view_of v) ++ pairs_numbers T (known_after T seen (label.Number n)) ps)) Ended
+      Numbered (in_order (pair_numbers T seen (label.Number n) (view_of v) ++ pairs_numbers T (known_after T seen (label.Number n)) ps))
+      Ended
       (bind (known_read F x s n (view_of v)) (λ t. pairs_read F t ps)))
       (sym (stands seen (pair k v ps) s h n)) (by (T.known n) (is_among n seen) refl refl)
     where

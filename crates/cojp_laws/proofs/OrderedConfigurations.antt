@@ -14,7 +14,8 @@ use Rattle.cbor.specs.View.{number, minus, string, other, View, scalar, list, vi
 use Rattle.lemmas.specs.logic.Tests.{never}
 use Rattle.link_key.specs.declared.set.key_set.KeySet.{KeySet}
 use Rattle.cojp.specs.Address.{address_judged, address_concluded}
-use Rattle.cojp.specs.Configuration.{empty_configuration, with_keys, with_address, with_jrc, with_network, with_prefix, with_blacklist, with_rate}
+use Rattle.cojp.specs.Configuration.{empty_configuration, with_keys, with_address, with_jrc, with_network, with_prefix, with_blacklist}
+use Rattle.cojp.specs.Configuration.{with_rate}
 use Rattle.cojp.specs.Configuration.{label_status_for, configuration_passing, noted}
 use Rattle.cojp.specs.Configuration.{configuration_taking, configuration_form, configuration_answer}
 use Rattle.cojp.specs.KeySet.{no_keys_parameter, keys_judged_as, keys_concluded}
@@ -239,10 +240,12 @@ stands : (v : Version) (seen : List ℕ) (c : Configuration) → Seen v seen c �
     label_status_for c (parameter_of v n) ≡ standing ((configuration_tests v).known n) (is_among n seen)
 unfolding parameter_of later_parameter
 stands Draft seen c h n =
-    each_of (λ (m : ℕ). label_status_for c (parameter_of Draft m) ≡ standing ((configuration_tests Draft).known m) (is_among m seen)) n 2 3 4 5 6
+    each_of (λ (m : ℕ). label_status_for c (parameter_of Draft m) ≡ standing ((configuration_tests Draft).known m) (is_among m seen))
+    n 2 3 4 5 6
     h.keys h.address h.jrc h.network h.prefix (λ u w x y z. rw (u, w, x, y, z))
 stands Published seen c h n =
-    each_of (λ (m : ℕ). label_status_for c (parameter_of Published m) ≡ standing ((configuration_tests Published).known m) (is_among m seen))
+    each_of (λ (m : ℕ). label_status_for c (parameter_of Published m)
+    ≡ standing ((configuration_tests Published).known m) (is_among m seen))
     n 2 3 4 6 7
     h.keys h.address h.jrc h.blacklist h.rate (λ u w x y z. rw (u, w, x, y, z))
 

@@ -3,17 +3,16 @@ use Prim.Native.Nat.{ℕ}
 use mathlib.Core.Path.{◌≡◌, refl, ap, sym, ◌∙◌, subst}
 use mathlib.Core.Bool.{Bool, true, false, cond, not, ◌&&◌}
 use mathlib.Core.List.{List, [], ◌∷◌, ◌++◌}
-use mathlib.Core.Option.{Option, none, some}
+use mathlib.Core.Option.{some}
 use lib.Dec.{eqb}
 use borrow.Author.Tests.{eqb-true, not-true}
 use Rattle.refusal.specs.Order.{refused_if, in_order}
-use Rattle.refusal.specs.Refusal.{number_of}
 use Rattle.refusal.specs.RefusalLemmas.{refused-first}
 use Rattle.refusal.specs.Verdict.{verdict_number}
 use Rattle.refusal.specs.declared.Refusal.TheVariants as refusal
 use Rattle.cbor.specs.Item.{Item, Pairs, empty, pair}
 use Rattle.cbor.specs.Strict.{head_by}
-use Rattle.cbor.specs.View.{View, label_of, view_of}
+use Rattle.cbor.specs.View.{label_of, view_of}
 use Rattle.cbor.specs.declared.value.Label.{Label}
 use Rattle.cbor.specs.declared.value.Label.TheVariants as label
 use Rattle.lemmas.specs.logic.Tests.{never, neither_left, neither_right}
@@ -21,8 +20,10 @@ use Rattle.cojp.specs.DispositionLemmas.{by-disposition}
 use Rattle.cojp.specs.Lists.{error_reports_in, at_least_one, in_array, fitting, list_answer}
 use Rattle.cojp.specs.Lists.{list_parameter, no_list_parameter, list_taken, unsupported_taken}
 use Rattle.cojp.specs.Octets.{octets_judged, no_octets_parameter, octets_parameter}
-use Rattle.cojp.specs.Reading.{Reading, refused, read, bind, map_reading, Judgement, broken, unfit, good, concluded, by_version_of, if_taken}
-use Rattle.cojp.specs.Request.{empty_request_state, role_judged, role_label_status, request_label_status, request_passing, with_role, with_network}
+use Rattle.cojp.specs.Reading.{Reading, refused, read, bind, map_reading, Judgement, broken, unfit, good, concluded, by_version_of}
+use Rattle.cojp.specs.Reading.{if_taken}
+use Rattle.cojp.specs.Request.{empty_request_state, role_judged, role_label_status, request_label_status, request_passing, with_role}
+use Rattle.cojp.specs.Request.{with_network}
 use Rattle.cojp.specs.Request.{with_unsupported, with_error, role_gathered, list_gathered, request_taking, request_form}
 use Rattle.cojp.specs.Request.{owing, settled, request_answer}
 use Rattle.cojp.specs.Walk.{label_status_of, payload_read_by}
@@ -259,9 +260,11 @@ module _ (version : Version) (whole : Pairs) where
       Numbered (in_order ((request_tests version).kind m (view_of v) ∷ (request_tests version).content m (view_of v) ∷ []))
       (Asked (m ∷ seen) ps) (request_taking version g m (view_of v))
 
-  takes : (seen : List ℕ) (k v : Item) (ps : Pairs) (g : RequestState) → Asked seen (pair k v ps) g → (n : ℕ) → label_of k ≡ label.Number n →
+  takes : (seen : List ℕ) (k v : Item) (ps : Pairs) (g : RequestState) → Asked seen (pair k v ps) g → (n : ℕ) →
+      label_of k ≡ label.Number n →
       (request_tests version).known n ≡ true → is_among n seen ≡ false →
-      Numbered (in_order ((request_tests version).kind n (view_of v) ∷ (request_tests version).content n (view_of v) ∷ [])) (Asked (n ∷ seen) ps)
+      Numbered (in_order ((request_tests version).kind n (view_of v) ∷ (request_tests version).content n (view_of v) ∷ []))
+      (Asked (n ∷ seen) ps)
       (request_taking version g n (view_of v))
   unfolding request_taking
   takes seen k v ps g h n q known fresh = by_one (eqb n 1) refl
@@ -358,6 +361,7 @@ pub requests-in-order : (v : Version) (strict : Bool) (p : List ℕ) →
     ≡ in_order (payload_numbers (request_tests v) strict p ++ (refused_if (is_owed v (pairs_of (scanned strict p))) 9 ∷ []))
 requests-in-order v strict p =
     let whole = pairs_of (scanned strict p) in
-    settled-number v whole (payload_numbers (request_tests v) strict p) (payload_read_by (request_form v) (head_by strict) empty_request_state p)
+    settled-number v whole (payload_numbers (request_tests v) strict p)
+    (payload_read_by (request_form v) (head_by strict) empty_request_state p)
     (payload-numbered (request_form v) (request_tests v) (Asked v whole) (stands v whole) (skips v whole) (takes v whole)
     empty_request_state strict p (none-asked v whole))

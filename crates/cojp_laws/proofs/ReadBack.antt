@@ -179,7 +179,8 @@ module _ (b : Bool) (i u : ℕ) (s : List ℕ) where
   value-last (k ∷ ks) = refl
 
   info-read : (n : AdditionalInfo) (ks : List Key) → Fitting b n
-      → valued b i u s (scalars_of (chain (additional_info_items n) (groups_items ks))) ≡ group i u s n (groups b (scalars_of (groups_items ks)))
+      → valued b i u s (scalars_of (chain (additional_info_items n) (groups_items ks)))
+      ≡ group i u s n (groups b (scalars_of (groups_items ks)))
   unfolding groups
   info-read info.Absent ks f = value-last ks
   info-read (info.Four p q r t) ks f = go b f

@@ -25,7 +25,8 @@ pub in_order : ReadersInOrder
 in_order = record { request = requests-in-order; configuration = configurations-in-order }
 
 pub samples : ReadingOrderExample
-unfolding payload_by strict_heading is_short info_of decode_by heading argument next digits members pairs major_of valid_key valid_keys padded
+unfolding payload_by strict_heading is_short info_of decode_by heading argument next digits members pairs major_of valid_key valid_keys
+    padded
     octets_judged is_address address_in groups identified used valued payload_read_by role_judged request_label_status request_taking owing
     parameter_of later_parameter configuration_taking added rate_taken
 samples = record {

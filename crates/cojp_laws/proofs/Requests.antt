@@ -94,7 +94,8 @@ module _ (lists : ListLaws) (v : Version) (q : JoinRequest) (f : RequestFits q) 
       unsupported-step v (state n no-list) (view_of (array (items_in (at_least_one error_reports_in) l.value)))
       (list_good (at_least_one error_reports_in) l) p refl
       (list_back_lem (at_least_one error_reports_in) lists.unsupported-back l (λ t. k) e) refl) in
-      then F (join (role_pairs q.role) (octets_pairs 5 o)) (list_pairs 8 (at_least_one error_reports_in) l) empty_request_state (state n no-list)
+      then F (join (role_pairs q.role) (octets_pairs 5 o)) (list_pairs 8 (at_least_one error_reports_in) l) empty_request_state
+      (state n no-list)
       (request_state (seen q.role) back)
       (then F (role_pairs q.role) (octets_pairs 5 o) empty_request_state (state none no-list) (state n no-list)
       (role-read v q.role f.role) e1)
@@ -140,7 +141,8 @@ request-round-trip items heads lists q list v p e b =
       };
       network-kept = kept_if (λ (o : OctetsParameter). o.disposition) (octets_good q.network) (no_octets_parameter Absent)
           q.network.disposition refl refl;
-      unsupported-kept = kept_if (λ (l : ListParameter). l.disposition) (list_good (at_least_one error_reports_in) l) (no_list_parameter Absent)
+      unsupported-kept = kept_if (λ (l : ListParameter). l.disposition) (list_good (at_least_one error_reports_in) l)
+          (no_list_parameter Absent)
           l.disposition refl refl;
       unreported = refl;
       passed = refl;

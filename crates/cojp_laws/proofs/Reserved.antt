@@ -17,7 +17,8 @@ use Rattle.cojp.specs.Configuration.{empty_configuration, refuse_configuration, 
 use Rattle.cojp.specs.InRange.{InRange, ReadsInRange}
 use Rattle.cojp.specs.Laws.{ReadersDemand1, StrictReaders, meets_longer}
 use Rattle.cojp.specs.Reading.{if_taken}
-use Rattle.cojp.specs.Writing.{keys_in_range, address_in_range, jrc_in_range, octets_in_range, of_version, configuration_in_range, configuration_plan}
+use Rattle.cojp.specs.Writing.{keys_in_range, address_in_range, jrc_in_range, octets_in_range, of_version, configuration_in_range}
+use Rattle.cojp.specs.Writing.{configuration_plan}
 use Rattle.cojp.specs.declared.configuration.Configuration.{Configuration}
 use Rattle.cojp.specs.declared.configuration.ConfigurationRead.{ConfigurationRead}
 use Rattle.cojp.specs.declared.disposition.Disposition.{Disposition}

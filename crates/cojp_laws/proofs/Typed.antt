@@ -1,10 +1,10 @@
 -- What the types of an object that is passed by value say of its numbers and arrays.
 use Prim.Native.Nat.{ℕ, ◌^◌, ◌<◌}
-use mathlib.Core.Path.{◌≡◌, sym, ◌∙◌}
+use mathlib.Core.Path.{◌≡◌}
 use mathlib.Core.List.Memᴰ
-use mathlib.Core.List.{List, ◌∷◌, map}
+use mathlib.Core.List.{List, [], ◌∷◌}
 use native.Mathlib.Omega.{arith}
-use lib.ListN.{length, length-map}
+use lib.ListN.{length}
 use mir.Syntax.{w8}
 use mir.Val.{Val}
 use denote.Array.{each}
@@ -20,9 +20,11 @@ use Rattle.cojp.specs.declared.configuration.Configuration.{Configuration}
 use Rattle.cojp.specs.declared.list.ListParameter.{ListParameter}
 use Rattle.cojp.specs.declared.request.JoinRequest.{JoinRequest}
 
-each-byte : (s : List ℕ) (us : List Val) → shadow (each ℕ (UInt w8).own_val (map (λ (x : ℕ). x) s) us) → Bytes s
+each-byte : (s : List ℕ) (us : List Val) → shadow (each ℕ (UInt w8).own_val s us) → Bytes s
 each-byte (x ∷ s) (u ∷ us) h y (Memᴰ.head e) = omega (arith, e, h.0.1)
 each-byte (x ∷ s) (u ∷ us) h y (Memᴰ.tail m) = each-byte s us h.1 y m
+each-byte [] us h y m = elim m [ ]
+each-byte (x ∷ s) [] h y m = elim h [ ]
 
 -- a list's bytes are bytes
 list-bytes : (p : ListParameter) (vs : List Val) → Is (row parameter.the_type) p vs → Bytes p.value.bytes
@@ -48,9 +50,9 @@ configuration-typed c vs h =
     let jrc = later.1.0.1.1.1.0.1.1 in
     let published = later.1.1.1.1 in
     record {
-      two = sym (length-map c.address.value.bytes _) ∙ address.0.1.0.1;
+      two = address.0.1.0.1;
       lease = address.1.1.0.1;
-      sixteen = sym (length-map c.jrc.value.bytes _) ∙ jrc.1.0.1.0.1;
+      sixteen = jrc.1.0.1.0.1;
       list = list-bytes c.blacklist _ published.0;
       rate = published.1.0.1.1.1.0.1;
     }

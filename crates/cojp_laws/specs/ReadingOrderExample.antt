@@ -1,5 +1,5 @@
 -- Each step of the readers' order refuses a payload that no step before it refuses, and one that later steps would refuse too.
-use Rattle.std.specs.Prelude.{ℕ, ◌≡◌, Bool, true, false, List, [], ◌∷◌, ◌++◌, replicate}
+use Rattle.std.specs.Prelude.{ℕ, ◌≡◌, Bool, true, false, List, [], ◌∷◌, replicate}
 use Rattle.protocol_version.specs.declared.Version.{Version}
 use Rattle.protocol_version.specs.declared.Version.TheVariants.{Draft, Published}
 use Rattle.cojp_laws.specs.ReadingOrder.{request_number, configuration_number}

@@ -64,7 +64,8 @@ written_examples =
     ∷ writes (asking 1 none) (0xA1 ∷ 0x01 ∷ 0x01 ∷ [])  -- M4
     ∷ refuses (asking 2 none) 16 13  -- M5
     ∷ writes (configuration_plan Draft empty_configuration) (0xA0 ∷ [])  -- M7
-    ∷ writes (configuration_plan Draft (with_address empty_configuration (address_parameter Taken (address_of (0x12 ∷ 0x34 ∷ []) true 3600))))
+    ∷ writes (configuration_plan Draft
+    (with_address empty_configuration (address_parameter Taken (address_of (0x12 ∷ 0x34 ∷ []) true 3600))))
     (0xA1 ∷ 0x03 ∷ 0x82 ∷ 0x42 ∷ 0x12 ∷ 0x34 ∷ 0x19 ∷ 0x0E ∷ 0x10 ∷ [])  -- M8
     ∷ writes (configuration_plan Draft (with_address empty_configuration (no_address_parameter Discarded))) (0xA0 ∷ [])  -- M9
     ∷ writes (configuration_plan Draft (with_unknown_count empty_configuration 1)) (0xA0 ∷ [])  -- M12
@@ -118,7 +119,8 @@ far_keys = far_key 248 ∷ far_key 249 ∷ far_key 250 ∷ far_key 251 ∷ far_k
 abbrev full_at : ℕ → Configuration
 full_at rate =
     with_rate
-    (with_jrc (with_keys empty_configuration (keys_parameter Taken (key_set_of far_keys))) (octets_parameter Taken (octets_of (replicate 16 0x20))))
+    (with_jrc (with_keys empty_configuration (keys_parameter Taken (key_set_of far_keys)))
+    (octets_parameter Taken (octets_of (replicate 16 0x20))))
     (rate_parameter Taken rate)
 
 -- the bytes of such a key
@@ -128,7 +130,8 @@ far_group identifier =
 
 abbrev far_groups : List ℕ
 far_groups =
-    far_group 248 ++ (far_group 249 ++ (far_group 250 ++ (far_group 251 ++ (far_group 252 ++ (far_group 253 ++ (far_group 254 ++ far_group 255))))))
+    far_group 248 ++ (far_group 249 ++ (far_group 250
+    ++ (far_group 251 ++ (far_group 252 ++ (far_group 253 ++ (far_group 254 ++ far_group 255))))))
 
 abbrev pub longest_examples : List Example
 longest_examples =
