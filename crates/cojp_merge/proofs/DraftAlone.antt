@@ -29,7 +29,7 @@ use Rattle.cojp.specs.declared.error_report.ErrorReports.{ErrorReports}
 use Rattle.protocol_version.specs.declared.Version.TheVariants.{Draft, Published}
 use Rattle.cojp.proofs.Walks.{Gives, payload-gives}
 use Rattle.cojp_merge.specs.Laws.{published_in, RangeToMerge, DraftAlone}
-use Rattle.cojp_merge.specs.Merge.{of_draft, outside_limits, merge_answer}
+use Rattle.cojp_merge.specs.Merge.{of_draft, merge_answer}
 use Rattle.cojp_merge.specs.declared.MergeResult.{MergeResult}
 use Rattle.cojp_merge.proofs.Merging.{of-draft, merge-answered, merge-first-outside, merge-second-outside}
 
@@ -117,6 +117,7 @@ drafts-merge L p q e f =
     (sym (merge-answered a b (read-of-draft a (L Draft p e)) (read-of-draft b (L Draft q f))))
 
 pub draft-alone : ReadsInRange → DraftAlone
-unfolding payload_by decode_by heading argument next members pairs major_of is_address address_in payload_read_by parameter_of later_parameter
+unfolding payload_by decode_by heading argument next members pairs major_of is_address address_in payload_read_by parameter_of
+    later_parameter
     configuration_taking added merge_answer of_draft configuration_in_range of_version
 draft-alone L = record { draft = drafts-merge L; published = published-outside; second = refl; hour = refl }
