@@ -6,7 +6,15 @@ mod unsupported;
 
 ghost use Rattle.std.specs.Prelude.{◌≡◌, true, drop};
 ghost use Rattle.cojp.specs.Reading.{bind};
-ghost use Rattle.cojp.specs.Request.{request_state, empty_request_state, request_form, settled, refuse_request, request_answer, read_request_by};
+ghost use Rattle.cojp.specs.Request.{
+  request_state,
+  empty_request_state,
+  request_form,
+  settled,
+  refuse_request,
+  request_answer,
+  read_request_by,
+};
 ghost use Rattle.cbor.specs.Strict.{head_by};
 ghost use Rattle.cojp_map.specs.Pairs.{walk_at};
 

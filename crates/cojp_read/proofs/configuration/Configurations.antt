@@ -10,7 +10,8 @@ use Rattle.cbor.specs.View.{View}
 use Rattle.cojp.specs.Address.{no_address_parameter, address_read}
 use Rattle.cojp.specs.Bytes.{value_view, after_value, EndsAt}
 use Rattle.cojp.specs.Configuration.{configuration_form, configuration_passing, label_status_for, taking_for, configuration_taking, noted}
-use Rattle.cojp.specs.Configuration.{with_keys, with_address, with_jrc, with_network, with_prefix, with_blacklist, with_rate, with_labels_seen}
+use Rattle.cojp.specs.Configuration.{with_keys, with_address, with_jrc, with_network, with_prefix, with_blacklist, with_rate}
+use Rattle.cojp.specs.Configuration.{with_labels_seen}
 use Rattle.cojp.specs.KeySet.{no_keys_parameter, keys_read_as}
 use Rattle.cojp.specs.Lists.{blacklist_taken}
 use Rattle.cojp.specs.Octets.{no_octets_parameter, octets_read}
@@ -84,7 +85,8 @@ module _ (v : Version) (c : Configuration) (s l : List ℕ) (p : LabelResult) (t
       }
 
   pub keys-turn : names ≡ name.Keys
-      → Given with_keys (λ x. x.keys.disposition) (by_version_of v (no_keys_parameter Discarded) (keys_read_as (allows_additional_info v) value))
+      → Given with_keys (λ x. x.keys.disposition) (by_version_of v (no_keys_parameter Discarded)
+      (keys_read_as (allows_additional_info v) value))
   keys-turn h =
       turn-known with_keys (λ x. x.keys.disposition)
       (by_version_of v (no_keys_parameter Discarded) (keys_read_as (allows_additional_info v) value)) (rw h) (rw h) (rw h)
@@ -100,7 +102,8 @@ module _ (v : Version) (c : Configuration) (s l : List ℕ) (p : LabelResult) (t
   pub jrc-turn : names ≡ name.Jrc
       → Given with_jrc (λ x. x.jrc.disposition) (by_version_of v (no_octets_parameter Discarded) (octets_read 16 value))
   jrc-turn h =
-      turn-known with_jrc (λ x. x.jrc.disposition) (by_version_of v (no_octets_parameter Discarded) (octets_read 16 value)) (rw h) (rw h) (rw h)
+      turn-known with_jrc (λ x. x.jrc.disposition) (by_version_of v (no_octets_parameter Discarded) (octets_read 16 value)) (rw h) (rw h)
+      (rw h)
       (λ f p. refl) (λ f. refl) (λ p. refl) (λ p. refl)
 
   pub network-turn : names ≡ name.Network → Given with_network (λ x. x.network.disposition) (octets_read 0 value)

@@ -2,14 +2,9 @@
 use Prim.Native.Nat.{ℕ, zero, suc, ◌≤◌, ◌<◌}
 use mathlib.Core.Path.{◌≡◌, refl}
 use mathlib.Core.Bool.{Bool, true, false}
-use mathlib.Core.List.{[], ◌∷◌}
-use mathlib.Core.Logic.{⊎_elim}
 use native.Mathlib.Omega.{arith}
 use lib.Dec.{ltb}
 use borrow.Author.Tests.{ne_eqb, ltb-true, ltb-false}
-use types.Run.{OneOf}
-use denote.Enum.Declared.{tag_of}
-use Rattle.cojp.specs.contracts.parameter.Parameter as parameter
 use Rattle.cojp.specs.Parameter.{parameter_of, later_parameter}
 use Rattle.protocol_version.specs.Version.{allows_additional_info}
 use Rattle.cojp.specs.declared.error_report.ErrorReports.{ErrorReports}
@@ -20,7 +15,7 @@ use Rattle.protocol_version.specs.declared.Version.TheVariants.{Draft, Published
 use Rattle.cojp_read.specs.configuration.Noted.{is_named, labels_seen_with}
 
 -- any parameter but the last, which is none
-pub named : (p : Parameter) → OneOf (0 ∷ 1 ∷ 2 ∷ 3 ∷ 4 ∷ 5 ∷ 6 ∷ []) (tag_of parameter.the_type p) → is_named p ≡ true
+pub named : (p : Parameter) → (p ≡ name.Unknown → ⊥) → is_named p ≡ true
 named name.Keys o = refl
 named name.Address o = refl
 named name.Jrc o = refl
@@ -28,9 +23,7 @@ named name.Network o = refl
 named name.Prefix o = refl
 named name.Blacklist o = refl
 named name.Rate o = refl
-named name.Unknown o = absurd
-    (⊎_elim (λ e. omega arith) (λ o. ⊎_elim (λ e. omega arith) (λ o. ⊎_elim (λ e. omega arith) (λ o. ⊎_elim (λ e. omega arith)
-    (λ o. ⊎_elim (λ e. omega arith) (λ o. ⊎_elim (λ e. omega arith) (λ e. omega arith) o) o) o) o) o) o)
+named name.Unknown o = absurd (o refl)
 
 past : (v : Version) (n : ℕ) → 8 ≤ n → parameter_of v n ≡ name.Unknown
 unfolding parameter_of later_parameter

@@ -68,7 +68,8 @@ module _ (v : Version) (f : ErrorReports) where
   pub says-broken : (r : RoleRead) → BadRole v refusal.«Type» f 1 r → RoleSpec v false f broken r
   says-broken r bad g e = bad g ∙ go v
     where
-      go : (v : Version) → by_version v (refused refusal.«Type») (read (with_errors (with_role g 0) (added f 1 1))) ≡ role_gathered v g broken
+      go : (v : Version) → by_version v (refused refusal.«Type») (read (with_errors (with_role g 0) (added f 1 1))) ≡ role_gathered v g
+          broken
       go Draft = refl
       go Published = rw (← e)
 

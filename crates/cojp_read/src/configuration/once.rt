@@ -59,7 +59,8 @@ pub(crate) fn keys_once(
     version: Version,
     told: KeysStep,
 ) -> KeysStep
-    ensures keys_follow { KeysFollow told result (λ x. once (seen held) (by_version_of version (no_keys_parameter Disposition.Discarded) x)) }
+    ensures keys_follow { KeysFollow told result
+        (λ x. once (seen held) (by_version_of version (no_keys_parameter Disposition.Discarded) x)) }
     ensures rest { RestFollows s.now at told result }
 {
     if is_seen(held) {

@@ -14,6 +14,7 @@ pub(crate) enum RequestParameter {
 }
 
 // What a label names in a form: 1 and 5 in both, 8 in that of RFC 9031.
+#[tactic(auto, unfolding(crate::specs::request::Requests::request_parameter_of))]
 pub(crate) fn request_parameter_of(version: Version, label: u64) -> RequestParameter
     ensures { result ≡ request_parameter_of version label }
 {
