@@ -7,19 +7,18 @@ use mathlib.Core.List.Memᴰ.{head as at}
 use mathlib.Core.List.Memᴰ.{tail as past}
 use mathlib.Core.List.{List, [], ◌∷◌, Memᴰ}
 use mathlib.Core.List.{◌++◌}
-use mathlib.Core.Logic.{inl, inr, ⊎_elim}
+use mathlib.Core.Logic.{inr, ⊎_elim}
 use lib.Dec.{lit<}
 use Rattle.refusal.specs.RefusalLemmas.{accepted-not}
-use Rattle.cojp.specs.declared.disposition.Disposition.{Disposition}
 use Rattle.cojp.specs.declared.disposition.Disposition.TheVariants.{Absent, Taken, Discarded}
 use Rattle.node_attempt.specs.declared.delivery.Delivery.TheVariants.{Update}
 use Rattle.node_laws.specs.Calls.{delivering}
 use Rattle.node_laws.specs.Laws.{Takes}
 use Rattle.network.specs.Network.{node_at}
-use Rattle.network.specs.Events.{Event, turning, calling, run, Admissible, Throughout}
+use Rattle.network.specs.Events.{Event, calling, run, Admissible, Throughout}
 use Rattle.network.specs.AmidUpdates.{EventAmidUpdates, AdmissibleAmidUpdates, RekeyAmidUpdates}
 use Rattle.network.specs.AmidUpdatesExample.{clashing, first_amid, taken_amid, round_amid, second_amid, AmidUpdatesExample}
-use Rattle.network.specs.Rounds.{Linked, AllLinked, Round, Rounds, none, more}
+use Rattle.network.specs.Rounds.{Linked, AllLinked, Rounds, none, more}
 use Rattle.network.specs.Demand3.{NoneUsedUp}
 use Rattle.network.specs.PartialRekey.{RekeyAmong, all}
 use Rattle.network.specs.RekeyExample
@@ -88,6 +87,7 @@ linked e m = ⊎_elim first again (Memᴰ.append_cases round_amid m)
   where
     update : Memᴰ e (calling 2 (delivering Update 21000 clashing) ∷ []) → Linked line_links 1 e
     update (at q) = rw q tt
+    update (past m) = elim m [ ]
 
     first : Memᴰ e round_amid → Linked line_links 1 e
     first n = ⊎_elim (linked-worst e) update (Memᴰ.append_cases worst n)
@@ -99,6 +99,7 @@ linked e m = ⊎_elim first again (Memᴰ.append_cases round_amid m)
 there : (es fs : List Event) {x : Event} → Memᴰ x es → Memᴰ x (es ++ fs)
 there (e ∷ es) fs (at q) = at q
 there (e ∷ es) fs (past m) = past (there es fs m)
+there [] fs m = elim m [ ]
 
 rounds : Rounds line_links 1 2 second_amid
 rounds = more round_amid (λ i j n. there worst _ (round-worst i j n)) (more worst round-worst none)

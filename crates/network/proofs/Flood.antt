@@ -93,6 +93,7 @@ switches-in kinds i j type (e ∷ es) w h (Memᴰ.head q) =
     flows-new (moves kinds e) j es (rw (sym q) (switches kinds i j type w h))
 switches-in kinds i j type (e ∷ es) w h (Memᴰ.tail m) =
     switches-in (moves kinds e) i j type es (flows-new kinds i (e ∷ []) w) (flows-carries kinds j (e ∷ []) h) m
+switches-in kinds i j type [] w h m = elim m [ ]
 
 -- ---- rounds and hops, each hop to a neighbour that holds the set
 module _ (links : Links) (type : ℕ) (next : ℕ → ℕ → Type 0) (linked : (i j : ℕ) → next i j → Neighbours links i j) where

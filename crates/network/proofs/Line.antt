@@ -120,6 +120,7 @@ linked-worst e (at q) = rw q (inr (past (at refl)), refl)
 linked-worst e (past (at q)) = rw q (inl (past (at refl)), refl)
 linked-worst e (past (past (at q))) = rw q (inr (at refl), refl)
 linked-worst e (past (past (past (at q)))) = rw q (inl (at refl), refl)
+linked-worst e (past (past (past (past m)))) = elim m [ ]
 
 -- what holds of the two nodes of a link
 pub of-link : (P : ℕ → ℕ → Type 0) (i j x y : ℕ) → ◌≡◌ {A = ℕ × ℕ} (i, j) (x, y) → P x y → P i j
@@ -139,6 +140,8 @@ round-worst i j (inl (at q)) = of-link There i j 0 1 q (past (past (past (at ref
 round-worst i j (inl (past (at q))) = of-link There i j 1 2 q (past (at refl))
 round-worst i j (inr (at q)) = of-link Back j i 0 1 q (past (past (at refl)))
 round-worst i j (inr (past (at q))) = of-link Back j i 1 2 q (at refl)
+round-worst i j (inl (past (past m))) = elim m [ ]
+round-worst i j (inr (past (past m))) = elim m [ ]
 
 pub hops : Hops (Neighbours line_links) 2 0 2
 hops = hop (inl (at refl)) (hop (inl (past (at refl))) here)
@@ -212,7 +215,7 @@ after = turns-come 3 taken twice refl refl
 unfoldable pub unspent_at : Node → Bool
 unspent_at n = not (any_of is_used_up (slots_in n.sets))
 
-none-used : {xs : List Slot} {x : Slot} → Memᴰ x xs → any_of is_used_up xs ≡ false → is_used_up x ≡ false
+none-used : {x : Slot} {xs : List Slot} → Memᴰ x xs → any_of is_used_up xs ≡ false → is_used_up x ≡ false
 none-used (at {x = y} {xs = ys} p) e = ap is_used_up p ∙ neither_left (is_used_up y) (any_of is_used_up ys) e
 none-used (past {x = y} {xs = ys} m) e = none-used m (neither_right (is_used_up y) (any_of is_used_up ys) e)
 

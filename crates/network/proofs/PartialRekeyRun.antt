@@ -83,6 +83,7 @@ linked e (past (past (past (past (past (past (at q))))))) = rw q (inr (at refl),
 linked e (past (past (past (past (past (past (past (at q)))))))) = rw q (inl (at refl), refl)
 linked e (past (past (past (past (past (past (past (past (at q))))))))) = rw q (inr (past (past (past (at refl)))), refl)
 linked e (past (past (past (past (past (past (past (past (past (at q)))))))))) = rw q (inl (past (past (past (at refl)))), refl)
+linked e (past (past (past (past (past (past (past (past (past (past m)))))))))) = elim m [ ]
 
 abbrev There : ℕ → ℕ → Type 0
 There i j = Memᴰ (turning i j 1) around
@@ -102,6 +103,8 @@ round i j (inr (past (at q))) = of-link Back j i 0 2 q (past (past (past (past (
 round i j (inr (past (past (at q)))) = of-link Back j i 2 3 q (past (past (at refl)))
 round i j (inr (past (past (past (at q))))) = of-link Back j i 4 5 q (past (past (past (past (past (past (past (past (at refl)))))))))
 round i j (inr (past (past (past (past (at q)))))) = of-link Back j i 1 6 q (at refl)
+round i j (inl (past (past (past (past (past m)))))) = elim m [ ]
+round i j (inr (past (past (past (past (past m)))))) = elim m [ ]
 
 linked-twice : AllLinked building_links 1 around_twice
 linked-twice e m = ⊎_elim (linked e) (linked e) (Memᴰ.append_cases around m)
@@ -130,6 +133,8 @@ from-two i j e (inr (past (at q))) = let b : j ≡ 0 = ap (λ (l : ℕ × ℕ). 
 from-two i j e (inr (past (past (at q)))) = let b : j ≡ 2 = ap (λ (l : ℕ × ℕ). l.0) q in absurd (omega (arith, b, e))
 from-two i j e (inr (past (past (past (at q))))) = let b : j ≡ 4 = ap (λ (l : ℕ × ℕ). l.0) q in absurd (omega (arith, b, e))
 from-two i j e (inr (past (past (past (past (at q)))))) = let b : j ≡ 1 = ap (λ (l : ℕ × ℕ). l.0) q in absurd (omega (arith, b, e))
+from-two i j e (inl (past (past (past (past (past m)))))) = elim m [ ]
+from-two i j e (inr (past (past (past (past (past m)))))) = elim m [ ]
 
 asleep : (j : ℕ) → had_pending j ≡ true → j ≡ 2 → ⊥
 asleep j t p = let z : had_pending 2 ≡ true = subst (λ (k : ℕ). had_pending k ≡ true) p t in never false z refl

@@ -5,7 +5,7 @@ use mathlib.Core.Path.{◌≡◌, refl, ap}
 use mathlib.Core.List.Memᴰ
 use mathlib.Core.List.Memᴰ.{head as at}
 use mathlib.Core.List.Memᴰ.{tail as past}
-use mathlib.Core.List.{List, [], ◌∷◌, Memᴰ}
+use mathlib.Core.List.{List, [], Memᴰ}
 use mathlib.Core.List.{◌++◌}
 use mathlib.Core.Logic.{inl, inr, ⊎_elim}
 use lib.Dec.{lit<}
@@ -41,6 +41,9 @@ sets-apart x y (at p) (past (past (at q))) = keys-apart _ _ x y p q (λ e. omega
 sets-apart x y (past (at p)) (at q) = keys-apart _ _ x y p q (λ e. omega arith)
 sets-apart x y (past (at p)) (past (at q)) = keys-apart _ _ x y p q (λ e. omega arith)
 sets-apart x y (past (at p)) (past (past (at q))) = keys-apart _ _ x y p q (λ e. omega arith)
+sets-apart x y (at p) (past (past (past m))) = elim m [ ]
+sets-apart x y (past (at p)) (past (past (past m))) = elim m [ ]
+sets-apart x y (past (past m)) _ = elim m [ ]
 
 supposed : Supposed wide 0 new_three 1
 unfolding computing
@@ -66,6 +69,7 @@ linked-one e (past (past (past (at q)))) = rw q tt
 linked-one e (past (past (past (past (at q))))) = rw q (inr (at refl), refl)
 linked-one e (past (past (past (past (past (at q)))))) = rw q tt
 linked-one e (past (past (past (past (past (past (at q))))))) = rw q (inl (at refl), refl)
+linked-one e (past (past (past (past (past (past (past m))))))) = elim m [ ]
 
 linked-two : AllLinked line_links 1 round_two
 linked-two e (at q) = rw q (inr (past (at refl)), refl)
@@ -75,6 +79,7 @@ linked-two e (past (past (past (at q)))) = rw q tt
 linked-two e (past (past (past (past (at q))))) = rw q (inr (at refl), refl)
 linked-two e (past (past (past (past (past (at q)))))) = rw q tt
 linked-two e (past (past (past (past (past (past (at q))))))) = rw q (inl (at refl), refl)
+linked-two e (past (past (past (past (past (past (past m))))))) = elim m [ ]
 
 linked : AllLinked line_links 1 second_wide
 linked e m = ⊎_elim (linked-one e) again (Memᴰ.append_cases round_one m)
@@ -93,12 +98,16 @@ one i j (inl (at q)) = of-link (There round_one) i j 0 1 q (past (past (past (pa
 one i j (inl (past (at q))) = of-link (There round_one) i j 1 2 q (past (past (at refl)))
 one i j (inr (at q)) = of-link (Back round_one) j i 0 1 q (past (past (past (past (at refl)))))
 one i j (inr (past (at q))) = of-link (Back round_one) j i 1 2 q (at refl)
+one i j (inl (past (past m))) = elim m [ ]
+one i j (inr (past (past m))) = elim m [ ]
 
 two : Round line_links 1 round_two
 two i j (inl (at q)) = of-link (There round_two) i j 0 1 q (past (past (past (past (past (past (at refl)))))))
 two i j (inl (past (at q))) = of-link (There round_two) i j 1 2 q (past (past (at refl)))
 two i j (inr (at q)) = of-link (Back round_two) j i 0 1 q (past (past (past (past (at refl)))))
 two i j (inr (past (at q))) = of-link (Back round_two) j i 1 2 q (at refl)
+two i j (inl (past (past m))) = elim m [ ]
+two i j (inr (past (past m))) = elim m [ ]
 
 rounds : Rounds line_links 1 2 second_wide
 rounds = more round_one one (more round_two two none)
