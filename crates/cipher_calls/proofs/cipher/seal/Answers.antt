@@ -1,13 +1,10 @@
 -- The lengths of key and nonce come first; then the cipher's own plan is followed.
 use native.Mathlib.Omega.{arith}
-use Rattle.aes_ccm.specs.Plan.{seal_plan}
 use lib.Dec.{eqb}
 use lib.ListN.{length}
-use borrow.Author.Tests.{eq-eqb, ne_eqb}
-use Rattle.cipher_calls.proofs.Ciphers.{unfit, sealed-told}
-use Rattle.image.proofs.Lent.{whole, other_length, then-not, then-so}
-use Rattle.cipher_calls.specs.Cipher.{fit_key}
-use borrow.Author.Rules.{rules}
+use borrow.Author.Tests.{eq-eqb}
+use Rattle.cipher_calls.proofs.Ciphers.{sealed-told}
+use Rattle.image.proofs.Lent.{whole, then-so}
 use Rattle.cipher_calls.proofs.cipher.seal.Goals as goal
 
 pub returns : goal.returns

@@ -1,11 +1,8 @@
 -- The image comes first; then the question is the ledger's own.
 use mathlib.Core.Path.{refl, sym, ap, ◌∙◌}
 use Rattle.address_ledger.specs.Ledger.{free_count}
-use Rattle.lemmas.specs.logic.Tests.{is_false, is_true}
-use Rattle.state_image.specs.Ledger.{ledger_image}
-use Rattle.ledger_calls.proofs.Ledgers.{count-unfit, counted}
-use Rattle.image.proofs.Lent.{long}
-use borrow.Author.Rules.{rules}
+use Rattle.lemmas.specs.logic.Tests.{is_true}
+use Rattle.ledger_calls.proofs.Ledgers.{counted}
 use Rattle.ledger_calls.proofs.ledger.ledger_free.Goals as goal
 
 pub returns-in-Count : goal.returns-in-Count
@@ -19,4 +16,3 @@ returns-in-Refused c =
     let image = is_true c.is_ledger.ensures c.if-not-is_ledger.false in
     let e = sym c.in-Refused.is ∙ c.free-answer.ensures ∙ ap free_count c.ledger_in.ensures in
     counted c.args.ledger.now _ image e c.number.ensures refl
-

@@ -6,9 +6,8 @@ use Rattle.address_ledger_laws.specs.Demand1.{asking}
 use Rattle.image.specs.Part.{is_image}
 use Rattle.lemmas.specs.logic.Tests.{is_true as so}
 use Rattle.state_image.specs.Ledger.{ledger_image}
-use Rattle.ledger_calls.proofs.Ledgers.{unfit, told, asked}
-use Rattle.image.proofs.Lent.{whole, long, other_length, then-not, then-so}
-use borrow.Author.Rules.{rules}
+use Rattle.ledger_calls.proofs.Ledgers.{told, asked}
+use Rattle.image.proofs.Lent.{whole, then-so}
 use Rattle.ledger_calls.proofs.ledger.ledger_grant.Goals as goal
 
 pub returns : goal.returns
@@ -19,5 +18,4 @@ returns c =
     let same = c.grant-done.ensures ∙ ap₂ (λ l b. granted l c.args.memory.now b) c.ledger_in.ensures board in
     let performed = asked (ledger_image.get c.args.ledger.now) c.args.memory.now c.args.board.now c.grant-done.result _ same in
     told (asking c.args.board.now) c.args.ledger.now c.args.memory.now c.demand1.ensures _ right performed c.store_address.ensures.number
-    c.store_address.ensures.image.0 c.store_address.ensures.image.1
-
+    c.store_address.ensures.image c.store_address.ensures.address
