@@ -1,10 +1,10 @@
 -- What was found says where it stands: the tests of `slot_found` are taken apart.
-use Prim.Native.Nat.{ℕ, ◌≤◌, ◌<◌}
+use Prim.Native.Nat.{ℕ, ◌<◌}
 use mathlib.Core.Path.{◌≡◌, refl}
 use mathlib.Core.Bool.{Bool, true, false}
 use mathlib.Core.List.{List}
 use native.Mathlib.Omega.{arith}
-use borrow.Author.Tests.{ltb-true, ltb-false}
+use borrow.Author.Tests.{ltb-true}
 use lib.ListN.{length}
 use Rattle.address_slots.specs.SlotLemmas.{length-slots}
 use Rattle.address_slots.specs.Slot.{Slot, slots, held_by, is_free, lowest, has, slot_found}
@@ -22,39 +22,8 @@ module _ (b : List ℕ) (ps : List Slot) where
       absurd (omega arith)
   held_by_lem k false false p q e = let f : Held k ≡ Nothing = rw (p, q) at e in let z : ◌≡◌ {A = ℕ} 0 1 = cc in absurd (omega arith)
 
-  free-by : (k : ℕ) (x y : Bool) → has (held_by b) ps ≡ x → has is_free ps ≡ y → Free k ≡ slot_found b ps
-      → (k ≡ lowest is_free ps) × ((k < length ps) × (length ps ≤ lowest (held_by b) ps))
-  unfolding slot_found has
-  free-by k true y p q e =
-      let f : Free k ≡ Held (lowest (held_by b) ps) = rw p at e in
-      let z : ◌≡◌ {A = ℕ} 0 1 = cc in
-      absurd (omega arith)
-  free-by k false true p q e =
-      let f : Free k ≡ Free (lowest is_free ps) = rw (p, q) at e in
-      let g : k ≡ lowest is_free ps = cc in
-      (g, (omega (arith, ltb-true (lowest is_free ps) (length ps) q), ltb-false (lowest (held_by b) ps) (length ps) p))
-  free-by k false false p q e = let f : Free k ≡ Nothing = rw (p, q) at e in let z : ◌≡◌ {A = ℕ} 0 1 = cc in absurd (omega arith)
-
-  nothing-by : (x y : Bool) → has (held_by b) ps ≡ x → has is_free ps ≡ y → Nothing ≡ slot_found b ps
-      → (length ps ≤ lowest (held_by b) ps) × (length ps ≤ lowest is_free ps)
-  unfolding slot_found has
-  nothing-by true y p q e =
-      let f : Nothing ≡ Held (lowest (held_by b) ps) = rw p at e in
-      let z : ◌≡◌ {A = ℕ} 0 1 = cc in
-      absurd (omega arith)
-  nothing-by false true p q e = let f : Nothing ≡ Free (lowest is_free ps) = rw (p, q) at e in let z : ◌≡◌ {A = ℕ} 0 1 = cc in
-      absurd (omega arith)
-  nothing-by false false p q e =
-      (ltb-false (lowest (held_by b) ps) (length ps) p, ltb-false (lowest is_free ps) (length ps) q)
-
   pub held-is : (k : ℕ) → Held k ≡ slot_found b ps → (k ≡ lowest (held_by b) ps) × (k < length ps)
   held-is k e = held_by_lem k _ _ refl refl e
-
-  pub free-is : (k : ℕ) → Free k ≡ slot_found b ps → (k ≡ lowest is_free ps) × ((k < length ps) × (length ps ≤ lowest (held_by b) ps))
-  free-is k e = free-by k _ _ refl refl e
-
-  pub nothing_is : Nothing ≡ slot_found b ps → (length ps ≤ lowest (held_by b) ps) × (length ps ≤ lowest is_free ps)
-  nothing_is e = nothing-by _ _ refl refl e
 
 module _ (b : List ℕ) (n : ℕ) (m : List ℕ) (k : ℕ) where
   pub held-within : Held k ≡ slot_found b (slots n m) → k < n

@@ -20,9 +20,6 @@ pub record Passed (n : ℕ) (m : List ℕ) (x left g : ℕ) : Type 0 where
   pub same : free_by 64 x 0 (slots n m) ≡ free_by (64 - g) left (64 * g) (drop (64 * g) (slots n m))
 
 module _ (n : ℕ) (m : List ℕ) (x : ℕ) where
-  pub pass-none : Passed n m x x 0
-  pass-none = record { within = omega arith; same = refl }
-
   module _ (left g : ℕ) (w : Passed n m x left g) (h : g < 64) (place : ℕ)
       (e : place
       ≡ cond (eqb (left % 2) 1 && has is_free (group_at g (slots n m))) (64 * g + lowest is_free (group_at g (slots n m))) n) where

@@ -81,10 +81,6 @@ module _ (g n end place : ℕ) (m : List ℕ) (e : end ≡ min (64 * g + 64) n)
         → n ≡ cond (eqb mark 1 && has is_free (group_at g (slots n m))) (64 * g + lowest is_free (group_at g (slots n m))) n
     none-in-group l = rw (eq-eqb _ _ o, ← any-by _ refl, le-ltb place end l)
 
-pub unmarked-group : (g n mark : ℕ) (m : List ℕ) → (mark ≡ 1 → ⊥)
-    → n ≡ cond (eqb mark 1 && has is_free (group_at g (slots n m))) (64 * g + lowest is_free (group_at g (slots n m))) n
-unmarked-group g n mark m h = rw (ne_eqb _ _ h)
-
 -- ---- counting free places
 append-cons : (p : Slot) (ps qs : List Slot) (x : Bool) → is_free p ≡ x → count_free (ps ++ qs) ≡ count_free ps + count_free qs
     → count_free (p ∷ (ps ++ qs)) ≡ count_free (p ∷ ps) + count_free qs

@@ -4,7 +4,7 @@ use mathlib.Core.Path.{◌≡◌, refl, sym, ap}
 use mathlib.Core.Bool.{Bool, true, false, ◌&&◌, and-false}
 use mathlib.Core.List.{List, [], ◌∷◌}
 use native.Mathlib.Omega.{arith}
-use native.Mathlib.Nat.{add-zero, zero-add}
+use native.Mathlib.Nat.{add-zero}
 use borrow.Author.Tests.{eq-eqb, ne_eqb}
 use lib.Dec.{eqb}
 use lib.ListN.{get_or, take, drop}
@@ -21,9 +21,6 @@ same_step n at i m b h =
     let f : at + i + 0 ≡ at + i = omega arith in
     let g : at + i + 1 ≡ at + (i + 1) = omega arith in
     rw (e, get_or-drop, drop-drop, get_or-drop, drop-drop, f, g, add-zero)
-
-pub same_start : (at : ℕ) (m b : List ℕ) → same 8 (drop at m) b ≡ same (8 - 0) (drop (at + 0) m) (drop 0 b)
-same_start at m b = rw (add-zero)
 
 pub same_end : (at i : ℕ) (m b : List ℕ) → 8 ≤ i → same (8 - i) (drop (at + i) m) (drop i b) ≡ true
 unfolding same
@@ -60,9 +57,9 @@ module _ (at : ℕ) (m b : List ℕ) where
   unfolding slot_at
   board-here = rw (same-take 8, drop-drop)
 
-  pub held-not : (get_or m at 0 ≡ 1 → ⊥) → false ≡ held_by b (slot_at (drop at m))
+  pub held_not : (get_or m at 0 ≡ 1 → ⊥) → false ≡ held_by b (slot_at (drop at m))
   unfolding held_by
-  held-not h = rw (mark-here, ne_eqb _ _ h)
+  held_not h = rw (mark-here, ne_eqb _ _ h)
 
   pub held_same : get_or m at 0 ≡ 1 → same 8 (drop (at + 1) m) b ≡ held_by b (slot_at (drop at m))
   unfolding held_by
@@ -92,9 +89,6 @@ places-end n i m h = let e : n - i ≡ 0 = omega arith in rw e
 
 -- the lowest place with a property
 module _ (q : Slot → Bool) (n : ℕ) (m : List ℕ) where
-  pub lowest_start : lowest q (slots n m) ≡ 0 + lowest q (slots (n - 0) (drop (9 * 0) m))
-  lowest_start = let e : n - 0 ≡ n = omega arith in rw (e, zero-add)
-
   module _ (i : ℕ) (h : i < n) where
     pub lowest-here : q (slot_at (drop (9 * i) m)) ≡ true → i + lowest q (slots (n - i) (drop (9 * i) m)) ≡ i
     unfolding lowest

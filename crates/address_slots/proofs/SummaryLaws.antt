@@ -10,7 +10,7 @@ use lib.Pow.{pow_mono}
 use lib.Seq.{drop-drop}
 use Rattle.address_slots.specs.SlotLemmas.{length-slots, count_most, marks-bound}
 use Rattle.address_slots.specs.Slot.{Slot, slots, is_free, has, count_free}
-use Rattle.address_slots.specs.Marks.{bit, group_at, marks_of, summary_of}
+use Rattle.address_slots.specs.Marks.{bit, group_at, marks_of}
 use Rattle.address_slots.proofs.Runs.{group-places, count-append, has-count}
 
 pub record Surveyed (n : ℕ) (m : List ℕ) (free marks above : ℕ) : Type 0 where
@@ -63,11 +63,3 @@ module _ (n : ℕ) (m : List ℕ) (free marks above : ℕ) (w : Surveyed n m fre
           counted = omega (arith, whole);
           marked = rw (s, next, q, w.marked);
         }
-
-pub survey-end : (n : ℕ) (m : List ℕ) (free marks above : ℕ) → Surveyed n m free marks above → above ≤ 0
-    → record { free = free; bitmap = marks } ≡ summary_of (slots n m)
-survey-end n m free marks above w h =
-    let e : above ≡ 0 = omega arith in
-    let f : free ≡ count_free (slots n m) = w.counted ∙ rw e in
-    let g : marks ≡ marks_of 64 (slots n m) = w.marked ∙ rw e in
-    rw (f, g)

@@ -5,11 +5,8 @@ use mathlib.Core.List.{List}
 use native.Mathlib.Omega.{arith}
 use native.Mathlib.Numerals.{add-one}
 use lib.ListN.{length, get_or, set}
-use lib.Seq.{paste, paste-zero, paste-suc, take-suc-set, drop-set-lt, append_snoc}
+use lib.Seq.{paste, paste-suc, take-suc-set, drop-set-lt, append_snoc}
 use Rattle.address_slots.specs.Slot.{hold}
-
-pub board-none : (d : List ℕ) (at : ℕ) (b : List ℕ) → d ≡ paste d (at + 1) b 0
-board-none d at b = paste-zero d (at + 1) b
 
 pub board-more : (d : List ℕ) (at : ℕ) (b : List ℕ) (i : ℕ) (d' : List ℕ) → at + 1 + i < length d → i < length b
     → d' ≡ paste d (at + 1) b i → set d' (at + 1 + i) (get_or b i 0) ≡ paste d (at + 1) b (i + 1)

@@ -36,6 +36,7 @@ fn is_board(memory: &[u8], at: usize, board: &[u8; 8]) -> bool
 }
 
 // Whether the board holds the place that begins at `at`.
+#[tactic(auto, using(crate::proofs::Scan::held_not, crate::proofs::Scan::held_same))]
 fn holds(memory: &[u8], at: usize, board: &[u8; 8]) -> bool
     requires { at + 9 ≤ length memory.now }
     ensures { result ≡ held_by board.now (slot_at (drop at memory.now)) }
