@@ -2,24 +2,23 @@
 use Prim.Native.Nat.{ℕ, ◌+◌, ◌*◌, ◌≤◌, ◌<◌}
 use mathlib.Core.Bool.{true, false}
 use mathlib.Core.Path.{◌≡◌, refl}
-use mathlib.Core.List.{List, ◌∷◌}
+use mathlib.Core.List.{List}
 use native.Mathlib.Omega.{arith}
 use borrow.Author.Tests.{lt-ltb}
-use lib.ListN.{length, set, length-set}
-use lib.Seq.{length-paste}
+use lib.ListN.{length, set}
 use Rattle.address_slots.specs.SlotLemmas.{length-slots}
 use Rattle.refusal.specs.declared.Refusal.{Refusal}
 use Rattle.refusal.specs.declared.Refusal.TheVariants.{Range, Full, Unknown}
 use Rattle.refusal.specs.declared.Verdict.TheVariants as verdict
-use Rattle.address_slots.specs.Slot.{slots, fit, held_by, lowest, has, slot_found, hold, hold_within, freed}
-use Rattle.address_slots.specs.Marks.{summary_of, refreshed, slot_found_by}
+use Rattle.address_slots.specs.Slot.{slots, fit, held_by, lowest, has, slot_found, hold, freed}
+use Rattle.address_slots.specs.Marks.{summary_of, slot_found_by}
 use Rattle.address_slots.specs.declared.groups.Summary.{Summary}
 use Rattle.address_slots.specs.declared.slot.SlotFound.{SlotFound}
 use Rattle.address_slots.specs.declared.slot.SlotFound.TheVariants.{Held, Free, Nothing}
 use Rattle.address_slots.proofs.Found.{held-is}
-use Rattle.address_slots.proofs.Fit.{fit_all, hold-all}
+use Rattle.address_slots.proofs.Fit.{fit_all}
 use Rattle.address_ledger.specs.range.Range.{in_limits, judged, counted, Usable}
-use Rattle.address_ledger.specs.Ledger.{Outcome, outcome, answered, empty_ledger, ledger_of, with_summary, fewer, more, opened_by, opened}
+use Rattle.address_ledger.specs.Ledger.{Outcome, outcome, answered, empty_ledger, with_summary, fewer, more, opened_by, opened}
 use Rattle.address_ledger.specs.Ledger.{granting, granted_by, granted, giving_back, given_back_by, given_back, free_count}
 use Rattle.address_ledger.specs.declared.answer.AddressAnswer.TheVariants.{Address, Refused}
 use Rattle.address_ledger.specs.declared.answer.CallResult.{CallResult}
@@ -111,19 +110,3 @@ module _ (l : Ledger) (n : ℕ) where
   pub board-is : (m b : List ℕ) → Usable l.first (length m) n → (k : ℕ) → k ≡ lowest (held_by b) (slots (fit n (length m)) m)
       → k ≡ lowest (held_by b) (slots n m)
   board-is m b u k e = rw (fit_all n (length m) u.size u.room) e
-
-  pub usable-freed : (m : List ℕ) (at : ℕ) → Usable l.first (length m) n → Usable l.first (length (set m at 0)) n
-  usable-freed m at u = rw (length-set m at 0) u
-
-  module _ (k : ℕ) (m : List ℕ) where
-    pub still-usable : (b : List ℕ) → Usable l.first (length m) n → k < n → length b ≡ 8 → (m' : List ℕ) → m' ≡ hold_within m k b
-        → Usable l.first (length m') n
-    unfolding hold
-    still-usable b u h e m' w =
-        let w' = hold-all m b k n h u.size u.room m' w in
-        let g = length-paste m (9 * k) (1 ∷ b) 9 (omega (arith, u.room)) (omega arith) in
-        record { room = rw (w', g) u.room; size = u.size; end = u.end }
-
-    pub written : n ≡ fit n (length m) → (x free : ℕ) → x ≡ free → (y : ℕ) → y ≡ refreshed l.summary k (slots (fit n (length m)) m)
-        → ledger_of l.first l.size x y ≡ ledger_of l.first l.size free (refreshed l.summary k (slots n m))
-    written f x free e y d = let g : y ≡ refreshed l.summary k (slots n m) = rw f d in rw (e, g)

@@ -13,6 +13,7 @@ const SIZE_MOST: usize = 4096;
 const END: usize = 65536;
 
 // Whether the range is in its limits.
+#[tactic(auto, unfolding(crate::specs::range::Range::in_limits))]
 pub(crate) fn in_limits(first: usize, size: usize) -> bool
     ensures { result ≡ in_limits first size }
 {

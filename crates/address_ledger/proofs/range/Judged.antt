@@ -11,24 +11,6 @@ use Rattle.refusal.specs.declared.Verdict.TheVariants.{Accepted, Refused}
 use Rattle.address_ledger.specs.range.RangeLemmas.{counted-most}
 use Rattle.address_ledger.specs.range.Range.{in_limits, judged, counted, counted_in, Usable}
 
--- ---- the limits
-module _ (first size : ℕ) where
-  pub size_none : size ≡ 0 → false ≡ in_limits first size
-  unfolding in_limits
-  size_none h = rw (lt-leb 1 size (omega arith))
-
-  pub size-over : 4096 < size → false ≡ in_limits first size
-  unfolding in_limits
-  size-over h = rw (le-leb 1 size (omega arith), lt-leb size 4096 h)
-
-  pub end-over : 1 ≤ size → size ≤ 4096 → 0x10000 < first + size → false ≡ in_limits first size
-  unfolding in_limits
-  end-over s h p = rw (le-leb 1 size s, le-leb size 4096 h, lt-leb (first + size) 0x10000 p)
-
-  pub limits-hold : 1 ≤ size → size ≤ 4096 → first + size ≤ 0x10000 → true ≡ in_limits first size
-  unfolding in_limits
-  limits-hold s h p = rw (le-leb 1 size s, le-leb size 4096 h, le-leb (first + size) 0x10000 p)
-
 -- ---- RANGE, then ROOM
 module _ (first size len : ℕ) where
   pub outside : in_limits first size ≡ false → Refused Range ≡ judged first size len
@@ -63,9 +45,6 @@ module _ (first size : ℕ) (e : in_limits first size ≡ true) where
   pub within_end : first + size ≤ 0x10000
   within_end = leb-true (first + size) 0x10000 limits.1.1
 
-  pub counted-within : (n : ℕ) → n ≡ counted first size → n ≡ counted_in first size
-  counted-within n h = rw e h
-
 module _ (first size len : ℕ) (f : Accepted ≡ judged first size len) where
   tests : (in_limits first size ≡ true) × (leb (9 * size) len ≡ true)
   unfolding judged
@@ -91,7 +70,3 @@ module _ (first size len : ℕ) (f : Accepted ≡ judged first size len) where
   usable n e =
       let c = counted-most first size in
       record { room = omega (arith, has_room); size = omega (arith, size-limit); end = omega (arith, end-limit) }
-
--- ---- a range outside its limits has no address that counts
-pub counted-outside : (first size : ℕ) → in_limits first size ≡ false → 0 ≡ counted_in first size
-counted-outside first size e = rw e
