@@ -20,7 +20,7 @@ use Rattle.address_ledger.specs.declared.ledger.Ledger.{Ledger}
 use Rattle.address_slots.specs.declared.slot.SlotFound.{SlotFound}
 use Rattle.address_slots.specs.declared.slot.SlotFound.TheVariants.{Held, Free, Nothing}
 use Rattle.address_ledger.proofs.range.Judged.{usable}
-use Rattle.address_slots.proofs.Scan.{mark-here, held-not, held_same}
+use Rattle.address_slots.proofs.Scan.{mark-here, held_not, held_same}
 use Rattle.address_slots.proofs.Found.{held-is}
 use Rattle.address_slots.proofs.Passing.{sought-held}
 use Rattle.address_ledger.proofs.Calls.{grant-accepted, back-accepted}
@@ -82,7 +82,7 @@ module _ (m b : List ℕ) (k : ℕ) where
   not-held-by : length b ≡ 8 → 9 * k + 9 ≤ length m → (HeldAt m b k → ⊥) → (x y : Bool) → eqb (get_or m (9 * k) 0) 1 ≡ x
       → same 8 (drop (9 * k + 1) m) b ≡ y
       → held_by b (slot_at (drop (9 * k) m)) ≡ false
-  not-held-by l r n false y p q = sym (held-not (9 * k) m b (eqb-false (get_or m (9 * k) 0) 1 p))
+  not-held-by l r n false y p q = sym (held_not (9 * k) m b (eqb-false (get_or m (9 * k) 0) 1 p))
   not-held-by l r n true false p q = sym (held_same (9 * k) m b (eqb-true (get_or m (9 * k) 0) 1 p)) ∙ q
   not-held-by l r n true true p q =
       absurd
