@@ -15,7 +15,7 @@ use Rattle.address_slots.specs.SlotLemmas.{length-slots}
 use Rattle.address_slots.specs.Slot.{slots, held_by, is_free, lowest, has, slot_found}
 use Rattle.address_ledger.specs.Ledger.{judged_of, counted_of, places_of, giving_back, given_back_by, given_back}
 use Rattle.address_ledger.specs.declared.answer.AddressAnswer.{AddressAnswer}
-use Rattle.address_ledger.specs.declared.answer.AddressAnswer.TheVariants.{Address, Refused}
+use Rattle.address_ledger.specs.declared.answer.AddressAnswer.TheVariants.{Refused}
 use Rattle.address_ledger.specs.declared.ledger.Ledger.{Ledger}
 use Rattle.address_journal.specs.declared.held.Holder.{Holder}
 use Rattle.address_journal.specs.Held.{address_found, held_address_by, held_address, holds, no_holder, holder_in, holder_by, holder_of}

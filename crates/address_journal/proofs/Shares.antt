@@ -2,7 +2,6 @@
 use Prim.Native.Nat.{ℕ, ◌+◌, ◌-◌, ◌*◌, ◌/◌, ◌≤◌, ◌<◌}
 use mathlib.Core.Path.{◌≡◌}
 use native.Mathlib.Omega.{arith}
-use native.Mathlib.Nat.{mul-le-mul_left, div-mul-le_self}
 use borrow.Author.Tests.{le-leb, lt-leb}
 use Rattle.address_journal.specs.declared.share.Part.{Part}
 use Rattle.address_journal.specs.Share.{is_share, no_part, part_of}
