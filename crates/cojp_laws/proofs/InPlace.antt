@@ -10,10 +10,9 @@ use lib.Seq.{take_at}
 use Rattle.refusal.specs.declared.Refusal.TheVariants.{Room}
 use Rattle.byte_io.specs.Write.{Plan, refuse, emit, answer, after}
 use Rattle.byte_io.specs.declared.WriteResult.TheVariants.{Refused, Length}
-use Rattle.cojp.specs.Writing.{request_plan, configuration_plan}
+use Rattle.cojp.specs.Writing.{configuration_plan}
 use Rattle.cojp.specs.declared.configuration.Configuration.{Configuration}
-use Rattle.cojp.specs.declared.request.JoinRequest.{JoinRequest}
-use Rattle.cojp_laws.specs.RoundTrip.{RequestRoundTrip, ConfigurationRoundTrip, RequestInPlace, ConfigurationInPlace}
+use Rattle.cojp_laws.specs.RoundTrip.{ConfigurationRoundTrip, ConfigurationInPlace}
 
 front : (b : Bool) (p d : List ℕ) (n : ℕ) → cond b (Length (length p)) (Refused Room) ≡ Length n
     → p ≡ take n (cond b (p ++ drop (length p) d) d)
@@ -23,9 +22,6 @@ front false p d n e = absurd (let z : ◌≡◌ {A = ℕ} 0 1 = cc in omega arit
 in-front : (plan : Plan) (d : List ℕ) (n : ℕ) → answer plan d ≡ Length n → plan ≡ emit (take n (after plan d))
 in-front (refuse k) d n e = absurd (let z : ◌≡◌ {A = ℕ} 0 1 = cc in omega arith)
 in-front (emit p) d n e = ap emit (front (leb (length p) (length d)) p d n e)
-
-pub request-in-place : (q : JoinRequest) → RequestRoundTrip q → RequestInPlace q
-request-in-place q back v d n e b = back v (take n (after (request_plan v q) d)) (in-front (request_plan v q) d n e) b
 
 pub configuration-in-place : (c : Configuration) → ConfigurationRoundTrip c → ConfigurationInPlace c
 configuration-in-place c back v d n e b = back v (take n (after (configuration_plan v c) d)) (in-front (configuration_plan v c) d n e) b
