@@ -118,7 +118,8 @@ module _ (delivery : Delivery) (n : Node) (time : ℕ) (c : Configuration) where
         unfolding apply fitted
         apply-clash e draft = rw (draft, owes, goes e)
 
-        pub set-discarded : {k : Refusal} → p ≡ place.Refused k → n.version ≡ Published → Placed n (with_keys c (no_keys_parameter Discarded))
+        pub set-discarded : {k : Refusal} → p ≡ place.Refused k → n.version ≡ Published
+            → Placed n (with_keys c (no_keys_parameter Discarded))
         unfolding apply fitted
         set-discarded e form = record { held = refl; does = rw (form, goes e, owes) }
 
