@@ -121,7 +121,9 @@ list_same p q old e =
     (q.value.count, list_bytes q.value) (record { held = true; value = p.value }) (record { held = true; value = q.value }) old e
     (λ r s f. ap some f) refl
 
-rate-same : (p q : RateParameter) (old : HeldRate) → rate_taken p ≡ rate_taken q → rate_held (rate_after p old) ≡ rate_held (rate_after q old)
+rate-same :
+    (p q : RateParameter) (old : HeldRate) → rate_taken p ≡ rate_taken q →
+    rate_held (rate_after p old) ≡ rate_held (rate_after q old)
 rate-same p q old e =
     alike (λ (h g : HeldRate). rate_held h ≡ rate_held g) p.disposition q.disposition p.value q.value
     (record { held = true; value = p.value }) (record { held = true; value = q.value }) old e (λ r s f. ap some f) refl

@@ -574,7 +574,9 @@ module _ (n : Node) (type identifier : ℕ) where
       go true = switched-by (receiving_key n.sets type identifier).verdict active
       go false = refl
 
-  has_kept_lem : has_kept (verified n type identifier).change ≡ (is_accepted (receive n type identifier).verdict && has identifier (active_of n))
+  has_kept_lem :
+      has_kept (verified n type identifier).change
+      ≡ (is_accepted (receive n type identifier).verdict && has identifier (active_of n))
   unfolding verified verified_in receive
   has_kept_lem = go (valid n)
     where

@@ -79,8 +79,9 @@ module _ (H : HeadLaws) where
           one-pair 5 (bytes s) 17 (omega arith)
           (omega (arith, few, H.short-head 2 (length s) (omega (arith, few)), length-append (shortest 2 (length s)) s))
 
-  list-short : ListLaws → (p : ListParameter) → list_in_range (at_least_one error_reports_in) p ≡ true → p.value.count ≤ 15 → p.value.len ≤ 15
-      → Short 17 (list_pairs 8 (at_least_one error_reports_in) p)
+  list-short :
+      ListLaws → (p : ListParameter) → list_in_range (at_least_one error_reports_in) p ≡ true → p.value.count ≤ 15 →
+      p.value.len ≤ 15 → Short 17 (list_pairs 8 (at_least_one error_reports_in) p)
   list-short L p = go p.disposition
     where
       go : (r : Disposition) → if_taken r (kept (at_least_one error_reports_in) p.value) true ≡ true
@@ -124,7 +125,9 @@ module _ (L : ListLaws) (f : ErrorReports) where
 
   -- at most five of three members and bytes
   abbrev Limits : Type 0
-  Limits = (list_in_range (at_least_one error_reports_in) (listed_in f) ≡ true) × ((listed_in f).value.count ≤ 15) × ((listed_in f).value.len ≤ 15)
+  Limits =
+      (list_in_range (at_least_one error_reports_in) (listed_in f) ≡ true) × ((listed_in f).value.count ≤ 15)
+      × ((listed_in f).value.len ≤ 15)
 
   list-limits : (v : Version) → error_reports_valid v f ≡ true → Limits
   unfolding error_reports_valid valid_error_reports

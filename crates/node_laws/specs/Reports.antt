@@ -58,7 +58,9 @@ pub record ReportsFollow : Type 0 where
   -- whatever calls come: the last accepted one's
   pub last : (cs : List NodeCall) (n : Node) → (after_calls cs n).errors ≡ last_of n.errors (reports_in cs n)
   -- and the request of the next start lists them
-  pub listed : (cs : List NodeCall) (n : Node) → (request_of (after_calls cs n)).unsupported ≡ listed_in (last_of n.errors (reports_in cs n))
+  pub listed :
+      (cs : List NodeCall) (n : Node) →
+      (request_of (after_calls cs n)).unsupported ≡ listed_in (last_of n.errors (reports_in cs n))
 
 -- ---- a node of the published form joins with the key of identifier 1
 abbrev pub one_key : ℕ → ℕ → List ℕ

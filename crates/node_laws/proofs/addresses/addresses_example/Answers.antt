@@ -1,0 +1,40 @@
+-- Computed.
+use mathlib.Core.Path.{refl}
+use Rattle.link_key.specs.set.KeySet.{valid_keys, valid_set}
+use Rattle.short_address.specs.Address.{is_address}
+use Rattle.byte_io.specs.BigEndian.{digits, bytes_of}
+use Rattle.cbor.specs.Decode.{payload_by, decode_by, heading, argument, next, members, pairs, major_of}
+use Rattle.cbor.specs.Encode.{info_of, extra_of, shortest}
+use Rattle.cojp.specs.Octets.{padded, octets_judged}
+use Rattle.cojp.specs.Address.{address_in}
+use Rattle.cojp.specs.Request.{owing}
+use Rattle.cojp.specs.Walk.{payload_read_by}
+use Rattle.cojp.specs.Parameter.{later_parameter, parameter_of}
+use Rattle.cojp.specs.Configuration.{configuration_taking}
+use Rattle.cojp.specs.ErrorReports.{error_reports_valid}
+use Rattle.cojp.specs.Reported.{error_reports_of}
+use Rattle.cojp.specs.Writing.{request_in_range, request_plan}
+use Rattle.cojp_list.specs.Listed.{listed_in}
+use Rattle.node_key_sets.specs.Sets as sets
+use Rattle.node_attempt.specs.Attempt as attempt
+use Rattle.node_attempt.specs.Attempt.{may_start}
+use Rattle.node_attempt.specs.delivery.Delivery.{may_come}
+use Rattle.node_parameters.specs.Dispositions.{dispositions_of}
+use Rattle.node.specs.Delivery.{fitted, configured, apply, deliver_verdict, deliver}
+use Rattle.node.specs.Node.{made}
+use Rattle.node.specs.Range.{version_valid, valid}
+use Rattle.node.specs.Timing.{request_of, start_verdict, start_plan, start}
+use Rattle.node_laws.specs.Addresses.{AddressesExample}
+use Rattle.node_laws.specs.Calls.{perform}
+use Rattle.node_laws.proofs.addresses.addresses_example.Goals as goal
+
+seen : AddressesExample
+unfolding payload_by decode_by heading argument next digits members pairs major_of bytes_of info_of extra_of shortest
+    valid_keys valid_set is_address padded octets_judged address_in owing payload_read_by later_parameter parameter_of configuration_taking
+    request_in_range request_plan error_reports_valid error_reports_of listed_in sets.valid sets.valid_as attempt.valid may_start may_come
+    dispositions_of fitted configured apply deliver_verdict deliver
+    made version_valid valid request_of start_verdict start_plan start perform
+seen = record { valid = refl; taken = refl; bytes = refl; accepted = refl; discarded = refl; kept = refl; received = refl }
+
+pub returns : goal.returns
+returns c = seen
