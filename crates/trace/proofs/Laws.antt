@@ -1,45 +1,23 @@
 -- What the code of a step answers at each of its ends is what the definition says: one law for each end.
-use Prim.Native.Nat.{ℕ, ◌+◌, ◌-◌, ◌≤◌, ◌<◌}
-use mathlib.Core.Path.{◌≡◌, refl, sym, ◌∙◌, ap}
-use mathlib.Core.Bool.{Bool, true, false}
+use Prim.Native.Nat.{ℕ, ◌+◌, ◌-◌}
+use mathlib.Core.Path.{◌≡◌}
+use mathlib.Core.Bool.{true, false}
 use mathlib.Core.List.{List}
 use native.Mathlib.Omega.{arith}
-use lib.ListN.{length, take, drop, length-drop}
-use lib.Seq.{drop-drop, length-take-le}
-use borrow.Author.Tests.{le-leb, ne_eqb}
-use Rattle.refusal.specs.Refusal.{number_of}
-use Rattle.refusal.specs.declared.Refusal.{Refusal}
-use Rattle.refusal.specs.declared.Verdict.{Verdict}
-use Rattle.refusal.specs.declared.Verdict.TheVariants.{Refused}
-use Rattle.cojp.specs.Octets.{copied_from}
+use lib.ListN.{take, drop}
+use lib.Seq.{drop-drop}
 use Rattle.node_parameters.specs.declared.octets.HeldOctets.{HeldOctets}
-use Rattle.trace_record.specs.Layout.{network_used, EntryAt}
+use Rattle.trace_record.specs.Layout.{EntryAt}
 use Rattle.trace_record.specs.declared.entries.Entry.{Entry}
 use Rattle.trace_record.specs.declared.entries.Entry.TheVariants.{End, Bad, New, Start, JoinAnswer, Update, Verified, Poll}
 use Rattle.trace.specs.Trace.{Record, new_node, start, join_answer, update, verified, poll}
 use Rattle.trace.specs.Trace.{size_of, got, network_in, reading_of, reading, is_admissible}
 use Rattle.trace.specs.Calls.{call_of}
-use Rattle.trace.specs.Step.{raised, refused, after_call, stepped, advance, step}
+use Rattle.trace.specs.Step.{after_call, stepped, advance, step}
 use Rattle.trace.specs.declared.done.CallResult.{CallResult}
 use Rattle.trace.specs.declared.state.Progress.TheVariants.{Complete, Stopped, Walked}
 use Rattle.trace.specs.declared.state.State.{State}
 use Rattle.trace.specs.declared.state.StepResult.{StepResult}
-
-pub refused-counted :
-    (v : Verdict) (k : Refusal) (counts : List ℕ) (n : ℕ) (r : List ℕ) → v ≡ Refused k → n ≡ number_of k → r ≡ raised counts (n - 1) →
-    r ≡ refused v counts
-refused-counted v k counts n r e f g = rw (e, ← f) g
-
--- ---- a network identifier
-pub network-held :
-    (s : List ℕ) (at len : ℕ) (bytes : List ℕ) → (len ≡ 255 → ⊥) → network_used len ≤ 16 → at + 16 ≤ length s → bytes ≡ copied_from s at len →
-    ◌≡◌ {A = HeldOctets} (record { held = true; value = record { len = len; bytes = bytes } }) (network_in len (drop at s))
-network-held s at len bytes n u l e =
-    let f = ne_eqb len 255 n in
-    let v : len ≤ 16 = rw f at u in
-    let g : len ≤ length (drop at s) = omega (arith, length-drop at s) in
-    let whole = rw (le-leb len 16 v, le-leb (at + len) (length s) (omega arith)) at e in
-    rw (f, length-take-le len (drop at s) g, whole)
 
 -- ---- a record
 module _ (r : Record) (at : ℕ) (s : State) where
@@ -91,26 +69,6 @@ module _ (s : List ℕ) (at : ℕ) (st : State) (e : Entry) (f : EntryAt s at e)
 
   pub steps-poll : (time : ℕ) → e ≡ Poll time → x ≡ advance (got (poll time)) at st → x ≡ step s at st
   steps-poll time g h = by-entry (rw g h)
-
--- ---- a record that is read lies inside the trace
-module _ (s : List ℕ) (at : ℕ) (e : Entry) (f : EntryAt s at e) where
-  pub room-new : (role len : ℕ) → e ≡ New role len → (at + 19 ≤ length s) × (network_used len ≤ 16)
-  room-new role len g = rw g at f.inside
-
-  pub room-start : (time timeout : ℕ) → e ≡ Start time timeout → at + 13 ≤ length s
-  room-start time timeout g = rw g at f.inside
-
-  pub room-answer : (time len : ℕ) → e ≡ JoinAnswer time len → (at + 267 ≤ length s) × (len ≤ 256)
-  room-answer time len g = rw g at f.inside
-
-  pub room-update : (time len : ℕ) → e ≡ Update time len → (at + 267 ≤ length s) × (len ≤ 256)
-  room-update time len g = rw g at f.inside
-
-  pub room-verified : (type identifier : ℕ) → e ≡ Verified type identifier → at + 3 ≤ length s
-  room-verified type identifier g = rw g at f.inside
-
-  pub room-poll : (time : ℕ) → e ≡ Poll time → at + 9 ≤ length s
-  room-poll time g = rw g at f.inside
 
 -- the part of the trace that is lent as a payload
 pub part-is : (s : List ℕ) (from len : ℕ) → take (from + len - from) (drop from s) ≡ take len (drop from s)

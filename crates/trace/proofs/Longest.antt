@@ -1,13 +1,12 @@
 -- The longest wait is exact: a node that does not wait accepts no join answer before an accepted start, and an accepted join answer ends
 -- the waiting, so the start that the walk keeps is the one whose wait the join answer ends.
-use Prim.Native.Nat.{ℕ, ◌+◌, ◌-◌, ◌≤◌, ◌<◌}
+use Prim.Native.Nat.{ℕ, ◌-◌, ◌≤◌, ◌<◌}
 use mathlib.Core.Path.{◌≡◌, refl, sym, ◌∙◌, ap}
 use mathlib.Core.Bool.{Bool, true, false, cond}
 use mathlib.Core.List.{List, [], ◌∷◌, ◌++◌}
 use native.Mathlib.Omega.{arith}
 use lib.Dec.{ltb}
 use borrow.Author.Tests.{ltb-true, ltb-false, lt-ltb, le-ltb}
-use Rattle.refusal.specs.declared.Refusal.{Refusal}
 use Rattle.refusal.specs.declared.Verdict.{Verdict}
 use Rattle.refusal.specs.declared.Verdict.TheVariants.{Accepted, Refused}
 use Rattle.protocol_version.specs.declared.Version.TheVariants.{Draft}
@@ -17,11 +16,10 @@ use Rattle.node.specs.Delivery as delivery
 use Rattle.node.specs.declared.node.Node.{Node}
 use Rattle.node_laws.specs.Phases.{waits, PhaseLaws}
 use Rattle.trace.specs.Trace.{Record, new_node, start, join_answer, update, verified, poll, Trace, over, stop, then, records_in}
-use Rattle.trace.specs.Calls.{room, call_of, Answered, answered, answers_of}
+use Rattle.trace.specs.Calls.{room, call_of, Answered, answers_of}
 use Rattle.trace.specs.Statistics.{starts_with, joins_with, time_of, wait_from, greater, longest_of}
 use Rattle.trace.specs.Statistics as report
 use Rattle.trace.specs.Step.{afterwards, walked, nothing_yet, play}
-use Rattle.trace.specs.declared.done.CallResult.{CallResult}
 use Rattle.trace.specs.declared.state.State.{State}
 
 -- ---- the greater of two
@@ -87,7 +85,8 @@ waited-by time started longest rest false false x not-two none h = h
 -- ---- what the calls do to the waiting
 module _ (laws : PhaseLaws) where
   -- an accepted join answer comes to a node that waits, and ends that
-  joins-waiting : (r : Record) (n : Node) → joins_with r (call_of r n).verdict ≡ true → (waits n ≡ true) × (waits (call_of r n).node ≡ false)
+  joins-waiting : (r : Record) (n : Node) → joins_with r (call_of r n).verdict ≡ true
+      → (waits n ≡ true) × (waits (call_of r n).node ≡ false)
   unfolding call_of
   joins-waiting (new_node role network) n e = absurd (let z : ◌≡◌ {A = ℕ} 0 1 = cc in omega arith)
   joins-waiting (start time timeout) n e = absurd (let z : ◌≡◌ {A = ℕ} 0 1 = cc in omega arith)

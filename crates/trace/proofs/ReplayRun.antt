@@ -38,7 +38,7 @@ use Rattle.trace_record.specs.Layout.{number, blank, delivery, fields, entry}
 use Rattle.trace.specs.Calls.{call_of}
 use Rattle.trace.specs.Replay.{replay}
 use Rattle.trace.specs.ReplayExact.{ReplayExact}
-use Rattle.trace.specs.ReplayExample.{six_records, stopped, ReplayedNode, ReplayExample}
+use Rattle.trace.specs.ReplayExample.{stopped, ReplayExample}
 use Rattle.trace.specs.Statistics.{statistics_of}
 use Rattle.trace.specs.Trace.{reading, parse_from, parse}
 

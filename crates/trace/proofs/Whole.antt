@@ -1,15 +1,15 @@
 -- The walk's end is the replay's: node, places and every number.
-use Prim.Native.Nat.{ℕ, ◌+◌, ◌*◌, ◌^◌, ◌≤◌, ◌<◌}
+use Prim.Native.Nat.{ℕ, ◌+◌, ◌^◌, ◌<◌}
 use mathlib.Core.Path.{◌≡◌, refl}
-use mathlib.Core.Bool.{Bool, true, false}
-use mathlib.Core.List.{List, [], ◌∷◌}
+use mathlib.Core.Bool.{Bool, true}
+use mathlib.Core.List.{List}
 use native.Mathlib.Omega.{arith}
 use lib.ListN.{length, get_or}
 use Rattle.refusal.specs.Refusal.{Numbered}
 use Rattle.node.specs.Node.{empty_node}
 use Rattle.node.specs.declared.node.Node.{Node}
 use Rattle.node_laws.specs.Phases.{PhaseLaws}
-use Rattle.trace.specs.Trace.{Record, Trace, over, stop, then, parse, records_in, is_over, end_of}
+use Rattle.trace.specs.Trace.{Trace, over, stop, then, parse, records_in, is_over, end_of}
 use Rattle.trace.specs.Calls.{Answered, node_by, answers_of}
 use Rattle.trace.specs.Statistics.{count, of_kind, refused_with, did_switch, each_from, statistics_of}
 use Rattle.trace.specs.Replay.{makes_node, replay_of, replay}

@@ -1,7 +1,6 @@
 -- Request 4 speaks of something: a recorded trace of six records, one of each kind, and a seventh that stops the walk.
 use Rattle.std.specs.Prelude.{ℕ, ◌≡◌, true, false, List, [], ◌∷◌, ◌++◌, replicate}
 use Rattle.link_key.specs.Key.{key_of}
-use Rattle.link_key.specs.declared.Key.{Key}
 use Rattle.node_attempt.specs.declared.attempt.Phase.TheVariants.{Joined}
 use Rattle.node.specs.Node.{active_of, pending_of, clock_of, empty_node}
 use Rattle.trace.specs.Replay.{replay}

@@ -1,5 +1,5 @@
-// The walker over a recorded trace: the lent trace and a place in it (document 01's form). The borrow checker covers no function over such
-// a struct, so each is thin and proved by hand; the work is done by `crate::walk::step`, which takes the slice and the place.
+// The walker over a recorded trace: the lent trace and a place in it (document 01's form). The work is done by `crate::walk::step`, which
+// takes the slice and the place.
 ghost use Rattle.std.specs.Prelude.{◌≡◌};
 ghost use Rattle.trace.specs.Replay as whole;
 ghost use Rattle.trace.specs.Step as steps;
@@ -22,7 +22,7 @@ impl<'a> Walker<'a> {
     }
 }
 
-// The record at a place, read by a walker. Its callers hold no walker, so they are covered.
+// The record at a place, read by a walker. Its callers hold no walker.
 pub fn step_from(trace: &[u8], at: usize, state: State) -> StepResult
     ensures { result ≡ steps.step trace.now at state }
 {
