@@ -1,4 +1,4 @@
--- An address is in range at a later clock too, and a lease's unit is no 0.
+-- An address is in range at a later clock too.
 use Prim.Native.Nat.{ℕ, ◌≤◌}
 use native.Mathlib.Omega.{arith}
 use mathlib.Core.Path.{◌≡◌, refl}
@@ -7,16 +7,9 @@ use borrow.Author.Tests.{leb-true, le-leb}
 use lib.Dec.{leb}
 use Rattle.lemmas.specs.logic.Tests.{both_left, both_right}
 use Rattle.short_address.specs.Address.{is_address}
-use Rattle.protocol_version.specs.declared.Version.{Version}
-use Rattle.protocol_version.specs.declared.Version.TheVariants.{Draft, Published}
 use Rattle.node_parameters.specs.Lease.{valid_address}
-use Rattle.protocol_version.specs.Version.{lease_unit}
 use Rattle.node_parameters.specs.declared.address.HeldAddress.{HeldAddress}
 use Rattle.lemmas.specs.logic.Tests.{both}
-
-pub unit-some : (v : Version) → 1 ≤ lease_unit v
-unit-some Draft = omega arith
-unit-some Published = omega arith
 
 pub later : (clock time : ℕ) (a : HeldAddress) → clock ≤ time → valid_address clock a ≡ true → valid_address time a ≡ true
 later clock time a h e = go a.held e
