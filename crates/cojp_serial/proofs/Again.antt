@@ -26,6 +26,7 @@ Answered cs h r = verdict_in (told (ending r) (left_by cs h)) ≡ cond (long_par
 
 long_after : (cs : List SerialCall) (h : Held) (r : Reader) → NoReset cs → Over h → IsLong (verdict_in (told (ending r) (left_by cs h)))
 long_after [] h r no-calls w = end-is-long r h (over-course h 0 w)
+long_after (resetting ∷ cs) h r q w = elim q [ ]
 long_after (sending p ∷ cs) h r (part-next q) w =
     long_after cs (left (sending p) h) r q (over-part h p (over-course h (length p) w) w.limited)
 long_after (ending e ∷ cs) h r (end-next q) w = long_after cs (left (ending e) h) r q (over-end h e w)
@@ -50,6 +51,7 @@ again : (cs : List SerialCall) (h : Held) (n : ℕ) (r : Reader) → NoReset cs 
 again [] h n r no-calls w m =
     let decision = sym (ended-before h.state (length h.store) 0 w.store w.limited w.clear (omega (arith, w.limited)) m) in
     end-is-phase r h decision
+again (resetting ∷ cs) h n r q w m = elim q [ ]
 again (sending p ∷ cs) h n r (part-next q) w m = by-room (ltb 256 (h.state.arrived + length p)) refl (again cs h n r q w m)
   where
     by-room : (y : Bool) → ltb 256 (h.state.arrived + length p) ≡ y → Answered cs h r → Answered (sending p ∷ cs) h r
@@ -68,6 +70,8 @@ taken h p = record { state = grown h.state (length p); store = placed h.state.ar
 
 until_end : (cs : List SerialCall) (h : Held) (n : ℕ) (r : Reader) → NoReset cs → HasEnd cs → Counted h n → h.state.ended ≡ false
     → Answered cs h r
+until_end [] h n r q z w m = elim z [ ]
+until_end (resetting ∷ cs) h n r q z w m = elim q [ ]
 until_end (sending p ∷ cs) h n r (part-next q) (later-end z) w m =
     by-room (ltb 256 (h.state.arrived + length p)) refl
     (λ room. until_end cs (taken h p) (n + length p) r q z (taken-counted h n p w room) m)

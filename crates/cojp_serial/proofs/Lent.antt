@@ -71,9 +71,11 @@ module _ (h : Held) (n : ℕ) (l : 256 ≤ n) (s : 256 ≤ length h.store) where
 
   end-told : (r : Reader) → told (ending r) (lent_of n h) ≡ told (ending r) h
   end-told (request v strict) =
-      rw (same-course 0) (ap join_request (end_read_lem refuse_request (read_request_by v (head_by strict)) (decision_on h 0) (same-course 0)))
+      rw (same-course 0) (ap join_request (end_read_lem refuse_request (read_request_by v (head_by strict)) (decision_on h 0)
+      (same-course 0)))
   end-told (configuration v strict) =
-      rw (same-course 0) (ap update (end_read_lem refuse_configuration (read_configuration_by v (head_by strict)) (decision_on h 0) (same-course 0)))
+      rw (same-course 0) (ap update (end_read_lem refuse_configuration (read_configuration_by v (head_by strict)) (decision_on h 0)
+      (same-course 0)))
 
   part-told : (p : List ℕ) → told (sending p) (lent_of n h) ≡ told (sending p) h
   part-told p = rw (same-course (length p))

@@ -49,7 +49,8 @@ last-number (suc n) = refl
 module _ {A : Type 0} (verdict : A → Verdict) (refuse : Refusal → A) (fits : (k : Refusal) → verdict (refuse k) ≡ Refused k)
     (reader : List ℕ → A) (p : List ℕ) where
   end-number : (x y z : Bool)
-      → verdict_number (verdict (end_read refuse reader (decided x y z) p)) ≡ in_order (tests x y z (verdict_number (verdict (reader p)) ∷ []))
+      → verdict_number (verdict (end_read refuse reader (decided x y z) p)) ≡ in_order
+      (tests x y z (verdict_number (verdict (reader p)) ∷ []))
   end-number true y z = rw (fits Range)
   end-number false true z = rw (fits Long)
   end-number false false true = rw (fits Phase)

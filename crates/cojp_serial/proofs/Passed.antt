@@ -61,6 +61,7 @@ end-counted h n Open w = record { arrived = omega (arith, w.arrived); clear = w.
 all-counted : (cs : List SerialCall) (h : Held) (n : ℕ) → NoReset cs → Counted h n → long_part_in cs h ≡ false
     → Counted (left_by cs h) (n + taken_in cs h)
 all-counted [] h n no-calls w none = unmoved h n w
+all-counted (resetting ∷ cs) h n q w none = elim q [ ]
 all-counted (sending p ∷ cs) h n (part-next q) w none =
     let more = taken_by (sending p) (told (sending p) h) in
     let this = long_part (sending p) (told (sending p) h) in

@@ -44,6 +44,7 @@ store_kept (ending r ∷ cs) h s = ap (λ (g : Held). (left_by cs g).store) (end
 
 arrival-kept : (cs : List SerialCall) (h : Held) → length h.store < 256 → NoReset cs → (left_by cs h).state ≡ h.state
 arrival-kept [] h s no-calls = refl
+arrival-kept (resetting ∷ cs) h s q = elim q [ ]
 arrival-kept (sending p ∷ cs) h s (part-next q) = ap (λ (g : Held). (left_by cs g).state) (part-leaves h p s) ∙ arrival-kept cs h s q
 arrival-kept (ending r ∷ cs) h s (end-next q) = ap (λ (g : Held). (left_by cs g).state) (end_leaves h r s) ∙ arrival-kept cs h s q
 

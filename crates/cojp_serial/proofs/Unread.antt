@@ -65,7 +65,8 @@ told-alike : (c : SerialCall) (a : SerialState) (s t : List ℕ) → Alike a s t
 told-alike resetting a s t w = refl
 told-alike (sending p) a s t w = rw (course-alike a (length p) (length s) (length t) w.lent)
 told-alike (ending (request v strict)) a s t w = end-alike join_request refuse_request (read_request_by v (head_by strict)) a s t w
-told-alike (ending (configuration v strict)) a s t w = end-alike update refuse_configuration (read_configuration_by v (head_by strict)) a s t w
+told-alike (ending (configuration v strict)) a s t w = end-alike update refuse_configuration (read_configuration_by v (head_by strict)) a s
+    t w
 
 pub both : {A : Type 0} {x y : A} {xs ys : List A} → x ≡ y → xs ≡ ys → x ∷ xs ≡ y ∷ ys
 both p q = cc
@@ -75,7 +76,8 @@ answers-alike [] a s t w = refl
 answers-alike (resetting ∷ cs) a s t w = both refl (answers-alike cs empty_state s t (record { lent = w.lent; arrived = refl }))
 answers-alike (sending p ∷ cs) a s t w =
     let e = course-alike a (length p) (length s) (length t) w.lent in
-    both (told-alike (sending p) a s t w) (rw e (answers-alike cs _ _ _ (after-part a s t p (decision_of a (length t) (length p)) e refl w)))
+    both (told-alike (sending p) a s t w) (rw e (answers-alike cs _ _ _ (after-part a s t p (decision_of a (length t) (length p)) e refl
+    w)))
 answers-alike (ending r ∷ cs) a s t w =
     let e = course-alike a 0 (length s) (length t) w.lent in
     both (told-alike (ending r) a s t w) (rw e (answers-alike cs _ _ _ (after-end a s t (decision_of a (length t) 0) w)))

@@ -15,7 +15,7 @@ use Rattle.cojp.specs.Request.{refuse_request, read_request_by}
 use Rattle.cojp.specs.declared.configuration.ConfigurationRead.{ConfigurationRead}
 use Rattle.cojp.specs.declared.request.RequestRead.{RequestRead}
 use Rattle.cojp_serial.specs.State.{part_answer, part_store, end_read, end_state}
-use Rattle.cojp_serial.specs.Calls.{Reader, request, configuration, SerialCall, sending}
+use Rattle.cojp_serial.specs.Calls.{Reader, request, configuration, SerialCall, resetting, sending}
 use Rattle.cojp_serial.specs.Calls.{ending, Held, decision_on, told, left, answers, verdict_in}
 use Rattle.cojp_serial.specs.Laws.{NoReset, no-calls, part-next, end-next, Each, none_told, next-told}
 use Rattle.cojp_serial.specs.Laws.{IsLong, LongOrPhase, long, phase, LongUntilReset, PhaseUntilReset}
@@ -45,6 +45,7 @@ over-end h r w = rw (over-course h 0 w) w
 
 all-long : (cs : List SerialCall) (h : Held) → NoReset cs → Over h → Each IsLong (answers cs h)
 all-long [] h no-calls w = none_told
+all-long (resetting ∷ cs) h q w = elim q [ ]
 all-long (sending p ∷ cs) h (part-next q) w =
     let e = over-course h (length p) w in
     next-told {t = told (sending p) h} (rw e) (all-long cs (left (sending p) h) q (over-part h p e w.limited))
@@ -82,11 +83,11 @@ shut-read refuse reader verdict p x says by_end = phase (says Phase)
 
 shut-end : (r : Reader) (h : Held) → Shut (decision_on h 0) → LongOrPhase (verdict_in (told (ending r) h))
 shut-end (request v strict) h w =
-    shut-read refuse_request (read_request_by v (head_by strict)) (λ (y : RequestRead). y.verdict) (take h.state.arrived h.store)
+    shut-read refuse_request (read_request_by v (head_by strict)) (λ (y : RequestRead). y.verdict) _
     (decision_on h 0) (λ k. refl) w
 shut-end (configuration v strict) h w =
     shut-read refuse_configuration (read_configuration_by v (head_by strict)) (λ (y : ConfigurationRead). y.verdict)
-    (take h.state.arrived h.store) (decision_on h 0) (λ k. refl) w
+    _ (decision_on h 0) (λ k. refl) w
 
 closed-part : (h : Held) (p : List ℕ) (x : PartDecision) → Shut x → Closed h
     → Closed (record { state = (part_answer x h.state (length p)).state; store = part_store x h.state.arrived p h.store })
@@ -100,6 +101,7 @@ closed-end h x by_end w = w
 
 all-shut : (cs : List SerialCall) (h : Held) → NoReset cs → Closed h → Each LongOrPhase (answers cs h)
 all-shut [] h no-calls w = none_told
+all-shut (resetting ∷ cs) h q w = elim q [ ]
 all-shut (sending p ∷ cs) h (part-next q) w =
     let s = shut h (length p) w in
     next-told (shut-part h p (decision_on h (length p)) s)

@@ -77,7 +77,8 @@ all-sent h b [] w = rw (append-nil b) w
 all-sent h b (p ∷ ps) w = rw (← append_assoc b p (joined ps)) (all-sent (left (sending p) h) (b ++ p) ps (one_more h b p w))
 
 -- ---- the end
-long-request : (v : Version) (head : List ℕ → Outcome Heading) (p : List ℕ) → 256 < length p → read_request_by v head p ≡ refuse_request Long
+long-request : (v : Version) (head : List ℕ → Outcome Heading) (p : List ℕ) → 256 < length p
+    → read_request_by v head p ≡ refuse_request Long
 unfolding payload_read_by
 long-request v head p h = rw (lt-ltb 256 (length p) h)
 

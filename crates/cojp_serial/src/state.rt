@@ -32,6 +32,7 @@ pub fn reset() -> SerialState
 
 impl SerialState {
     // How `n` bytes more find this arrival and a store of `lent` bytes.
+    #[tactic(auto, unfolding(crate::specs::State::decision_of))]
     pub(crate) fn decision(self, lent: usize, n: usize) -> PartDecision
         ensures { result ≡ decision_of self lent n }
     {
