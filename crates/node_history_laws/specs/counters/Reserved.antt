@@ -7,7 +7,6 @@ use Rattle.link_key.specs.declared.Key.{Key}
 use Rattle.protocol_version.specs.declared.Version.{Version}
 use Rattle.node_parameters.specs.declared.octets.HeldOctets.{HeldOctets}
 use Rattle.node.specs.Node.{made}
-use Rattle.node.specs.declared.node.Node.{Node}
 use Rattle.node_laws.specs.Calls.{NodeCall, sending}
 use Rattle.node_history_laws.specs.counters.Rising.{after, Answers, Stays}
 
