@@ -48,8 +48,8 @@ unfolding payload_by decode_by heading argument next digits members pairs major_
     padded octets_judged address_in groups identified used valued owing payload_read_by
     later_parameter parameter_of configuration_taking error_reports_valid error_reports_of listed_in request_in_range request_plan
     sets.valid sets.valid_as install frames.sending attempt.valid may_start
-    made version_valid valid request_of start_verdict start_plan start dispositions_of fitted configured apply may_come deliver_verdict deliver
-    node.sending send send_counter after_send perform
+    made version_valid valid request_of start_verdict start_plan start dispositions_of fitted configured apply may_come deliver_verdict
+    deliver node.sending send send_counter after_send perform
 computing = tt
 
 first : Answers joined 1 key 0

@@ -21,7 +21,8 @@ use Rattle.cojp_laws.specs.Largest.{LargestConfiguration, DraftWritten}
 use Rattle.cojp_laws.specs.RoundTrip.{ConfigurationRoundTrip}
 use Rattle.cojp.specs.Same.{SameConfiguration}
 use Rattle.cojp.specs.InRange.{InRange, ReadsInRange}
-use Rattle.cojp.specs.Writing.{missing, keys_without_additional_info, of_version, configuration_in_range, configuration_pairs, configuration_plan}
+use Rattle.cojp.specs.Writing.{missing, keys_without_additional_info, of_version}
+use Rattle.cojp.specs.Writing.{configuration_in_range, configuration_pairs, configuration_plan}
 use Rattle.cojp.specs.declared.configuration.Configuration.{Configuration}
 use Rattle.cojp.specs.declared.configuration.ConfigurationRead.{ConfigurationRead}
 use Rattle.protocol_version.specs.declared.Version.{Version}

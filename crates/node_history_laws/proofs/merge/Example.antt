@@ -29,7 +29,8 @@ unfolding payload_by decode_by heading argument next digits members pairs major_
     valid_key has_no_additional_info same_key same valid_keys valid_set padded octets_judged is_address address_in groups identified used
     valued payload_read_by
     later_parameter parameter_of configuration_taking error_reports_valid error_reports_of
-    sets.valid sets.valid_as install attempt.valid version_valid valid dispositions_of fitted configured apply may_come deliver_verdict deliver
+    sets.valid sets.valid_as install attempt.valid version_valid valid dispositions_of fitted configured apply may_come deliver_verdict
+    deliver
 accepted-pair = record { first = refl; second = refl; written = refl }
 
 pub refused-pair : RefusedPair
@@ -37,5 +38,6 @@ unfolding payload_by decode_by heading argument next digits members pairs major_
     valid_key has_no_additional_info same_key same valid_keys valid_set padded octets_judged is_address address_in groups identified used
     valued payload_read_by
     later_parameter parameter_of configuration_taking error_reports_valid error_reports_of
-    sets.valid sets.valid_as install attempt.valid version_valid valid dispositions_of fitted configured apply may_come deliver_verdict deliver
+    sets.valid sets.valid_as install attempt.valid version_valid valid dispositions_of fitted configured apply may_come deliver_verdict
+    deliver
 refused-pair = record { first = refl; merged-all-the-same = refl }

@@ -62,7 +62,7 @@ pub record DeliveredAsOne (n : Node) (time : ℕ) (p q : List ℕ) (first second
 
 abbrev pub MergedDelivers : Configuration → Configuration → Type 0
 MergedDelivers first second =
-    (n : Node) (time : ℕ) (p q : List ℕ) → n.version ≡ Rattle.protocol_version.specs.declared.Version.TheVariants.Published →
+    (n : Node) (time : ℕ) (p q : List ℕ) → n.version ≡ Draft →
     (read_configuration p).configuration ≡ first → (read_configuration q).configuration ≡ second →
     (deliver Update n time p).verdict ≡ Accepted → (deliver Update (deliver Update n time p).node time q).verdict ≡ Accepted →
     DeliveredAsOne n time p q first second

@@ -1,4 +1,4 @@
--- Computed: proofs/Example.antt.
+-- Computed: proofs/merge/Example.antt.
 use Rattle.node_history_laws.proofs.merge.Example.{accepted-pair}
 use Rattle.node_history_laws.proofs.merge.accepted_pair_example.Goals as goal
 

@@ -11,5 +11,4 @@ returns c =
     merged-delivers c.merged_applies_law.ensures c.laws.ensures c.reads_in_range_law.ensures c.args.first c.args.second
     (subst (λ (m : MergeResult). LargestConfiguration m.configuration) c.merge-both.ensures c.largest_configuration.ensures)
     (subst (λ (m : MergeResult). DraftWritten m.configuration) c.merge-both.ensures c.draft_written.ensures)
-    (subst (λ (m : MergeResult). ConfigurationRoundTrip m.configuration) c.merge-both.ensures
-    c.configuration_round_trip.ensures)
+    (subst (λ (m : MergeResult). ConfigurationRoundTrip m.configuration) c.merge-both.ensures c.configuration_round_trip.ensures)

@@ -1,4 +1,4 @@
--- Computed: proofs/Example.antt.
+-- Computed: proofs/merge/Example.antt.
 use Rattle.node_history_laws.proofs.merge.Example.{refused-pair}
 use Rattle.node_history_laws.proofs.merge.refused_pair_example.Goals as goal
 
