@@ -9,7 +9,6 @@ use lib.ListN.{drop}
 use Rattle.image.specs.Effects.{on_accept}
 use Rattle.image.specs.Part.{is_image}
 use Rattle.lemmas.specs.logic.Tests.{both_left, both_right, never}
-use Rattle.node.specs.Frames as frames
 use Rattle.node.specs.Lease.{holds}
 use Rattle.node.specs.Node.{attempting}
 use Rattle.node.specs.Range.{valid}

@@ -91,7 +91,7 @@ module _ (K : KeyLaws) (sets : KeySets) (type identifier : ℕ) where
     module _ (f : x.verdict ≡ verdict.Accepted) {y : FoundKey} (g : y ≡ found_key (find_key identifier (active_in sets))) where
       held-so : (o : Option Key) → find_key identifier (active_in sets) ≡ o → (b : Bool) → has identifier (active_in sets) ≡ b
           → (found_key o).found ≡ b
-      held-so none h true i = never (has identifier (active_in sets)) i (K.find-None identifier (active_in sets) h)
+      held-so none h true i = never (has identifier (active_in sets)) i (K.find_none identifier (active_in sets) h)
       held-so none h false i = refl
       held-so (some k) h true i = refl
       held-so (some k) h false i =
