@@ -147,8 +147,8 @@ module _ (s : List ℕ) (image : is_image node_image s ≡ true) where
 -- ---- calls on the image: RANGE where there is none, else the node's own answer
 module _ (demand1 : Demand1) (s : List ℕ) where
   module _ (time : ℕ) where
-    polled-by : (b : Bool) → is_image node_image s ≡ b → (x : Due) {v : Verdict} {r w : ℕ} {s' : List ℕ} → x ≡ due_in s time → v ≡ due_verdict x
-        → w ≡ due_code x → r ≡ verdict_number v → s' ≡ on_accept (due_verdict x) s (node_image.put (poll (node_in s) time).node)
+    polled-by : (b : Bool) → is_image node_image s ≡ b → (x : Due) {v : Verdict} {r w : ℕ} {s' : List ℕ} → x ≡ due_in s time
+        → v ≡ due_verdict x → w ≡ due_code x → r ≡ verdict_number v → s' ≡ on_accept (due_verdict x) s (node_image.put (poll (node_in s) time).node)
         → Does (calls.polling time) s r s' w
     unfolding perform
     polled-by true image x says e g f h =
@@ -166,8 +166,8 @@ module _ (demand1 : Demand1) (s : List ℕ) where
         )
         (does-none (calls.polling time) s image)
 
-    pub polled : (x : Due) {v : Verdict} {r w : ℕ} {s' : List ℕ} → x ≡ due_in s time → v ≡ due_verdict x → w ≡ due_code x → r ≡ verdict_number v
-        → s' ≡ on_accept (due_verdict x) s (node_image.put (poll (node_in s) time).node) → Does (calls.polling time) s r s' w
+    pub polled : (x : Due) {v : Verdict} {r w : ℕ} {s' : List ℕ} → x ≡ due_in s time → v ≡ due_verdict x → w ≡ due_code x
+        → r ≡ verdict_number v → s' ≡ on_accept (due_verdict x) s (node_image.put (poll (node_in s) time).node) → Does (calls.polling time) s r s' w
     polled x = polled-by (is_image node_image s) refl x
 
     asked_by : (b : Bool) → is_image node_image s ≡ b → (x : LeaseStatus) {r w : ℕ} → x ≡ holds_in s time → r ≡ holding_number x
@@ -190,8 +190,9 @@ module _ (demand1 : Demand1) (s : List ℕ) where
     abbrev reported_node : List ℕ
     reported_node = node_image.put (verified (node_in s) type identifier).node
 
-    reported-by : (b : Bool) → is_image node_image s ≡ b → (x : Change) {v : Verdict} {r w : ℕ} {s' : List ℕ} → x ≡ change_in s type identifier
-        → v ≡ change_verdict x → w ≡ change_code x → r ≡ verdict_number v → s' ≡ on_accept (change_verdict x) s reported_node
+    reported-by : (b : Bool) → is_image node_image s ≡ b → (x : Change) {v : Verdict} {r w : ℕ} {s' : List ℕ}
+        → x ≡ change_in s type identifier → v ≡ change_verdict x → w ≡ change_code x → r ≡ verdict_number v
+        → s' ≡ on_accept (change_verdict x) s reported_node
         → Does (calls.reporting type identifier) s r s' w
     unfolding perform
     reported-by true image x says e g f h =

@@ -1,6 +1,5 @@
 // The calls of a node over images. A poll, a question, a frame's key and a report work on the lent bytes (capi_node); a start and a
-// delivery
-// load the node, call it, and store what that left. A call answers 0, or the refusal's number.
+// delivery load the node, call it, and store what that left. A call answers 0, or the refusal's number.
 #![tactic(auto)]
 
 mod attempt;
