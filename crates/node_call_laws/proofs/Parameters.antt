@@ -33,7 +33,7 @@ use Rattle.cojp.specs.Octets.{padded, octets_parameter, no_octets_parameter, oct
 use Rattle.cojp.specs.Rate.{rate_taken}
 use Rattle.cojp.specs.Reading.{Reading, refused, read, Judgement, broken, unfit, good, concluded}
 use Rattle.cojp.specs.declared.disposition.Disposition.{Disposition}
-use Rattle.cojp.specs.declared.disposition.Disposition.TheVariants.{Absent, Taken, Discarded}
+use Rattle.cojp.specs.declared.disposition.Disposition.TheVariants.{Taken, Discarded}
 use Rattle.object_image.specs.Address.{short_address_part, address_parameter_part}
 use Rattle.object_image.specs.Configuration.{keys_parameter_part}
 use Rattle.object_image.specs.Lists.{list_parameter_part}

@@ -75,7 +75,8 @@ module _ (v : Version) where
   module _ (g : RequestState) (m : ℕ) (f : Reads m g) where
     role-taken : (w : Version) (j : Judgement ℕ) → JudgedOk Small j → ReadOk (Reads m) (role_gathered w g j)
     role-taken Draft j h =
-        put-ok Small (Reads m) (with_role g) (role_concluded j) (concluded-ok Small Small (refused refusal.Role) (λ n. n) j refl (λ n e. e) h)
+        put-ok Small (Reads m) (with_role g) (role_concluded j)
+        (concluded-ok Small Small (refused refusal.Role) (λ n. n) j refl (λ n e. e) h)
         (with-role g m f)
     role-taken Published broken h = with-fault (with_role g 0) m (with-role g m f 0 (omega arith)) 1 1 (omega arith) (omega arith)
     role-taken Published unfit h = with-fault (with_role g 0) m (with-role g m f 0 (omega arith)) 0 1 (omega arith) (omega arith)
@@ -91,7 +92,8 @@ module _ (v : Version) where
     taken n x h =
         by_cond (ReadOk (Reads m)) (eqb n 1) (λ _. role-taken v (role_judged x) (role-judged x))
         (λ _. by_cond (ReadOk (Reads m)) (eqb n 5)
-        (λ _. put-ok octets_parameter_part.Fit (Reads m) (with_network g) (by_version_of v (no_octets_parameter Discarded) (octets_read 0 x))
+        (λ _. put-ok octets_parameter_part.Fit (Reads m) (with_network g)
+        (by_version_of v (no_octets_parameter Discarded) (octets_read 0 x))
         (following-ok octets_parameter_part.Fit v (no_octets_parameter Discarded) (octets_read 0 x) (no-octets-fit Discarded)
         (octets-read 0 x h))
         (λ p e. ((f.0.0, (e, f.0.1.1)), f.1)))

@@ -14,7 +14,6 @@ use Rattle.image.specs.Part.{number}
 use Rattle.key_image.specs.Key.{key_part, key_set_part, counted_set_part}
 use Rattle.link_key.specs.Key.{no_key, same_secret, covers}
 use Rattle.link_key.specs.declared.Key.{Key}
-use Rattle.link_key.specs.declared.additional_info.AdditionalInfo.TheVariants.{Absent}
 use Rattle.link_key.specs.set.KeySet.{no_keys, keys_of, named, find_key, valid_set, same_keys, shares}
 use Rattle.link_key.specs.declared.set.key_set.KeySet.{KeySet}
 use Rattle.link_key.specs.usage.Usage.{known_type}
@@ -84,7 +83,8 @@ arrived-fits set h = (h, fits-replicate (number 4) 8 0 (omega arith))
 pub none-counted-fits : counted_set_part.Fit no_counted
 none-counted-fits = arrived-fits no_keys no-keys-fit
 
-succeeded-fits : (s : CountedSet) (set : KeySet) → counted_set_part.Fit s → key_set_part.Fit set → counted_set_part.Fit (inherit_counters s set)
+succeeded-fits : (s : CountedSet) (set : KeySet) → counted_set_part.Fit s → key_set_part.Fit set
+    → counted_set_part.Fit (inherit_counters s set)
 unfolding inherit_counters
 succeeded-fits s set f h = (
   h,

@@ -30,7 +30,8 @@ Callable (reporting type identifier) = type < 256
 
 -- what is read of the payload has an image, in both forms, by the strict reading and by the ordinary one
 pub record ReadsFit (payload : List ℕ) : Type 0 where
-  pub configuration : (v : Version) (strict : Bool) → configuration_image.Fit (read_configuration_by v (head_by strict) payload).configuration
+  pub configuration : (v : Version) (strict : Bool)
+      → configuration_image.Fit (read_configuration_by v (head_by strict) payload).configuration
   pub request : (v : Version) (strict : Bool) → request_image.Fit (read_request_by v (head_by strict) payload).request
 
 -- what a call answers with has an image, where it is handed back in a struct: reports, or a frame's key
