@@ -1,2 +1,0 @@
-mod Proxies
-mod Keeps
