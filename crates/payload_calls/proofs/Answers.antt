@@ -1,16 +1,13 @@
 -- What a call tells by the answer of the function behind it, one law to a kind of answer.
 use Prim.Native.Nat.{ℕ}
-use mathlib.Core.Path.{◌≡◌, refl, ap, ◌∙◌}
+use mathlib.Core.Path.{◌≡◌, ap, ◌∙◌}
 use mathlib.Core.Bool.{Bool, true, false, ◌&&◌, and-false}
 use mathlib.Core.List.{List}
 use lib.ListN.{length, replicate}
-use Rattle.refusal.specs.Refusal.{number_of}
 use Rattle.refusal.specs.Verdict.{verdict_number}
-use Rattle.refusal.specs.declared.Refusal.{Refusal}
 use Rattle.refusal.specs.declared.Verdict.{Verdict}
 use Rattle.byte_io.specs.Write.{Plan, Did, written_says}
 use Rattle.byte_io.specs.declared.WriteResult.{WriteResult}
-use Rattle.byte_io.specs.declared.WriteResult.TheVariants as written
 use Rattle.image.specs.Effects.{on_accept, ResultSpec}
 use Rattle.image.proofs.Lent.{hands-told}
 use Rattle.payload_calls.specs.Write.{Writes, range_first}
@@ -23,13 +20,6 @@ module _ {A : Type 0} (n : ℕ) (right : Bool) (verdict : A → Verdict) (image 
       hands-told n right (verdict b) (image b) s h k
       (f ∙ ap (λ (x : A). verdict_number (verdict x)) e)
       (g ∙ ap (λ (x : A). on_accept (verdict x) (replicate n 0) (image x)) e)
-
-pub length-refused : (w : WriteResult) (k : Refusal) {r : ℕ} → w ≡ written.Refused k → r ≡ number_of k
-    → (r ≡ (written_says w).0) × (0 ≡ (written_says w).1)
-length-refused w k e g = rw e (g, refl)
-
-pub unfit : (right : Bool) (plan : Plan) (d : List ℕ) → right ≡ false → Writes (range_first right plan) d 13 d 0
-unfit right plan d e = record { number = rw e; dst = rw e; long = rw e }
 
 module _ {A B : Type 0} (right : Bool) (plan : A → B → Plan) (d d' : List ℕ) (w : WriteResult) where
   -- the plan for x and y is the one for a and b
@@ -46,9 +36,6 @@ module _ {A B : Type 0} (right : Bool) (plan : A → B → Plan) (d d' : List �
 
 -- two tests, one after the other
 module _ (a b : Bool) where
-  pub then-second : a ≡ true → (a && b) ≡ b
-  then-second e = rw e
-
   pub not_first : a ≡ false → (a && b) ≡ false
   not_first e = rw e
 

@@ -1,3 +1,2 @@
-mod Forms
 mod Answers
 mod Keeps
