@@ -85,9 +85,8 @@ module _ {n : ℕ} {right : Bool} {v : Verdict} {object s out : List ℕ} {r : �
   end-unasked : {a : SerialState} → Ends n right v object a s out r s' out' → (eqb (length out) n && right) ≡ false → s' ≡ s
   end-unasked d e = (rw e at d.serial)
 
-  end_marked_lem : (c : PartDecision) → Ends n right v object (end_state c (serial_image.get s)) s out r s' out' → right ≡ true → length out ≡ n
-      → c ≡ Open
-      → s' ≡ serial_image.put (end_marked (serial_image.get s))
+  end_marked_lem : (c : PartDecision) → Ends n right v object (end_state c (serial_image.get s)) s out r s' out' → right ≡ true
+      → length out ≡ n → c ≡ Open → s' ≡ serial_image.put (end_marked (serial_image.get s))
   end_marked_lem c d i l h = (rw (i, eq-eqb (length out) n l, h) at d.serial)
 
 is-image : (s : List ℕ) (form reading : ℕ) → may_end s form reading ≡ true → is_image serial_image s ≡ true

@@ -1,4 +1,3 @@
 mod Images
-mod Coming
 mod Ending
 mod Keeps
