@@ -6,7 +6,7 @@ use mathlib.Core.List.{List, [], ◌∷◌, ◌++◌, append_assoc, append-nil}
 use native.Mathlib.Omega.{arith}
 use native.Mathlib.Numerals.{add-one}
 use lib.ListN.{length, take, drop, get_or}
-use lib.Seq.{take-suc, take_all}
+use lib.Seq.{take-suc}
 use Rattle.byte_io.specs.Write.{Wrote}
 use Rattle.byte_io.specs.BigEndian.{bytes_of}
 use Rattle.image.specs.Fields.{next_field, whole-struct, two_fields}
@@ -30,12 +30,6 @@ pub next-count : (xs : List ℕ) (i : ℕ) {d d' e : List ℕ} → i < length xs
 next-count xs i h l w v =
     let n : 8 * (i + 1) ≡ 8 * i + 8 = omega arith in
     rw (n, add-one i, take-suc xs i 0 h, puts_one (number 8) (take i xs) (get_or xs i 0)) (next_field l w v)
-
-pub all-counts : (xs : List ℕ) (i : ℕ) {d d' : List ℕ} → i ≡ length xs → Wrote (puts (number 8) (take i xs)) d (8 * i) d'
-    → Wrote (puts (number 8) xs) d (8 * length xs) d'
-all-counts xs i e w =
-    let all : take (length xs) xs ≡ xs = take_all (length xs) xs (omega arith) in
-    rw (e, all) at w
 
 -- ---- the report
 -- counts of an array of so many
