@@ -67,7 +67,7 @@ pub fn proxy_issue(
         return RANGE;
     }
     let number = port as u16;
-    let done = proxy_in(proxy).issue(array_8_at(interface, 0), 0, token, dst);
+    let done = proxy_in(proxy).issue(array_8_at(interface, 0), number, token, dst);
     let written = done.written;
     let after = done.proxy;
     match written {
