@@ -45,6 +45,10 @@ pub configuration_in-requires : goal.configuration_in-requires
 configuration_in-requires c =
     long configuration_image c.args.first.now (is_true c.is_configuration.ensures c.if-not-is_configuration.false)
 
+pub configuration_in-requires-2 : goal.configuration_in-requires-2
+configuration_in-requires-2 c =
+    long configuration_image c.args.second.now (is_true c.is_configuration-2.ensures c.if-not-is_configuration-2.false)
+
 pub returns : goal.returns
 returns c =
     let right =
