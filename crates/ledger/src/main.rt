@@ -74,12 +74,14 @@ fn run(
         desk = answer_line(desk, bytes, board, hex, memory, buffer);
     }
     let recorded = desk.state.journal.outcome();
-    desk.session.end(buffer)?;
-    if let Err(error) = recorded {
-        eprintln!(rt;
+    let told = match recorded {
+        Err(error) => eprintln!(rt;
             "ledger: the journal was not written, the last command is not answered, and the session ends: {error}"
-        )?;
-    }
+        ),
+        Ok(()) => Ok(()),
+    };
+    desk.session.end(buffer)?;
+    told?;
     recorded
 }
 
